@@ -1,0 +1,55 @@
+//! What the kernel is told of a file.
+ghost use Rattle.std.specs.Prelude.{◌≡◌, ◌≤◌, ◌↔◌, IfSome, IsSome};
+
+/// Whether a file has content or entries. Links and devices are no part of a checkout here.
+#[derive(Clone, Copy, Debug, PartialEq, Eq)]
+pub enum Kind {
+    File,
+    Dir,
+}
+
+/// The low twelve bits of a mode: setuid, setgid and sticky, then read, write and execute three times.
+#[derive(Clone, Copy, Debug, PartialEq, Eq)]
+pub struct Perm {
+    pub bits: u16,
+    pub ghost in_range: { bits ≤ 4095 },
+}
+
+impl Perm {
+    /// The greatest: 0o7777.
+    pub const MAX_BITS: u16 = 4095;
+
+    /// What every directory of a manifest has: 0o755.
+    pub const DIRECTORY: Perm = Perm { bits: 493 };
+
+    /// The permissions of these bits, unless a bit above the twelfth is set.
+    pub fn of(bits: u16) -> Option<Perm>
+        ensures perm { IfSome result (λ perm. perm.bits ≡ bits) }
+        ensures in_range { IsSome result ↔ (bits ≤ 4095) }
+    {
+        if bits <= Perm::MAX_BITS {
+            Some(Perm { bits })
+        } else {
+            None
+        }
+    }
+
+    /// The bits that `of` was given.
+    pub fn bits(self) -> u16
+        ensures bits { result ≡ self.bits }
+        ensures in_range { result ≤ 4095 }
+    {
+        self.bits
+    }
+}
+
+/// The attributes of a file that a daemon tells the kernel; those that are constant here are written with the reply.
+#[derive(Clone, Copy, Debug, PartialEq, Eq)]
+pub struct Attr {
+    pub kind: Kind,
+    pub perm: Perm,
+    /// In bytes; 0 for a directory.
+    pub size: u64,
+    /// 0 for an unlinked file, else 1 for a file and 2 for a directory.
+    pub nlink: u32,
+}

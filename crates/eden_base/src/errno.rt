@@ -1,0 +1,53 @@
+//! The error numbers of `errno.h` that a daemon answers.
+use std::fmt;
+
+/// Why a request failed, as the kernel passes it on to the program that asked.
+#[derive(Clone, Copy, Debug, PartialEq, Eq)]
+pub enum Errno {
+    /// No entry of that name.
+    ENOENT,
+    /// The backing of the checkout failed.
+    EIO,
+    /// Out of memory.
+    ENOMEM,
+    /// The name is taken.
+    EEXIST,
+    /// A directory is needed, and this is none.
+    ENOTDIR,
+    /// This is a directory, and none may stand here.
+    EISDIR,
+    /// The request has no meaning.
+    EINVAL,
+    /// No number is left to give.
+    ENOSPC,
+    /// The name is longer than 255 bytes.
+    ENAMETOOLONG,
+    /// No such request is served.
+    ENOSYS,
+    /// The directory has entries.
+    ENOTEMPTY,
+    /// The count of a number is at its limit.
+    EOVERFLOW,
+    /// The number names nothing.
+    ESTALE,
+}
+
+impl fmt::Display for Errno {
+    fn fmt<W: fmt::Write>(&self, f: &mut fmt::Formatter<W>) -> fmt::Result {
+        f.write_str(match self {
+            Errno::ENOENT => "ENOENT",
+            Errno::EIO => "EIO",
+            Errno::ENOMEM => "ENOMEM",
+            Errno::EEXIST => "EEXIST",
+            Errno::ENOTDIR => "ENOTDIR",
+            Errno::EISDIR => "EISDIR",
+            Errno::EINVAL => "EINVAL",
+            Errno::ENOSPC => "ENOSPC",
+            Errno::ENAMETOOLONG => "ENAMETOOLONG",
+            Errno::ENOSYS => "ENOSYS",
+            Errno::ENOTEMPTY => "ENOTEMPTY",
+            Errno::EOVERFLOW => "EOVERFLOW",
+            Errno::ESTALE => "ESTALE",
+        })
+    }
+}

@@ -1,0 +1,16 @@
+//! The words that every other crate speaks: names, numbers, attributes, places and error numbers.
+#![tactic(auto)]
+
+mod attr;
+mod errno;
+mod memory;
+mod name;
+mod number;
+mod place;
+
+pub use attr::{Attr, Kind, Perm};
+pub use errno::Errno;
+pub use memory::NoMemory;
+pub use name::{Name, NameFault};
+pub use number::{DaemonId, FileId, Number};
+pub use place::Place;

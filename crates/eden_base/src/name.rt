@@ -1,0 +1,162 @@
+//! The name of a directory entry.
+ghost use Rattle.std.specs.Prelude.{◌≡◌, ℕ, ◌≤◌, Bool, ◌↔◌, List, length, Some, IfOk, IfErr, OnOk, IsTrue, nat_eq};
+ghost use Rattle.std.specs.List.{list_any};
+ghost use Rattle.std.specs.Ordering.{nat_cmp};
+ghost use Rattle.std.specs.Cmp.Lexicographic.{pointwise, slice_cmp, nat_list_eq_equiv, nat_list_cmp_total, texts_ties, texts_po};
+ghost use Rattle.std.specs.Cmp.{partial_equiv_from_equiv};
+ghost use Rattle.std.proofs.Common.{refl};
+ghost use Rattle.eden_base.specs.Name.{is_separator, is_dots, name_fault, IsNameText, IsNameRefusal};
+
+use crate::NoMemory;
+use std::alloc::Global;
+use std::cmp::Ordering;
+use std::marker::Model;
+use thiserror::Error;
+
+/// A name as `path_resolution(7)` has it, in bytes that need be no text.
+#[derive(Drop)]
+pub struct Name {
+    bytes: Vec<u8>,
+}
+
+impl Model for Name {
+    ghost Value = { List ℕ };
+
+    ghost view = { λ name. name.bytes.items };
+
+    ghost invariant = { λ name. IsNameText name.bytes.items };
+}
+
+/// Why bytes are no name. The first that holds is told, in this order.
+#[derive(Clone, Copy, Debug, PartialEq, Eq, Error)]
+pub enum NameFault {
+    #[error("a name has at least one byte")]
+    Empty,
+    #[error("a name has at most 255 bytes")]
+    TooLong,
+    #[error("a name has no slash and no NUL")]
+    BadByte,
+    #[error("`.` and `..` are no names of entries")]
+    Dots,
+    #[error("out of memory")]
+    NoMemory,
+}
+
+impl Name {
+    /// In bytes (`NAME_MAX` of `linux/limits.h`).
+    pub const MAX_LEN: usize = 255;
+
+    /// The name of these bytes.
+    pub fn parse(alloc: Global, bytes: &[u8]) -> Result<Name, NameFault>
+        ensures name { IfOk result (λ name. name ≡ bytes.now) }
+        ensures accepted { OnOk result (IsNameText bytes.now) }
+        ensures refused { IfErr result (IsNameRefusal bytes.now) }
+    {
+        if let Some(fault) = fault_of(bytes) {
+            return Err(fault);
+        }
+        match Vec::from_slice(alloc, bytes) {
+            Ok(bytes) => Ok(Name { bytes }),
+            Err(_refused) => Err(NameFault::NoMemory),
+        }
+    }
+
+    pub fn bytes(&self) -> &[u8]
+        ensures bytes { result.now ≡ self.now }
+        ensures is_name { IsNameText result.now }
+    {
+        self.bytes.as_slice()
+    }
+
+    pub fn copy(&self, alloc: Global) -> Result<Name, NoMemory>
+        ensures copy { IfOk result (λ name. name ≡ self.now) }
+    {
+        match Vec::from_slice(alloc, self.bytes.as_slice()) {
+            Ok(bytes) => Ok(Name { bytes }),
+            Err(_refused) => Err(NoMemory),
+        }
+    }
+
+    /// Whether the two are one name, byte for byte.
+    pub fn is(&self, other: &Name) -> bool
+        ensures same { IsTrue result ↔ (self.now ≡ other.now) }
+        ensures value { result ≡ pointwise nat_eq self.now other.now }
+    {
+        self.bytes.as_slice() == other.bytes.as_slice()
+    }
+}
+
+/// The first fault of bytes as a name, want of memory apart.
+fn fault_of(bytes: &[u8]) -> Option<NameFault>
+    ensures { result ≡ name_fault bytes.now }
+{
+    if bytes.is_empty() {
+        return Some(NameFault::Empty);
+    }
+    if bytes.len() > Name::MAX_LEN {
+        return Some(NameFault::TooLong);
+    }
+    if has_separator(bytes) {
+        return Some(NameFault::BadByte);
+    }
+    if is_dots(bytes) {
+        return Some(NameFault::Dots);
+    }
+    None
+}
+
+/// Whether a slash or a NUL is among the bytes.
+fn has_separator(bytes: &[u8]) -> bool
+    ensures { result ≡ list_any is_separator bytes.now }
+{
+    bytes.iter().any(|byte| *byte == b'/' || *byte == 0)
+}
+
+/// Whether the bytes are `.` or `..`.
+fn is_dots(bytes: &[u8]) -> bool
+    ensures { result ≡ is_dots bytes.now }
+{
+    match bytes {
+        [b'.'] => true,
+        [b'.', b'.'] => true,
+        _ => false,
+    }
+}
+
+impl PartialEq for Name {
+    ghost eq = { λ x y. pointwise nat_eq x y };
+
+    ghost laws = { partial_equiv_from_equiv nat_list_eq_equiv };
+
+    fn eq(&self, other: &Name) -> bool {
+        self.bytes.as_slice() == other.bytes.as_slice()
+    }
+}
+
+impl Eq for Name {
+    ghost laws = { nat_list_eq_equiv };
+}
+
+impl PartialOrd for Name {
+    ghost partial_cmp = { λ x y. Some (slice_cmp nat_cmp x y) };
+
+    ghost laws = { texts_po };
+
+    fn partial_cmp(&self, other: &Name) -> Option<Ordering> {
+        Some(self.cmp(other))
+    }
+}
+
+impl Ord for Name {
+    ghost cmp = { λ x y. slice_cmp nat_cmp x y };
+
+    ghost total = { nat_list_cmp_total };
+
+    ghost matches_partial_cmp = { λ x y. refl };
+
+    ghost matches_eq = { λ x y. texts_ties x y };
+
+    fn cmp(&self, other: &Name) -> Ordering {
+        self.bytes.as_slice().cmp(other.bytes.as_slice())
+    }
+}
