@@ -1,0 +1,3 @@
+pub mod Broker
+pub mod Inside
+pub mod Nearest

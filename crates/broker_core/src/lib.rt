@@ -1,0 +1,12 @@
+//! The broker: the kernel's side of the mount, which keeps what the kernel holds and who has the seat.
+#![tactic(auto)]
+
+mod broker;
+mod held;
+mod request;
+mod seat;
+
+pub use broker::{Broker, IssueFault, MountFault};
+pub use held::Held;
+pub use request::{Answer, Item, Reply, Request};
+pub use seat::Seat;
