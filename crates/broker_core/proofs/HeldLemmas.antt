@@ -6,35 +6,36 @@ use Rattle.std.specs.Prelude.{slice_set, slice_index_or, nat_le, All, nat_lt, �
 use Rattle.std.specs.List.{AllByRecursion}
 use Rattle.std.specs.Option.{option_map_or}
 use Rattle.eden_base.specs.declared.number.Number.{Number}
-use Rattle.eden_base.specs.Keyed.{first_at, changed_at, without, IsPlaceOf, without-none, Each-changed_at, Each-without, Each-kept, Each-append, first_at-append}
+use Rattle.eden_base.specs.First.{first_where, changed_where, without_where, IsFirstPlace}
+use Rattle.eden_base.proofs.FirstLemmas.{without_where-none, Each-changed_where, Each-without_where, Each-kept, Each-append, first_where-append}
 use Rattle.broker_core.specs.declared.held.Held.{Held}
-use Rattle.broker_core.specs.Broker.{number_of, held_count, raised, lowered, IsLeastHeldAfter}
+use Rattle.broker_core.specs.Broker.{has_number, held_count, raised, lowered, IsLeastHeldAfter}
 use Rattle.broker_core.specs.Inside.{IsHolding}
 use Rattle.broker_core.specs.Nearest.{nearest_of}
 
 -- one more time, written at the place of the number
-pub raised-at_place : (held : List Held) (n : Number) (i : ℕ) (x : Held) → IsPlaceOf number_of n.0 held i → x ≡ get_or held i x →
+pub raised-at_place : (held : List Held) (n : Number) (i : ℕ) (x : Held) → IsFirstPlace (has_number n.0) held i → x ≡ get_or held i x →
     set held i (record { number = x.number; count = x.count + 1 }) ≡ raised held n
 raised-at_place held n i x place is = rw (place.value x) (ap (λ (y : Held). set held i (record { number = y.number; count = y.count + 1 })) is ∙ sym (place.change (λ h. record h { count = h.count + 1 }) x))
 
-count_in : (held : List Held) (n k : ℕ) (x : Held) → first_at number_of n held ≡ Some x → (b : Bool) → nat_le x.count k ≡ b → nat_le (held_count held n) k ≡ b
+count_in : (held : List Held) (n k : ℕ) (x : Held) → first_where (has_number n) held ≡ Some x → (b : Bool) → nat_le x.count k ≡ b → nat_le (held_count held n) k ≡ b
 count_in held n k x found b e = rw found e
 
 -- fewer times, written at the place of the number
-pub lowered-at_place : (held : List Held) (n : Number) (k i : ℕ) (x : Held) → IsPlaceOf number_of n.0 held i → x ≡ get_or held i x → nat_le x.count k ≡ false →
+pub lowered-at_place : (held : List Held) (n : Number) (k i : ℕ) (x : Held) → IsFirstPlace (has_number n.0) held i → x ≡ get_or held i x → nat_le x.count k ≡ false →
     set held i (record { number = x.number; count = x.count - k }) ≡ lowered held n k
 lowered-at_place held n k i x place is more =
     rw (count_in held n.0 k x (place.value x ∙ ap Some (sym is)) false more)
     (ap (λ (y : Held). set held i (record { number = y.number; count = y.count - k })) is ∙ sym (place.change (λ h. record h { count = h.count - k }) x))
 
 -- no more, where no more are held
-pub lowered-removed : (held : List Held) (n : Number) (k i : ℕ) (x : Held) → IsPlaceOf number_of n.0 held i → x ≡ get_or held i x → nat_le x.count k ≡ true →
+pub lowered-removed : (held : List Held) (n : Number) (k i : ℕ) (x : Held) → IsFirstPlace (has_number n.0) held i → x ≡ get_or held i x → nat_le x.count k ≡ true →
     remove held i ≡ lowered held n k
 lowered-removed held n k i x place is all = rw (count_in held n.0 k x (place.value x ∙ ap Some (sym is)) true all) (sym place.removal)
 
 -- what is not held stays so
-pub lowered-none : (held : List Held) (n : Number) (k : ℕ) → first_at number_of n.0 held ≡ None → held ≡ lowered held n k
-lowered-none held n k none = let all : nat_le 0 k ≡ true = grind (arith, nat_tests) in rw (none, all) (sym (without-none number_of n.0 held none))
+pub lowered-none : (held : List Held) (n : Number) (k : ℕ) → first_where (has_number n.0) held ≡ None → held ≡ lowered held n k
+lowered-none held n k none = let all : nat_le 0 k ≡ true = grind (arith, nat_tests) in rw (none, all) (sym (without_where-none (has_number n.0) held none))
 
 still : (next spare : ℕ) (h : Held) → IsHolding next spare h → IsHolding next (spare - 1) h
 still next spare h is = let low : h.count + spare < next = is.asked_for in record { some = is.some; asked_for = omega arith }
@@ -43,9 +44,9 @@ once_more : (next spare : ℕ) → 1 ≤ spare → (h : Held) → IsHolding next
 once_more next spare room h is = let low : h.count + spare < next = is.asked_for in record { some = omega arith; asked_for = omega arith }
 
 raised_in : (next spare : ℕ) (held : List Held) (n : Number) → 1 ≤ spare → spare < next → AllByRecursion (IsHolding next spare) held → (b : Bool) →
-    AllByRecursion (IsHolding next (spare - 1)) (cond b (changed_at number_of n.0 (λ h. record h { count = h.count + 1 }) held) (held ++ record { number = n; count = 1 } ∷ []))
+    AllByRecursion (IsHolding next (spare - 1)) (cond b (changed_where (has_number n.0) (λ h. record h { count = h.count + 1 }) held) (held ++ record { number = n; count = 1 } ∷ []))
 raised_in next spare held n room uniques each true =
-    Each-changed_at number_of n.0 (λ h. record h { count = h.count + 1 }) (IsHolding next spare) (IsHolding next (spare - 1)) held each (still next spare) (λ h _ is. once_more next spare room h is)
+    Each-changed_where (has_number n.0) (λ h. record h { count = h.count + 1 }) (IsHolding next spare) (IsHolding next (spare - 1)) held each (still next spare) (λ h _ is. once_more next spare room h is)
 raised_in next spare held n room uniques each false =
     Each-append (IsHolding next (spare - 1)) held _ (Each-kept (IsHolding next spare) (IsHolding next (spare - 1)) held each (still next spare))
     (record { some = omega arith; asked_for = omega arith }, tt)
@@ -53,7 +54,7 @@ raised_in next spare held n room uniques each false =
 -- One more time uses up the room for one number.
 pub raised-each : (next spare : ℕ) (held : List Held) (n : Number) → 1 ≤ spare → spare < next → All (IsHolding next spare) held → All (IsHolding next (spare - 1)) (raised held n)
 raised-each next spare held n room uniques each =
-    All-from_recursion (IsHolding next (spare - 1)) (raised held n) (raised_in next spare held n room uniques (recursion_from_All (IsHolding next spare) held each) (is_some (first_at number_of n.0 held)))
+    All-from_recursion (IsHolding next (spare - 1)) (raised held n) (raised_in next spare held n room uniques (recursion_from_All (IsHolding next spare) held each) (is_some (first_where (has_number n.0) held)))
 
 fewer : (next spare k : ℕ) (h : Held) → nat_le h.count k ≡ false → IsHolding next spare h → IsHolding next spare (record { number = h.number; count = h.count - k })
 fewer next spare k h more is =
@@ -62,10 +63,10 @@ fewer next spare k h more is =
     record { some = omega arith; asked_for = omega arith }
 
 lowered_in : (next spare : ℕ) (held : List Held) (n : Number) (k : ℕ) → AllByRecursion (IsHolding next spare) held → (b : Bool) → nat_le (held_count held n.0) k ≡ b →
-    AllByRecursion (IsHolding next spare) (cond b (without number_of n.0 held) (changed_at number_of n.0 (λ h. record h { count = h.count - k }) held))
-lowered_in next spare held n k each true e = Each-without number_of n.0 (IsHolding next spare) held each
+    AllByRecursion (IsHolding next spare) (cond b (without_where (has_number n.0) held) (changed_where (has_number n.0) (λ h. record h { count = h.count - k }) held))
+lowered_in next spare held n k each true e = Each-without_where (has_number n.0) (IsHolding next spare) held each
 lowered_in next spare held n k each false e =
-    Each-changed_at number_of n.0 (λ h. record h { count = h.count - k }) (IsHolding next spare) (IsHolding next spare) held each (λ h is. is)
+    Each-changed_where (has_number n.0) (λ h. record h { count = h.count - k }) (IsHolding next spare) (IsHolding next spare) held each (λ h is. is)
     (λ h found is. fewer next spare k h (ap (λ o. nat_le (option_map_or (λ (x : Held). x.count) o 0) k) (sym found) ∙ e) is)
 
 pub lowered-each : (next spare : ℕ) (held : List Held) (n : Number) (k : ℕ) → All (IsHolding next spare) held → All (IsHolding next spare) (lowered held n k)
@@ -79,24 +80,24 @@ asked-each next spare held each =
     (λ h is. let low : h.count + spare < next = is.asked_for in record { some = is.some; asked_for = omega arith }))
 
 -- what is held after one more number at the end of the list
-count_append : (held : List Held) (x : Held) (m : ℕ) → held_count (held ++ x ∷ []) m ≡ (if is_some (first_at number_of m held) then held_count held m else held_count (x ∷ []) m)
-count_append held x m = rw (first_at-append number_of m held (x ∷ [])) (count_chosen (first_at number_of m held) (first_at number_of m (x ∷ []))) where
+count_append : (held : List Held) (x : Held) (m : ℕ) → held_count (held ++ x ∷ []) m ≡ (if is_some (first_where (has_number m) held) then held_count held m else held_count (x ∷ []) m)
+count_append held x m = rw (first_where-append (has_number m) held (x ∷ [])) (count_chosen (first_where (has_number m) held) (first_where (has_number m) (x ∷ []))) where
   count_chosen : (o p : Option Held) → option_map_or (λ (h : Held). h.count) (if is_some o then o else p) 0 ≡ (if is_some o then option_map_or (λ (h : Held). h.count) o 0 else option_map_or (λ (h : Held). h.count) p 0)
   count_chosen None p = refl
   count_chosen (Some h) p = refl
 
 -- a number that is held not at all is not in the list
-not_there : (held : List Held) (m : ℕ) → AllByRecursion (λ h. 1 ≤ h.count) held → held_count held m ≡ 0 → is_some (first_at number_of m held) ≡ false
+not_there : (held : List Held) (m : ℕ) → AllByRecursion (λ h. 1 ≤ h.count) held → held_count held m ≡ 0 → is_some (first_where (has_number m) held) ≡ false
 not_there [] m some none = refl
-not_there (h ∷ held) m some none = there_in h held m some (number_of h == m) none (not_there held m some.1) where
-  there_in : (h : Held) (held : List Held) (m : ℕ) → AllByRecursion (λ h'. 1 ≤ h'.count) (h ∷ held) → (b : Bool) → option_map_or (λ (x : Held). x.count) (cond b (Some h) (first_at number_of m held)) 0 ≡ 0 →
-      (held_count held m ≡ 0 → is_some (first_at number_of m held) ≡ false) → is_some (cond b (Some h) (first_at number_of m held)) ≡ false
+not_there (h ∷ held) m some none = there_in h held m some (has_number m h) none (not_there held m some.1) where
+  there_in : (h : Held) (held : List Held) (m : ℕ) → AllByRecursion (λ h'. 1 ≤ h'.count) (h ∷ held) → (b : Bool) → option_map_or (λ (x : Held). x.count) (cond b (Some h) (first_where (has_number m) held)) 0 ≡ 0 →
+      (held_count held m ≡ 0 → is_some (first_where (has_number m) held) ≡ false) → is_some (cond b (Some h) (first_where (has_number m) held)) ≡ false
   there_in h held m some true none rest = absurd (let low : 1 ≤ h.count = some.0 in omega arith)
   there_in h held m some false none rest = rest none
 
 -- a number that is held is in the list
-is_there : (held : List Held) (m : ℕ) → 0 < held_count held m → is_some (first_at number_of m held) ≡ true
-is_there held m some = there (first_at number_of m held) some where
+is_there : (held : List Held) (m : ℕ) → 0 < held_count held m → is_some (first_where (has_number m) held) ≡ true
+is_there held m some = there (first_where (has_number m) held) some where
   there : (o : Option Held) → 0 < option_map_or (λ (h : Held). h.count) o 0 → is_some o ≡ true
   there None h = absurd (omega arith)
   there (Some x) h = refl
@@ -137,11 +138,11 @@ least-same_some held x n old all low least =
     (least.0, still_some held x old.0 least.1, λ m h l. still_none held x m (recursion_from_All (λ (y : Held). 1 ≤ y.count) held all) (least.2 m h l) (λ e. elim low [ inl a ↦ omega arith | inr b ↦ omega arith ]))
 
 -- two reads of one place
-one_item : (held : List Held) (n i : ℕ) (x y : Held) → IsPlaceOf number_of n held i → x ≡ get_or held i x → y ≡ get_or held i y → x ≡ y
+one_item : (held : List Held) (n i : ℕ) (x y : Held) → IsFirstPlace (has_number n) held i → x ≡ get_or held i x → y ≡ get_or held i y → x ≡ y
 one_item held n i x y place e f = let p = place.value x in let q = place.value y in let r : Some (get_or held i x) ≡ Some (get_or held i y) = sym p ∙ q in let s : get_or held i x ≡ get_or held i y = cc in e ∙ s ∙ sym f
 
 -- fewer times, as two reads of the place show them
-pub lowered-at_two_reads : (held : List Held) (n : Number) (k i : ℕ) (x y : Held) → IsPlaceOf number_of n.0 held i → x ≡ get_or held i x → y ≡ get_or held i y → k < x.count →
+pub lowered-at_two_reads : (held : List Held) (n : Number) (k i : ℕ) (x y : Held) → IsFirstPlace (has_number n.0) held i → x ≡ get_or held i x → y ≡ get_or held i y → k < x.count →
     set held i (record { number = y.number; count = y.count - k }) ≡ lowered held n k
 lowered-at_two_reads held n k i x y place e f more =
     let same : x ≡ y = one_item held n.0 i x y place e f in

@@ -4,7 +4,7 @@ use Rattle.std.specs.Prelude.{◌≡◌, ℕ, ◌+◌, ◌-◌, ◌^◌, ◌<◌
 use Rattle.std.specs.Option.{option_map_or}
 use Rattle.eden_base.specs.declared.number.Number.{Number}
 use Rattle.eden_base.specs.declared.number.DaemonId.{DaemonId}
-use Rattle.eden_base.specs.Keyed.{first_at, changed_at, without}
+use Rattle.eden_base.specs.First.{first_where, changed_where, without_where}
 use Rattle.broker_core.specs.declared.held.Held.{Held}
 use Rattle.broker_core.specs.declared.request.Request.{Request}
 use Rattle.broker_core.specs.declared.request.Request.TheVariants.{Lookup, Forget}
@@ -27,24 +27,25 @@ pub record BrokerState : Type 0 where
   pub next_unique : ℕ
   pub spare : ℕ
 
-abbrev pub number_of : Held → ℕ
-number_of held = held.number.0
+-- the number is this one
+abbrev pub has_number : ℕ → Held → Bool
+has_number n held = held.number.0 == n
 
 -- how often the kernel holds a number
 abbrev pub held_count : List Held → ℕ → ℕ
-held_count held n = option_map_or (λ (h : Held). h.count) (first_at number_of n held) 0
+held_count held n = option_map_or (λ (h : Held). h.count) (first_where (has_number n) held) 0
 
 -- held once more
 abbrev pub raised : List Held → Number → List Held
 raised held n =
-    if is_some (first_at number_of n.0 held) then changed_at number_of n.0 (λ h. record h { count = h.count + 1 }) held
+    if is_some (first_where (has_number n.0) held) then changed_where (has_number n.0) (λ h. record h { count = h.count + 1 }) held
     else held ++ record { number = n; count = 1 } ∷ []
 
 -- held k times less, and not at all where that is all
 abbrev pub lowered : List Held → Number → ℕ → List Held
 lowered held n k =
-    if nat_le (held_count held n.0) k then without number_of n.0 held
-    else changed_at number_of n.0 (λ h. record h { count = h.count - k }) held
+    if nat_le (held_count held n.0) k then without_where (has_number n.0) held
+    else changed_where (has_number n.0) (λ h. record h { count = h.count - k }) held
 
 -- the root, or a number that the kernel holds
 abbrev pub may_be_asked : BrokerState → ℕ → Bool

@@ -1,7 +1,7 @@
 //! The numbers that the kernel holds.
 ghost use Rattle.std.specs.Prelude.{◌≡◌, ◌+◌, ◌^◌, ◌<◌, ◌≤◌, vec_len, vec_capacity, All, MatchOption};
-ghost use Rattle.eden_base.specs.Keyed.{first_at, IsPlaceOf};
-ghost use Rattle.broker_core.specs.Broker.{number_of, raised, lowered, IsLeastHeldAfter};
+ghost use Rattle.eden_base.specs.First.{first_where, IsFirstPlace};
+ghost use Rattle.broker_core.specs.Broker.{has_number, raised, lowered, IsLeastHeldAfter};
 ghost use Rattle.broker_core.specs.Nearest.{nearest_of};
 
 use crate::Item;
@@ -17,7 +17,7 @@ pub struct Held {
 
 /// The place of a number in the list.
 pub(crate) fn place_of(held: &[Held], number: Number) -> Option<usize>
-    ensures { MatchOption result (first_at number_of number.0 held.now ≡ None) (IsPlaceOf number_of number.0 held.now) }
+    ensures { MatchOption result (first_where (has_number number.0) held.now ≡ None) (IsFirstPlace (has_number number.0) held.now) }
 {
     for (place, holding) in held.iter().enumerate() {
         if holding.number == number {
