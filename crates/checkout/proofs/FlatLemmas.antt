@@ -1,0 +1,141 @@
+-- Look-ups in the indexes, as look-ups in the maps that they hold.
+use Rattle.std.proofs.Common.{◌≡◌, ℕ, Bool, true, false, cond, subst, List, [], ◌∷◌, ◌++◌, Option, Some, None, refl, sym, ap, ◌∙◌}
+use Rattle.std.specs.Ordering.{nat_cmp, is_eq, eq_by_cmp, ordering_then, match_ordering, on, then_cmp}
+use Rattle.std.specs.declared.cmp.Ordering.{Ordering}
+use Rattle.std.specs.declared.cmp.Ordering.TheVariants.{Less, Equal, Greater}
+use Rattle.std.specs.Cmp.{IsTotalOrder, nat_cmp_total, on_total, then_total}
+use Rattle.std.specs.Cmp.Lexicographic.{slice_cmp, nat_list_cmp_total}
+use Rattle.std.specs.FinMap.{FinMap, entries, get, insert, from_entries, find, put, IsAntisymmetric, nat_cmp-IsAntisymmetric, slice_cmp-IsAntisymmetric, get-entries, get-from_entries, get-insert, same_map}
+use Rattle.std.specs.FinMap.Entries.{find-put, by_order}
+use Rattle.std.specs.Map.{lookup, keys_of}
+use Rattle.std.specs.List.{AllByRecursion}
+use Rattle.std.specs.List.Sorted.{IsStrictlySortedBy}
+use Rattle.std.proofs.lemmas.Map.Keys.{sorted_head, sorted_tail}
+use Rattle.std.specs.BTreeMap.{insert_entry, is_at}
+use Rattle.std.specs.Option.{option_and_then, option_or}
+use Rattle.std.specs.declared.alloc.Global.{Global}
+use Rattle.std.specs.declared.vec.Vec.{Vec}
+use Rattle.eden_base.specs.declared.number.FileId.{FileId}
+use Rattle.checkout.specs.Flat.{by_bytes, in_directory, in_directories}
+use Rattle.checkout.specs.Tree.{link_cmp}
+
+-- names, by their bytes
+abbrev pub name_cmp : List ℕ → List ℕ → Ordering
+name_cmp = slice_cmp nat_cmp
+
+abbrev pub vec_cmp : Vec ℕ Global → Vec ℕ Global → Ordering
+vec_cmp a b = name_cmp a.items b.items
+
+pub name_cmp-same : IsAntisymmetric name_cmp
+name_cmp-same = slice_cmp-IsAntisymmetric nat_cmp-IsAntisymmetric
+
+pub link_cmp_total : IsTotalOrder link_cmp
+link_cmp_total = then_total (on_total (λ (k : ℕ × List ℕ). k.0) nat_cmp_total) (on_total (λ (k : ℕ × List ℕ). k.1) nat_list_cmp_total)
+
+-- a name of a directory is found among its entries by its bytes
+find-by_bytes : (es : List (Vec ℕ Global × FileId)) (name : List ℕ) → find name_cmp name (by_bytes es) ≡ lookup (is_at (λ (k : Vec ℕ Global). name_cmp name k.items)) es
+find-by_bytes [] name = refl
+find-by_bytes (e ∷ es) name = ap (cond (is_eq (name_cmp name e.0.items)) (Some e.1)) (find-by_bytes es name)
+
+pub get-by_bytes : (es : List (Vec ℕ Global × FileId)) (name : List ℕ) → get (from_entries {R = name_cmp} (by_bytes es)) name ≡ lookup (is_at (λ (k : Vec ℕ Global). name_cmp name k.items)) es
+get-by_bytes es name = get-from_entries nat_list_cmp_total (by_bytes es) name ∙ find-by_bytes es name
+
+-- an insertion by bytes is an insertion
+by_bytes-insert_entry : (es : List (Vec ℕ Global × FileId)) (k : Vec ℕ Global) (file : FileId) → by_bytes (insert_entry vec_cmp es k file) ≡ put name_cmp k.items file (by_bytes es)
+by_bytes-insert_entry [] k file = refl
+by_bytes-insert_entry (e ∷ es) k file =
+    elim (name_cmp k.items e.0.items) as (λ o. by_bytes (match_ordering o ((k, file) ∷ e ∷ es) ((e.0, file) ∷ es) (e ∷ insert_entry vec_cmp es k file)) ≡ by_order o ((k.items, file) ∷ (e.0.items, e.1) ∷ by_bytes es) ((e.0.items, file) ∷ by_bytes es) ((e.0.items, e.1) ∷ put name_cmp k.items file (by_bytes es))) [
+      | Less ↦ refl
+      | Equal ↦ refl
+      | Greater ↦ ap (λ xs. (e.0.items, e.1) ∷ xs) (by_bytes-insert_entry es k file)
+    ]
+
+pub from_entries-by_bytes-insert : (es : List (Vec ℕ Global × FileId)) (k : Vec ℕ Global) (file : FileId) → from_entries {R = name_cmp} (by_bytes (insert_entry vec_cmp es k file)) ≡ insert (from_entries (by_bytes es)) k.items file
+from_entries-by_bytes-insert es k file =
+    let o = nat_list_cmp_total in
+    same_map o name_cmp-same _ _ (λ q. get-from_entries o _ q ∙ ap (find name_cmp q) (by_bytes-insert_entry es k file) ∙ find-put name_cmp o q k.items file (by_bytes es)
+        ∙ sym (get-insert o _ k.items file q ∙ ap (cond (eq_by_cmp name_cmp q k.items) (Some file)) (get-from_entries o (by_bytes es) q)))
+
+-- the files of one directory, among all links
+find-in_directory : (d dir : ℕ) (name : List ℕ) (es : List (List ℕ × FileId)) → find link_cmp (dir, name) (in_directory d es) ≡ cond (is_eq (nat_cmp dir d)) (find name_cmp name es) None
+find-in_directory d dir name [] = elim (is_eq (nat_cmp dir d)) as (λ b. ◌≡◌ {A = Option FileId} None (cond b None None)) [ true ↦ refl | false ↦ refl ]
+find-in_directory d dir name (e ∷ es) =
+    let rest = find-in_directory d dir name es in
+    elim (nat_cmp dir d) as (λ o. find link_cmp (dir, name) (in_directory d es) ≡ cond (is_eq o) (find name_cmp name es) None → cond (is_eq (ordering_then o (name_cmp name e.0))) (Some e.1) (find link_cmp (dir, name) (in_directory d es)) ≡ cond (is_eq o) (cond (is_eq (name_cmp name e.0)) (Some e.1) (find name_cmp name es)) None) [
+      | Less ↦ λ h. h
+      | Equal ↦ λ h. ap (cond (is_eq (name_cmp name e.0)) (Some e.1)) h
+      | Greater ↦ λ h. h
+    ] rest
+
+-- a look-up in two lists is one in the second where the first has nothing
+find-append : {K X : Type 0} (R : K → K → Ordering) (q : K) (es fs : List (K × X)) → find R q (es ++ fs) ≡ option_or (find R q es) (find R q fs)
+find-append R q [] fs = refl
+find-append {X = X} R q (e ∷ es) fs =
+    let rest = find-append R q es fs in
+    elim (is_eq (R q e.0)) as (λ b. ◌≡◌ {A = Option X} (cond b (Some e.1) (find R q (es ++ fs))) (option_or (cond b (Some e.1) (find R q es)) (find R q fs))) [ true ↦ refl | false ↦ rest ]
+
+option_or-None : {X : Type 0} (o : Option X) → option_or o None ≡ o
+option_or-None None = refl
+option_or-None (Some x) = refl
+
+module _ (dir : ℕ) (name : List ℕ) where
+  -- the file under the name, where the directory is known
+  abbrev pub in_it : Option (FinMap name_cmp FileId) → Option FileId
+  in_it m = option_and_then (λ (d : FinMap name_cmp FileId). get d name) m
+
+  abbrev at : ℕ → Bool
+  at = is_at (nat_cmp dir)
+
+  step : (d : ℕ × FinMap name_cmp FileId) (ds : List (ℕ × FinMap name_cmp FileId)) → find link_cmp (dir, name) (in_directories (d ∷ ds)) ≡ option_or (cond (at d.0) (get d.1 name) None) (find link_cmp (dir, name) (in_directories ds))
+  step d ds =
+      find-append link_cmp (dir, name) (in_directory d.0 (entries d.1)) (in_directories ds)
+      ∙ ap (λ o. option_or o (find link_cmp (dir, name) (in_directories ds))) (find-in_directory d.0 dir name (entries d.1) ∙ ap (λ o. cond (at d.0) o None) (sym (get-entries d.1 name)))
+
+  none_above : (ds : List (ℕ × FinMap name_cmp FileId)) → AllByRecursion (λ y. nat_cmp dir y ≡ Less) (keys_of ds) → find link_cmp (dir, name) (in_directories ds) ≡ None
+  none_above [] h = refl
+  none_above (d ∷ ds) h = step d ds ∙ rw h.0 (none_above ds h.1)
+
+  find-in_directories : (ds : List (ℕ × FinMap name_cmp FileId)) → IsStrictlySortedBy nat_cmp (keys_of ds) → find link_cmp (dir, name) (in_directories ds) ≡ in_it (lookup at ds)
+  find-in_directories [] h = refl
+  find-in_directories (d ∷ ds) h =
+      let rest = find-in_directories ds (sorted_tail nat_cmp d.0 (keys_of ds) h) in
+      let above = sorted_head nat_cmp d.0 (keys_of ds) h in
+      step d ds ∙ (elim (nat_cmp dir d.0) as (λ o. nat_cmp dir d.0 ≡ o → option_or (cond (is_eq o) (get d.1 name) None) (find link_cmp (dir, name) (in_directories ds)) ≡ in_it (cond (is_eq o) (Some d.1) (lookup at ds))) [
+        | Less ↦ λ _. rest
+        | Equal ↦ λ same. ap (option_or (get d.1 name)) (none_above ds (subst (λ n. AllByRecursion (λ y. nat_cmp n y ≡ Less) (keys_of ds)) (sym (nat_cmp-IsAntisymmetric dir d.0 same)) above)) ∙ option_or-None (get d.1 name)
+        | Greater ↦ λ _. rest
+      ] refl)
+
+  pub get-in_directories : (ds : List (ℕ × FinMap name_cmp FileId)) → IsStrictlySortedBy nat_cmp (keys_of ds) → get (from_entries {R = link_cmp} (in_directories ds)) (dir, name) ≡ in_it (lookup at ds)
+  get-in_directories ds h = get-from_entries link_cmp_total (in_directories ds) (dir, name) ∙ find-in_directories ds h
+
+pub link_cmp-same : IsAntisymmetric link_cmp
+link_cmp-same x y e =
+    elim (nat_cmp x.0 y.0) as (λ o. nat_cmp x.0 y.0 ≡ o → ordering_then o (name_cmp x.1 y.1) ≡ Equal → x ≡ y) [
+      | Less ↦ λ _ h. cc
+      | Equal ↦ λ k h. λ i. (nat_cmp-IsAntisymmetric x.0 y.0 k i, name_cmp-same x.1 y.1 h i)
+      | Greater ↦ λ _ h. cc
+    ] refl e
+
+-- what one name gives in one directory, and each other as before
+pub insert-in_directories : (m n : List (ℕ × FinMap name_cmp FileId)) (dir : ℕ) (name : List ℕ) (file : FileId) (files : FinMap name_cmp FileId) →
+    IsStrictlySortedBy nat_cmp (keys_of m) → IsStrictlySortedBy nat_cmp (keys_of n) →
+    ((x : List ℕ) → in_it dir x (lookup (is_at (nat_cmp dir)) m) ≡ get files x) →
+    ((d : ℕ) → lookup (is_at (nat_cmp d)) n ≡ cond (is_at (nat_cmp dir) d) (Some (insert files name file)) (lookup (is_at (nat_cmp d)) m)) →
+    from_entries {R = link_cmp} (in_directories n) ≡ insert (from_entries (in_directories m)) (dir, name) file
+insert-in_directories m n dir name file files sorted_m sorted_n before after =
+    same_map link_cmp_total link_cmp-same _ _ (λ q.
+      get-in_directories q.0 q.1 n sorted_n ∙ ap (in_it q.0 q.1) (after q.0) ∙ at_link q.0 q.1 ∙ sym (get-insert link_cmp_total (from_entries (in_directories m)) (dir, name) file q))
+  where
+    old : FinMap link_cmp FileId
+    old = from_entries (in_directories m)
+
+    at_link : (d : ℕ) (x : List ℕ) → in_it d x (cond (is_eq (nat_cmp dir d)) (Some (insert files name file)) (lookup (is_at (nat_cmp d)) m)) ≡ cond (is_eq (ordering_then (nat_cmp d dir) (name_cmp x name))) (Some file) (get old (d, x))
+    at_link d x =
+        elim (nat_cmp d dir) as (λ o. nat_cmp d dir ≡ o → in_it d x (cond (is_eq (nat_cmp dir d)) (Some (insert files name file)) (lookup (is_at (nat_cmp d)) m)) ≡ cond (is_eq (ordering_then o (name_cmp x name))) (Some file) (get old (d, x))) [
+          | Less ↦ λ e. rw (nat_cmp_total.antisymm dir d, e) (sym (get-in_directories d x m sorted_m))
+          | Equal ↦ λ e.
+            let same : d ≡ dir = nat_cmp-IsAntisymmetric d dir e in
+            rw (nat_cmp_total.antisymm dir d, e) (get-insert nat_list_cmp_total files name file x ∙ ap (cond (eq_by_cmp name_cmp x name) (Some file)) (sym (before x) ∙ sym (get-in_directories dir x m sorted_m) ∙ ap (λ k. get old (k, x)) (sym same)))
+          | Greater ↦ λ e. rw (nat_cmp_total.antisymm dir d, e) (sym (get-in_directories d x m sorted_m))
+        ] refl

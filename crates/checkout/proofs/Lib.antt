@@ -1,0 +1,4 @@
+pub mod FlatLemmas
+pub mod ManifestIsTree
+pub mod ManifestTree
+pub mod MapLemmas

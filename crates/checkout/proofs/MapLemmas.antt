@@ -1,0 +1,49 @@
+-- Look-ups in a finite map after an insertion, and its entries.
+use Rattle.std.proofs.Common.{◌≡◌, Bool, true, false, cond, ◌||◌, List, [], ◌∷◌, Option, Some, None, refl, sym, ap, ◌∙◌, ◌⊎◌, inl, inr}
+use Rattle.std.specs.List.{list_any}
+use Rattle.std.specs.Ordering.{is_eq, eq_by_cmp}
+use Rattle.std.specs.declared.cmp.Ordering.{Ordering}
+use Rattle.std.specs.declared.cmp.Ordering.TheVariants.{Less, Equal, Greater}
+use Rattle.std.specs.Cmp.{IsTotalOrder, tied_itself}
+use Rattle.std.specs.FinMap.{FinMap, entries, get, insert, find, get-entries, get-insert, IsAntisymmetric}
+
+-- a key that ties is the key, in an order that tells keys apart
+tied : {K : Type 0} {R : K → K → Ordering} → IsAntisymmetric R → (x y : K) (o : Ordering) → R x y ≡ o → is_eq o ≡ true → x ≡ y
+tied same x y Less e h = cc
+tied same x y Equal e h = same x y e
+tied same x y Greater e h = cc
+
+-- what a map has after an insertion is what was inserted, or what it had
+pub get-insert_cases : {K X : Type 0} {R : K → K → Ordering} (o : IsTotalOrder R) → IsAntisymmetric R → (m : FinMap R X) (k : K) (v : X) (q : K) (w : X) → get (insert m k v) q ≡ Some w → ((q ≡ k) × (v ≡ w)) ⊎ (get m q ≡ Some w)
+get-insert_cases {K} {X} {R} o same m k v q w h =
+    elim (eq_by_cmp R q k) as (λ b. eq_by_cmp R q k ≡ b → cond b (Some v) (get m q) ≡ Some w → ((q ≡ k) × (v ≡ w)) ⊎ (get m q ≡ Some w)) [
+      | true ↦ λ e g. inl (tied same q k (R q k) refl e, cc)
+      | false ↦ λ e g. inr g
+    ] refl (sym (get-insert o m k v q) ∙ h)
+
+pub get-insert_same : {K X : Type 0} {R : K → K → Ordering} (o : IsTotalOrder R) → (m : FinMap R X) (k : K) (v : X) → get (insert m k v) k ≡ Some v
+get-insert_same o m k v = get-insert o m k v k ∙ ap (λ r. cond (is_eq r) (Some v) (get m k)) (tied_itself o k)
+
+pub get-insert_other : {K X : Type 0} {R : K → K → Ordering} (o : IsTotalOrder R) → IsAntisymmetric R → (m : FinMap R X) (k : K) (v : X) (q : K) → (q ≡ k → ⊥) → get (insert m k v) q ≡ get m q
+get-insert_other {K} {X} {R} o same m k v q other =
+    get-insert o m k v q ∙ (elim (eq_by_cmp R q k) as (λ b. eq_by_cmp R q k ≡ b → cond b (Some v) (get m q) ≡ get m q) [
+      | true ↦ λ e. absurd (other (tied same q k (R q k) refl e))
+      | false ↦ λ e. refl
+    ] refl)
+
+
+or-true : (b : Bool) → (b || true) ≡ true
+or-true true = refl
+or-true false = refl
+
+-- a value that is found is among the entries
+list_any-find : {K X : Type 0} (R : K → K → Ordering) (p : X → Bool) (q : K) (es : List (K × X)) (v : X) → find R q es ≡ Some v → p v ≡ true → list_any (λ (e : K × X). p e.1) es ≡ true
+list_any-find R p q [] v h t = cc
+list_any-find {K} {X} R p q (e ∷ es) v h t =
+    elim (eq_by_cmp R q e.0) as (λ b. cond b (Some e.1) (find R q es) ≡ Some v → list_any (λ (x : K × X). p x.1) (e ∷ es) ≡ true) [
+      | true ↦ λ g. let same : e.1 ≡ v = cc in rw (same, t) refl
+      | false ↦ λ g. rw (list_any-find R p q es v g t) (or-true (p e.1))
+    ] h
+
+pub list_any-entries : {K X : Type 0} {R : K → K → Ordering} (p : X → Bool) (m : FinMap R X) (q : K) (v : X) → get m q ≡ Some v → p v ≡ true → list_any (λ (e : K × X). p e.1) (entries m) ≡ true
+list_any-entries {R = R} p m q v h t = list_any-find R p q (entries m) v (sym (get-entries m q) ∙ h) t

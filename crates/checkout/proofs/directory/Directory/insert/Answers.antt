@@ -1,0 +1,10 @@
+-- An insertion into the map is one into the view.
+use Rattle.std.proofs.Common.{ap, sym, ◌∙◌}
+use Rattle.std.specs.FinMap.{from_entries}
+use Rattle.checkout.specs.Flat.{by_bytes}
+use Rattle.checkout.proofs.FlatLemmas.{from_entries-by_bytes-insert}
+use Rattle.checkout.proofs.directory.Directory.insert.Goals as goal
+
+pub returns-clause-ok : goal.returns-clause-ok
+returns-clause-ok c =
+    rw (← c.self.view_is, ← c.in_ok-name.ensures.items) (ap (λ es. from_entries (by_bytes es)) c.in_ok-insert.ensures.entries ∙ from_entries-by_bytes-insert _ _ _)

@@ -1,0 +1,42 @@
+-- What a manifest says: the commit of a checkout, and its files in an order in which each directory stands before
+-- what it holds. (This project's own; a manifest stands for the store of objects that EdenFS asks.)
+use Rattle.std.specs.Prelude.{◌≡◌, ◌≢◌, ℕ, ◌+◌, ◌-◌, ◌^◌, ◌<◌, ◌≤◌, ◌⊎◌, List, length, slice_get, Option, Some}
+use Rattle.eden_base.specs.declared.attr.Kind.{Kind}
+use Rattle.eden_base.specs.declared.attr.Kind.TheVariants.{Dir}
+use Rattle.eden_base.specs.declared.attr.Perm.{Perm}
+use Rattle.eden_base.specs.declared.number.FileId.{FileId}
+use Rattle.eden_base.specs.Name.{IsNameText}
+
+-- what a checkout knows of a file
+pub record File : Type 0 where
+  pub kind : Kind
+  pub perm : Perm
+  pub size : ℕ
+
+-- a line: a file, and where it stands
+pub record Line : Type 0 where
+  pub dir : FileId
+  pub name : List ℕ
+  pub file : File
+
+-- a commit's name, and lines: the first of them is of file 2, and so on, since file 1 is the root, which has no line
+pub record Manifest : Type 0 where
+  pub commit : List ℕ
+  pub lines : List Line
+
+-- the root, or the directory of an earlier line
+abbrev pub IsDirBefore : List Line → ℕ → FileId → Type 0
+IsDirBefore lines i dir = (dir.0 ≡ 1) ⊎ ((j : ℕ) × (above : Line) × (j < i) × (dir.0 ≡ j + 2) × (slice_get lines j ≡ Some above) × (above.file.kind ≡ Dir))
+
+-- what holds of each line
+pub record IsLine (lines : List Line) (i : ℕ) (line : Line) : Type 0 where
+  pub name : IsNameText line.name
+  pub size : line.file.size < 2 ^ 63
+  pub dir_before : IsDirBefore lines i line.dir
+  pub place_is_new : (j : ℕ) (other : Line) → j < i → slice_get lines j ≡ Some other → other.dir ≡ line.dir → other.name ≢ line.name
+
+-- twenty bytes, and lines that each stand below an earlier one, no two at one place
+pub record IsManifest (m : Manifest) : Type 0 where
+  pub commit : length m.commit ≡ 20
+  pub few : length m.lines ≤ 65535
+  pub each : (i : ℕ) (line : Line) → slice_get m.lines i ≡ Some line → IsLine m.lines i line

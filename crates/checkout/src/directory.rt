@@ -1,0 +1,58 @@
+//! The names in one directory, and the file that each of them gives.
+ghost use Rattle.std.specs.Prelude.{◌≡◌, OnOk, OnErr};
+ghost use Rattle.std.specs.Ordering.{nat_cmp};
+ghost use Rattle.std.specs.Cmp.Lexicographic.{slice_cmp};
+ghost use Rattle.std.specs.FinMap.{FinMap, empty, get, insert};
+
+use eden_base::{FileId, NoMemory};
+use std::alloc::Global;
+use std::collections::BTreeMap;
+use std::marker::Model;
+
+/// A look-up by bytes takes no memory, as the names are kept as bytes.
+#[derive(Drop)]
+pub struct Directory {
+    files: BTreeMap<Vec<u8>, FileId>,
+}
+
+impl Model for Directory {
+    ghost use Rattle.std.specs.Ordering.{nat_cmp};
+    ghost use Rattle.std.specs.Cmp.Lexicographic.{slice_cmp};
+    ghost use Rattle.std.specs.FinMap.{FinMap, from_entries};
+    ghost use Rattle.eden_base.specs.declared.number.FileId.{FileId};
+    ghost use Rattle.checkout.specs.Codes.{directory_code};
+    ghost use Rattle.checkout.specs.Flat.{by_bytes};
+
+    ghost Value = { FinMap (slice_cmp nat_cmp) FileId };
+
+    ghost coded = { directory_code };
+
+    ghost view = { λ a. from_entries (by_bytes a.files.entries) };
+}
+
+impl Directory {
+    pub fn new(alloc: Global) -> Directory
+        ensures { result ≡ empty }
+    {
+        Directory {
+            files: BTreeMap::new(alloc),
+        }
+    }
+
+    /// The file under a name.
+    pub fn get(&self, name: &[u8]) -> Option<FileId>
+        ensures { result ≡ get self.now name.now }
+    {
+        self.files.get(name).copied()
+    }
+
+    /// Lets a name give a file.
+    pub fn insert(&mut self, alloc: Global, name: &[u8], file: FileId) -> Result<(), NoMemory>
+        ensures ok { OnOk result (self.new ≡ insert self.old name.now file) }
+        ensures err { OnErr result (self.new ≡ self.old) }
+    {
+        let name = Vec::from_slice(alloc, name)?;
+        self.files.insert(name, file)?;
+        Ok(())
+    }
+}

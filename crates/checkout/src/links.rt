@@ -1,0 +1,70 @@
+//! The names in every directory, and the file that each of them gives.
+ghost use Rattle.std.specs.Prelude.{◌≡◌, OnOk, OnErr};
+ghost use Rattle.std.specs.FinMap.{FinMap, empty, get, insert};
+
+use crate::directory::Directory;
+use eden_base::{FileId, NoMemory};
+use std::alloc::Global;
+use std::collections::BTreeMap;
+use std::marker::Model;
+
+/// A directory that has had no names is not there.
+#[derive(Drop)]
+pub struct Links {
+    directories: BTreeMap<u64, Directory>,
+}
+
+impl Model for Links {
+    ghost use Rattle.std.specs.Prelude.{ℕ};
+    ghost use Rattle.std.specs.Ordering.{nat_cmp};
+    ghost use Rattle.std.specs.BTreeMap.{IsOrdered};
+    ghost use Rattle.std.specs.FinMap.{FinMap, from_entries};
+    ghost use Rattle.eden_base.specs.declared.number.FileId.{FileId};
+    ghost use Rattle.checkout.specs.Tree.{link_cmp};
+    ghost use Rattle.checkout.specs.Codes.{links_code};
+    ghost use Rattle.checkout.specs.Flat.{in_directories};
+
+    ghost Value = { FinMap link_cmp FileId };
+
+    ghost coded = { links_code };
+
+    ghost view = { λ a. from_entries (in_directories a.directories.entries) };
+
+    ghost invariant = { λ a. IsOrdered nat_cmp a.directories };
+}
+
+impl Links {
+    pub fn new(alloc: Global) -> Links
+        ensures { result ≡ empty }
+    {
+        Links {
+            directories: BTreeMap::new(alloc),
+        }
+    }
+
+    /// The file under a name in a directory.
+    pub fn get(&self, dir: FileId, name: &[u8]) -> Option<FileId>
+        ensures { result ≡ get self.now (dir.0, name.now) }
+    {
+        match self.directories.get(&dir.0) {
+            Some(directory) => directory.get(name),
+            None => None,
+        }
+    }
+
+    /// Lets a name in a directory give a file.
+    pub fn insert(&mut self, alloc: Global, dir: FileId, name: &[u8], file: FileId) -> Result<(), NoMemory>
+        ensures ok { OnOk result (self.new ≡ insert self.old (dir.0, name.now) file) }
+        ensures err { OnErr result (self.new ≡ self.old) }
+    {
+        match self.directories.get_mut(&dir.0) {
+            Some(directory) => directory.insert(alloc, name, file),
+            None => {
+                let mut directory = Directory::new(alloc);
+                directory.insert(alloc, name, file)?;
+                self.directories.insert(dir.0, directory)?;
+                Ok(())
+            }
+        }
+    }
+}

@@ -1,0 +1,70 @@
+//! The files of a checkout and the names that lead to them.
+ghost use Rattle.std.specs.Prelude.{◌≡◌, IfOk};
+ghost use Rattle.checkout.specs.Tree.{IsTree, tree_of, child_of, links_from};
+
+use crate::links::Links;
+use crate::Manifest;
+use eden_base::{FileId, Name, NoMemory};
+use std::alloc::Global;
+use std::marker::Model;
+
+/// What the requests of a mount read and change. It starts as its manifest says.
+#[derive(Drop)]
+pub struct Tree {
+    manifest: Manifest,
+    links: Links,
+}
+
+impl Model for Tree {
+    ghost use Rattle.std.specs.Prelude.{◌≡◌, ◌+◌, length};
+    ghost use Rattle.checkout.specs.Manifest.{IsManifest};
+    ghost use Rattle.checkout.specs.Tree.{Tree, files_from, links_from};
+    ghost use Rattle.checkout.specs.Codes.{tree_code};
+
+    ghost Value = { Tree };
+
+    ghost coded = { tree_code };
+
+    ghost view = { λ a. record { manifest = a.manifest; files = files_from 2 a.manifest.lines; links = a.links; next_file = length a.manifest.lines + 2 } };
+
+    ghost invariant = { λ a. IsManifest a.manifest × (a.links ≡ links_from 2 a.manifest.lines) };
+}
+
+impl Tree {
+    /// The tree that the manifest says, before any request.
+    pub fn of(alloc: Global, manifest: &Manifest) -> Result<Tree, NoMemory>
+        ensures tree { IfOk result (λ tree. tree ≡ tree_of manifest.now) }
+        ensures is_tree { IfOk result IsTree }
+    {
+        let links = links_of(alloc, manifest)?;
+        let manifest = manifest.copy(alloc)?;
+        Ok(Tree { manifest, links })
+    }
+
+    pub fn commit(&self) -> [u8; 20]
+        ensures commit { result ≡ self.now.manifest.commit }
+        ensures is_tree { IsTree self.now }
+    {
+        self.manifest.commit()
+    }
+
+    /// The file under a name in a directory.
+    pub fn child(&self, dir: FileId, name: &Name) -> Option<FileId>
+        ensures { result ≡ child_of self.now dir name.now }
+    {
+        self.links.get(dir, name.bytes())
+    }
+}
+
+/// The names that the lines of a manifest give.
+fn links_of(alloc: Global, manifest: &Manifest) -> Result<Links, NoMemory>
+    ensures { IfOk result (λ links. links ≡ links_from 2 manifest.now.lines) }
+{
+    let mut links = Links::new(alloc);
+    let mut id = 2;
+    for line in manifest.lines() {
+        links.insert(alloc, line.dir, line.name.bytes(), FileId(id))?;
+        id += 1;
+    }
+    Ok(links)
+}
