@@ -4,7 +4,9 @@ use Rattle.std.specs.Option.{option_map_or}
 use Rattle.eden_base.specs.declared.number.DaemonId.{DaemonId}
 use Rattle.eden_base.specs.declared.number.FileId.{FileId}
 use Rattle.checkout.specs.Tree.{IsTree, tree_of, root}
-use Rattle.broker_core.specs.Broker.{held_count}
+use Rattle.eden_base.specs.First.{first_where}
+use Rattle.broker_core.specs.Broker.{held_count, has_number}
+use Rattle.broker_core.specs.declared.held.Held.{Held}
 use Rattle.broker_core.specs.declared.seat.Seat.{Seat}
 use Rattle.world.specs.InodeMap.{count_of, entry_of}
 use Rattle.world.specs.Served.{ServedState, IsSound, file_of}
@@ -13,6 +15,7 @@ use Rattle.world.specs.Step.{IsSeated}
 use Rattle.world.specs.World.{World, Move, asks, forgets, works, applies, delivers, mounts, accepts, file_named, times, owed, after_all}
 use Rattle.world.specs.declared.event.Event.{Event}
 use Rattle.world.specs.declared.event.Event.TheVariants.{Start, Mount, Do, Show}
+use Rattle.world.specs.declared.inode_map.Forgot.TheVariants.{Bad, Root}
 use Rattle.world.specs.declared.outcome.Happened.{Happened}
 use Rattle.world.specs.declared.outcome.Happened.TheVariants as happened
 
@@ -62,6 +65,16 @@ NumbersNameTheirFirstFile world state = (seat : Seat) (served : ServedState) →
 abbrev pub OneDaemonForEachGeneration : World → Type 0
 OneDaemonForEachGeneration world = (one other : Seat) → Contains world.answered one → Contains world.answered other → one.generation ≡ other.generation → one ≡ other
 
+abbrev pub IsOnce : List Held → Type 0
+IsOnce [] = Unit {0}
+IsOnce (h ∷ held) = (first_where (has_number h.number.0) held ≡ None) × IsOnce held
+
+-- no forget was bad, or of the root
+abbrev pub IsGoodForget : Happened → Type 0
+IsGoodForget (happened.Forgot item Bad) = ⊥
+IsGoodForget (happened.Forgot item Root) = ⊥
+IsGoodForget other = Unit {0}
+
 -- the state matches the world: what the theorem says of them, and what keeps it true
 pub record Matches (world : World) (state : State) : Type 0 where
   pub agrees : Agrees world state
@@ -73,6 +86,8 @@ pub record Matches (world : World) (state : State) : Type 0 where
   pub holder_serves : (seat : Seat) → state.broker.seat ≡ Some seat → (served : ServedState) × IsSeated state seat served
   pub seat_is_last : (seat : Seat) → state.broker.seat ≡ Some seat → seat.generation ≡ state.broker.last
   pub empty_without_seat : state.broker.seat ≡ None → (world.held ≡ []) × (world.names ≡ (1, root) ∷ [])
+  -- a number stands once in the broker's list
+  pub held_once : IsOnce state.broker.held
   pub uniques_were_used : (unique : ℕ) → Contains world.uniques unique → unique < state.broker.next_unique
   -- the last generation is the seat's; no later one was answered
   pub answered_before : (seat : Seat) → Contains world.answered seat → (seat.generation < state.broker.last) ⊎ (state.broker.seat ≡ Some seat)

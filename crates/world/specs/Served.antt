@@ -1,7 +1,6 @@
 -- What a daemon serves: its numbers and the tree of its checkout, and what it answers from them.
 use Rattle.std.specs.Prelude.{◌≡◌, ℕ, ◌+◌, ◌^◌, ◌<◌, ◌≤◌, ◌⊎◌, ◌↔◌, Bool, true, nat_le, List, [], ◌∷◌, IsTrue, IsSome, Option, Some, None, Result, Ok, Err, if◌then◌else◌}
 use Rattle.std.specs.Option.{option_map_or}
-use Rattle.std.specs.List.{AllByRecursion}
 use Rattle.eden_base.specs.declared.attr.Attr.{Attr}
 use Rattle.eden_base.specs.declared.attr.Kind.{Kind}
 use Rattle.eden_base.specs.declared.attr.Kind.TheVariants.{Dir, File}
@@ -15,7 +14,7 @@ use Rattle.checkout.specs.Manifest.{Manifest}
 use Rattle.checkout.specs.Tree.{Tree, IsTree, tree_of, kind_of, child_of, attr_of, file_of as tree_file, is_unlinked}
 use Rattle.broker_core.specs.declared.request.Answer.{Answer}
 use Rattle.broker_core.specs.declared.request.Answer.TheVariants.{Entry, Error}
-use Rattle.world.specs.InodeMap.{MapState, new_map, entry_of, entry_at, is_of_use, file_in, give_fault, give_fault_at, given, number_given}
+use Rattle.world.specs.InodeMap.{MapState, greatest_count, new_map, entry_of, entry_at, is_of_use, file_in, give_fault, give_fault_at, given, number_given}
 use Rattle.world.specs.declared.inode_map.Kept.{Kept}
 use Rattle.world.specs.declared.inode_map.GiveFault.{GiveFault}
 use Rattle.world.specs.declared.inode_map.GiveFault.TheVariants.{NoNumber, TooMany, NoMemory}
@@ -85,4 +84,5 @@ pub record IsSound (served : ServedState) : Type 0 where
     file_of served m ≡ Some file → file_of served n ≡ Some file → m ≡ n
   pub unlinked_alike : (n : ℕ) (kept : Kept) (file : FileId) → entry_of served.map.entries n ≡ Some kept → file_of served n ≡ Some file →
     IsUnlinkedPlace kept.place ↔ IsTrue (is_unlinked served.tree file)
-  pub each_of_use : AllByRecursion (λ kept. IsTrue (is_of_use served.map.entries kept)) served.map.entries
+  pub each_of_use : (n : ℕ) (kept : Kept) → entry_of served.map.entries n ≡ Some kept → IsTrue (is_of_use served.map.entries kept)
+  pub counts_fit : (n : ℕ) (kept : Kept) → entry_of served.map.entries n ≡ Some kept → kept.count ≤ greatest_count

@@ -52,7 +52,8 @@ file_named names n = option_map (λ (pair : ℕ × FileId). pair.1) (first_where
 
 -- how often a number stands in a list
 abbrev pub times : ℕ → List ℕ → ℕ
-times n numbers = count_by (λ m. m == n) numbers
+times n [] = 0
+times n (m ∷ numbers) = (if m == n then 1 else 0) + times n numbers
 
 -- the list with the number taken out so many times
 abbrev pub without_times : ℕ → ℕ → List ℕ → List ℕ

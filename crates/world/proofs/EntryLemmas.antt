@@ -1,0 +1,229 @@
+-- What a number's entry is after a change, a removal, an addition; and members of a list with rising numbers.
+use Rattle.std.proofs.Common.{◌≡◌, ℕ, zero, suc, ◌+◌, ◌<◌, ◌≤◌, Bool, true, false, cond, ◌||◌, List, [], ◌∷◌, ◌++◌, Option, Some, None, is_some, refl, sym, ap, ◌∙◌, subst, inl, inr, ◌⊎◌, arith, length}
+use Rattle.std.specs.Prelude.{◌==◌, IsSome, if◌then◌else◌}
+use Rattle.std.specs.Option.{option_map, option_map_or}
+use Rattle.std.specs.List.{list_any}
+use Rattle.std.proofs.lemmas.Bool.Decides.{nat_tests}
+use Rattle.eden_base.specs.declared.number.Number.{Number}
+use Rattle.eden_base.specs.First.{first_where, changed_where, without_where}
+use Rattle.eden_base.proofs.FirstLemmas.{first_where-append}
+use Rattle.world.specs.InodeMap.{has_number, entry_of, count_of, is_kid_of}
+use Rattle.world.specs.Served.{AreNumbers}
+use Rattle.world.specs.declared.inode_map.Kept.{Kept}
+
+-- tests of numbers, and what they say
+pub eq-true : (m n : ℕ) → m ≡ n → (m == n) ≡ true
+eq-true m n e = grind (arith, nat_tests)
+
+pub eq-false : (m n : ℕ) → (m ≡ n → ⊥) → (m == n) ≡ false
+eq-false m n d = eq_in (m == n) refl where
+  eq_in : (b : Bool) → (m == n) ≡ b → b ≡ false
+  eq_in true e = absurd (d (grind (arith, nat_tests)))
+  eq_in false e = refl
+
+pub true-eq : (m n : ℕ) → (m == n) ≡ true → m ≡ n
+true-eq m n e = grind (arith, nat_tests)
+
+pub false-ne : (m n : ℕ) → (m == n) ≡ false → m ≡ n → ⊥
+false-ne m n e = λ h. let t : (m == n) ≡ true = eq-true m n h in let none : true ≡ false = sym t ∙ e in cc
+
+-- an entry has its number
+pub entry_of-number : (es : List Kept) (n : ℕ) (x : Kept) → entry_of es n ≡ Some x → x.number.0 ≡ n
+entry_of-number [] n x h = absurd (let none : ⊥ = cc in none)
+entry_of-number (y ∷ es) n x h = number_in y es n x (y.number.0 == n) refl h (entry_of-number es n x) where
+  number_in : (y : Kept) (es : List Kept) (n : ℕ) (x : Kept) (b : Bool) → (y.number.0 == n) ≡ b → cond b (Some y) (entry_of es n) ≡ Some x → (entry_of es n ≡ Some x → x.number.0 ≡ n) → x.number.0 ≡ n
+  number_in y es n x true e h rest = let same : y ≡ x = cc in subst (λ (z : Kept). z.number.0 ≡ n) same (true-eq y.number.0 n e)
+  number_in y es n x false e h rest = rest h
+
+-- the entry that was changed, where the change keeps its number
+pub changed-same : (es : List Kept) (n : ℕ) (change : Kept → Kept) → ((x : Kept) → (change x).number ≡ x.number) →
+    entry_of (changed_where (has_number n) change es) n ≡ option_map change (entry_of es n)
+changed-same [] n change keeps = refl
+changed-same (x ∷ es) n change keeps = same_in x es n change keeps (x.number.0 == n) refl (changed-same es n change keeps) where
+  same_in : (x : Kept) (es : List Kept) (n : ℕ) (change : Kept → Kept) → ((y : Kept) → (change y).number ≡ y.number) → (b : Bool) → (x.number.0 == n) ≡ b →
+      entry_of (changed_where (has_number n) change es) n ≡ option_map change (entry_of es n) →
+      entry_of (cond b (change x ∷ es) (x ∷ changed_where (has_number n) change es)) n ≡ option_map change (cond b (Some x) (entry_of es n))
+  same_in x es n change keeps true e rest = let here : ((change x).number.0 == n) ≡ true = ap (λ (k : Number). k.0 == n) (keeps x) ∙ e in rw here refl
+  same_in x es n change keeps false e rest = rw e rest
+
+-- each other entry stays
+pub changed-other : (es : List Kept) (n m : ℕ) (change : Kept → Kept) → ((x : Kept) → (change x).number ≡ x.number) → (m ≡ n → ⊥) →
+    entry_of (changed_where (has_number n) change es) m ≡ entry_of es m
+changed-other [] n m change keeps d = refl
+changed-other (x ∷ es) n m change keeps d = other_in x es n m change keeps d (x.number.0 == n) (x.number.0 == m) refl refl (changed-other es n m change keeps d) where
+  other_in : (x : Kept) (es : List Kept) (n m : ℕ) (change : Kept → Kept) → ((y : Kept) → (change y).number ≡ y.number) → (m ≡ n → ⊥) → (b c : Bool) → (x.number.0 == n) ≡ b → (x.number.0 == m) ≡ c →
+      entry_of (changed_where (has_number n) change es) m ≡ entry_of es m →
+      entry_of (cond b (change x ∷ es) (x ∷ changed_where (has_number n) change es)) m ≡ cond c (Some x) (entry_of es m)
+  other_in x es n m change keeps d true true e f rest = absurd (d (sym (true-eq x.number.0 m f) ∙ true-eq x.number.0 n e))
+  other_in x es n m change keeps d true false e f rest = let here : ((change x).number.0 == m) ≡ false = ap (λ (k : Number). k.0 == m) (keeps x) ∙ f in rw here refl
+  other_in x es n m change keeps d false true e f rest = rw f refl
+  other_in x es n m change keeps d false false e f rest = rw f rest
+
+-- an entry that was taken out leaves each other one
+pub without-other : (es : List Kept) (n m : ℕ) → (m ≡ n → ⊥) → entry_of (without_where (has_number n) es) m ≡ entry_of es m
+without-other [] n m d = refl
+without-other (x ∷ es) n m d = other_in x es n m d (x.number.0 == n) (x.number.0 == m) refl refl (without-other es n m d) where
+  other_in : (x : Kept) (es : List Kept) (n m : ℕ) → (m ≡ n → ⊥) → (b c : Bool) → (x.number.0 == n) ≡ b → (x.number.0 == m) ≡ c →
+      entry_of (without_where (has_number n) es) m ≡ entry_of es m → entry_of (cond b es (x ∷ without_where (has_number n) es)) m ≡ cond c (Some x) (entry_of es m)
+  other_in x es n m d true true e f rest = absurd (d (sym (true-eq x.number.0 m f) ∙ true-eq x.number.0 n e))
+  other_in x es n m d true false e f rest = refl
+  other_in x es n m d false true e f rest = rw f refl
+  other_in x es n m d false false e f rest = rw f rest
+
+-- numbers from a greater one on
+numbers-higher : (es : List Kept) (low high next : ℕ) → low ≤ high → AreNumbers high next es → AreNumbers low next es
+numbers-higher [] low high next le are = omega arith
+numbers-higher (x ∷ es) low high next le are = (let h : high ≤ x.number.0 = are.0 in omega arith, are.1)
+
+-- the numbers reach up to the next
+pub numbers-bound : (es : List Kept) (low next : ℕ) → AreNumbers low next es → low ≤ next
+numbers-bound [] low next are = are
+numbers-bound (x ∷ es) low next are = let h : low ≤ x.number.0 = are.0 in let k : x.number.0 + 1 ≤ next = numbers-bound es (x.number.0 + 1) next are.1 in omega arith
+
+-- a number of an entry lies among them
+pub numbers-entry : (es : List Kept) (low next n : ℕ) (x : Kept) → AreNumbers low next es → entry_of es n ≡ Some x → (low ≤ n) × (n < next)
+numbers-entry [] low next n x are h = absurd (let none : ⊥ = cc in none)
+numbers-entry (y ∷ es) low next n x are h = entry_in y es low next n x are (y.number.0 == n) refl h (numbers-entry es (y.number.0 + 1) next n x are.1) where
+  entry_in : (y : Kept) (es : List Kept) (low next n : ℕ) (x : Kept) → AreNumbers low next (y ∷ es) → (b : Bool) → (y.number.0 == n) ≡ b → cond b (Some y) (entry_of es n) ≡ Some x →
+      (entry_of es n ≡ Some x → (y.number.0 + 1 ≤ n) × (n < next)) → (low ≤ n) × (n < next)
+  entry_in y es low next n x are true e h rest =
+      let same : y.number.0 ≡ n = true-eq y.number.0 n e in let a : low ≤ y.number.0 = are.0 in let b : y.number.0 + 1 ≤ next = numbers-bound es (y.number.0 + 1) next are.1 in (omega arith, omega arith)
+  entry_in y es low next n x are false e h rest = let r = rest h in let a : low ≤ y.number.0 = are.0 in (omega (arith, r.0), r.1)
+
+-- a number outside them has no entry
+pub numbers-outside : (es : List Kept) (low next n : ℕ) → AreNumbers low next es → (n < low) ⊎ (next ≤ n) → entry_of es n ≡ None
+numbers-outside es low next n are out = outside_in (entry_of es n) refl where
+  outside_in : (o : Option Kept) → entry_of es n ≡ o → o ≡ None
+  outside_in None e = refl
+  outside_in (Some x) e = let r = numbers-entry es low next n x are e in absurd (elim out [ inl a ↦ omega (arith, r.0) | inr b ↦ omega (arith, r.1) ])
+
+-- The first entry that passes a test is the entry of its number.
+pub entry_of-first : (es : List Kept) (low next : ℕ) (p : Kept → Bool) (x : Kept) → AreNumbers low next es → first_where p es ≡ Some x → entry_of es x.number.0 ≡ Some x
+entry_of-first [] low next p x are h = absurd (let none : ⊥ = cc in none)
+entry_of-first (y ∷ es) low next p x are h = first_in y es low next p x are (p y) h (entry_of-first es (y.number.0 + 1) next p x are.1) where
+  first_in : (y : Kept) (es : List Kept) (low next : ℕ) (p : Kept → Bool) (x : Kept) → AreNumbers low next (y ∷ es) → (b : Bool) → cond b (Some y) (first_where p es) ≡ Some x →
+      (first_where p es ≡ Some x → entry_of es x.number.0 ≡ Some x) → entry_of (y ∷ es) x.number.0 ≡ Some x
+  first_in y es low next p x are true h rest = let same : y ≡ x = cc in subst (λ (z : Kept). entry_of (y ∷ es) z.number.0 ≡ Some z) same (let t : (y.number.0 == y.number.0) ≡ true = eq-true y.number.0 y.number.0 refl in rw t refl)
+  first_in y es low next p x are false h rest =
+      let later : entry_of es x.number.0 ≡ Some x = rest h in
+      let r = numbers-entry es (y.number.0 + 1) next x.number.0 x are.1 later in
+      let apart : (y.number.0 == x.number.0) ≡ false = eq-false y.number.0 x.number.0 (λ e. let a : y.number.0 + 1 ≤ x.number.0 = r.0 in omega arith) in
+      rw apart later
+
+-- so to change it is to change the entry of its number
+pub changed-first : (es : List Kept) (low next : ℕ) (p : Kept → Bool) (change : Kept → Kept) (x : Kept) → AreNumbers low next es → first_where p es ≡ Some x →
+    changed_where p change es ≡ changed_where (has_number x.number.0) change es
+changed-first [] low next p change x are h = refl
+changed-first (y ∷ es) low next p change x are h = first_in y es low next p change x are (p y) h (changed-first es (y.number.0 + 1) next p change x are.1) where
+  first_in : (y : Kept) (es : List Kept) (low next : ℕ) (p : Kept → Bool) (change : Kept → Kept) (x : Kept) → AreNumbers low next (y ∷ es) → (b : Bool) → cond b (Some y) (first_where p es) ≡ Some x →
+      (first_where p es ≡ Some x → changed_where p change es ≡ changed_where (has_number x.number.0) change es) →
+      cond b (change y ∷ es) (y ∷ changed_where p change es) ≡ changed_where (has_number x.number.0) change (y ∷ es)
+  first_in y es low next p change x are true h rest = let same : y ≡ x = cc in
+      subst (λ (z : Kept). change y ∷ es ≡ changed_where (has_number z.number.0) change (y ∷ es)) same (let t : (y.number.0 == y.number.0) ≡ true = eq-true y.number.0 y.number.0 refl in rw t refl)
+  first_in y es low next p change x are false h rest =
+      let r = numbers-entry es (y.number.0 + 1) next x.number.0 x are.1 (entry_of-first es (y.number.0 + 1) next p x are.1 h) in
+      let apart : (y.number.0 == x.number.0) ≡ false = eq-false y.number.0 x.number.0 (λ e. let a : y.number.0 + 1 ≤ x.number.0 = r.0 in omega arith) in
+      rw (apart, rest h) refl
+
+-- the entry that was taken out is gone
+pub without-same : (es : List Kept) (low next n : ℕ) → AreNumbers low next es → entry_of (without_where (has_number n) es) n ≡ None
+without-same [] low next n are = refl
+without-same (x ∷ es) low next n are = same_in x es low next n are (x.number.0 == n) refl (without-same es (x.number.0 + 1) next n are.1) where
+  same_in : (x : Kept) (es : List Kept) (low next n : ℕ) → AreNumbers low next (x ∷ es) → (b : Bool) → (x.number.0 == n) ≡ b → entry_of (without_where (has_number n) es) n ≡ None →
+      entry_of (cond b es (x ∷ without_where (has_number n) es)) n ≡ None
+  same_in x es low next n are true e rest = let same : x.number.0 ≡ n = true-eq x.number.0 n e in numbers-outside es (x.number.0 + 1) next n are.1 (inl (omega arith))
+  same_in x es low next n are false e rest = rw e rest
+
+-- the numbers after a change, a removal, an addition
+pub numbers-changed : (es : List Kept) (low next : ℕ) (p : Kept → Bool) (change : Kept → Kept) → ((x : Kept) → (change x).number ≡ x.number) → AreNumbers low next es → AreNumbers low next (changed_where p change es)
+numbers-changed [] low next p change keeps are = are
+numbers-changed (x ∷ es) low next p change keeps are = changed_in x es low next p change keeps are (p x) (numbers-changed es (x.number.0 + 1) next p change keeps are.1) where
+  changed_in : (x : Kept) (es : List Kept) (low next : ℕ) (p : Kept → Bool) (change : Kept → Kept) → ((y : Kept) → (change y).number ≡ y.number) → AreNumbers low next (x ∷ es) → (b : Bool) →
+      AreNumbers (x.number.0 + 1) next (changed_where p change es) → AreNumbers low next (cond b (change x ∷ es) (x ∷ changed_where p change es))
+  changed_in x es low next p change keeps are true rest = subst (λ (k : Number). (low ≤ k.0) × AreNumbers (k.0 + 1) next es) (sym (keeps x)) are
+  changed_in x es low next p change keeps are false rest = (are.0, rest)
+
+pub numbers-without : (es : List Kept) (low next : ℕ) (p : Kept → Bool) → AreNumbers low next es → AreNumbers low next (without_where p es)
+numbers-without [] low next p are = are
+numbers-without (x ∷ es) low next p are = without_in x es low next p are (p x) (numbers-without es (x.number.0 + 1) next p are.1) where
+  without_in : (x : Kept) (es : List Kept) (low next : ℕ) (p : Kept → Bool) → AreNumbers low next (x ∷ es) → (b : Bool) → AreNumbers (x.number.0 + 1) next (without_where p es) → AreNumbers low next (cond b es (x ∷ without_where p es))
+  without_in x es low next p are true rest = numbers-higher es low (x.number.0 + 1) next (let a : low ≤ x.number.0 = are.0 in omega arith) are.1
+  without_in x es low next p are false rest = (are.0, rest)
+
+pub numbers-append : (es : List Kept) (low next : ℕ) (x : Kept) → AreNumbers low next es → x.number.0 ≡ next → AreNumbers low (next + 1) (es ++ x ∷ [])
+numbers-append [] low next x are e = (omega arith, omega arith)
+numbers-append (y ∷ es) low next x are e = (are.0, numbers-append es (y.number.0 + 1) next x are.1 e)
+
+-- the entries with one more
+pub append-same : (es : List Kept) (n : ℕ) (x : Kept) → x.number.0 ≡ n → entry_of es n ≡ None → entry_of (es ++ x ∷ []) n ≡ Some x
+append-same es n x e none = first_where-append (has_number n) es (x ∷ []) ∙ (let t : (x.number.0 == n) ≡ true = eq-true x.number.0 n e in rw (none, t) refl)
+
+pub append-other : (es : List Kept) (n : ℕ) (x : Kept) → (x.number.0 ≡ n → ⊥) → entry_of (es ++ x ∷ []) n ≡ entry_of es n
+append-other es n x d = first_where-append (has_number n) es (x ∷ []) ∙ (let t : (x.number.0 == n) ≡ false = eq-false x.number.0 n d in rw t (chosen (entry_of es n))) where
+  chosen : (o : Option Kept) → (if is_some o then o else None) ≡ o
+  chosen None = refl
+  chosen (Some y) = refl
+
+-- what some entry passes
+pub any-first : (es : List Kept) (p q : Kept → Bool) (x : Kept) → first_where p es ≡ Some x → q x ≡ true → list_any q es ≡ true
+any-first [] p q x h t = absurd (let none : ⊥ = cc in none)
+any-first (y ∷ es) p q x h t = first_in y es p q x (p y) h t (any-first es p q x) where
+  first_in : (y : Kept) (es : List Kept) (p q : Kept → Bool) (x : Kept) → (b : Bool) → cond b (Some y) (first_where p es) ≡ Some x → q x ≡ true → (first_where p es ≡ Some x → q x ≡ true → list_any q es ≡ true) → list_any q (y ∷ es) ≡ true
+  first_in y es p q x true h t rest = let same : x ≡ y = cc in let here : q y ≡ true = subst (λ z. q z ≡ true) same t in rw here refl
+  first_in y es p q x false h t rest = rw (rest h t) (or_true (q y)) where
+    or_true : (b : Bool) → (b || true) ≡ true
+    or_true true = refl
+    or_true false = refl
+
+-- a test that no entry passes fails at each that is found
+pub first-none : (es : List Kept) (p q : Kept → Bool) (x : Kept) → first_where q es ≡ None → first_where p es ≡ Some x → q x ≡ false
+first-none [] p q x n h = absurd (let none : ⊥ = cc in none)
+first-none (y ∷ es) p q x n h = none_in y es p q x (p y) (q y) refl n h (first-none es p q x) where
+  none_in : (y : Kept) (es : List Kept) (p q : Kept → Bool) (x : Kept) → (b c : Bool) → q y ≡ c → cond c (Some y) (first_where q es) ≡ None → cond b (Some y) (first_where p es) ≡ Some x →
+      (first_where q es ≡ None → first_where p es ≡ Some x → q x ≡ false) → q x ≡ false
+  none_in y es p q x b true e n h rest = absurd (let none : ⊥ = cc in none)
+  none_in y es p q x true false e n h rest = let same : y ≡ x = cc in subst (λ z. q z ≡ false) same e
+  none_in y es p q x false false e n h rest = rest n h
+
+-- what is found passes
+pub first-passes : (es : List Kept) (p : Kept → Bool) (x : Kept) → first_where p es ≡ Some x → p x ≡ true
+first-passes [] p x h = absurd (let none : ⊥ = cc in none)
+first-passes (y ∷ es) p x h = passes_in y es p x (p y) refl h (first-passes es p x) where
+  passes_in : (y : Kept) (es : List Kept) (p : Kept → Bool) (x : Kept) → (b : Bool) → p y ≡ b → cond b (Some y) (first_where p es) ≡ Some x → (first_where p es ≡ Some x → p x ≡ true) → p x ≡ true
+  passes_in y es p x true e h rest = let same : y ≡ x = cc in subst (λ z. p z ≡ true) same e
+  passes_in y es p x false e h rest = rest h
+
+-- whether some entry passes, after a change that the test doesn't see, a removal and an addition
+pub any-changed : (es : List Kept) (p q : Kept → Bool) (change : Kept → Kept) → ((x : Kept) → q (change x) ≡ q x) → list_any q (changed_where p change es) ≡ list_any q es
+any-changed [] p q change blind = refl
+any-changed (x ∷ es) p q change blind = any_in x es p q change blind (p x) (any-changed es p q change blind) where
+  any_in : (x : Kept) (es : List Kept) (p q : Kept → Bool) (change : Kept → Kept) → ((y : Kept) → q (change y) ≡ q y) → (b : Bool) → list_any q (changed_where p change es) ≡ list_any q es →
+      list_any q (cond b (change x ∷ es) (x ∷ changed_where p change es)) ≡ (q x || list_any q es)
+  any_in x es p q change blind true rest = ap (λ b. b || list_any q es) (blind x)
+  any_in x es p q change blind false rest = ap (λ b. q x || b) rest
+
+pub any-without : (es : List Kept) (p q : Kept → Bool) → ((x : Kept) → first_where p es ≡ Some x → q x ≡ false) → list_any q es ≡ true → list_any q (without_where p es) ≡ true
+any-without [] p q d h = h
+any-without (x ∷ es) p q d h = any_in x es p q (p x) d h (any-without es p q) where
+  any_in : (x : Kept) (es : List Kept) (p q : Kept → Bool) (b : Bool) → ((y : Kept) → cond b (Some x) (first_where p es) ≡ Some y → q y ≡ false) → (q x || list_any q es) ≡ true →
+      (((y : Kept) → first_where p es ≡ Some y → q y ≡ false) → list_any q es ≡ true → list_any q (without_where p es) ≡ true) → list_any q (cond b es (x ∷ without_where p es)) ≡ true
+  any_in x es p q true d h rest = let out : q x ≡ false = d x refl in rw out at h
+  any_in x es p q false d h rest = split_in (q x) h (rest d) where
+    split_in : (c : Bool) → (c || list_any q es) ≡ true → (list_any q es ≡ true → list_any q (without_where p es) ≡ true) → (c || list_any q (without_where p es)) ≡ true
+    split_in true k r = refl
+    split_in false k r = r k
+
+pub any-append : (es : List Kept) (q : Kept → Bool) (x : Kept) → list_any q es ≡ true → list_any q (es ++ x ∷ []) ≡ true
+any-append [] q x h = absurd (let none : ⊥ = cc in none)
+any-append (y ∷ es) q x h = append_in (q y) h (any-append es q x) where
+  append_in : (c : Bool) → (c || list_any q es) ≡ true → (list_any q es ≡ true → list_any q (es ++ x ∷ []) ≡ true) → (c || list_any q (es ++ x ∷ [])) ≡ true
+  append_in true h' rest = refl
+  append_in false h' rest = rest h'
+
+pub length-without : (es : List Kept) (p : Kept → Bool) (x : Kept) → first_where p es ≡ Some x → suc (length (without_where p es)) ≡ length es
+length-without [] p x h = absurd (let none : ⊥ = cc in none)
+length-without (y ∷ es) p x h = length_in y es p x (p y) h (length-without es p x) where
+  length_in : (y : Kept) (es : List Kept) (p : Kept → Bool) (x : Kept) (b : Bool) → cond b (Some y) (first_where p es) ≡ Some x → (first_where p es ≡ Some x → suc (length (without_where p es)) ≡ length es) →
+      suc (length (cond b es (y ∷ without_where p es))) ≡ suc (length es)
+  length_in y es p x true h rest = refl
+  length_in y es p x false h rest = ap suc (rest h)
