@@ -1,2 +1,6 @@
 mod EntryLemmas
 mod FileLemmas
+mod Fitting
+mod Changing
+mod Adding
+mod Pruning
