@@ -126,3 +126,35 @@ append_in p x xs ys false h = h
 pub first_where-append : {X : Type 0} (p : X → Bool) (xs ys : List X) → first_where p (xs ++ ys) ≡ (if is_some (first_where p xs) then first_where p xs else first_where p ys)
 first_where-append p [] ys = refl
 first_where-append p (x ∷ xs) ys = append_in p x xs ys (p x) (first_where-append p xs ys)
+
+-- the member that was changed, where it still passes
+pub first_where-changed_same : {X : Type 0} (p : X → Bool) (change : X → X) (xs : List X) → ((x : X) → p (change x) ≡ p x) → first_where p (changed_where p change xs) ≡ option_map change (first_where p xs)
+first_where-changed_same p change [] keeps = refl
+first_where-changed_same p change (x ∷ xs) keeps = same_in p change x xs keeps (p x) refl (first_where-changed_same p change xs keeps) where
+  same_in : {X : Type 0} (p : X → Bool) (change : X → X) (x : X) (xs : List X) → ((y : X) → p (change y) ≡ p y) → (b : Bool) → p x ≡ b → first_where p (changed_where p change xs) ≡ option_map change (first_where p xs) →
+      first_where p (cond b (change x ∷ xs) (x ∷ changed_where p change xs)) ≡ option_map change (cond b (Some x) (first_where p xs))
+  same_in p change x xs keeps true e rest = let here : p (change x) ≡ true = keeps x ∙ e in rw here refl
+  same_in p change x xs keeps false e rest = rw e rest
+
+-- the first that passes another test, which the change doesn't touch
+pub first_where-changed_other : {X : Type 0} (p q : X → Bool) (change : X → X) (xs : List X) → ((x : X) → q (change x) ≡ q x) → ((x : X) → p x ≡ true → q x ≡ false) →
+    first_where q (changed_where p change xs) ≡ first_where q xs
+first_where-changed_other p q change [] blind apart = refl
+first_where-changed_other p q change (x ∷ xs) blind apart = other_in p q change x xs blind apart (p x) (q x) refl refl (first_where-changed_other p q change xs blind apart) where
+  other_in : {X : Type 0} (p q : X → Bool) (change : X → X) (x : X) (xs : List X) → ((y : X) → q (change y) ≡ q y) → ((y : X) → p y ≡ true → q y ≡ false) → (b c : Bool) → p x ≡ b → q x ≡ c →
+      first_where q (changed_where p change xs) ≡ first_where q xs → first_where q (cond b (change x ∷ xs) (x ∷ changed_where p change xs)) ≡ cond c (Some x) (first_where q xs)
+  other_in p q change x xs blind apart true true e f rest = absurd (let g : q x ≡ false = apart x e in let h : true ≡ false = sym f ∙ g in let none : ⊥ = cc in none)
+  other_in p q change x xs blind apart true false e f rest = let here : q (change x) ≡ false = blind x ∙ f in rw here refl
+  other_in p q change x xs blind apart false true e f rest = rw f refl
+  other_in p q change x xs blind apart false false e f rest = rw f rest
+
+-- the first that passes another test, without a member that doesn't pass it
+pub first_where-without_other : {X : Type 0} (p q : X → Bool) (xs : List X) → ((x : X) → p x ≡ true → q x ≡ false) → first_where q (without_where p xs) ≡ first_where q xs
+first_where-without_other p q [] apart = refl
+first_where-without_other p q (x ∷ xs) apart = other_in p q x xs apart (p x) (q x) refl refl (first_where-without_other p q xs apart) where
+  other_in : {X : Type 0} (p q : X → Bool) (x : X) (xs : List X) → ((y : X) → p y ≡ true → q y ≡ false) → (b c : Bool) → p x ≡ b → q x ≡ c →
+      first_where q (without_where p xs) ≡ first_where q xs → first_where q (cond b xs (x ∷ without_where p xs)) ≡ cond c (Some x) (first_where q xs)
+  other_in p q x xs apart true true e f rest = absurd (let g : q x ≡ false = apart x e in let h : true ≡ false = sym f ∙ g in let none : ⊥ = cc in none)
+  other_in p q x xs apart true false e f rest = refl
+  other_in p q x xs apart false true e f rest = rw f refl
+  other_in p q x xs apart false false e f rest = rw f rest

@@ -4,3 +4,5 @@ mod Fitting
 mod Changing
 mod Adding
 mod Pruning
+mod Holding
+mod Looking
