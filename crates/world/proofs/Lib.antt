@@ -6,3 +6,4 @@ mod Adding
 mod Pruning
 mod Holding
 mod Looking
+mod Answering
