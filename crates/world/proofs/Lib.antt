@@ -7,3 +7,7 @@ mod Pruning
 mod Holding
 mod Looking
 mod Answering
+mod Forgetting
+mod Matching
+mod Events
+mod Run

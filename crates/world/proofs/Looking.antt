@@ -42,7 +42,7 @@ pub record Knows (tree : Tree) (names : List (ℕ × FileId)) (held : List ℕ) 
 abbrev pub served_over : Tree → MapState → ServedState
 served_over tree m = record { map = m; tree = tree }
 
-counted_entry : (es : List Kept) (n : ℕ) → 0 < count_of es n → IsSome (entry_of es n)
+pub counted_entry : (es : List Kept) (n : ℕ) → 0 < count_of es n → IsSome (entry_of es n)
 counted_entry es n some = in_ (entry_of es n) refl some where
   in_ : (o : Option Kept) → entry_of es n ≡ o → 0 < option_map_or (λ (k : Kept). k.count) o 0 → IsSome (entry_of es n)
   in_ None e h = absurd (omega arith)

@@ -1,8 +1,10 @@
 -- Which moves an event makes in the world, and how the daemons' state matches the world after them.
 use Rattle.std.specs.Prelude.{◌≡◌, ◌≢◌, ℕ, ◌<◌, ◌≤◌, ◌⊎◌, ◌↔◌, List, [], ◌∷◌, ◌++◌, Contains, Option, Some, None, IsSome}
 use Rattle.std.specs.Option.{option_map_or}
+use Rattle.std.specs.List.{AllByRecursion}
 use Rattle.eden_base.specs.declared.number.DaemonId.{DaemonId}
 use Rattle.eden_base.specs.declared.number.FileId.{FileId}
+use Rattle.checkout.specs.Manifest.{Manifest}
 use Rattle.checkout.specs.Tree.{IsTree, tree_of, root}
 use Rattle.eden_base.specs.First.{first_where}
 use Rattle.broker_core.specs.Broker.{held_count, has_number}
@@ -12,7 +14,7 @@ use Rattle.world.specs.InodeMap.{count_of, entry_of}
 use Rattle.world.specs.Served.{ServedState, IsSound, file_of}
 use Rattle.world.specs.State.{State}
 use Rattle.world.specs.Step.{IsSeated}
-use Rattle.world.specs.World.{World, Move, asks, forgets, works, applies, delivers, mounts, accepts, file_named, times, owed, after_all}
+use Rattle.world.specs.World.{World, Move, asks, forgets, works, applies, delivers, mounts, accepts, first_world, file_named, times, owed, IsRun, after_all}
 use Rattle.world.specs.declared.event.Event.{Event}
 use Rattle.world.specs.declared.event.Event.TheVariants.{Start, Mount, Do, Show}
 use Rattle.world.specs.declared.inode_map.Forgot.TheVariants.{Bad, Root}
@@ -81,7 +83,8 @@ pub record Matches (world : World) (state : State) : Type 0 where
   pub counts : CountsAreOwed world state
   pub names : NumbersNameTheirFirstFile world state
   pub one_daemon : OneDaemonForEachGeneration world
-  pub is_tree : IsTree (tree_of state.manifest)
+  pub manifest_is_tree : IsTree (tree_of state.manifest)
+  pub tree_is_tree : IsTree world.tree
   -- whoever has the seat serves
   pub holder_serves : (seat : Seat) → state.broker.seat ≡ Some seat → (served : ServedState) × IsSeated state seat served
   pub seat_is_last : (seat : Seat) → state.broker.seat ≡ Some seat → seat.generation ≡ state.broker.last
@@ -91,3 +94,13 @@ pub record Matches (world : World) (state : State) : Type 0 where
   pub uniques_were_used : (unique : ℕ) → Contains world.uniques unique → unique < state.broker.next_unique
   -- the last generation is the seat's; no later one was answered
   pub answered_before : (seat : Seat) → Contains world.answered seat → (seat.generation < state.broker.last) ⊎ (state.broker.seat ≡ Some seat)
+
+-- the world after the moves of events, from before anything happened
+abbrev pub world_after : Manifest → List Event → List (List Happened) → World
+world_after manifest events outcomes = after_all (first_world manifest) (all_moves (first_world manifest) events outcomes)
+
+-- what one event does: its moves may happen in the world, the state matches the world after them, and no forget was bad
+pub record MovesOn (w : World) (event : Event) (outcome : List Happened) (new : State) : Type 0 where
+  pub run : IsRun w (moves_of w event outcome)
+  pub matches : Matches (after_all w (moves_of w event outcome)) new
+  pub forgets : AllByRecursion IsGoodForget outcome
