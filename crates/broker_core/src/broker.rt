@@ -139,8 +139,9 @@ impl Broker {
         None
     }
 
-    /// Takes a request of the kernel. An ask gets the next unique, from 1, and room for the number that its
-    /// reply may bring. A forget lowers at once what the kernel holds, and gets no unique and takes no memory.
+    /// Takes a request of the kernel. An ask gets the next unique, from 1, and room for the number
+    /// that its reply may bring. A forget lowers at once what the kernel holds, and gets no unique
+    /// and takes no memory.
     pub fn issue(&mut self, request: Request) -> Result<Option<u64>, IssueFault>
         ensures unique { IfOk result (λ unique. unique ≡ unique_of self.old request) }
         ensures issued { OnOk result (self.new ≡ issued self.old request) }
@@ -167,8 +168,8 @@ impl Broker {
         Ok(Some(unique))
     }
 
-    /// Hands a reply to the kernel, which then holds the number of an entry once more. That takes no memory:
-    /// an ask made the room.
+    /// Hands a reply to the kernel, which then holds the number of an entry once more. That takes
+    /// no memory: an ask made the room. Which ask it answers is the caller's part.
     pub fn settle(&mut self, reply: &Reply)
         requires room { HasRoomFor self.old reply.now.answer }
         ensures settled { self.new ≡ settled self.old reply.now.answer }
@@ -179,8 +180,8 @@ impl Broker {
         }
     }
 
-    /// How often the kernel holds a number: as often as entries gave it and no forget took it back. The root,
-    /// which no look-up gives, is held uncounted.
+    /// How often the kernel holds a number: as often as entries gave it and no forget took it back.
+    /// The root, which no look-up gives, is held uncounted.
     pub fn held(&self, number: Number) -> u64
         ensures count { result ≡ held_count self.now.held number.0 }
     {

@@ -7,8 +7,8 @@ ghost use Rattle.broker_core.specs.Nearest.{nearest_of};
 use crate::Item;
 use eden_base::Number;
 
-/// A number that the kernel holds, and how many entry replies gave it that no forget has taken back.
-#[derive(Clone, Copy, Debug, PartialEq, Eq)]
+/// A number that the kernel holds, and how many entries gave it that no forget has taken back.
+#[derive(Clone, Copy)]
 pub struct Held {
     pub number: Number,
     /// At least 1.

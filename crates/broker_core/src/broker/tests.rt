@@ -32,8 +32,8 @@ fn forget(node: u64, k: u64) -> Request {
     })
 }
 
-/// Asks for an entry of the root, and hands the kernel this number.
-fn hand_over(broker: &mut Broker, alloc: Global, number: u64) -> Result<(), Fail> {
+/// Asks for an entry of the root, and answers this number.
+fn settle_entry(broker: &mut Broker, alloc: Global, number: u64) -> Result<(), Fail> {
     let name = Name::parse(alloc, b"src")?;
     let unique = broker
         .issue(Request::Lookup {
@@ -86,9 +86,9 @@ fn numbers_the_asks_and_refuses_what_is_not_held(rt: HostRuntime) -> Result<(), 
 #[test]
 fn counts_entries_and_forgets(rt: HostRuntime) -> Result<(), Fail> {
     let mut broker = served(rt.alloc())?;
-    hand_over(&mut broker, rt.alloc(), 2)?;
-    hand_over(&mut broker, rt.alloc(), 2)?;
-    hand_over(&mut broker, rt.alloc(), 7)?;
+    settle_entry(&mut broker, rt.alloc(), 2)?;
+    settle_entry(&mut broker, rt.alloc(), 2)?;
+    settle_entry(&mut broker, rt.alloc(), 7)?;
     assert_eq!(rt; broker.held(Number(2)), 2);
     assert_eq!(rt; broker.held_after(Number(1)), Some(Number(2)));
     assert_eq!(rt; broker.held_after(Number(2)), Some(Number(7)));
@@ -120,7 +120,8 @@ fn settles_nothing_by_an_error(rt: HostRuntime) -> Result<(), Fail> {
     Ok(())
 }
 
-/// Passes also where one allocation is refused: `rt try --test --fail-alloc 3` refuses that of `issue`.
+/// Passes also where one allocation is refused: `rt try --test --fail-alloc 3` refuses that of
+/// `issue`.
 #[test]
 fn takes_an_ask_again_after_memory_was_refused(rt: HostRuntime) -> Result<(), Fail> {
     let mut broker = served(rt.alloc())?;

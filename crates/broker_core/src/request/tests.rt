@@ -2,22 +2,19 @@
 use super::*;
 use std::test::Fail;
 
-/// Passes also where one allocation is refused: `rt try --test --fail-alloc 2` refuses that of `copy`.
+/// Passes also where one allocation is refused: `rt try --test --fail-alloc 2` refuses that of
+/// `copy`.
 #[test]
 fn copies_the_bytes_of_a_name(rt: HostRuntime) -> Result<(), Fail> {
     let bytes = [0xe9, 0x20, 0x01, 0xff];
-    let name = match Name::parse(rt.alloc(), &bytes) {
-        Ok(name) => name,
-        Err(_refused) => Name::parse(rt.alloc(), &bytes)?,
-    };
+    let name = Name::parse(rt.alloc(), &bytes).or_else(|_| Name::parse(rt.alloc(), &bytes))?;
     let request = Request::Lookup {
         dir: Number(7),
         name,
     };
-    let copy = match request.copy(rt.alloc()) {
-        Ok(copy) => copy,
-        Err(NoMemory) => request.copy(rt.alloc())?,
-    };
+    let copy = request
+        .copy(rt.alloc())
+        .or_else(|_| request.copy(rt.alloc()))?;
     for one in [&request, &copy] {
         match one {
             Request::Lookup { dir, name } => {
