@@ -139,9 +139,9 @@ impl Broker {
         None
     }
 
-    /// Takes a request of the kernel. An ask gets the next unique, from 1, and room for the number
-    /// that its reply may bring. A forget lowers at once what the kernel holds, and gets no unique
-    /// and takes no memory.
+    /// Takes a request of the kernel. An ask gets the next unique, from 1, and leaves room for at
+    /// least one entry. A forget lowers at once what the kernel holds, and gets no unique and takes
+    /// no memory.
     pub fn issue(&mut self, request: Request) -> Result<Option<u64>, IssueFault>
         ensures unique { IfOk result (λ unique. unique ≡ unique_of self.old request) }
         ensures issued { OnOk result (self.new ≡ issued self.old request) }

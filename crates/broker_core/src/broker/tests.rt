@@ -93,6 +93,7 @@ fn counts_entries_and_forgets(rt: HostRuntime) -> Result<(), Fail> {
     assert_eq!(rt; broker.held_after(Number(1)), Some(Number(2)));
     assert_eq!(rt; broker.held_after(Number(2)), Some(Number(7)));
     assert_eq!(rt; broker.held_after(Number(7)), None);
+    assert_eq!(rt; broker.refusal(&forget(2, 2)), None);
     assert_eq!(rt; broker.issue(forget(2, 3)), Err(IssueFault::BadForget));
     assert_eq!(rt; broker.issue(forget(2, 0)), Err(IssueFault::BadForget));
     assert_eq!(rt; broker.issue(forget(2, 1)), Ok(None));
