@@ -1,8 +1,8 @@
 -- What is held after one more time, after fewer times, and above a number.
-use Rattle.std.proofs.Common.{◌≡◌, ℕ, suc, ◌+◌, ◌-◌, ◌<◌, ◌≤◌, Bool, true, false, cond, leb, eqb, List, [], ◌∷◌, ◌++◌, Option, Some, None, is_some, get_or, set, length, refl, sym, ap, ◌∙◌, subst, inl, inr, ◌⊎◌, if◌then◌else◌, arith}
+use Rattle.std.proofs.Common.{◌≡◌, ℕ, ◌+◌, ◌-◌, ◌<◌, ◌≤◌, Bool, true, false, cond, List, [], ◌∷◌, ◌++◌, Option, Some, None, is_some, get_or, set, refl, sym, ap, ◌∙◌, subst, inl, inr, ◌⊎◌, if◌then◌else◌, arith}
 use Rattle.std.proofs.lemmas.Bool.Decides.{nat_tests}
 use Rattle.std.proofs.lemmas.List.Elements.{recursion_from_All, All-from_recursion}
-use Rattle.std.specs.Prelude.{slice_set, slice_index_or, nat_le, All, nat_lt, ◌==◌, remove}
+use Rattle.std.specs.Prelude.{nat_le, All, ◌==◌}
 use Rattle.std.specs.List.{AllByRecursion}
 use Rattle.std.specs.Option.{option_map_or}
 use Rattle.eden_base.specs.declared.number.Number.{Number}
@@ -27,11 +27,6 @@ pub lowered-at_place : (held : List Held) (n : Number) (k i : ℕ) (x : Held) �
 lowered-at_place held n k i x place is more =
     rw (count_in held n.0 k x (place.value x ∙ ap Some (sym is)) false more)
     (ap (λ (y : Held). set held i (record { number = y.number; count = y.count - k })) is ∙ sym (place.change (λ h. record h { count = h.count - k }) x))
-
--- no more, where no more are held
-pub lowered-removed : (held : List Held) (n : Number) (k i : ℕ) (x : Held) → IsFirstPlace (has_number n.0) held i → x ≡ get_or held i x → nat_le x.count k ≡ true →
-    remove held i ≡ lowered held n k
-lowered-removed held n k i x place is all = rw (count_in held n.0 k x (place.value x ∙ ap Some (sym is)) true all) (sym place.removal)
 
 -- what is not held stays so
 pub lowered-none : (held : List Held) (n : Number) (k : ℕ) → first_where (has_number n.0) held ≡ None → held ≡ lowered held n k
@@ -72,12 +67,6 @@ lowered_in next spare held n k each false e =
 pub lowered-each : (next spare : ℕ) (held : List Held) (n : Number) (k : ℕ) → All (IsHolding next spare) held → All (IsHolding next spare) (lowered held n k)
 lowered-each next spare held n k each =
     All-from_recursion (IsHolding next spare) (lowered held n k) (lowered_in next spare held n k (recursion_from_All (IsHolding next spare) held each) _ refl)
-
--- With one more unique there is room for one more number.
-pub asked-each : (next spare : ℕ) (held : List Held) → All (IsHolding next spare) held → All (IsHolding (next + 1) (Rattle.std.specs.Prelude.max spare 1)) held
-asked-each next spare held each =
-    All-from_recursion _ held (Each-kept (IsHolding next spare) (IsHolding (next + 1) (Rattle.std.specs.Prelude.max spare 1)) held (recursion_from_All (IsHolding next spare) held each)
-    (λ h is. let low : h.count + spare < next = is.asked_for in record { some = is.some; asked_for = omega arith }))
 
 -- what is held after one more number at the end of the list
 count_append : (held : List Held) (x : Held) (m : ℕ) → held_count (held ++ x ∷ []) m ≡ (if is_some (first_where (has_number m) held) then held_count held m else held_count (x ∷ []) m)

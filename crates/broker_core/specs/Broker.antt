@@ -1,6 +1,6 @@
 -- What the kernel holds, and who serves it: the lookup counts of libfuse's `fuse_lowlevel.h`, seen from the kernel's
 -- side, and the seat, which is this project's own and stands in for a file descriptor that is handed over.
-use Rattle.std.specs.Prelude.{◌≡◌, ℕ, ◌+◌, ◌-◌, ◌^◌, ◌<◌, ◌≤◌, Bool, ◌||◌, ◌&&◌, ◌==◌, not, nat_le, nat_lt, max, List, [], ◌∷◌, ◌++◌, Option, Some, None, Result, Ok, Err, is_none, is_some, if◌then◌else◌}
+use Rattle.std.specs.Prelude.{◌≡◌, ℕ, ◌+◌, ◌-◌, ◌^◌, ◌<◌, ◌≤◌, Bool, ◌||◌, ◌==◌, not, nat_le, nat_lt, max, List, [], ◌∷◌, ◌++◌, Option, Some, None, is_none, is_some, if◌then◌else◌}
 use Rattle.std.specs.Option.{option_map_or}
 use Rattle.eden_base.specs.declared.number.Number.{Number}
 use Rattle.eden_base.specs.declared.number.DaemonId.{DaemonId}
@@ -9,7 +9,6 @@ use Rattle.broker_core.specs.declared.held.Held.{Held}
 use Rattle.broker_core.specs.declared.request.Request.{Request}
 use Rattle.broker_core.specs.declared.request.Request.TheVariants.{Lookup, Forget}
 use Rattle.broker_core.specs.declared.request.Item.{Item}
-use Rattle.broker_core.specs.declared.request.Reply.{Reply}
 use Rattle.broker_core.specs.declared.request.Answer.{Answer}
 use Rattle.broker_core.specs.declared.request.Answer.TheVariants.{Entry, Error}
 use Rattle.broker_core.specs.declared.seat.Seat.{Seat}
@@ -18,8 +17,8 @@ use Rattle.broker_core.specs.declared.broker.MountFault.TheVariants.{Seated, Las
 use Rattle.broker_core.specs.declared.broker.IssueFault.{IssueFault}
 use Rattle.broker_core.specs.declared.broker.IssueFault.TheVariants.{NotMounted, NotHeld, BadForget, Full, NoMemory}
 
--- who serves, at which generation, if anyone; the greatest generation so far; what the kernel holds; the unique of the
--- next ask; and for how many more numbers there is room
+-- who serves, at which generation, if anyone; the greatest generation so far; what the kernel holds, in the order in
+-- which it came; the unique of the next ask; and for how many more numbers there is room
 pub record BrokerState : Type 0 where
   pub seat : Option Seat
   pub last : ℕ
@@ -47,6 +46,11 @@ lowered held n k =
     if nat_le (held_count held n.0) k then without_where (has_number n.0) held
     else changed_where (has_number n.0) (λ h. record h { count = h.count - k }) held
 
+-- a request that is answered
+abbrev pub IsAsk : Request → Type 0
+IsAsk (Lookup dir name) = Unit {0}
+IsAsk (Forget item) = ⊥
+
 -- the root, or a number that the kernel holds
 abbrev pub may_be_asked : BrokerState → ℕ → Bool
 may_be_asked broker n = n == 1 || nat_lt 0 (held_count broker.held n)
@@ -62,7 +66,8 @@ new_broker = record { seat = None; last = 0; held = []; next_unique = 1; spare =
 -- the least held number above another, if there is one
 abbrev pub IsLeastHeldAfter : List Held → ℕ → Option Number → Type 0
 IsLeastHeldAfter held n None = (m : ℕ) → n < m → held_count held m ≡ 0
-IsLeastHeldAfter held n (Some next) = (n < next.0) × (0 < held_count held next.0) × ((m : ℕ) → n < m → m < next.0 → held_count held m ≡ 0)
+IsLeastHeldAfter held n (Some next) =
+    (n < next.0) × (0 < held_count held next.0) × ((m : ℕ) → n < m → m < next.0 → held_count held m ≡ 0)
 
 -- why a daemon cannot mount, if it cannot
 abbrev pub mount_fault : BrokerState → Option MountFault
@@ -85,7 +90,8 @@ issue_fault broker (Forget item) =
 
 -- a new seat, one generation later
 abbrev pub mounted : BrokerState → DaemonId → BrokerState
-mounted broker daemon = record broker { seat = Some (record { generation = broker.last + 1; daemon = daemon }); last = broker.last + 1 }
+mounted broker daemon =
+    record broker { seat = Some (record { generation = broker.last + 1; daemon = daemon }); last = broker.last + 1 }
 
 -- the next unique is taken, and there is room for one more number
 abbrev pub asked : BrokerState → BrokerState

@@ -7,8 +7,8 @@ ghost use Rattle.broker_core.specs.Nearest.{nearest_of};
 use crate::Item;
 use eden_base::Number;
 
-/// A number that the kernel holds, and how many entry replies gave it that no forget has taken back.
-#[derive(Clone, Copy, Debug, PartialEq, Eq)]
+/// A number that the kernel holds, and how many entries gave it that no forget has taken back.
+#[derive(Clone, Copy)]
 pub struct Held {
     pub number: Number,
     /// At least 1.
@@ -17,7 +17,8 @@ pub struct Held {
 
 /// The place of a number in the list.
 pub(crate) fn place_of(held: &[Held], number: Number) -> Option<usize>
-    ensures { MatchOption result (first_where (has_number number.0) held.now ≡ None) (IsFirstPlace (has_number number.0) held.now) }
+    ensures { let is_it = has_number number.0 in
+        MatchOption result (first_where is_it held.now ≡ None) (IsFirstPlace is_it held.now) }
 {
     for (place, holding) in held.iter().enumerate() {
         if holding.number == number {

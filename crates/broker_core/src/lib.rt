@@ -1,4 +1,4 @@
-//! The broker: the kernel's side of the mount, which keeps what the kernel holds and who has the seat.
+//! The broker: the kernel's side of a mount, which keeps what the kernel holds and who serves it.
 #![tactic(auto)]
 
 mod broker;

@@ -1,6 +1,4 @@
-use Rattle.std.proofs.Common.{subst, arith}
-use Rattle.std.specs.Prelude.{All}
-use Rattle.broker_core.specs.Inside.{IsHolding}
+use Rattle.std.proofs.Common.{arith}
 use Rattle.broker_core.proofs.HeldLemmas.{lowered-each}
 use Rattle.broker_core.proofs.broker.Broker.issue.Goals as goal
 

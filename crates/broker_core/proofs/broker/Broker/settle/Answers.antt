@@ -1,6 +1,4 @@
 use Rattle.std.proofs.Common.{arith, rules}
-use Rattle.std.specs.Prelude.{All}
-use Rattle.broker_core.specs.Inside.{IsHolding}
 use Rattle.broker_core.proofs.HeldLemmas.{raised-each}
 use Rattle.broker_core.proofs.broker.Broker.settle.Goals as goal
 
