@@ -26,7 +26,7 @@ pub trait Backing {
     fn attr(&mut self, file: FileId) -> Result<Attr, BackingFault>
         requires held { IsSome (content self.old file) }
         ensures attr { IfOk result (λ attr. content self.old file ≡ Some attr) }
-        ensures same_content { content self.new ≡ content self.old }
+        ensures same_content { (other : FileId) → content self.new other ≡ content self.old other }
         // an answer doesn't count, and a fault does
         ensures answered { OnOk result (failed self.new ≡ failed self.old) }
         ensures failed { OnErr result (failed self.old < failed self.new) };
@@ -55,9 +55,11 @@ impl Backing for ManifestBacking<'_> {
     ghost failed = { λ _. 0 };
 
     fn attr(&mut self, file: FileId) -> Result<Attr, BackingFault>
-        requires held { IsSome (content self.old file) }
-        ensures attr { IfOk result (λ attr. content self.old file ≡ Some attr) }
-        ensures same_content { content self.new ≡ content self.old }
+        requires held { IsSome (attr_of (tree_of self.old.manifest.now) file) }
+        ensures attr { IfOk result (λ attr. attr_of (tree_of self.old.manifest.now) file ≡ Some attr) }
+        ensures same_content { (other : FileId) → attr_of (tree_of self.new.manifest.now) other ≡ attr_of (tree_of self.old.manifest.now) other }
+        ensures answered { OnOk result (◌≡◌ {A = ℕ} 0 0) }
+        ensures failed { OnErr result (0 < 0) }
         ensures never_fails { IsOk result }
     {
         match attr_of(self.manifest.lines(), file) {
