@@ -37,6 +37,7 @@ pub trait Backing {
 }
 
 /// The store that a manifest is itself. It takes no memory and never fails.
+#[derive(Drop)]
 pub struct ManifestBacking<'a> {
     manifest: &'a Manifest,
 }

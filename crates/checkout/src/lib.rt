@@ -17,3 +17,6 @@ pub use fault::{ManifestFault, ManifestFaultKind};
 pub use line::Line;
 pub use manifest::Manifest;
 pub use tree::Tree;
+
+#[cfg(test)]
+mod tests;

@@ -67,7 +67,7 @@ impl Manifest {
         ensures copy { IfOk result (λ copy. copy ≡ self.now) }
         ensures is_manifest { IfOk result IsManifest }
     {
-        let lines = copy_lines(alloc, self.lines.as_slice())?;
+        let lines = copy_lines(alloc, self.lines())?;
         Ok(Manifest {
             commit: self.commit,
             lines,

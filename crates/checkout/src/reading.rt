@@ -125,8 +125,8 @@ impl Reading {
     {
         let mut dir = FileId::ROOT;
         let mut rest = path;
-        while let Some((name, after)) = cut(rest, b'/') {
-            match self.links.get(dir, name) {
+        while let Some((first, after)) = cut(rest, b'/') {
+            match self.links.get(dir, first) {
                 Some(child) => dir = child,
                 None => return None,
             }

@@ -12,30 +12,30 @@ use Rattle.checkout.proofs.reading.Reading.walk.Goals as goal
 pub returns-in-None : goal.returns-in-None
 returns-in-None c =
     let tree = tree_so_far c.args.self.now in
-    let dir = c.loop-name.dir in
-    let name = c.in-Some.name.now in
+    let dir = c.loop-first.dir in
+    let name = c.in-Some.first.now in
     let rest = front (names_of c.in-Some.after.now) in
     let child = sym c.get.ensures ∙ c.in-None.is in
     let links = c.self.invariant.1 ∙ ap (links_from 2) c.self.view_is in
-    let first = parts-cut 47 c.loop-name.rest.now name c.in-Some.after.now (sym c.in-Some.ensures.parts) in
-    sym c.loop-name.invariant.0 ∙ ap (file_at tree dir) (ap front first ∙ front-more 47 name c.in-Some.after.now)
+    let first = parts-cut 47 c.loop-first.rest.now name c.in-Some.after.now (sym c.in-Some.ensures.parts) in
+    sym c.loop-first.invariant.0 ∙ ap (file_at tree dir) (ap front first ∙ front-more 47 name c.in-Some.after.now)
       ∙ ap (option_and_then (λ (f : FileId). file_at tree f rest)) (sym (ap (λ m. get m (dir.0, name)) links) ∙ child)
 
-pub loop-name-preserved : goal.loop-name-preserved
-loop-name-preserved c =
+pub loop-first-preserved : goal.loop-first-preserved
+loop-first-preserved c =
     let tree = tree_so_far c.args.self.now in
-    let dir = c.loop-name.dir in
-    let name = c.in-Some.name.now in
+    let dir = c.loop-first.dir in
+    let name = c.in-Some.first.now in
     let rest = front (names_of c.in-Some.after.now) in
     let child = sym c.get.ensures ∙ c.in-Some-get.is in
     let links = c.self.invariant.1 ∙ ap (links_from 2) c.self.view_is in
-    let first = parts-cut 47 c.loop-name.rest.now name c.in-Some.after.now (sym c.in-Some.ensures.parts) in
-    let whole = sym c.loop-name.invariant.0 ∙ ap (file_at tree dir) (ap front first ∙ front-more 47 name c.in-Some.after.now)
+    let first = parts-cut 47 c.loop-first.rest.now name c.in-Some.after.now (sym c.in-Some.ensures.parts) in
+    let whole = sym c.loop-first.invariant.0 ∙ ap (file_at tree dir) (ap front first ∙ front-more 47 name c.in-Some.after.now)
       ∙ ap (option_and_then (λ (f : FileId). file_at tree f rest)) (sym (ap (λ m. get m (dir.0, name)) links) ∙ child) in
-    (sym whole, sym (ap last first ∙ last-more 47 name c.in-Some.after.now) ∙ c.loop-name.invariant.1)
+    (sym whole, sym (ap last first ∙ last-more 47 name c.in-Some.after.now) ∙ c.loop-first.invariant.1)
 
 pub returns : goal.returns
 returns c =
     let tree = tree_so_far c.args.self.now in
-    let only = parts-no_cut 47 c.loop-name.rest.now (sym c.in_default.ensures.parts) in
-    (sym c.loop-name.invariant.0 ∙ ap (λ ps. file_at tree c.loop-name.dir (front ps)) only, sym (ap last only) ∙ c.loop-name.invariant.1)
+    let only = parts-no_cut 47 c.loop-first.rest.now (sym c.in_default.ensures.parts) in
+    (sym c.loop-first.invariant.0 ∙ ap (λ ps. file_at tree c.loop-first.dir (front ps)) only, sym (ap last only) ∙ c.loop-first.invariant.1)
