@@ -1,0 +1,3 @@
+pub mod Crosses
+pub mod Memory
+pub mod Sharing
