@@ -1,3 +1,5 @@
+pub mod Chains
 pub mod Crosses
+pub mod Edits
 pub mod Memory
 pub mod Sharing

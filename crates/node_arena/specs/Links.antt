@@ -3,7 +3,7 @@ use Rattle.std.specs.Prelude.{◌≡◌, ℕ, zero, suc, ◌+◌, ◌<◌, Bool,
 
 -- f, but v at i
 abbrev pub updated : {X : Type 0} → (ℕ → X) → ℕ → X → ℕ → X
-updated f i v k = if k == i then v else f k
+updated f i v k = if i == k then v else f k
 
 -- k is in the list
 abbrev pub has : ℕ → List ℕ → Bool
