@@ -1,6 +1,7 @@
 //! The nodes of the region, and the links between them.
-ghost use Rattle.std.specs.Prelude.{◌≡◌, ℕ, ◌+◌, ◌<◌, ◌≤◌, ◌^◌, length, get_or, Option, Some, None, IfOk, IsSome};
-ghost use Rattle.node_arena.specs.Links.{updated};
+ghost use Rattle.std.specs.Prelude.{◌≡◌, ℕ, ◌+◌, ◌<◌, ◌≤◌, ◌^◌, length, get_or, Option, Some, None, IfOk, IsSome, is_some, ◌==◌, Bool, false};
+ghost use Rattle.std.specs.Borrow.{sem};
+ghost use Rattle.node_arena.specs.Links.{updated, next_without, prev_without, next_with, prev_with};
 
 use crate::cells::{Cells, Deed, Place, allocate, deallocate};
 use std::alloc::{AllocError, Global};
@@ -21,6 +22,22 @@ pub struct Node<T> {
     item: Option<T>,
 }
 
+impl<T> Node<T> {
+    ghost use Rattle.node_arena.specs.NodeLends.{lends_item};
+
+    /// The value that the node holds, to write to.
+    fn item_mut(&mut self) -> &mut T
+        requires { IsSome self.old.item }
+        ensures* writes_back { sem 𝓛 (lends_item T.row self.entry result) }
+        ensures value { self.old.item ≡ Some result.now }
+    {
+        match &mut self.item {
+            Some(item) => item,
+            None => unreachable!(),
+        }
+    }
+}
+
 /// The block of `count` nodes, and what it takes to free it.
 pub struct Region<T> {
     first: Place,
@@ -31,6 +48,7 @@ pub struct Region<T> {
 }
 
 impl<T> Region<T> {
+    ghost use Rattle.node_arena.specs.RegionLends.{lends_value};
     ghost use Rattle.node_arena.specs.Region.{IsLaidOut, IsPlaced, Becomes, node_at, next_of, prev_of, item_of};
 
     /// A pointer to the node at `index`.
@@ -80,5 +98,84 @@ impl<T> Region<T> {
         ensures { Becomes self.old self.new (next_of self.old) (updated (prev_of self.old) link.index to.index) (item_of self.old) }
     {
         self.cells.at_mut(link.place, link.index).prev = to;
+    }
+
+    /// Takes the node out of the list that it stands in. Its own links stay.
+    pub(crate) fn unlink(&mut self, link: Link)
+        requires { IsLaidOut self.old × IsPlaced self.old link }
+        ensures { let n = next_of self.old in let p = prev_of self.old in
+            Becomes self.old self.new (next_without n p link.index) (prev_without n p link.index) (item_of self.old) }
+    {
+        let prev = self.prev(link);
+        let next = self.next(link);
+        self.set_next(prev, next);
+        self.set_prev(next, prev);
+    }
+
+    /// Puts the node, which stands in no list, right after the one that `at` points to.
+    pub(crate) fn link_after(&mut self, at: Link, link: Link)
+        requires { IsLaidOut self.old × IsPlaced self.old at × IsPlaced self.old link }
+        ensures { let n = next_of self.old in let p = prev_of self.old in
+            Becomes self.old self.new (next_with n at.index link.index) (prev_with n p at.index link.index) (item_of self.old) }
+    {
+        let next = self.next(at);
+        self.set_next(link, next);
+        self.set_prev(link, at);
+        self.set_prev(next, link);
+        self.set_next(at, link);
+    }
+
+    /// Whether the node holds a value.
+    pub(crate) fn is_filled(&self, link: Link) -> bool
+        requires { IsLaidOut self.now × IsPlaced self.now link }
+        ensures { result ≡ is_some (item_of self.now link.index) }
+    {
+        self.node(link).item.is_some()
+    }
+
+    /// The value that the node holds.
+    pub(crate) fn value(&self, link: Link) -> &T
+        requires { IsLaidOut self.now × IsPlaced self.now link × IsSome (item_of self.now link.index) }
+        ensures { item_of self.now link.index ≡ Some result.now }
+    {
+        match &self.node(link).item {
+            Some(item) => item,
+            None => unreachable!(),
+        }
+    }
+
+    /// Moves the value out of the node.
+    pub(crate) fn take(&mut self, link: Link) -> T
+        requires { IsLaidOut self.old × IsPlaced self.old link × IsSome (item_of self.old link.index) }
+        ensures value { item_of self.old link.index ≡ Some result }
+        ensures emptied { Becomes self.old self.new (next_of self.old) (prev_of self.old) (updated (item_of self.old) link.index None) }
+    {
+        let node = self.cells.at_mut(link.place, link.index);
+        match node.item.take() {
+            Some(item) => item,
+            None => unreachable!(),
+        }
+    }
+
+    /// Moves a value into the node, which holds none.
+    pub(crate) fn put(&mut self, link: Link, item: T)
+        requires { IsLaidOut self.old × IsPlaced self.old link × (item_of self.old link.index ≡ None) }
+        ensures { Becomes self.old self.new (next_of self.old) (prev_of self.old) (updated (item_of self.old) link.index (Some item)) }
+    {
+        let node = self.cells.at_mut(link.place, link.index);
+        match node.item.replace(item) {
+            Some(_) => unreachable!(),
+            None => {}
+        }
+    }
+
+    /// The value that the node holds, to write to.
+    pub(crate) fn value_mut(&mut self, link: Link) -> &mut T
+        requires { IsLaidOut self.old × IsPlaced self.old link × IsSome (item_of self.old link.index) }
+        ensures* writes_back { sem 𝓛 (lends_value T.row self.entry link.index result) }
+        ensures value { item_of self.old link.index ≡ Some result.now }
+    {
+        let node = self.cells.at_mut(link.place, link.index);
+        node.item_mut()
     }
 }
