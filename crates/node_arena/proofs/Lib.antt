@@ -1,5 +1,6 @@
 pub mod Chains
 pub mod Crosses
 pub mod Edits
+pub mod Filling
 pub mod Memory
 pub mod Sharing

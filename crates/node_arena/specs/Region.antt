@@ -46,6 +46,12 @@ module _ {T : Type 0} where
       pub filled : (k : ℕ) → k < r.count → IsFilled r.cells.slots k
       pub placed : (k : ℕ) (n : Node T) → node_at k ≡ Some n → IsPlaced n.prev × IsPlaced n.next
 
+    -- each node is linked to itself, and no node holds a value
+    pub record IsBlank : Type 0 where
+      pub next : (k : ℕ) → k < r.count → next_of k ≡ k
+      pub prev : (k : ℕ) → k < r.count → prev_of k ≡ k
+      pub item : (k : ℕ) → item_of k ≡ None
+
   -- the same block
   pub record IsSameBlock (old new : Region T) : Type 0 where
     pub count : new.count ≡ old.count

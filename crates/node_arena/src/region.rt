@@ -49,7 +49,54 @@ pub struct Region<T> {
 
 impl<T> Region<T> {
     ghost use Rattle.node_arena.specs.RegionLends.{lends_value};
-    ghost use Rattle.node_arena.specs.Region.{IsLaidOut, IsPlaced, Becomes, node_at, next_of, prev_of, item_of};
+    ghost use Rattle.node_arena.specs.Region.{IsLaidOut, IsBlank, IsPlaced, Becomes, node_at, next_of, prev_of, item_of};
+
+    /// Takes a block of `count` nodes, each linked to itself, and with no value.
+    pub(crate) fn new(alloc: Global, count: usize) -> Result<Region<T>, AllocError>
+        ensures { IfOk result (λ r. IsLaidOut r × (r.count ≡ count) × IsBlank r) }
+    {
+        if !may_hold::<Node<T>>(count) {
+            return Err(AllocError);
+        }
+        let (first, mut cells, deed) = allocate(&alloc, count)?;
+        for index in 0..count {
+            let place = cells.place(first, index);
+            let own = Link { place, index };
+            let node = Node {
+                prev: own,
+                next: own,
+                item: None,
+            };
+            cells.write(place, index, node);
+        }
+        Ok(Region {
+            first,
+            count,
+            cells,
+            deed,
+            alloc,
+        })
+    }
+
+    /// Drops what the nodes hold, and frees the block.
+    pub(crate) fn release(self)
+    where
+        T: Drop,
+        requires { IsLaidOut self }
+    {
+        let Region {
+            first,
+            count,
+            mut cells,
+            deed,
+            alloc,
+        } = self;
+        for index in 0..count {
+            let place = cells.place(first, index);
+            let _node = cells.read(place, index);
+        }
+        deallocate(&alloc, first, count, cells, deed);
+    }
 
     /// A pointer to the node at `index`.
     pub(crate) fn link(&self, index: usize) -> Link
