@@ -1,6 +1,9 @@
 pub mod Chains
 pub mod Crosses
 pub mod Edits
+pub mod Entries
 pub mod Filling
 pub mod Memory
 pub mod Sharing
+pub mod Strikes
+pub mod Two

@@ -1,7 +1,9 @@
+pub mod Arena
 pub mod Lends
 pub mod Links
 pub mod NodeLends
 pub mod Ownership
 pub mod Places
+pub mod Recency
 pub mod Region
 pub mod RegionLends

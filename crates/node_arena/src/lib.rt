@@ -2,4 +2,9 @@
 #![tactic(auto)]
 
 mod cells;
+mod nodes;
 mod region;
+mod slot;
+
+pub use nodes::Nodes;
+pub use slot::Slot;

@@ -1,0 +1,126 @@
+//! The arena. A clause sees it as its `entries`, the most recently used first, and its `capacity`.
+ghost use Rattle.std.specs.Prelude.{◌≡◌, ◌≤◌, ◌<◌, ◌↔◌, [], length, Some, None, IfOk, IfErr, IsOk, IsErr, IsTrue};
+ghost use Rattle.node_arena.specs.Arena.{arena, value_at, IsHeld, oldest_of, with_first, without, touched, IsSound};
+
+use crate::region::Region;
+use crate::slot::Slot;
+use std::alloc::{AllocError, Global};
+use std::marker::Model;
+
+/// The index of the node where the list of the nodes in use starts and ends.
+const HELD: usize = 0;
+
+/// The same, of the list of the spare nodes.
+const SPARE: usize = 1;
+
+/// At most `capacity` values, each in a node of its own under a slot, in the order of their last use.
+pub struct Nodes<T> {
+    region: Region<T>,
+    capacity: usize,
+    len: usize,
+}
+
+impl<T> Model for Nodes<T> {
+    ghost use Rattle.node_arena.specs.Arena.{Arena, arena_code};
+
+    ghost Value = { Arena T };
+
+    ghost coded = { arena_code T.code };
+
+    ghost use Rattle.node_arena.specs.Recency.{shown, IsWhole};
+
+    ghost view = { λ s. shown s.region s.capacity s.len };
+
+    ghost invariant = { λ s. IsWhole s.region s.capacity s.len };
+}
+
+impl<T> Nodes<T> {
+    /// How many values there are.
+    pub fn len(&self) -> usize
+        ensures len { result ≡ length self.now.entries }
+        ensures sound { IsSound self.now }
+    {
+        self.len
+    }
+
+    /// How many values there may be.
+    pub fn capacity(&self) -> usize
+        ensures { result ≡ self.now.capacity }
+    {
+        self.capacity
+    }
+
+    /// Whether the slot is of a value that is there.
+    pub fn is_held(&self, slot: Slot) -> bool
+        ensures { IsTrue result ↔ IsHeld self.now slot }
+    {
+        if slot.index >= self.region.count {
+            return false;
+        }
+        self.region.is_filled(self.region.link(slot.index))
+    }
+
+    /// The value of the slot.
+    pub fn get(&self, slot: Slot) -> &T
+        requires { IsHeld self.now slot }
+        ensures { value_at self.now slot ≡ Some result.now }
+    {
+        self.region.value(self.region.link(slot.index))
+    }
+
+    /// The slot whose value was added or touched the longest time ago.
+    pub fn oldest(&self) -> Option<Slot>
+        ensures { result ≡ oldest_of self.now }
+    {
+        if self.len == 0 {
+            return None;
+        }
+        let last = self.region.prev(self.region.link(HELD));
+        Some(Slot { index: last.index })
+    }
+
+    /// Makes the slot the most recently used.
+    pub fn touch(&mut self, slot: Slot)
+        requires { IsHeld self.old slot }
+        ensures { self.new ≡ touched self.old slot }
+    {
+        let node = self.region.link(slot.index);
+        let held = self.region.link(HELD);
+        self.region.unlink(node);
+        self.region.link_after(held, node);
+    }
+
+    /// Takes the value of the slot out. The slot may be given out again.
+    pub fn remove(&mut self, slot: Slot) -> T
+        requires { IsHeld self.old slot }
+        ensures value { value_at self.old slot ≡ Some result }
+        ensures rest { self.new ≡ without self.old slot }
+        ensures gone { value_at self.new slot ≡ None }
+    {
+        let node = self.region.link(slot.index);
+        let spare = self.region.link(SPARE);
+        self.region.unlink(node);
+        self.region.link_after(spare, node);
+        self.len -= 1;
+        self.region.take(node)
+    }
+
+    /// Adds a value, as the most recently used. Where the arena is full, the value comes back.
+    pub fn add(&mut self, item: T) -> Result<Slot, T>
+        ensures full { IsErr result ↔ (length self.old.entries ≡ self.old.capacity) }
+        ensures refused { IfErr result (λ x. (x ≡ item) × (self.new ≡ self.old)) }
+        ensures fresh { IfOk result (λ slot. value_at self.old slot ≡ None) }
+        ensures first { IfOk result (λ slot. self.new ≡ with_first self.old slot item) }
+    {
+        if self.len == self.capacity {
+            return Err(item);
+        }
+        let node = self.region.next(self.region.link(SPARE));
+        let held = self.region.link(HELD);
+        self.region.unlink(node);
+        self.region.link_after(held, node);
+        self.region.put(node, item);
+        self.len += 1;
+        Ok(Slot { index: node.index })
+    }
+}
