@@ -3,7 +3,10 @@ pub mod Crosses
 pub mod Edits
 pub mod Entries
 pub mod Filling
+pub mod Held
 pub mod Memory
+pub mod Moves
 pub mod Sharing
+pub mod Shown
 pub mod Strikes
 pub mod Two
