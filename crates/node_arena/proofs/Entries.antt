@@ -1,5 +1,5 @@
 -- The entries of an arena, from the indexes of its nodes and their values.
-use Rattle.std.proofs.Common.{◌≡◌, ℕ, zero, suc, Bool, true, false, cond, eqb, List, [], ◌∷◌, map, length, slice_get, Option, Some, None, inl, inr, refl, sym, ap, ◌∙◌, subst}
+use Rattle.std.proofs.Common.{◌≡◌, ℕ, zero, suc, ◌-◌, Bool, true, false, cond, eqb, List, [], ◌∷◌, map, length, slice_get, Option, Some, None, inl, inr, refl, sym, ap, ◌∙◌, subst, arith}
 use Rattle.std.proofs.lemmas.Bool.{cases_Bool, eqb-true}
 use Rattle.std.specs.List.{AllByRecursion, IsDistinct}
 use Rattle.std.specs.Map.{keys_of, lookup, remove_entry, set_value}
@@ -22,6 +22,12 @@ walked-chain next prev a (x ∷ xs) z c = (λ j. c.0 j ∷ walked next (length x
 pub last-chain : (next prev : ℕ → ℕ) (a x : ℕ) (xs : List ℕ) (z : ℕ) → IsChain next prev a (x ∷ xs) z → slice_get (map slot_at (x ∷ xs)) (length xs) ≡ Some (slot_at (prev z))
 last-chain next prev a x [] z c = ap (λ (k : ℕ). Some (slot_at k)) (sym c.2.1)
 last-chain next prev a x (y ∷ ys) z c = last-chain next prev x y ys z c.2
+
+-- the same of a list that is not empty
+pub last_slot-chain : (next prev : ℕ → ℕ) (a : ℕ) (xs : List ℕ) (z : ℕ) → IsChain next prev a xs z → (length xs ≡ 0 → ⊥) → slice_get (map slot_at xs) (length xs - 1) ≡ Some (slot_at (prev z))
+last_slot-chain next prev a [] z c h = absurd (h refl)
+last_slot-chain next prev a (x ∷ xs) z c h =
+    let one_less : suc (length xs) - 1 ≡ length xs = omega arith in ap (λ (n : ℕ). slice_get (map slot_at (x ∷ xs)) n) one_less ∙ last-chain next prev a x xs z c
 
 apart_slots : (x : ℕ) (xs : List ℕ) → has x xs ≡ false → AllByRecursion (λ (s : Slot). is_slot (slot_at x) s ≡ false) (map slot_at xs)
 apart_slots x [] h = tt

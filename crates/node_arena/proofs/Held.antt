@@ -9,7 +9,7 @@ use Rattle.node_arena.specs.Recency.{walked, entry_at, entries_at, shown, IsKept
 use Rattle.node_arena.specs.Region.{next_of, prev_of, item_of, Becomes}
 use Rattle.node_arena.specs.declared.region.Region.{Region}
 use Rattle.node_arena.specs.declared.slot.Slot.{Slot}
-use Rattle.node_arena.proofs.Entries.{slot_at, last-chain, keys_of-entries_at, length-entries_at, entries_at-updated, remove_entry-entries_at, set_value-entries_at}
+use Rattle.node_arena.proofs.Entries.{slot_at, last_slot-chain, keys_of-entries_at, length-entries_at, entries_at-updated, remove_entry-entries_at, set_value-entries_at}
 use Rattle.node_arena.proofs.Moves.{has-first_link, kept-touched, kept-removed, kept-added}
 use Rattle.node_arena.proofs.Shown.{becomes-then, becomes-value, shown-kept, value_at-kept, sound-kept, whole-after}
 use Rattle.node_arena.proofs.Strikes.{has-strike_same}
@@ -18,6 +18,10 @@ module _ {T : Type 0} where
   some_of : (o : Option T) → IsSome o → (x : T) × (o ≡ Some x)
   some_of None h = cc
   some_of (Some x) h = (x, refl)
+
+no_slot : (xs : List ℕ) → length xs ≡ 0 → slice_get (map slot_at xs) (length xs - 1) ≡ None
+no_slot [] e = refl
+no_slot (x ∷ xs) e = absurd (omega arith)
 
 module _ {T : Type 0} (r : Region T) (capacity len : ℕ) (w : IsWhole r capacity len) (a : Arena T) (view : shown r capacity len ≡ a) where
   abbrev f : ℕ → Option T
@@ -43,6 +47,12 @@ module _ {T : Type 0} (r : Region T) (capacity len : ℕ) (w : IsWhole r capacit
 
   pub oldest_here : oldest_of a ≡ slice_get (map slot_at w.order) (length w.order - 1)
   oldest_here = ap oldest_of is_plain ∙ ap (λ (l : List Slot). slice_get l (length l - 1)) (keys_of-entries_at f w.order w.kept.filled) ∙ ap (λ (n : ℕ). slice_get (map slot_at w.order) (n - 1)) (length-map w.order slot_at)
+
+  pub oldest_some : (len ≡ 0 → ⊥) → oldest_of a ≡ Some (slot_at (prev_of r 0))
+  oldest_some some = oldest_here ∙ last_slot-chain (next_of r) (prev_of r) 0 w.order 0 w.kept.two.one (λ e. some (sym w.kept.long ∙ e))
+
+  pub oldest_none : len ≡ 0 → oldest_of a ≡ None
+  oldest_none none = oldest_here ∙ no_slot w.order (w.kept.long ∙ none)
 
   -- a slot whose node holds a value
   pub low_here : (s : Slot) (x : T) → item_of r s.index ≡ Some x → s.index < r.count

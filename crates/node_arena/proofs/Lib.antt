@@ -8,5 +8,6 @@ pub mod Memory
 pub mod Moves
 pub mod Sharing
 pub mod Shown
+pub mod Steps
 pub mod Strikes
 pub mod Two

@@ -44,7 +44,7 @@ module _ {T : Type 0} where
     shown-kept r a b = (λ j. arena (entries_at (b j) (walked (a j) len (a j 0))) capacity) ∙ ap (λ (l : List ℕ). arena (entries_at f l) capacity) walked-kept
 
     -- a node that is not in use holds no value
-    absent : (k : ℕ) → has k order ≡ false → (v : Option T) → f k ≡ v → None ≡ v
+    pub absent : (k : ℕ) → has k order ≡ false → (v : Option T) → f k ≡ v → None ≡ v
     absent k off None e = refl
     absent k off (Some x) e = absurd (both_ways (has k order) off (kept.only k x e))
 
