@@ -4,6 +4,7 @@ pub mod Edits
 pub mod Entries
 pub mod Filling
 pub mod Held
+pub mod Making
 pub mod Memory
 pub mod Moves
 pub mod Sharing

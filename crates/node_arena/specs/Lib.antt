@@ -2,6 +2,7 @@ pub mod Arena
 pub mod Lends
 pub mod Links
 pub mod NodeLends
+pub mod NodesLends
 pub mod Ownership
 pub mod Places
 pub mod Recency

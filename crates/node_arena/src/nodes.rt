@@ -1,5 +1,6 @@
 //! The arena. A clause sees it as its `entries`, the most recently used first, and its `capacity`.
 ghost use Rattle.std.specs.Prelude.{◌≡◌, ◌≤◌, ◌<◌, ◌↔◌, [], length, Some, None, IfOk, IfErr, IsOk, IsErr, IsTrue};
+ghost use Rattle.std.specs.Borrow.{sem};
 ghost use Rattle.node_arena.specs.Arena.{arena, value_at, IsHeld, oldest_of, with_first, without, touched, IsSound};
 
 use crate::region::Region;
@@ -35,6 +36,28 @@ impl<T> Model for Nodes<T> {
 }
 
 impl<T> Nodes<T> {
+    ghost use Rattle.node_arena.specs.NodesLends.{lends_value};
+
+    /// Takes the memory for `capacity` values. No other call takes any.
+    pub fn new(alloc: Global, capacity: usize) -> Result<Nodes<T>, AllocError>
+        requires least { 1 ≤ capacity }
+        requires most { capacity ≤ 65536 }
+        ensures { IfOk result (λ n. n ≡ arena [] capacity) }
+    {
+        let count = capacity + 2;
+        let mut region = Region::new(alloc, count)?;
+        for index in 2..count {
+            let spare = region.link(SPARE);
+            let node = region.link(index);
+            region.link_after(spare, node);
+        }
+        Ok(Nodes {
+            region,
+            capacity,
+            len: 0,
+        })
+    }
+
     /// How many values there are.
     pub fn len(&self) -> usize
         ensures len { result ≡ length self.now.entries }
@@ -66,6 +89,16 @@ impl<T> Nodes<T> {
         ensures { value_at self.now slot ≡ Some result.now }
     {
         self.region.value(self.region.link(slot.index))
+    }
+
+    /// The value of the slot, to write to. The order stays.
+    pub fn get_mut(&mut self, slot: Slot) -> &mut T
+        requires { IsHeld self.old slot }
+        ensures* writes_back { sem 𝓛 (lends_value T.row self.entry slot result) }
+        ensures value { value_at self.old slot ≡ Some result.now }
+    {
+        let node = self.region.link(slot.index);
+        self.region.value_mut(node)
     }
 
     /// The slot whose value was added or touched the longest time ago.
@@ -122,5 +155,16 @@ impl<T> Nodes<T> {
         self.region.put(node, item);
         self.len += 1;
         Ok(Slot { index: node.index })
+    }
+}
+
+impl<T: Drop> Drop for Nodes<T> {
+    fn drop(self) {
+        let Nodes {
+            region,
+            capacity: _,
+            len: _,
+        } = self;
+        region.release();
     }
 }
