@@ -5,6 +5,7 @@ use Rattle.node_arena.specs.Places.{IsFilled}
 use Rattle.node_arena.specs.Lends.{with_slots}
 use Rattle.node_arena.specs.Links.{updated}
 use Rattle.node_arena.specs.Region.{next_in, prev_in, item_in, node_at, next_of, prev_of, item_of, IsPlaced, IsLaidOut, IsSameBlock, Becomes}
+use Rattle.node_arena.specs.RegionLends.{with_item, with_value}
 use Rattle.node_arena.specs.declared.region.Node.{Node}
 use Rattle.node_arena.specs.declared.region.Region.{Region}
 
@@ -58,3 +59,14 @@ module _ {T : Type 0} (r : Region T) (i : ℕ) (n : Node T) where
       -- the region as its links and values show it
       pub becomes : (nexts prevs : ℕ → ℕ) (values : ℕ → Option T) → next_of edited ≡ nexts → prev_of edited ≡ prevs → item_of edited ≡ values → Becomes r edited nexts prevs values
       becomes nexts prevs values a b c = record { laid_out = laid_out; block = record { count = refl; at = refl; stride = refl }; next = a; prev = b; item = c }
+
+module _ {T : Type 0} (r : Region T) (i : ℕ) (sound : IsLaidOut r) (lt : i < r.count) (w : T) where
+  -- the value of a node is written
+  pub becomes-value_set : Becomes r (with_value r i w) (next_of r) (prev_of r) (updated (item_of r) i (Some w))
+  becomes-value_set =
+      let here = sound.filled i lt in let n = here.0 in let was : node_at r i ≡ Some n = here.1 in
+      let n' : Node T = record { prev = n.prev; next = n.next; item = Some w } in
+      let on = sound.placed i n was in
+      let same : edited r i n' ≡ with_value r i w = λ j. record { first = r.first; count = r.count; cells = with_slots r.cells (set r.cells.slots i (with_item (sym was j) w)); deed = r.deed; alloc = r.alloc } in
+      subst (λ (q : Region T). Becomes r q (next_of r) (prev_of r) (updated (item_of r) i (Some w))) same
+      (becomes r i n' sound lt on.0 on.1 (next_of r) (prev_of r) (updated (item_of r) i (Some w)) (kept r i n' sound lt next_in n was refl) (kept r i n' sound lt prev_in n was refl) (written r i n' sound lt item_in (Some w) refl))

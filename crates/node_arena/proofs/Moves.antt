@@ -88,3 +88,21 @@ module _ {T : Type 0} (next prev : ℕ → ℕ) (f : ℕ → Option T) (capacity
           | inr y ↦ has_later k x order (kept.only k w (sym (updated_apart f x (Some v) k y) ∙ e))
         ];
       }
+
+  -- x has another value
+  pub kept-valued : (v : T) → has x order ≡ true → IsKept next prev (updated f x (Some v)) capacity len order spare
+  kept-valued v h = record {
+    two = kept.two;
+    long = kept.long;
+    total = kept.total;
+    order_within = kept.order_within;
+    spare_within = kept.spare_within;
+    filled = λ k on. elim (cases_Bool (eqb x k)) [
+      | inl y ↦ (v, updated_here f x (Some v) k (eqb-true x k y))
+      | inr y ↦ let was = kept.filled k on in (was.0, updated_apart f x (Some v) k y ∙ was.1)
+    ];
+    only = λ k w e. elim (cases_Bool (eqb x k)) [
+      | inl y ↦ subst (λ (m : ℕ). has m order ≡ true) (eqb-true x k y) h
+      | inr y ↦ kept.only k w (sym (updated_apart f x (Some v) k y) ∙ e)
+    ];
+  }

@@ -2,7 +2,7 @@
 use Rattle.std.proofs.Common.{◌≡◌, ℕ, zero, suc, ◌+◌, ◌-◌, ◌<◌, ◌≤◌, Bool, true, false, List, [], ◌∷◌, length, Option, Some, None, inl, inr, refl, sym, ap, ◌∙◌, subst, arith}
 use Rattle.std.specs.Prelude.{IsSome}
 use Rattle.std.proofs.lemmas.Bool.{cases_Bool, both_ways}
-use Rattle.node_arena.specs.Arena.{Arena, arena, value_at, IsHeld, with_first, without, touched}
+use Rattle.node_arena.specs.Arena.{Arena, arena, value_at, IsHeld, with_first, without, touched, with_value}
 use Rattle.node_arena.specs.Links.{updated, has, strike, next_without, prev_without, next_with, prev_with}
 use Rattle.node_arena.specs.Places.{nth_place}
 use Rattle.node_arena.specs.Recency.{entries_at, shown, IsKept, IsWhole}
@@ -11,9 +11,11 @@ use Rattle.node_arena.specs.declared.region.Link.{Link}
 use Rattle.node_arena.specs.declared.region.Region.{Region}
 use Rattle.node_arena.specs.declared.slot.Slot.{Slot}
 use Rattle.node_arena.proofs.Chains.{updated_here}
-use Rattle.node_arena.proofs.Entries.{slot_at, entries_at-updated}
-use Rattle.node_arena.proofs.Held.{is_plain, value_here, some_here, listed_here, touched_here, without_here, capacity_here, length_here}
-use Rattle.node_arena.proofs.Moves.{has-first_link, kept-touched, kept-removed, kept-added}
+use Rattle.node_arena.specs.RegionLends.{with_value as set_in}
+use Rattle.node_arena.proofs.Edits.{becomes-value_set}
+use Rattle.node_arena.proofs.Entries.{slot_at, entries_at-updated, set_value-entries_at}
+use Rattle.node_arena.proofs.Held.{is_plain, value_here, some_here, index_here, listed_here, touched_here, without_here, capacity_here, length_here}
+use Rattle.node_arena.proofs.Moves.{has-first_link, kept-touched, kept-removed, kept-added, kept-valued}
 use Rattle.node_arena.proofs.Shown.{becomes-then, becomes-value, shown-kept, value_at-kept, absent, whole-after}
 
 module _ {T : Type 0} where
@@ -91,6 +93,25 @@ module _ {T : Type 0} (r : Region T) (capacity len : ℕ) (w : IsWhole r capacit
           ap (λ (c : Arena T). value_at c s) plain-removed
           ∙ value_at-kept (next_with n1 1 k) (prev_with n1 p1 1 k) (updated f k None) capacity (len - 1) (strike k w.order) (k ∷ w.spare) kept_r s
           ∙ updated_here f k None k refl
+
+    -- a write through a `&mut` to the value
+    module _ (i : ℕ) (e : i ≡ k) (v : T) where
+      valued : Becomes r (set_in r i v) (next_of r) (prev_of r) (updated f k (Some v))
+      valued = let low : i < r.count = subst (λ (m : ℕ). m < r.count) (sym e) (index_here r capacity len w a view s held) in
+          subst (λ (m : ℕ). Becomes r (set_in r i v) (next_of r) (prev_of r) (updated f m (Some v))) e (becomes-value_set r i w.laid_out low v)
+
+      kept_v : IsKept (next_of r) (prev_of r) (updated f k (Some v)) capacity len w.order w.spare
+      kept_v = kept-valued (next_of r) (prev_of r) f capacity len w.order w.spare w.kept k v listed
+
+      pub whole-valued : IsWhole (set_in r i v) capacity len
+      whole-valued = whole-after r (set_in r i v) (next_of r) (prev_of r) (updated f k (Some v)) capacity len len w.order w.spare w valued kept_v
+
+      pub shown-valued : shown (set_in r i v) capacity len ≡ with_value a s v
+      shown-valued =
+          let x = some_here r capacity len w a view s held in
+          shown-kept (next_of r) (prev_of r) (updated f k (Some v)) capacity len w.order w.spare kept_v (set_in r i v) valued.next valued.item
+          ∙ ap (λ es. arena es capacity) (sym (set_value-entries_at f s x.0 x.1 v w.order w.kept.two.apart.0))
+          ∙ sym (ap (λ (c : Arena T). with_value c s v) (is_plain r capacity len w a view))
 
   -- an addition
   module _ (room : len ≡ capacity → ⊥) where
