@@ -1,6 +1,6 @@
 -- What is known of an arena from the region that shows it.
 use Rattle.std.proofs.Common.{◌≡◌, ℕ, zero, suc, ◌+◌, ◌-◌, ◌<◌, ◌≤◌, Bool, true, false, eqb, List, [], ◌∷◌, map, length, slice_get, Option, Some, None, inl, inr, refl, sym, ap, ◌∙◌, subst, arith}
-use Rattle.std.specs.Prelude.{IsSome}
+use Rattle.std.specs.Prelude.{IsSome, is_some}
 use Rattle.std.proofs.lemmas.List.{length-map}
 use Rattle.std.specs.Map.{lookup, remove_entry, set_value}
 use Rattle.node_arena.specs.Arena.{Arena, arena, is_slot, value_at, IsHeld, with_first, without, touched, with_value, oldest_of, slots_of, IsSound}
@@ -10,7 +10,7 @@ use Rattle.node_arena.specs.Region.{next_of, prev_of, item_of, Becomes}
 use Rattle.node_arena.specs.declared.region.Region.{Region}
 use Rattle.node_arena.specs.declared.slot.Slot.{Slot}
 use Rattle.node_arena.proofs.Entries.{slot_at, last_slot-chain, keys_of-entries_at, length-entries_at, entries_at-updated, remove_entry-entries_at, set_value-entries_at}
-use Rattle.node_arena.proofs.Moves.{has-first_link, kept-touched, kept-removed, kept-added}
+use Rattle.node_arena.proofs.Moves.{has-last_link, kept-touched, kept-removed, kept-added}
 use Rattle.node_arena.proofs.Shown.{becomes-then, becomes-value, shown-kept, value_at-kept, sound-kept, whole-after}
 use Rattle.node_arena.proofs.Strikes.{has-strike_same}
 
@@ -50,6 +50,11 @@ module _ {T : Type 0} (r : Region T) (capacity len : ℕ) (w : IsWhole r capacit
 
   pub oldest_some : (len ≡ 0 → ⊥) → oldest_of a ≡ Some (slot_at (prev_of r 0))
   oldest_some some = oldest_here ∙ last_slot-chain (next_of r) (prev_of r) 0 w.order 0 w.kept.two.one (λ e. some (sym w.kept.long ∙ e))
+
+  pub oldest_held : (len ≡ 0 → ⊥) → IsHeld a (slot_at (prev_of r 0))
+  oldest_held some =
+      let there = has-last_link (next_of r) (prev_of r) 0 w.order 0 w.kept.two.one (λ e. some (sym w.kept.long ∙ e)) in
+      let x = w.kept.filled (prev_of r 0) there in ap is_some (value_here (slot_at (prev_of r 0)) ∙ x.1)
 
   pub oldest_none : len ≡ 0 → oldest_of a ≡ None
   oldest_none none = oldest_here ∙ no_slot w.order (w.kept.long ∙ none)

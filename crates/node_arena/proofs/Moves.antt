@@ -12,6 +12,12 @@ pub has-first_link : (next prev : ℕ → ℕ) (a : ℕ) (xs : List ℕ) (z : �
 has-first_link next prev a [] z c h = absurd (omega arith)
 has-first_link next prev a (x ∷ xs) z c h = has_first (next a) x xs c.0
 
+-- and so is its last
+pub has-last_link : (next prev : ℕ → ℕ) (a : ℕ) (xs : List ℕ) (z : ℕ) → IsChain next prev a xs z → (length xs ≡ 0 → ⊥) → has (prev z) xs ≡ true
+has-last_link next prev a [] z c h = absurd (h refl)
+has-last_link next prev a (x ∷ []) z c h = has_first (prev z) x [] c.2.1
+has-last_link next prev a (x ∷ y ∷ ys) z c h = has_later (prev z) x (y ∷ ys) (has-last_link next prev x (y ∷ ys) z c.2 (λ e. absurd (omega arith)))
+
 -- an index that is in the list still is once another one is put in front
 has_moved : (k x : ℕ) (xs : List ℕ) → has x xs ≡ true → has k (x ∷ strike x xs) ≡ true → has k xs ≡ true
 has_moved k x xs h on = elim (cases_Bool (eqb k x)) [

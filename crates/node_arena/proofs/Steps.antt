@@ -1,7 +1,7 @@
 -- A touch, a removal and an addition, from the steps on the region to the arena.
-use Rattle.std.proofs.Common.{◌≡◌, ℕ, zero, suc, ◌+◌, ◌-◌, ◌<◌, ◌≤◌, Bool, true, false, List, [], ◌∷◌, length, Option, Some, None, inl, inr, refl, sym, ap, ◌∙◌, subst, arith}
+use Rattle.std.proofs.Common.{◌≡◌, ◌≢◌, ℕ, eqb, zero, suc, ◌+◌, ◌-◌, ◌<◌, ◌≤◌, Bool, true, false, List, [], ◌∷◌, length, Option, Some, None, inl, inr, refl, sym, ap, ◌∙◌, subst, arith}
 use Rattle.std.specs.Prelude.{IsSome}
-use Rattle.std.proofs.lemmas.Bool.{cases_Bool, both_ways}
+use Rattle.std.proofs.lemmas.Bool.{cases_Bool, both_ways, ne_eqb}
 use Rattle.node_arena.specs.Arena.{Arena, arena, value_at, IsHeld, with_first, without, touched, with_value}
 use Rattle.node_arena.specs.Links.{updated, has, strike, next_without, prev_without, next_with, prev_with}
 use Rattle.node_arena.specs.Places.{nth_place}
@@ -10,7 +10,7 @@ use Rattle.node_arena.specs.Region.{next_of, prev_of, item_of, IsPlaced, IsSameB
 use Rattle.node_arena.specs.declared.region.Link.{Link}
 use Rattle.node_arena.specs.declared.region.Region.{Region}
 use Rattle.node_arena.specs.declared.slot.Slot.{Slot}
-use Rattle.node_arena.proofs.Chains.{updated_here}
+use Rattle.node_arena.proofs.Chains.{updated_here, updated_apart}
 use Rattle.node_arena.specs.RegionLends.{with_value as set_in}
 use Rattle.node_arena.proofs.Edits.{becomes-value_set}
 use Rattle.node_arena.proofs.Entries.{slot_at, entries_at-updated, set_value-entries_at}
@@ -74,6 +74,9 @@ module _ {T : Type 0} (r : Region T) (capacity len : ℕ) (w : IsWhole r capacit
       pub shown-touched : shown r2 capacity len ≡ touched a s
       shown-touched = shown-kept (next_with n1 0 k) (prev_with n1 p1 0 k) f capacity len (k ∷ strike k w.order) w.spare kept_t r2 b.next b.item ∙ sym (touched_here r capacity len w a view s held)
 
+      pub value_at-touched : (t : Slot) → value_at (shown r2 capacity len) t ≡ value_at a t
+      value_at-touched t = value_here r2 capacity len whole-touched (shown r2 capacity len) refl t ∙ (λ j. b.item j t.index) ∙ sym (value_here r capacity len w a view t)
+
     -- a removal
     module _ (r3 : Region T) (b : Becomes r r3 (next_with n1 1 k) (prev_with n1 p1 1 k) (updated f k None)) where
       kept_r : IsKept (next_with n1 1 k) (prev_with n1 p1 1 k) (updated f k None) capacity (len - 1) (strike k w.order) (k ∷ w.spare)
@@ -93,6 +96,11 @@ module _ {T : Type 0} (r : Region T) (capacity len : ℕ) (w : IsWhole r capacit
           ap (λ (c : Arena T). value_at c s) plain-removed
           ∙ value_at-kept (next_with n1 1 k) (prev_with n1 p1 1 k) (updated f k None) capacity (len - 1) (strike k w.order) (k ∷ w.spare) kept_r s
           ∙ updated_here f k None k refl
+
+      pub value_at-others : (t : Slot) → t ≢ s → value_at (shown r3 capacity (len - 1)) t ≡ value_at a t
+      value_at-others t other =
+          let apart : eqb k t.index ≡ false = ne_eqb k t.index (λ e. other (ap slot_at (sym e))) in
+          value_here r3 capacity (len - 1) whole-removed (shown r3 capacity (len - 1)) refl t ∙ (λ j. b.item j t.index) ∙ updated_apart f k None t.index apart ∙ sym (value_here r capacity len w a view t)
 
     -- a write through a `&mut` to the value
     module _ (i : ℕ) (e : i ≡ k) (v : T) where
@@ -152,3 +160,6 @@ module _ {T : Type 0} (r : Region T) (capacity len : ℕ) (w : IsWhole r capacit
           shown-kept (next_with m1 0 first) (prev_with m1 q1 0 first) (updated f first (Some v)) capacity (len + 1) (first ∷ w.order) (strike first w.spare) kept_a r3 b.next b.item
           ∙ rw (updated_here f first (Some v) first refl) (ap (λ es. arena ((slot_at first, v) ∷ es) capacity) (entries_at-updated f first (Some v) w.order not_listed))
           ∙ sym (ap (λ (c : Arena T). with_first c (slot_at first) v) (is_plain r capacity len w a view))
+
+      pub value_at-added : value_at (shown r3 capacity (len + 1)) (slot_at first) ≡ Some v
+      value_at-added = value_here r3 capacity (len + 1) whole-added (shown r3 capacity (len + 1)) refl (slot_at first) ∙ (λ j. b.item j first) ∙ updated_here f first (Some v) first refl

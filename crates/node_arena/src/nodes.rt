@@ -1,6 +1,7 @@
 //! The arena. A clause sees it as its `entries`, the most recently used first, and its `capacity`.
-ghost use Rattle.std.specs.Prelude.{◌≡◌, ◌≤◌, ◌<◌, ◌↔◌, [], length, Some, None, IfOk, IfErr, IsOk, IsErr, IsTrue};
+ghost use Rattle.std.specs.Prelude.{◌≡◌, ◌≤◌, ◌<◌, ◌↔◌, [], length, Some, None, IfOk, IfErr, IsOk, IsErr, IsTrue, IfSome, ◌≢◌};
 ghost use Rattle.std.specs.Borrow.{sem};
+ghost use Rattle.node_arena.specs.declared.slot.Slot.{Slot};
 ghost use Rattle.node_arena.specs.Arena.{arena, value_at, IsHeld, oldest_of, with_first, without, touched, IsSound};
 
 use crate::region::Region;
@@ -103,7 +104,8 @@ impl<T> Nodes<T> {
 
     /// The slot whose value was added or touched the longest time ago.
     pub fn oldest(&self) -> Option<Slot>
-        ensures { result ≡ oldest_of self.now }
+        ensures last { result ≡ oldest_of self.now }
+        ensures held { IfSome result (λ slot. IsHeld self.now slot) }
     {
         if self.len == 0 {
             return None;
@@ -115,7 +117,8 @@ impl<T> Nodes<T> {
     /// Makes the slot the most recently used.
     pub fn touch(&mut self, slot: Slot)
         requires { IsHeld self.old slot }
-        ensures { self.new ≡ touched self.old slot }
+        ensures first { self.new ≡ touched self.old slot }
+        ensures values { (s : Slot) → value_at self.new s ≡ value_at self.old s }
     {
         let node = self.region.link(slot.index);
         let held = self.region.link(HELD);
@@ -129,6 +132,7 @@ impl<T> Nodes<T> {
         ensures value { value_at self.old slot ≡ Some result }
         ensures rest { self.new ≡ without self.old slot }
         ensures gone { value_at self.new slot ≡ None }
+        ensures others { (s : Slot) → s ≢ slot → value_at self.new s ≡ value_at self.old s }
     {
         let node = self.region.link(slot.index);
         let spare = self.region.link(SPARE);
@@ -144,6 +148,7 @@ impl<T> Nodes<T> {
         ensures refused { IfErr result (λ x. (x ≡ item) × (self.new ≡ self.old)) }
         ensures fresh { IfOk result (λ slot. value_at self.old slot ≡ None) }
         ensures first { IfOk result (λ slot. self.new ≡ with_first self.old slot item) }
+        ensures value { IfOk result (λ slot. value_at self.new slot ≡ Some item) }
     {
         if self.len == self.capacity {
             return Err(item);

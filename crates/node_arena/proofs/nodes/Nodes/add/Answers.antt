@@ -1,9 +1,10 @@
-use Rattle.std.proofs.Common.{◌≡◌, ℕ, Some, None, sym, ap, ◌∙◌, subst, refl}
+use Rattle.std.proofs.Common.{◌≡◌, ◌+◌, ℕ, Some, None, sym, ap, ◌∙◌, subst, refl}
 use Rattle.node_arena.specs.Arena.{value_at, with_first}
+use Rattle.node_arena.specs.Recency.{shown}
 use Rattle.node_arena.specs.Region.{next_of, item_of}
 use Rattle.node_arena.proofs.Entries.{slot_at}
 use Rattle.node_arena.proofs.Held.{length_here, capacity_here}
-use Rattle.node_arena.proofs.Steps.{moved, moved_value, placed-after, empty_first, fresh_first, whole-added, shown-added}
+use Rattle.node_arena.proofs.Steps.{moved, moved_value, placed-after, empty_first, fresh_first, whole-added, shown-added, value_at-added}
 use Rattle.node_arena.proofs.nodes.Nodes.add.Goals as goal
 
 pub returns-then-self-clause-full : goal.returns-then-self-clause-full
@@ -46,3 +47,12 @@ returns-clause-first g c =
     let e = moved_value r c.unlink.new.self c.link_after.new.self c.link-held.result.index c.next-node.result.index 0 (next_of r 1) c.put.new.self (Some c.args.item) at b c.put.ensures in
     shown-added r c.self.inside.capacity c.self.inside.len c.self.invariant c.args.self.now c.self.view_is c.if-self.false c.args.item c.put.new.self e
     ∙ ap (λ i. with_first c.args.self.now (slot_at i) c.args.item) (sym at)
+
+pub returns-clause-value : goal.returns-clause-value
+returns-clause-value g c =
+    let r = c.self.inside.region in
+    let at = c.next-node.ensures.1 ∙ ap (next_of r) c.link.ensures.1 in
+    let b = moved r c.unlink.new.self c.link_after.new.self c.link-held.result.index c.next-node.result.index 0 (next_of r 1) c.link-held.ensures.1 at c.unlink.ensures c.link_after.ensures in
+    let e = moved_value r c.unlink.new.self c.link_after.new.self c.link-held.result.index c.next-node.result.index 0 (next_of r 1) c.put.new.self (Some c.args.item) at b c.put.ensures in
+    (λ j. value_at (shown c.put.new.self c.self.inside.capacity (c.self.inside.len + 1)) (slot_at (at j)))
+    ∙ value_at-added r c.self.inside.capacity c.self.inside.len c.self.invariant c.args.self.now c.self.view_is c.if-self.false c.args.item c.put.new.self e

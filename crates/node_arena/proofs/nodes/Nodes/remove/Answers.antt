@@ -3,7 +3,7 @@ use Rattle.std.specs.Prelude.{IsSome}
 use Rattle.node_arena.specs.Links.{updated, next_without, prev_without, next_with, prev_with}
 use Rattle.node_arena.specs.Region.{next_of, prev_of, item_of, IsPlaced, Becomes}
 use Rattle.node_arena.proofs.Held.{value_here, item_here, index_here}
-use Rattle.node_arena.proofs.Steps.{moved, moved_value, placed-after, whole-removed, shown-removed, value_at-removed}
+use Rattle.node_arena.proofs.Steps.{moved, moved_value, placed-after, whole-removed, shown-removed, value_at-removed, value_at-others}
 use Rattle.node_arena.proofs.nodes.Nodes.remove.Goals as goal
 
 pub link-node-requires : goal.link-node-requires
@@ -44,3 +44,10 @@ returns-clause-gone g c =
     let b = moved r c.unlink.new.self c.link_after.new.self c.link-spare.result.index c.link-node.result.index 1 c.args.slot.index c.link-spare.ensures.1 c.link-node.ensures.1 c.unlink.ensures c.link_after.ensures in
     let e = moved_value r c.unlink.new.self c.link_after.new.self c.link-spare.result.index c.link-node.result.index 1 c.args.slot.index c.take.new.self None c.link-node.ensures.1 b c.take.ensures.emptied in
     value_at-removed r c.self.inside.capacity c.self.inside.len c.self.invariant c.args.self.now c.self.view_is c.args.slot c.requires c.take.new.self e
+
+pub returns-clause-others : goal.returns-clause-others
+returns-clause-others g c =
+    let r = c.self.inside.region in
+    let b = moved r c.unlink.new.self c.link_after.new.self c.link-spare.result.index c.link-node.result.index 1 c.args.slot.index c.link-spare.ensures.1 c.link-node.ensures.1 c.unlink.ensures c.link_after.ensures in
+    let e = moved_value r c.unlink.new.self c.link_after.new.self c.link-spare.result.index c.link-node.result.index 1 c.args.slot.index c.take.new.self None c.link-node.ensures.1 b c.take.ensures.emptied in
+    value_at-others r c.self.inside.capacity c.self.inside.len c.self.invariant c.args.self.now c.self.view_is c.args.slot c.requires c.take.new.self e
