@@ -5,6 +5,8 @@ mod cells;
 mod nodes;
 mod region;
 mod slot;
+#[cfg(test)]
+mod tests;
 
 pub use nodes::Nodes;
 pub use slot::Slot;
