@@ -1,5 +1,5 @@
 -- A chain of links, with a node taken out of it or put into it.
-use Rattle.std.proofs.Common.{◌≡◌, ℕ, Bool, true, false, eqb, List, [], ◌∷◌, ◌⊎◌, inl, inr, refl, sym, ap, ◌∙◌, subst}
+use Rattle.std.proofs.Common.{◌≡◌, ℕ, true, false, eqb, List, [], ◌∷◌, ◌⊎◌, inl, inr, refl, sym, ap, ◌∙◌, subst}
 use Rattle.std.proofs.lemmas.Bool.{cases_Bool, eqb-true, eqb-false, eq-eqb, ne_eqb, both_ways}
 use Rattle.node_arena.specs.Links.{updated, has, IsApart, strike, IsChain, next_without, prev_without, next_with, prev_with}
 
@@ -47,9 +47,11 @@ module _ (next prev : ℕ → ℕ) where
   pub frame : (i v j w a : ℕ) (xs : List ℕ) (z : ℕ) → IsChain next prev a xs z → has i (a ∷ xs) ≡ false → has j (z ∷ xs) ≡ false → IsChain (updated next i v) (updated prev j w) a xs z
   frame i v j w a [] z c hi hj = (updated_apart next i v a (has_not i a [] hi).0 ∙ c.0, updated_apart prev j w z (has_not j z [] hj).0 ∙ c.1)
   frame i v j w a (x ∷ xs) z c hi hj =
-      let i_on = has_not i a (x ∷ xs) hi in let j_on = has_not j z (x ∷ xs) hj in
-      (updated_apart next i v a i_on.0 ∙ c.0, updated_apart prev j w x (has_not j x xs j_on.1).0 ∙ c.1,
-      frame i v j w x xs z c.2 i_on.1 (has_not_from j z xs j_on.0 (has_not j x xs j_on.1).1))
+      let i_on = has_not i a (x ∷ xs) hi in let j_on = has_not j z (x ∷ xs) hj in (
+        updated_apart next i v a i_on.0 ∙ c.0,
+        updated_apart prev j w x (has_not j x xs j_on.1).0 ∙ c.1,
+        frame i v j w x xs z c.2 i_on.1 (has_not_from j z xs j_on.0 (has_not j x xs j_on.1).1),
+      )
 
 module _ (next prev : ℕ → ℕ) where
   -- the first link leads to the head of the list, or to its end
@@ -70,23 +72,25 @@ module _ (next prev : ℕ → ℕ) where
   link_after x a [] z c h = cc
   link_after x a (y ∷ ys) z c h = elim (cases_Bool (eqb x y)) [
     | inl e ↦ elim (first_link y ys z c.2) [
-        | inl on ↦ inl (has_later (next x) y ys (ap (λ k. has (next k) ys) (eqb-true x y e) ∙ on))
-        | inr last ↦ inr (ap next (eqb-true x y e) ∙ last)
-      ]
+      | inl on ↦ inl (has_later (next x) y ys (ap (λ k. has (next k) ys) (eqb-true x y e) ∙ on))
+      | inr last ↦ inr (ap next (eqb-true x y e) ∙ last)
+    ]
     | inr e ↦ elim (link_after x y ys z c.2 (has_in_rest x y ys e h)) [
-        | inl on ↦ inl (has_later (next x) y ys on)
-        | inr last ↦ inr last
-      ]
+      | inl on ↦ inl (has_later (next x) y ys on)
+      | inr last ↦ inr last
+    ]
   ]
 
   -- the head of a list is taken out
   skipped : (a x : ℕ) (ys : List ℕ) (z : ℕ) → prev x ≡ a → IsChain next prev x ys z → has a ys ≡ false → has z ys ≡ false → IsApart ys
       → IsChain (next_without next prev x) (prev_without next prev x) a ys z
   skipped a x [] z back c ha hz ap' = (updated_here next (prev x) (next x) a back ∙ c.0, updated_here prev (next x) (prev x) z c.0 ∙ back)
-  skipped a x (w ∷ ws) z back c ha hz ap' =
-      (updated_here next (prev x) (next x) a back ∙ c.0, updated_here prev (next x) (prev x) w c.0 ∙ back,
-      frame next prev (prev x) (next x) (next x) (prev x) w ws z c.2 (subst (λ (k : ℕ). has k (w ∷ ws) ≡ false) (sym back) ha)
-      (subst (λ (k : ℕ). has k (z ∷ ws) ≡ false) (sym c.0) (has_not_from w z ws (eqb_turned z w (has_not z w ws hz).0) ap'.0)))
+  skipped a x (w ∷ ws) z back c ha hz ap' = (
+    updated_here next (prev x) (next x) a back ∙ c.0,
+    updated_here prev (next x) (prev x) w c.0 ∙ back,
+    frame next prev (prev x) (next x) (next x) (prev x) w ws z c.2 (subst (λ (k : ℕ). has k (w ∷ ws) ≡ false) (sym back) ha)
+        (subst (λ (k : ℕ). has k (z ∷ ws) ≡ false) (sym c.0) (has_not_from w z ws (eqb_turned z w (has_not z w ws hz).0) ap'.0)),
+  )
 
   -- a node of the list is taken out
   pub taken_out : (x a : ℕ) (xs : List ℕ) (z : ℕ) → IsChain next prev a xs z → has x xs ≡ true → has a xs ≡ false → has z xs ≡ false → IsApart xs
@@ -100,22 +104,31 @@ module _ (next prev : ℕ → ℕ) where
           | inl k ↦ differ (next x) y ys k ap'.0
           | inr last ↦ subst (λ (k : ℕ). eqb k y ≡ false) (sym last) z_on.0
         ] in
-        rw e (updated_apart next (prev x) (next x) a (differ (prev x) a (y ∷ ys) (link_before x y ys z c.2 on) ha) ∙ c.0,
-        updated_apart prev (next x) (prev x) y behind ∙ c.1,
-        taken_out x y ys z c.2 on ap'.0 z_on.1 ap'.1)
+        rw e (
+          updated_apart next (prev x) (next x) a (differ (prev x) a (y ∷ ys) (link_before x y ys z c.2 on) ha) ∙ c.0,
+          updated_apart prev (next x) (prev x) y behind ∙ c.1,
+          taken_out x y ys z c.2 on ap'.0 z_on.1 ap'.1,
+        )
   ]
 
   -- a node is put right after the start
   pub put_in : (x a : ℕ) (xs : List ℕ) (z : ℕ) → IsChain next prev a xs z → eqb x a ≡ false → eqb x z ≡ false → has x xs ≡ false → has a xs ≡ false → has z xs ≡ false → IsApart xs
       → IsChain (next_with next a x) (prev_with next prev a x) a (x ∷ xs) z
   put_in x a [] z c xa xz hx ha hz ap' =
-      let apart : eqb (next a) x ≡ false = subst (λ (k : ℕ). eqb k x ≡ false) (sym c.0) (eqb_turned x z xz) in
-      (updated_here (updated next x (next a)) a x a refl, updated_apart (updated prev x a) (next a) x x apart ∙ updated_here prev x a x refl,
-      (updated_apart (updated next x (next a)) a x x (eqb_turned x a xa) ∙ updated_here next x (next a) x refl ∙ c.0, updated_here (updated prev x a) (next a) x z c.0))
+      let apart : eqb (next a) x ≡ false = subst (λ (k : ℕ). eqb k x ≡ false) (sym c.0) (eqb_turned x z xz) in (
+        updated_here (updated next x (next a)) a x a refl,
+        updated_apart (updated prev x a) (next a) x x apart ∙ updated_here prev x a x refl,
+        (updated_apart (updated next x (next a)) a x x (eqb_turned x a xa) ∙ updated_here next x (next a) x refl ∙ c.0, updated_here (updated prev x a) (next a) x z c.0),
+      )
   put_in x a (y ∷ ys) z c xa xz hx ha hz ap' =
       let x_on = has_not x y ys hx in let z_on = has_not z y ys hz in
       let apart : eqb (next a) x ≡ false = subst (λ (k : ℕ). eqb k x ≡ false) (sym c.0) (eqb_turned x y x_on.0) in
-      let once : IsChain (updated next x (next a)) (updated prev x a) y ys z = frame next prev x (next a) x a y ys z c.2 hx (has_not_from x z ys xz x_on.1) in
-      (updated_here (updated next x (next a)) a x a refl, updated_apart (updated prev x a) (next a) x x apart ∙ updated_here prev x a x refl,
-      (updated_apart (updated next x (next a)) a x x (eqb_turned x a xa) ∙ updated_here next x (next a) x refl ∙ c.0, updated_here (updated prev x a) (next a) x y c.0,
-      frame (updated next x (next a)) (updated prev x a) a x (next a) x y ys z once ha (subst (λ (k : ℕ). has k (z ∷ ys) ≡ false) (sym c.0) (has_not_from y z ys (eqb_turned z y z_on.0) ap'.0))))
+      let once : IsChain (updated next x (next a)) (updated prev x a) y ys z = frame next prev x (next a) x a y ys z c.2 hx (has_not_from x z ys xz x_on.1) in (
+        updated_here (updated next x (next a)) a x a refl,
+        updated_apart (updated prev x a) (next a) x x apart ∙ updated_here prev x a x refl,
+        (
+          updated_apart (updated next x (next a)) a x x (eqb_turned x a xa) ∙ updated_here next x (next a) x refl ∙ c.0,
+          updated_here (updated prev x a) (next a) x y c.0,
+          frame (updated next x (next a)) (updated prev x a) a x (next a) x y ys z once ha (subst (λ (k : ℕ). has k (z ∷ ys) ≡ false) (sym c.0) (has_not_from y z ys (eqb_turned z y z_on.0) ap'.0)),
+        ),
+      )

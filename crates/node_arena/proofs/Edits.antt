@@ -1,10 +1,10 @@
 -- A region in which one node is written.
-use Rattle.std.proofs.Common.{◌≡◌, ℕ, ◌<◌, Bool, true, false, cond, eqb, Option, Some, None, List, length, set, get_or, refl, sym, ap, ◌∙◌, subst, inl, inr, arith, length-set, get_or-set_same, get_or-set_other}
+use Rattle.std.proofs.Common.{◌≡◌, ℕ, ◌<◌, true, false, eqb, Option, Some, None, length, set, refl, sym, ap, ◌∙◌, subst, inl, inr, arith, length-set, get_or-set_same, get_or-set_other}
 use Rattle.std.proofs.lemmas.Bool.{cases_Bool, eqb-true, eqb-false, cond-true, cond-false}
 use Rattle.node_arena.specs.Places.{IsFilled}
 use Rattle.node_arena.specs.Lends.{with_slots}
 use Rattle.node_arena.specs.Links.{updated}
-use Rattle.node_arena.specs.Region.{next_in, prev_in, item_in, node_at, next_of, prev_of, item_of, IsPlaced, IsLaidOut, IsSameBlock, Becomes}
+use Rattle.node_arena.specs.Region.{next_in, prev_in, item_in, node_at, next_of, prev_of, item_of, IsPlaced, IsLaidOut, Becomes}
 use Rattle.node_arena.specs.RegionLends.{with_item, with_value}
 use Rattle.node_arena.specs.declared.region.Node.{Node}
 use Rattle.node_arena.specs.declared.region.Region.{Region}
@@ -25,20 +25,20 @@ module _ {T : Type 0} (r : Region T) (i : ℕ) (n : Node T) where
     -- what is read of the node that was written, and of the others
     pub written : {X : Type 0} (f : Option (Node T) → X) (v : X) → f (Some n) ≡ v → ◌≡◌ {A = ℕ → X} (λ k. f (node_at edited k)) (updated (λ k. f (node_at r k)) i v)
     written {X} f v e = λ j k. each k j where
-        each : (k : ℕ) → f (node_at edited k) ≡ updated (λ m. f (node_at r m)) i v k
-        each k = elim (cases_Bool (eqb i k)) [
-          | inl y ↦ ap f (here k y) ∙ e ∙ sym (cond-true (eqb i k) v (f (node_at r k)) y)
-          | inr y ↦ ap f (elsewhere k y) ∙ sym (cond-false (eqb i k) v (f (node_at r k)) y)
-        ]
+      each : (k : ℕ) → f (node_at edited k) ≡ updated (λ m. f (node_at r m)) i v k
+      each k = elim (cases_Bool (eqb i k)) [
+        | inl y ↦ ap f (here k y) ∙ e ∙ sym (cond-true (eqb i k) v (f (node_at r k)) y)
+        | inr y ↦ ap f (elsewhere k y) ∙ sym (cond-false (eqb i k) v (f (node_at r k)) y)
+      ]
 
     -- what the written node has as the old one had it
     pub kept : {X : Type 0} (f : Option (Node T) → X) (old : Node T) → node_at r i ≡ Some old → f (Some n) ≡ f (Some old) → ◌≡◌ {A = ℕ → X} (λ k. f (node_at edited k)) (λ k. f (node_at r k))
     kept {X} f old was e = λ j k. each k j where
-        each : (k : ℕ) → f (node_at edited k) ≡ f (node_at r k)
-        each k = elim (cases_Bool (eqb i k)) [
-          | inl y ↦ ap f (here k y) ∙ e ∙ ap f (sym was) ∙ ap (λ m. f (node_at r m)) (eqb-true i k y)
-          | inr y ↦ ap f (elsewhere k y)
-        ]
+      each : (k : ℕ) → f (node_at edited k) ≡ f (node_at r k)
+      each k = elim (cases_Bool (eqb i k)) [
+        | inl y ↦ ap f (here k y) ∙ e ∙ ap f (sym was) ∙ ap (λ m. f (node_at r m)) (eqb-true i k y)
+        | inr y ↦ ap f (elsewhere k y)
+      ]
 
     filled : (k : ℕ) → k < r.count → IsFilled edited.cells.slots k
     filled k low = elim (cases_Bool (eqb i k)) [

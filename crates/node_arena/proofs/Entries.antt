@@ -1,5 +1,5 @@
 -- The entries of an arena, from the indexes of its nodes and their values.
-use Rattle.std.proofs.Common.{◌≡◌, ℕ, zero, suc, ◌-◌, Bool, true, false, cond, eqb, List, [], ◌∷◌, map, length, slice_get, Option, Some, None, inl, inr, refl, sym, ap, ◌∙◌, subst, arith}
+use Rattle.std.proofs.Common.{◌≡◌, ℕ, suc, ◌-◌, Bool, true, false, cond, eqb, List, [], ◌∷◌, map, length, slice_get, Option, Some, None, inl, inr, refl, sym, ap, ◌∙◌, subst, arith}
 use Rattle.std.proofs.lemmas.Bool.{cases_Bool, eqb-true}
 use Rattle.std.specs.List.{AllByRecursion, IsDistinct}
 use Rattle.std.specs.Map.{keys_of, lookup, remove_entry, set_value}
@@ -7,7 +7,7 @@ use Rattle.node_arena.specs.Arena.{is_slot}
 use Rattle.node_arena.specs.Links.{updated, has, IsApart, strike, IsChain}
 use Rattle.node_arena.specs.Recency.{walked, entry_at, entries_at}
 use Rattle.node_arena.specs.declared.slot.Slot.{Slot}
-use Rattle.node_arena.proofs.Chains.{has_not, has_first, has_later, updated_here, updated_apart}
+use Rattle.node_arena.proofs.Chains.{has_not, has_first, has_later, updated_apart}
 
 -- the slot of the index
 abbrev pub slot_at : ℕ → Slot
@@ -67,9 +67,9 @@ module _ {T : Type 0} where
       | inl y ↦ let none : f s.index ≡ None = ap f (eqb-true s.index k y) ∙ e in rw y (on ∙ ap (λ (v : Option T). cond (has s.index ks) v None) none ∙ either (has s.index ks) ∙ sym none)
       | inr y ↦ rw y on
     ] where
-        either : (b : Bool) → let none : Option T = None in cond b none none ≡ none
-        either true = refl
-        either false = refl
+      either : (b : Bool) → let none : Option T = None in cond b none none ≡ none
+      either true = refl
+      either false = refl
     found k ks (Some x) e on = elim (cases_Bool (eqb s.index k)) [
       | inl y ↦ rw y (sym e ∙ ap f (sym (eqb-true s.index k y)))
       | inr y ↦ rw y on

@@ -1,5 +1,5 @@
 -- The cells as they are filled with blank nodes one after another, and as they are emptied.
-use Rattle.std.proofs.Common.{◌≡◌, ◌≢◌, ℕ, zero, suc, ◌+◌, ◌<◌, ◌≤◌, List, [], ◌∷◌, length, set, get_or, replicate, Option, Some, None, inl, inr, refl, sym, ap, ◌∙◌, subst, arith, length-set, get_or-set_same, get_or-set_other, ext_get_or}
+use Rattle.std.proofs.Common.{◌≡◌, ◌≢◌, ℕ, zero, suc, ◌+◌, ◌<◌, ◌≤◌, List, length, set, get_or, replicate, Option, Some, None, inl, inr, refl, sym, ap, ◌∙◌, subst, arith, length-set, get_or-set_same, get_or-set_other, ext_get_or}
 use Rattle.std.proofs.lemmas.Bool.{cases_eq, cases_lt}
 use Rattle.std.proofs.lemmas.List.{length-replicate}
 use denote.RawPtr.{Ptr}
@@ -9,7 +9,7 @@ use Rattle.node_arena.specs.declared.cells.Cells.{Cells}
 use Rattle.node_arena.specs.declared.region.Link.{Link}
 use Rattle.node_arena.specs.declared.region.Node.{Node}
 use Rattle.node_arena.specs.declared.region.Region.{Region}
-use Rattle.node_arena.specs.Region.{next_in, prev_in, item_in, node_at, next_of, prev_of, item_of, IsPlaced, IsLaidOut, IsBlank}
+use Rattle.node_arena.specs.Region.{next_in, prev_in, item_in, node_at, IsPlaced, IsLaidOut, IsBlank}
 
 pub none_in : (X : Type 0) (n k : ℕ) → let none : Option X = None in get_or (replicate n none) k none ≡ none
 none_in X zero k = refl
@@ -52,7 +52,7 @@ module _ {T : Type 0} where
   filled_more first count i old new n inv lt alone w =
       let within : i < length old.slots = omega (arith, inv.long) in
       let moved : (k m : ℕ) (x : Node T) → k ≡ m → IsAlone old.at old.stride m x → IsAlone new.at new.stride k x =
-          λ k m x e a. record { link = a.link; is = a.is; index = a.index ∙ sym e; place = a.place ∙ (λ j. nth_place (sym w.0 j) (sym w.1 j) (sym e j)) } in
+      λ k m x e a. record { link = a.link; is = a.is; index = a.index ∙ sym e; place = a.place ∙ (λ j. nth_place (sym w.0 j) (sym w.1 j) (sym e j)) } in
       record {
         within = omega arith;
         at = inv.at ∙ sym w.0;

@@ -1,17 +1,16 @@
 -- What is known of an arena from the region that shows it.
-use Rattle.std.proofs.Common.{◌≡◌, ℕ, zero, suc, ◌+◌, ◌-◌, ◌<◌, ◌≤◌, Bool, true, false, eqb, List, [], ◌∷◌, map, length, slice_get, Option, Some, None, inl, inr, refl, sym, ap, ◌∙◌, subst, arith}
+use Rattle.std.proofs.Common.{◌≡◌, ℕ, ◌-◌, ◌<◌, true, List, [], ◌∷◌, map, length, slice_get, Option, Some, None, refl, sym, ap, ◌∙◌, subst, arith}
 use Rattle.std.specs.Prelude.{IsSome, is_some}
 use Rattle.std.proofs.lemmas.List.{length-map}
-use Rattle.std.specs.Map.{lookup, remove_entry, set_value}
-use Rattle.node_arena.specs.Arena.{Arena, arena, is_slot, value_at, IsHeld, with_first, without, touched, with_value, oldest_of, slots_of, IsSound}
-use Rattle.node_arena.specs.Links.{updated, has, strike, next_without, prev_without, next_with, prev_with}
-use Rattle.node_arena.specs.Recency.{walked, entry_at, entries_at, shown, IsKept, IsWhole}
-use Rattle.node_arena.specs.Region.{next_of, prev_of, item_of, Becomes}
+use Rattle.node_arena.specs.Arena.{Arena, arena, value_at, IsHeld, without, touched, oldest_of, IsSound}
+use Rattle.node_arena.specs.Links.{updated, has, strike}
+use Rattle.node_arena.specs.Recency.{entries_at, shown, IsWhole}
+use Rattle.node_arena.specs.Region.{next_of, prev_of, item_of}
 use Rattle.node_arena.specs.declared.region.Region.{Region}
 use Rattle.node_arena.specs.declared.slot.Slot.{Slot}
-use Rattle.node_arena.proofs.Entries.{slot_at, last_slot-chain, keys_of-entries_at, length-entries_at, entries_at-updated, remove_entry-entries_at, set_value-entries_at}
-use Rattle.node_arena.proofs.Moves.{has-last_link, kept-touched, kept-removed, kept-added}
-use Rattle.node_arena.proofs.Shown.{becomes-then, becomes-value, shown-kept, value_at-kept, sound-kept, whole-after}
+use Rattle.node_arena.proofs.Entries.{slot_at, last_slot-chain, keys_of-entries_at, length-entries_at, entries_at-updated, remove_entry-entries_at}
+use Rattle.node_arena.proofs.Moves.{has-last_link}
+use Rattle.node_arena.proofs.Shown.{shown-kept, value_at-kept, sound-kept}
 use Rattle.node_arena.proofs.Strikes.{has-strike_same}
 
 module _ {T : Type 0} where

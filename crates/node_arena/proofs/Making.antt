@@ -1,8 +1,8 @@
 -- The nodes of a new region, as they are put one after another into the list of the spare ones.
-use Rattle.std.proofs.Common.{◌≡◌, ℕ, zero, suc, ◌+◌, ◌<◌, ◌≤◌, Bool, true, false, eqb, List, [], ◌∷◌, length, Option, Some, None, inl, inr, refl, sym, ap, ◌∙◌, subst, arith}
+use Rattle.std.proofs.Common.{◌≡◌, ℕ, zero, suc, ◌+◌, ◌<◌, ◌≤◌, true, false, eqb, List, [], ◌∷◌, length, None, inl, inr, refl, sym, ap, ◌∙◌, subst, arith}
 use Rattle.std.proofs.lemmas.Bool.{cases_Bool, eqb-true, ne_eqb}
 use Rattle.node_arena.specs.Links.{has, next_with, prev_with}
-use Rattle.node_arena.specs.Recency.{AreTwo, IsKept, IsWhole}
+use Rattle.node_arena.specs.Recency.{AreTwo, IsWhole}
 use Rattle.node_arena.specs.Region.{next_of, prev_of, item_of, IsLaidOut, IsBlank, Becomes}
 use Rattle.node_arena.specs.declared.region.Region.{Region}
 use Rattle.node_arena.proofs.Chains.{has_in_rest}
@@ -71,7 +71,7 @@ module _ {T : Type 0} where
       let at : x ≡ n + 2 = e ∙ is in
       let P : (ℕ → ℕ) × (ℕ → ℕ) → Type 0 = λ t. AreTwo t.0 t.1 0 [] 1 (spares (suc n)) in
       let now : ◌≡◌ {A = (ℕ → ℕ) × (ℕ → ℕ)} (next_with (next_of r) 1 (n + 2), prev_with (next_of r) (prev_of r) 1 (n + 2)) (next_of r', prev_of r') =
-          (λ j. (next_with (next_of r) (sym d j) (sym at j), prev_with (next_of r) (prev_of r) (sym d j) (sym at j))) ∙ (λ j. (sym b.next j, sym b.prev j)) in
+      (λ j. (next_with (next_of r) (sym d j) (sym at j), prev_with (next_of r) (prev_of r) (sym d j) (sym at j))) ∙ (λ j. (sym b.next j, sym b.prev j)) in
       record {
         laid_out = b.laid_out;
         count_is = b.block.count ∙ m.count_is;

@@ -1,8 +1,8 @@
 -- What a touch, a removal and an addition leave of the two lists.
-use Rattle.std.proofs.Common.{◌≡◌, ℕ, suc, ◌+◌, ◌-◌, ◌<◌, ◌≤◌, Bool, true, false, eqb, List, [], ◌∷◌, length, Option, Some, None, ◌⊎◌, inl, inr, refl, sym, ap, ◌∙◌, subst, arith}
+use Rattle.std.proofs.Common.{◌≡◌, ℕ, ◌+◌, ◌-◌, ◌<◌, true, false, eqb, List, [], ◌∷◌, length, Option, Some, None, inl, inr, refl, sym, ap, ◌∙◌, subst, arith}
 use Rattle.std.proofs.lemmas.Bool.{cases_Bool, eqb-true}
 use Rattle.node_arena.specs.Links.{updated, has, strike, IsChain, next_without, prev_without, next_with, prev_with}
-use Rattle.node_arena.specs.Recency.{AreTwo, IsKept}
+use Rattle.node_arena.specs.Recency.{IsKept}
 use Rattle.node_arena.proofs.Chains.{updated_here, updated_apart, eqb_turned, has_first, has_later, has_in_rest, differ}
 use Rattle.node_arena.proofs.Strikes.{has-strike, has-strike_same, has-strike_other, length-strike}
 use Rattle.node_arena.proofs.Two.{turned, to_front, to_other}

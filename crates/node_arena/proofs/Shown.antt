@@ -1,16 +1,13 @@
 -- The arena that a region shows, before and after its steps.
-use Rattle.std.proofs.Common.{◌≡◌, ℕ, suc, ◌+◌, ◌-◌, ◌<◌, ◌≤◌, Bool, true, false, cond, eqb, List, [], ◌∷◌, map, length, slice_get, Option, Some, None, ◌⊎◌, inl, inr, refl, sym, ap, ◌∙◌, subst, arith}
+use Rattle.std.proofs.Common.{◌≡◌, ℕ, ◌≤◌, false, List, Option, Some, None, inl, inr, refl, sym, ap, ◌∙◌, subst, arith}
 use Rattle.std.proofs.lemmas.Bool.{cases_Bool, both_ways}
-use Rattle.std.specs.Map.{lookup, remove_entry}
-use Rattle.node_arena.specs.Arena.{Arena, arena, is_slot, value_at, with_first, without, touched, oldest_of, slots_of, IsSound}
-use Rattle.node_arena.specs.Links.{updated, has, strike, next_without, prev_without, next_with, prev_with}
-use Rattle.node_arena.specs.Recency.{walked, entry_at, entries_at, shown, IsKept, IsWhole}
-use Rattle.node_arena.specs.Region.{next_of, prev_of, item_of, Becomes, IsSameBlock}
+use Rattle.node_arena.specs.Arena.{arena, value_at, IsSound}
+use Rattle.node_arena.specs.Links.{updated, has, next_without, prev_without, next_with, prev_with}
+use Rattle.node_arena.specs.Recency.{walked, entries_at, shown, IsKept, IsWhole}
+use Rattle.node_arena.specs.Region.{next_of, prev_of, item_of, Becomes}
 use Rattle.node_arena.specs.declared.region.Region.{Region}
 use Rattle.node_arena.specs.declared.slot.Slot.{Slot}
-use Rattle.node_arena.proofs.Chains.{updated_here}
-use Rattle.node_arena.proofs.Entries.{slot_at, walked-chain, last-chain, distinct_slots, keys_of-entries_at, length-entries_at, entries_at-updated, lookup-entries_at, remove_entry-entries_at}
-use Rattle.node_arena.proofs.Strikes.{has-strike_same}
+use Rattle.node_arena.proofs.Entries.{walked-chain, distinct_slots, keys_of-entries_at, length-entries_at, lookup-entries_at}
 
 module _ {T : Type 0} where
   -- two steps, one after the other

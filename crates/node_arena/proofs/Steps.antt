@@ -1,6 +1,5 @@
 -- A touch, a removal and an addition, from the steps on the region to the arena.
-use Rattle.std.proofs.Common.{◌≡◌, ◌≢◌, ℕ, eqb, zero, suc, ◌+◌, ◌-◌, ◌<◌, ◌≤◌, Bool, true, false, List, [], ◌∷◌, length, Option, Some, None, inl, inr, refl, sym, ap, ◌∙◌, subst, arith}
-use Rattle.std.specs.Prelude.{IsSome}
+use Rattle.std.proofs.Common.{◌≡◌, ◌≢◌, ℕ, eqb, zero, suc, ◌+◌, ◌-◌, ◌<◌, true, false, ◌∷◌, length, Option, Some, None, inl, inr, refl, sym, ap, ◌∙◌, subst, arith}
 use Rattle.std.proofs.lemmas.Bool.{cases_Bool, both_ways, ne_eqb}
 use Rattle.node_arena.specs.Arena.{Arena, arena, value_at, IsHeld, with_first, without, touched, with_value}
 use Rattle.node_arena.specs.Links.{updated, has, strike, next_without, prev_without, next_with, prev_with}
@@ -14,7 +13,7 @@ use Rattle.node_arena.proofs.Chains.{updated_here, updated_apart}
 use Rattle.node_arena.specs.RegionLends.{with_value as set_in}
 use Rattle.node_arena.proofs.Edits.{becomes-value_set}
 use Rattle.node_arena.proofs.Entries.{slot_at, entries_at-updated, set_value-entries_at}
-use Rattle.node_arena.proofs.Held.{is_plain, value_here, some_here, index_here, listed_here, touched_here, without_here, capacity_here, length_here}
+use Rattle.node_arena.proofs.Held.{is_plain, value_here, some_here, index_here, listed_here, touched_here, without_here}
 use Rattle.node_arena.proofs.Moves.{has-first_link, kept-touched, kept-removed, kept-added, kept-valued}
 use Rattle.node_arena.proofs.Shown.{becomes-then, becomes-value, shown-kept, value_at-kept, absent, whole-after}
 

@@ -1,5 +1,5 @@
 -- A list of indexes from which one is struck.
-use Rattle.std.proofs.Common.{◌≡◌, ℕ, suc, Bool, true, false, eqb, List, [], ◌∷◌, length, inl, inr, refl, sym, ap, ◌∙◌, subst, arith}
+use Rattle.std.proofs.Common.{◌≡◌, ℕ, suc, true, false, eqb, List, [], ◌∷◌, length, inl, inr, refl, sym, ap, subst}
 use Rattle.std.proofs.lemmas.Bool.{cases_Bool, eqb-true, both_ways}
 use Rattle.node_arena.specs.Links.{has, IsApart, strike}
 use Rattle.node_arena.proofs.Chains.{has_not, has_not_from, has_first, has_later, has_in_rest}
@@ -33,9 +33,9 @@ has-strike_other k x [] ne h = h
 has-strike_other k x (y ∷ ys) ne h = elim (cases_Bool (eqb x y)) [
   | inl e ↦ let apart : eqb k y ≡ false = subst (λ (m : ℕ). eqb k m ≡ false) (eqb-true x y e) ne in rw e (has_in_rest k y ys apart h)
   | inr e ↦ elim (cases_Bool (eqb k y)) [
-      | inl same ↦ rw e (has_first k y (strike x ys) (eqb-true k y same))
-      | inr other ↦ rw e (has_later k y (strike x ys) (has-strike_other k x ys ne (has_in_rest k y ys other h)))
-    ]
+    | inl same ↦ rw e (has_first k y (strike x ys) (eqb-true k y same))
+    | inr other ↦ rw e (has_later k y (strike x ys) (has-strike_other k x ys ne (has_in_rest k y ys other h)))
+  ]
 ]
 
 pub IsApart-strike : (x : ℕ) (xs : List ℕ) → IsApart xs → IsApart (strike x xs)

@@ -1,9 +1,9 @@
 -- Two lists of nodes, with a node taken out of one, put into one, or moved.
-use Rattle.std.proofs.Common.{◌≡◌, ℕ, Bool, true, false, eqb, List, [], ◌∷◌, ◌⊎◌, inl, inr, refl, sym, ap, ◌∙◌, subst}
+use Rattle.std.proofs.Common.{◌≡◌, ℕ, true, false, eqb, List, ◌∷◌, ◌⊎◌, inl, inr, sym, subst}
 use Rattle.std.proofs.lemmas.Bool.{cases_Bool, eqb-true, both_ways}
-use Rattle.node_arena.specs.Links.{updated, has, IsApart, strike, IsChain, next_without, prev_without, next_with, prev_with}
+use Rattle.node_arena.specs.Links.{updated, has, strike, next_without, prev_without, next_with, prev_with}
 use Rattle.node_arena.specs.Recency.{AreTwo}
-use Rattle.node_arena.proofs.Chains.{eqb_turned, has_not, has_not_from, has_in_rest, differ, frame, first_link, link_before, link_after, taken_out, put_in}
+use Rattle.node_arena.proofs.Chains.{eqb_turned, has_not_from, has_in_rest, differ, frame, first_link, link_before, link_after, taken_out, put_in}
 use Rattle.node_arena.proofs.Strikes.{has-strike_none, has-strike, has-strike_same, IsApart-strike}
 
 -- a node of no list
@@ -42,7 +42,7 @@ module _ (next prev : ℕ → ℕ) where
     taken x h = record {
       one = taken_out next prev x a xs a t.one h t.a_not.0 t.a_not.0 t.apart.0;
       other = frame next prev (prev x) (next x) (next x) (prev x) b ys b t.other
-        (outside (prev x) (start_or (prev x) (link_before next prev x a xs a t.one h))) (outside (next x) (link_after next prev x a xs a t.one h));
+          (outside (prev x) (start_or (prev x) (link_before next prev x a xs a t.one h))) (outside (next x) (link_after next prev x a xs a t.one h));
       ends = t.ends;
       a_not = (has-strike_none a x xs t.a_not.0, t.a_not.1);
       b_not = (has-strike_none b x xs t.b_not.0, t.b_not.1);

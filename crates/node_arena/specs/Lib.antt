@@ -1,4 +1,5 @@
 pub mod Arena
+pub mod Cells
 pub mod Lends
 pub mod Links
 pub mod NodeLends

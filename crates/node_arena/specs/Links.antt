@@ -1,5 +1,5 @@
 -- Lists of nodes by their indexes, and the links that make them.
-use Rattle.std.specs.Prelude.{◌≡◌, ℕ, zero, suc, ◌+◌, ◌<◌, Bool, true, false, ◌==◌, ◌||◌, if◌then◌else◌, List, [], ◌∷◌, length, Option, Some, None}
+use Rattle.std.specs.Prelude.{◌≡◌, ℕ, Bool, true, false, ◌==◌, if◌then◌else◌, List, [], ◌∷◌}
 
 -- f, but v at i
 abbrev pub updated : {X : Type 0} → (ℕ → X) → ℕ → X → ℕ → X

@@ -1,5 +1,5 @@
 -- What a node ends as, once a `&mut` to its value has ended.
-use Rattle.std.specs.Prelude.{Option, Some}
+use Rattle.std.specs.Prelude.{Some}
 use Rattle.std.specs.Borrow.{Fml, RattleType, MutBor, Lends}
 use Rattle.node_arena.specs.declared.region.Node.{Node}
 use Rattle.node_arena.specs.contracts.region.Node.{the_row}

@@ -1,5 +1,5 @@
 -- The two lists of the nodes, that of the nodes in use and that of the spare ones, and how they show an arena.
-use Rattle.std.specs.Prelude.{◌≡◌, ℕ, zero, suc, ◌+◌, ◌<◌, ◌≤◌, Bool, true, false, ◌==◌, List, [], ◌∷◌, length, Option, Some, None}
+use Rattle.std.specs.Prelude.{◌≡◌, ℕ, zero, suc, ◌+◌, ◌<◌, ◌≤◌, true, false, ◌==◌, List, [], ◌∷◌, length, Option, Some, None}
 use Rattle.node_arena.specs.Arena.{Arena, arena}
 use Rattle.node_arena.specs.Links.{has, IsApart, IsChain}
 use Rattle.node_arena.specs.Region.{next_of, prev_of, item_of, IsLaidOut}

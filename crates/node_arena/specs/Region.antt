@@ -1,6 +1,5 @@
 -- How the nodes lie in the region.
-use Rattle.std.specs.Prelude.{◌≡◌, ℕ, ◌+◌, ◌<◌, List, length, get_or, Option, Some, None}
-use denote.RawPtr.{Ptr}
+use Rattle.std.specs.Prelude.{◌≡◌, ℕ, ◌<◌, length, get_or, Option, Some, None}
 use Rattle.node_arena.specs.Places.{IsFilled, nth_place}
 use Rattle.node_arena.specs.declared.region.Link.{Link}
 use Rattle.node_arena.specs.declared.region.Node.{Node}

@@ -1,5 +1,5 @@
 -- What the region ends as, once a `&mut` to a value has ended.
-use Rattle.std.specs.Prelude.{◌≡◌, ℕ, slice_set, get_or, Option, Some, None}
+use Rattle.std.specs.Prelude.{ℕ, slice_set, get_or, Option, Some, None}
 use Rattle.std.specs.Borrow.{Fml, RattleType, MutBor, Lends}
 use Rattle.node_arena.specs.Lends.{with_slots}
 use Rattle.node_arena.specs.declared.region.Node.{Node}

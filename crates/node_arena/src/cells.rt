@@ -75,7 +75,8 @@ pub(crate) fn allocate<T, A: Allocator>(
     len: usize,
 ) -> Result<(Place, Cells<T>, Deed<T, A>), AllocError>
     requires { FitsInBlock T.row len }
-    ensures { IfOk result (λ r. (r.1.at ≡ r.0.ptr) × (r.1.slots ≡ replicate len None) × (r.2.at ≡ r.0.ptr) × (r.2.len ≡ len) × (r.2.alloc ≡ alloc.now)) }
+    ensures { IfOk result (λ r. (r.1.at ≡ r.0.ptr) × (r.1.slots ≡ replicate len None)
+        × (r.2.at ≡ r.0.ptr) × (r.2.len ≡ len) × (r.2.alloc ≡ alloc.now)) }
 {
     match alloc.allocate(len * size_of::<T>(), align_of::<T>()) {
         Ok(block) => {
@@ -98,7 +99,8 @@ pub(crate) fn deallocate<T, A: Allocator>(
     cells: Cells<T>,
     deed: Deed<T, A>,
 )
-    requires { (cells.at ≡ first.ptr) × (cells.slots ≡ replicate len None) × (deed.at ≡ first.ptr) × (deed.len ≡ len) × (deed.alloc ≡ alloc.now) }
+    requires { (cells.at ≡ first.ptr) × (cells.slots ≡ replicate len None)
+        × (deed.at ≡ first.ptr) × (deed.len ≡ len) × (deed.alloc ≡ alloc.now) }
 {
     let Cells { mark: _ } = cells;
     let Deed { mark: _ } = deed;
@@ -108,6 +110,7 @@ pub(crate) fn deallocate<T, A: Allocator>(
 }
 
 impl<T> Cells<T> {
+    ghost use Rattle.node_arena.specs.Cells.{LeadsTo, NowHolds};
     ghost use Rattle.node_arena.specs.Lends.{lends_slot};
 
     /// The place of the cell at `index`.
@@ -122,8 +125,9 @@ impl<T> Cells<T> {
 
     /// Fills the empty cell at `place`, which is that of `index`.
     pub(crate) fn write(&mut self, place: Place, index: usize, item: T)
-        requires { (place.ptr ≡ nth_place self.old.at self.old.stride index) × (index < length self.old.slots) × (get_or self.old.slots index None ≡ None) }
-        ensures { (self.new.at ≡ self.old.at) × (self.new.stride ≡ self.old.stride) × (self.new.slots ≡ slice_set self.old.slots index (Some item)) }
+        requires { LeadsTo place self.old index × (index < length self.old.slots)
+            × (get_or self.old.slots index None ≡ None) }
+        ensures { NowHolds self.old self.new (slice_set self.old.slots index (Some item)) }
     {
         let at = place.ptr as *mut T;
         unsafe { at.write(item) }
@@ -131,9 +135,9 @@ impl<T> Cells<T> {
 
     /// Moves the value out of the cell at `place`.
     pub(crate) fn read(&mut self, place: Place, index: usize) -> T
-        requires { (place.ptr ≡ nth_place self.old.at self.old.stride index) × IsFilled self.old.slots index }
+        requires { LeadsTo place self.old index × IsFilled self.old.slots index }
         ensures value { get_or self.old.slots index None ≡ Some result }
-        ensures slots { (self.new.at ≡ self.old.at) × (self.new.stride ≡ self.old.stride) × (self.new.slots ≡ slice_set self.old.slots index None) }
+        ensures slots { NowHolds self.old self.new (slice_set self.old.slots index None) }
     {
         let at = place.ptr as *mut T;
         unsafe { at.read() }
@@ -141,7 +145,7 @@ impl<T> Cells<T> {
 
     /// The value in the cell at `place`.
     pub(crate) fn at(&self, place: Place, index: usize) -> &T
-        requires { (place.ptr ≡ nth_place self.now.at self.now.stride index) × IsFilled self.now.slots index }
+        requires { LeadsTo place self.now index × IsFilled self.now.slots index }
         ensures { get_or self.now.slots index None ≡ Some result.now }
     {
         let at = place.ptr as *mut T;
@@ -150,7 +154,7 @@ impl<T> Cells<T> {
 
     /// The same, to write to.
     pub(crate) fn at_mut(&mut self, place: Place, index: usize) -> &mut T
-        requires { (place.ptr ≡ nth_place self.old.at self.old.stride index) × IsFilled self.old.slots index }
+        requires { LeadsTo place self.old index × IsFilled self.old.slots index }
         ensures* writes_back { sem 𝓛 (lends_slot T.row self.entry index result) }
         ensures value { get_or self.old.slots index None ≡ Some result.now }
     {

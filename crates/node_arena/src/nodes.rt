@@ -18,8 +18,8 @@ const SPARE: usize = 1;
 /// At most `capacity` values, each in a node of its own under a slot, in the order of their last use.
 pub struct Nodes<T> {
     region: Region<T>,
-    capacity: usize,
-    len: usize,
+    capacity: u32,
+    len: u32,
 }
 
 impl<T> Model for Nodes<T> {
@@ -54,7 +54,7 @@ impl<T> Nodes<T> {
         }
         Ok(Nodes {
             region,
-            capacity,
+            capacity: capacity as u32,
             len: 0,
         })
     }
@@ -64,14 +64,14 @@ impl<T> Nodes<T> {
         ensures len { result ≡ length self.now.entries }
         ensures sound { IsSound self.now }
     {
-        self.len
+        self.len as usize
     }
 
     /// How many values there may be.
     pub fn capacity(&self) -> usize
         ensures { result ≡ self.now.capacity }
     {
-        self.capacity
+        self.capacity as usize
     }
 
     /// Whether the slot is of a value that is there.
@@ -98,8 +98,8 @@ impl<T> Nodes<T> {
         ensures* writes_back { sem 𝓛 (lends_value T.row self.entry slot result) }
         ensures value { value_at self.old slot ≡ Some result.now }
     {
-        let node = self.region.link(slot.index);
-        self.region.value_mut(node)
+        let lent = self.region.link(slot.index);
+        self.region.value_mut(lent)
     }
 
     /// The slot whose value was added or touched the longest time ago.
@@ -154,9 +154,9 @@ impl<T> Nodes<T> {
             return Err(item);
         }
         let node = self.region.next(self.region.link(SPARE));
-        let held = self.region.link(HELD);
+        let start = self.region.link(HELD);
         self.region.unlink(node);
-        self.region.link_after(held, node);
+        self.region.link_after(start, node);
         self.region.put(node, item);
         self.len += 1;
         Ok(Slot { index: node.index })

@@ -135,14 +135,16 @@ impl<T> Region<T> {
 
     fn set_next(&mut self, link: Link, to: Link)
         requires { IsLaidOut self.old × IsPlaced self.old link × IsPlaced self.old to }
-        ensures { Becomes self.old self.new (updated (next_of self.old) link.index to.index) (prev_of self.old) (item_of self.old) }
+        ensures { Becomes self.old self.new
+            (updated (next_of self.old) link.index to.index) (prev_of self.old) (item_of self.old) }
     {
         self.cells.at_mut(link.place, link.index).next = to;
     }
 
     fn set_prev(&mut self, link: Link, to: Link)
         requires { IsLaidOut self.old × IsPlaced self.old link × IsPlaced self.old to }
-        ensures { Becomes self.old self.new (next_of self.old) (updated (prev_of self.old) link.index to.index) (item_of self.old) }
+        ensures { Becomes self.old self.new
+            (next_of self.old) (updated (prev_of self.old) link.index to.index) (item_of self.old) }
     {
         self.cells.at_mut(link.place, link.index).prev = to;
     }
@@ -151,7 +153,8 @@ impl<T> Region<T> {
     pub(crate) fn unlink(&mut self, link: Link)
         requires { IsLaidOut self.old × IsPlaced self.old link }
         ensures { let n = next_of self.old in let p = prev_of self.old in
-            Becomes self.old self.new (next_without n p link.index) (prev_without n p link.index) (item_of self.old) }
+            Becomes self.old self.new
+            (next_without n p link.index) (prev_without n p link.index) (item_of self.old) }
     {
         let prev = self.prev(link);
         let next = self.next(link);
@@ -163,7 +166,8 @@ impl<T> Region<T> {
     pub(crate) fn link_after(&mut self, at: Link, link: Link)
         requires { IsLaidOut self.old × IsPlaced self.old at × IsPlaced self.old link }
         ensures { let n = next_of self.old in let p = prev_of self.old in
-            Becomes self.old self.new (next_with n at.index link.index) (prev_with n p at.index link.index) (item_of self.old) }
+            Becomes self.old self.new
+            (next_with n at.index link.index) (prev_with n p at.index link.index) (item_of self.old) }
     {
         let next = self.next(at);
         self.set_next(link, next);
@@ -182,7 +186,8 @@ impl<T> Region<T> {
 
     /// The value that the node holds.
     pub(crate) fn value(&self, link: Link) -> &T
-        requires { IsLaidOut self.now × IsPlaced self.now link × IsSome (item_of self.now link.index) }
+        requires { IsLaidOut self.now × IsPlaced self.now link
+            × IsSome (item_of self.now link.index) }
         ensures { item_of self.now link.index ≡ Some result.now }
     {
         match &self.node(link).item {
@@ -193,9 +198,11 @@ impl<T> Region<T> {
 
     /// Moves the value out of the node.
     pub(crate) fn take(&mut self, link: Link) -> T
-        requires { IsLaidOut self.old × IsPlaced self.old link × IsSome (item_of self.old link.index) }
+        requires { IsLaidOut self.old × IsPlaced self.old link
+            × IsSome (item_of self.old link.index) }
         ensures value { item_of self.old link.index ≡ Some result }
-        ensures emptied { Becomes self.old self.new (next_of self.old) (prev_of self.old) (updated (item_of self.old) link.index None) }
+        ensures emptied { Becomes self.old self.new
+            (next_of self.old) (prev_of self.old) (updated (item_of self.old) link.index None) }
     {
         let node = self.cells.at_mut(link.place, link.index);
         match node.item.take() {
@@ -206,8 +213,10 @@ impl<T> Region<T> {
 
     /// Moves a value into the node, which holds none.
     pub(crate) fn put(&mut self, link: Link, item: T)
-        requires { IsLaidOut self.old × IsPlaced self.old link × (item_of self.old link.index ≡ None) }
-        ensures { Becomes self.old self.new (next_of self.old) (prev_of self.old) (updated (item_of self.old) link.index (Some item)) }
+        requires { IsLaidOut self.old × IsPlaced self.old link
+            × (item_of self.old link.index ≡ None) }
+        ensures { Becomes self.old self.new
+            (next_of self.old) (prev_of self.old) (updated (item_of self.old) link.index (Some item)) }
     {
         let node = self.cells.at_mut(link.place, link.index);
         match node.item.replace(item) {
@@ -218,7 +227,8 @@ impl<T> Region<T> {
 
     /// The value that the node holds, to write to.
     pub(crate) fn value_mut(&mut self, link: Link) -> &mut T
-        requires { IsLaidOut self.old × IsPlaced self.old link × IsSome (item_of self.old link.index) }
+        requires { IsLaidOut self.old × IsPlaced self.old link
+            × IsSome (item_of self.old link.index) }
         ensures* writes_back { sem 𝓛 (lends_value T.row self.entry link.index result) }
         ensures value { item_of self.old link.index ≡ Some result.now }
     {

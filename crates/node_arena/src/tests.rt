@@ -57,7 +57,11 @@ fn keeps_the_order_of_use_at_capacity_three(rt: HostRuntime) -> Result<(), Fail>
     let d = nodes.add('d')?;
     assert_eq!(rt; values_from_oldest(rt.alloc(), &mut nodes)?.as_str(), "bad");
     assert_eq!(rt; nodes.oldest(), Some(b));
-    assert_eq!(rt; nodes.is_held(c), c == d, "c's old slot is held again where d took it");
+    assert_eq!(rt;
+        nodes.is_held(c),
+        c == d,
+        "c's old slot is held again where d took it"
+    );
     Ok(())
 }
 

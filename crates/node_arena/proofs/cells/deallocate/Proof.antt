@@ -21,7 +21,7 @@ use types.ByLocal.{alloc_all, pass_all, free_all, look_at, get, get_in, sets, is
 use denote.Exit.{yes, no}
 use denote.RattleType.{RattleType, owns}
 use denote.Memory.{hidden_shr}
-use denote.RawPtr.{Ptr, ptr_val, in_a_block}
+use denote.RawPtr.{Ptr, in_a_block}
 use denote.Ref.{Bor, ShrRef}
 use denote.Builtin.{RefOf}
 use denote.Signature.{plain}

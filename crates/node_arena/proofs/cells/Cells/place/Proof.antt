@@ -1,5 +1,5 @@
 -- `place` counts from the first cell. Assumes `Logic`.
-use mathlib.Core.Path.{◌≡◌, refl, sym, ap, subst, ◌∙◌}
+use mathlib.Core.Path.{◌≡◌, refl, sym, subst, ◌∙◌}
 use Prim.Native.Nat.{ℕ, ◌+◌, ◌*◌, ◌<◌, ◌^◌}
 use native.Mathlib.Omega.{arith}
 use Rattle.core.proofs.ptr.Rows.{times_below, one_below}
@@ -16,10 +16,10 @@ use types.Logic.{Logic}
 use contract.Monad.{fact}
 use contract.Running.{tables, tables_of}
 use sound.WpLaws.{WpFn-mono}
-use types.Kit.{Item, ⋆, ‵, ◌⊛◌, at_ret, ◌$◌, ◌∵◌, !, qed, by, move, keep, drop, use1, split, join, rewrite, fsplit, fjoin, feq_i, feq_l, suffices, frame, done}
+use types.Kit.{Item, ⋆, ‵, ◌⊛◌, at_ret, ◌$◌, ◌∵◌, !, qed, by, move, keep, drop, split, join, rewrite, fsplit, fjoin, feq_l, suffices, frame, done}
 use types.Part.{whole, sub, agg}
 use types.Run.{stop, fld, of_opd, bin, size_lit, and_then, no_more, first, blocks, exec, returns, enter}
-use types.ByLocal.{alloc_all, pass_all, free_all, look_at, get, get_in, through, sets, sets_last, env}
+use types.ByLocal.{alloc_all, pass_all, free_all, look_at, get, get_in, sets, sets_last, env}
 use denote.Exit.{yes, no}
 use denote.RattleType.{owns}
 use denote.Memory.{hidden_shr}
@@ -28,7 +28,7 @@ use denote.RawPtr.{Ptr, block_ptr, in_a_block}
 use denote.Ref.{Bor, ShrRef}
 use denote.Builtin.{RefOf}
 use denote.Signature.{plain}
-use denote.Opens.{hide, unhide}
+use denote.Opens.{unhide}
 use denote.Steps.{nothing}
 use denote.Triple.Carry.{spared}
 use denote.Triple.Clauses.{Clauses, Ended, closing}
@@ -38,14 +38,13 @@ use denote.Triple.Table.{entered, run_framed}
 use denote.Triple.Walked.{says, needs, Stays, stay_dropped, walk_of, ends_at, Goes-dropped, walk_Meets}
 use Rattle.std_alloc.proofs.VecSteps.Shapes.{after}
 use Rattle.std_alloc.proofs.RcSteps.{word, word-Good}
-use lib.ListN.{length, get_or}
+use lib.ListN.{length}
 use types.Kit.{flt_l}
 use types.ByLocal.{take_at, give_at}
 use denote.Builtin.{usize}
-use Rattle.std.specs.Prelude.{Some, None}
-use Rattle.core.proofs.mem.Param.{El, R, args, el_x}
+use Rattle.core.proofs.mem.Param.{El, R, args}
 use Rattle.node_arena.specs.Places.{nth_place}
-use Rattle.node_arena.specs.Ownership.{slot_lent, cells_lent}
+use Rattle.node_arena.specs.Ownership.{cells_lent}
 use Rattle.node_arena.proofs.Memory.{Cr, Pl, sz, word_had, word_made}
 use Rattle.node_arena.specs.contracts.cells.Cells.place.Key.{name as #self}
 use Rattle.node_arena.proofs.cells.Cells.place.Statement as stated

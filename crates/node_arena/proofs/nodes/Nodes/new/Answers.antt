@@ -1,5 +1,5 @@
 use Rattle.std.proofs.Common.{◌≡◌, ◌+◌, arith}
-use Rattle.node_arena.proofs.Making.{made_none, made_more, made_all}
+use Rattle.node_arena.proofs.Making.{made_more, made_all}
 use Rattle.node_arena.proofs.nodes.Nodes.new.Goals as goal
 
 pub loop-index-preserved : goal.loop-index-preserved

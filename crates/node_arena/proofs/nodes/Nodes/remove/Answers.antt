@@ -1,7 +1,6 @@
-use Rattle.std.proofs.Common.{◌≡◌, ℕ, None, sym, ap, ◌∙◌, subst}
+use Rattle.std.proofs.Common.{None, sym, ap, ◌∙◌, subst}
 use Rattle.std.specs.Prelude.{IsSome}
-use Rattle.node_arena.specs.Links.{updated, next_without, prev_without, next_with, prev_with}
-use Rattle.node_arena.specs.Region.{next_of, prev_of, item_of, IsPlaced, Becomes}
+use Rattle.node_arena.specs.Region.{item_of}
 use Rattle.node_arena.proofs.Held.{value_here, item_here, index_here}
 use Rattle.node_arena.proofs.Steps.{moved, moved_value, placed-after, whole-removed, shown-removed, value_at-removed, value_at-others}
 use Rattle.node_arena.proofs.nodes.Nodes.remove.Goals as goal
@@ -13,9 +12,11 @@ pub take-requires : goal.take-requires
 take-requires g c =
     let r = c.self.inside.region in
     let b = moved r c.unlink.new.self c.link_after.new.self c.link-spare.result.index c.link-node.result.index 1 c.args.slot.index c.link-spare.ensures.1 c.link-node.ensures.1 c.unlink.ensures c.link_after.ensures in
-    let there = item_here r c.self.inside.capacity c.self.inside.len c.self.invariant c.args.self.now c.self.view_is c.args.slot c.requires in
-    (c.link_after.ensures.laid_out, placed-after r c.link_after.new.self c.link-node.result b.block c.link-node.ensures.0,
-    subst (λ o. IsSome o) (ap (item_of r) (sym c.link-node.ensures.1) ∙ (λ j. sym b.item j c.link-node.result.index)) there)
+    let there = item_here r c.self.inside.capacity c.self.inside.len c.self.invariant c.args.self.now c.self.view_is c.args.slot c.requires in (
+      c.link_after.ensures.laid_out,
+      placed-after r c.link_after.new.self c.link-node.result b.block c.link-node.ensures.0,
+      subst (λ o. IsSome o) (ap (item_of r) (sym c.link-node.ensures.1) ∙ (λ j. sym b.item j c.link-node.result.index)) there,
+    )
 
 pub invariant_of-self : goal.invariant_of-self
 invariant_of-self g c =
