@@ -1,3 +1,4 @@
+pub mod CallerLemmas
 pub mod Chains
 pub mod Crosses
 pub mod Edits
