@@ -110,7 +110,9 @@ fn measure(rt: &(impl CpuClock + Print), alloc: Global, capacity: usize) -> Resu
     let touched_few = each(touch_any(rt, &mut nodes, few)?);
     let written = each(write_any(rt, &mut nodes, &slots)?);
     let written_few = each(write_any(rt, &mut nodes, few)?);
-    println!(rt; "{capacity:>8} {oldest:>8} {replaced:>8} {touched:>8} {touched_few:>8} {written:>8} {written_few:>8}")?;
+    print!(rt; "{capacity:>8} {oldest:>8} {replaced:>8}")?;
+    print!(rt; " {touched_few:>8} {written_few:>8}")?;
+    println!(rt; " {touched:>8} {written:>8}")?;
     Ok(())
 }
 
@@ -119,8 +121,9 @@ fn main(rt: HostRuntime) -> Result<()> {
         println!(rt; "usage: arena_timing measure")?;
         return Ok(());
     }
-    println!(rt; "nanoseconds of a round of calls: oldest and touch; oldest, remove and add; is_held and touch of any")?;
-    println!(rt; "slot, and of one of eight; is_held, get and get_mut of any slot, and of one of eight")?;
+    println!(rt; "capacity, and the nanoseconds of a round of calls:")?;
+    println!(rt; "oldest, touch | oldest, remove, add | one of 8 slots: is_held, touch")?;
+    println!(rt; "| is_held, get, get_mut | any slot: is_held, touch | is_held, get, get_mut")?;
     for capacity in [1, 1_024, 65_536] {
         measure(&rt, rt.alloc(), capacity)?;
     }

@@ -15,13 +15,19 @@ pub record Arena (X : Type 0) : Type 0 where
 abbrev pub is_slot : Slot → Slot → Bool
 is_slot s t = s.index == t.index
 
+-- a slot is stored as its index
+abbrev pub slot_code : Coded Slot
+slot_code = code_by ℕ coded_ℕ (λ s. s.index) (λ k. record { index = k }) (λ _. refl)
+
 module _ {X : Type 0} where
+  -- an arena of these entries and this capacity
   abbrev pub arena : List (Slot × X) → ℕ → Arena X
   arena es n = record { entries = es; capacity = n }
 
-  -- an arena is stored as its entries, by the numbers of their slots, and its capacity
+  -- an arena is stored as its entries and its capacity
   abbrev pub arena_code : Coded X → Coded (Arena X)
-  arena_code x = code_by (List (Slot × X) × ℕ) (coded× (coded_list (coded× (code_by ℕ coded_ℕ (λ s. s.index) (λ k. record { index = k }) (λ _. refl)) x)) coded_ℕ)
+  arena_code x =
+      code_by (List (Slot × X) × ℕ) (coded× (coded_list (coded× slot_code x)) coded_ℕ)
       (λ a. (a.entries, a.capacity)) (λ p. arena p.0 p.1) (λ _. refl)
 
   -- the held slots, the most recently used first
@@ -32,6 +38,7 @@ module _ {X : Type 0} where
   abbrev pub value_at : Arena X → Slot → Option X
   value_at a s = lookup (is_slot s) a.entries
 
+  -- the slot has a value
   abbrev pub IsHeld : Arena X → Slot → Type 0
   IsHeld a s = IsSome (value_at a s)
 

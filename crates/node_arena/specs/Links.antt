@@ -25,16 +25,18 @@ abbrev pub IsChain : (ℕ → ℕ) → (ℕ → ℕ) → ℕ → List ℕ → �
 IsChain next prev a [] z = (next a ≡ z) × (prev z ≡ a)
 IsChain next prev a (x ∷ xs) z = (next a ≡ x) × (prev x ≡ a) × IsChain next prev x xs z
 
--- the next links once x is taken out of its list, and the previous ones
+-- the next links once x is taken out of its list
 abbrev pub next_without : (ℕ → ℕ) → (ℕ → ℕ) → ℕ → ℕ → ℕ
 next_without next prev x = updated next (prev x) (next x)
 
+-- and the previous ones
 abbrev pub prev_without : (ℕ → ℕ) → (ℕ → ℕ) → ℕ → ℕ → ℕ
 prev_without next prev x = updated prev (next x) (prev x)
 
--- the next links once x stands right after a, and the previous ones
+-- the next links once x stands right after a
 abbrev pub next_with : (ℕ → ℕ) → ℕ → ℕ → ℕ → ℕ
 next_with next a x = updated (updated next x (next a)) a x
 
+-- and the previous ones
 abbrev pub prev_with : (ℕ → ℕ) → (ℕ → ℕ) → ℕ → ℕ → ℕ → ℕ
 prev_with next prev a x = updated (updated prev x a) (next a) x

@@ -35,10 +35,12 @@ module _ (R : RattleType) where
   abbrev pub fit : ℕ → List (Option R.Denot) → Fml
   fit stride cs = fsep (feq ℕ stride (type_size R)) (flt (length cs * type_size R) (2 ^ 63))
 
+  -- what the owner of the cells owns: nothing lies at null
   abbrev pub cells_own : Ptr → ℕ → List (Option R.Denot) → Fml
   cells_own (block_ptr b o) stride cs = fsep (fit stride cs) (slots b o cs)
   cells_own null_ptr stride cs = ffalse
 
+  -- what a shared borrow of it gives
   abbrev pub cells_lent : Ptr → ℕ → List (Option R.Denot) → Lft → Fml
   cells_lent (block_ptr b o) stride cs = beside (said (fit stride cs)) (slots_lent b o cs)
   cells_lent null_ptr stride cs = said ffalse

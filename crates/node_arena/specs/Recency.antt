@@ -1,4 +1,4 @@
--- The two lists of the nodes, that of the nodes in use and that of the spare ones, and how they show an arena.
+-- The list of the nodes in use and that of the spare ones, and the arena that they show.
 use Rattle.std.specs.Prelude.{◌≡◌, ℕ, zero, suc, ◌+◌, ◌<◌, ◌≤◌, true, false, ◌==◌, List, [], ◌∷◌, length, Option, Some, None}
 use Rattle.node_arena.specs.Arena.{Arena, arena}
 use Rattle.node_arena.specs.Links.{has, IsApart, IsChain}
@@ -36,8 +36,9 @@ module _ {T : Type 0} where
   abbrev pub shown : Region T → ℕ → ℕ → Arena T
   shown r capacity len = arena (entries_at (item_of r) (walked (next_of r) len (next_of r 0))) capacity
 
-  -- the nodes in use stand in the list of node 0 and the spare ones in that of node 1, and just the first have values
-  pub record IsKept (next prev : ℕ → ℕ) (values : ℕ → Option T) (capacity len : ℕ) (order spare : List ℕ) : Type 0 where
+  -- the nodes in use stand in the list of node 0, the spare ones in that of node 1; just the first have values
+  pub record IsKept (next prev : ℕ → ℕ) (values : ℕ → Option T) (capacity len : ℕ)
+      (order spare : List ℕ) : Type 0 where
     pub two : AreTwo next prev 0 order 1 spare
     pub long : length order ≡ len
     pub total : length order + length spare ≡ capacity

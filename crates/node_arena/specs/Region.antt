@@ -6,30 +6,35 @@ use Rattle.node_arena.specs.declared.region.Node.{Node}
 use Rattle.node_arena.specs.declared.region.Region.{Region}
 
 module _ {T : Type 0} where
-  -- the index of the next node, of the previous one, and the value, of a cell
+  -- the index of the node after the one in a cell
   abbrev pub next_in : Option (Node T) → ℕ
   next_in None = 0
   next_in (Some n) = n.next.index
 
+  -- of the node before it
   abbrev pub prev_in : Option (Node T) → ℕ
   prev_in None = 0
   prev_in (Some n) = n.prev.index
 
+  -- and its value
   abbrev pub item_in : Option (Node T) → Option T
   item_in None = None
   item_in (Some n) = n.item
 
   module _ (r : Region T) where
+    -- the node at an index
     abbrev pub node_at : ℕ → Option (Node T)
     node_at k = get_or r.cells.slots k None
 
-    -- the same at an index
+    -- the index of the node after it
     abbrev pub next_of : ℕ → ℕ
     next_of k = next_in (node_at k)
 
+    -- of the node before it
     abbrev pub prev_of : ℕ → ℕ
     prev_of k = prev_in (node_at k)
 
+    -- and its value
     abbrev pub item_of : ℕ → Option T
     item_of k = item_in (node_at k)
 

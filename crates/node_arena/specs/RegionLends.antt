@@ -14,7 +14,9 @@ module _ {T : Type 0} where
 
   -- the region with the value w in the node at the index
   abbrev pub with_value : Region T → ℕ → T → Region T
-  with_value r i w = record { first = r.first; count = r.count; cells = with_slots r.cells (slice_set r.cells.slots i (with_item (get_or r.cells.slots i None) w)); deed = r.deed; alloc = r.alloc }
+  with_value r i w =
+      let cell = with_item (get_or r.cells.slots i None) w in
+      record { first = r.first; count = r.count; cells = with_slots r.cells (slice_set r.cells.slots i cell); deed = r.deed; alloc = r.alloc }
 
 -- the node at the index ends with the last value written through r
 abbrev pub lends_value : (R : RattleType) → MutBor (Region R.Denot) → ℕ → MutBor R.Denot → Fml
