@@ -1,0 +1,15 @@
+pub mod CallerLemmas
+pub mod Chains
+pub mod Crosses
+pub mod Edits
+pub mod Entries
+pub mod Filling
+pub mod Held
+pub mod Making
+pub mod Memory
+pub mod Moves
+pub mod Sharing
+pub mod Shown
+pub mod Steps
+pub mod Strikes
+pub mod Two

@@ -1,0 +1,13 @@
+-- What the cells end as, once a `&mut` into one has ended.
+use Rattle.std.specs.Prelude.{ℕ, List, slice_set, Option, Some}
+use Rattle.std.specs.Borrow.{Fml, RattleType, MutBor, Lends}
+use Rattle.node_arena.specs.declared.cells.Cells.{Cells}
+use Rattle.node_arena.specs.contracts.cells.Cells.{the_row}
+
+-- the same cells with other values
+abbrev pub with_slots : {X : Type 0} → Cells X → List (Option X) → Cells X
+with_slots c cs = record { mark = c.mark; at = c.at; stride = c.stride; slots = cs }
+
+-- the cell at the index ends with the last value written through r
+abbrev pub lends_slot : (R : RattleType) → MutBor (Cells R.Denot) → ℕ → MutBor R.Denot → Fml
+lends_slot R c i r = Lends (the_row R) R c r (λ w. with_slots c.now (slice_set c.now.slots i (Some w)))

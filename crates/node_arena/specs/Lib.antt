@@ -1,0 +1,11 @@
+pub mod Arena
+pub mod Cells
+pub mod Lends
+pub mod Links
+pub mod NodeLends
+pub mod NodesLends
+pub mod Ownership
+pub mod Places
+pub mod Recency
+pub mod Region
+pub mod RegionLends

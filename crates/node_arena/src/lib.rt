@@ -1,0 +1,12 @@
+//! Nodes of a fixed number in one region of memory, each named by a slot, with the order of their last use.
+#![tactic(auto)]
+
+mod cells;
+mod nodes;
+mod region;
+mod slot;
+#[cfg(test)]
+mod tests;
+
+pub use nodes::Nodes;
+pub use slot::Slot;

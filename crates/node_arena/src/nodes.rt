@@ -1,0 +1,175 @@
+//! The arena. A clause sees it as its `entries`, the most recently used first, and its `capacity`.
+ghost use Rattle.std.specs.Prelude.{◌≡◌, ◌≤◌, ◌<◌, ◌↔◌, [], length, Some, None, IfOk, IfErr, IsOk, IsErr, IsTrue, IfSome, ◌≢◌};
+ghost use Rattle.std.specs.Borrow.{sem};
+ghost use Rattle.node_arena.specs.declared.slot.Slot.{Slot};
+ghost use Rattle.node_arena.specs.Arena.{arena, value_at, IsHeld, oldest_of, with_first, without, touched, IsSound};
+
+use crate::region::Region;
+use crate::slot::Slot;
+use std::alloc::{AllocError, Global};
+use std::marker::Model;
+
+/// The index of the node where the list of the nodes in use starts and ends.
+const HELD: usize = 0;
+
+/// The same, of the list of the spare nodes.
+const SPARE: usize = 1;
+
+/// At most `capacity` values, each in a node of its own under a slot, in the order of their last use.
+pub struct Nodes<T> {
+    region: Region<T>,
+    capacity: u32,
+    len: u32,
+}
+
+impl<T> Model for Nodes<T> {
+    ghost use Rattle.node_arena.specs.Arena.{Arena, arena_code};
+
+    ghost Value = { Arena T };
+
+    ghost coded = { arena_code T.code };
+
+    ghost use Rattle.node_arena.specs.Recency.{shown, IsWhole};
+
+    ghost view = { λ s. shown s.region s.capacity s.len };
+
+    ghost invariant = { λ s. IsWhole s.region s.capacity s.len };
+}
+
+impl<T> Nodes<T> {
+    ghost use Rattle.node_arena.specs.NodesLends.{lends_value};
+
+    /// Takes the memory for `capacity` values. No other call takes any.
+    pub fn new(alloc: Global, capacity: usize) -> Result<Nodes<T>, AllocError>
+        requires least { 1 ≤ capacity }
+        requires most { capacity ≤ 65536 }
+        ensures { IfOk result (λ n. n ≡ arena [] capacity) }
+    {
+        let count = capacity + 2;
+        let mut region = Region::new(alloc, count)?;
+        for index in 2..count {
+            let spare = region.link(SPARE);
+            let node = region.link(index);
+            region.link_after(spare, node);
+        }
+        Ok(Nodes {
+            region,
+            capacity: capacity as u32,
+            len: 0,
+        })
+    }
+
+    /// How many values there are.
+    pub fn len(&self) -> usize
+        ensures len { result ≡ length self.now.entries }
+        ensures sound { IsSound self.now }
+    {
+        self.len as usize
+    }
+
+    /// How many values there may be.
+    pub fn capacity(&self) -> usize
+        ensures { result ≡ self.now.capacity }
+    {
+        self.capacity as usize
+    }
+
+    /// Whether the slot is of a value that is there.
+    pub fn is_held(&self, slot: Slot) -> bool
+        ensures { IsTrue result ↔ IsHeld self.now slot }
+    {
+        if slot.index >= self.region.count {
+            return false;
+        }
+        self.region.is_filled(self.region.link(slot.index))
+    }
+
+    /// The value of the slot.
+    pub fn get(&self, slot: Slot) -> &T
+        requires { IsHeld self.now slot }
+        ensures { value_at self.now slot ≡ Some result.now }
+    {
+        self.region.value(self.region.link(slot.index))
+    }
+
+    /// The value of the slot, to write to. The order stays.
+    pub fn get_mut(&mut self, slot: Slot) -> &mut T
+        requires { IsHeld self.old slot }
+        ensures* writes_back { sem 𝓛 (lends_value T.row self.entry slot result) }
+        ensures value { value_at self.old slot ≡ Some result.now }
+    {
+        let lent = self.region.link(slot.index);
+        self.region.value_mut(lent)
+    }
+
+    /// The slot whose value was added or touched the longest time ago.
+    pub fn oldest(&self) -> Option<Slot>
+        ensures last { result ≡ oldest_of self.now }
+        ensures held { IfSome result (λ slot. IsHeld self.now slot) }
+    {
+        if self.len == 0 {
+            return None;
+        }
+        let last = self.region.prev(self.region.link(HELD));
+        Some(Slot { index: last.index })
+    }
+
+    /// Makes the slot the most recently used.
+    pub fn touch(&mut self, slot: Slot)
+        requires { IsHeld self.old slot }
+        ensures first { self.new ≡ touched self.old slot }
+        ensures values { (s : Slot) → value_at self.new s ≡ value_at self.old s }
+    {
+        let node = self.region.link(slot.index);
+        let held = self.region.link(HELD);
+        self.region.unlink(node);
+        self.region.link_after(held, node);
+    }
+
+    /// Takes the value of the slot out. The slot may be given out again.
+    pub fn remove(&mut self, slot: Slot) -> T
+        requires { IsHeld self.old slot }
+        ensures value { value_at self.old slot ≡ Some result }
+        ensures rest { self.new ≡ without self.old slot }
+        ensures gone { value_at self.new slot ≡ None }
+        ensures others { (s : Slot) → s ≢ slot → value_at self.new s ≡ value_at self.old s }
+    {
+        let node = self.region.link(slot.index);
+        let spare = self.region.link(SPARE);
+        self.region.unlink(node);
+        self.region.link_after(spare, node);
+        self.len -= 1;
+        self.region.take(node)
+    }
+
+    /// Adds a value, as the most recently used. Where the arena is full, the value comes back.
+    pub fn add(&mut self, item: T) -> Result<Slot, T>
+        ensures full { IsErr result ↔ (length self.old.entries ≡ self.old.capacity) }
+        ensures refused { IfErr result (λ x. (x ≡ item) × (self.new ≡ self.old)) }
+        ensures fresh { IfOk result (λ slot. value_at self.old slot ≡ None) }
+        ensures first { IfOk result (λ slot. self.new ≡ with_first self.old slot item) }
+        ensures value { IfOk result (λ slot. value_at self.new slot ≡ Some item) }
+    {
+        if self.len == self.capacity {
+            return Err(item);
+        }
+        let node = self.region.next(self.region.link(SPARE));
+        let start = self.region.link(HELD);
+        self.region.unlink(node);
+        self.region.link_after(start, node);
+        self.region.put(node, item);
+        self.len += 1;
+        Ok(Slot { index: node.index })
+    }
+}
+
+impl<T: Drop> Drop for Nodes<T> {
+    fn drop(self) {
+        let Nodes {
+            region,
+            capacity: _,
+            len: _,
+        } = self;
+        region.release();
+    }
+}
