@@ -57,8 +57,8 @@ pruned-dropped entries n i x is e =
 -- the first entry that passes, as a loop finds it
 pub IsFirstPlace-read : (p : Kept → Bool) (entries : List Kept) (i : ℕ) (x : Kept) → i < length entries → x ≡ get_or entries i x → p x ≡ true →
     ((j : ℕ) → j < i → p (get_or entries j nobody) ≡ false) → IsFirstPlace p entries i
-IsFirstPlace-read p entries i x bound is yes before =
-    IsFirstPlace-here p entries i nobody bound before (ap p (sym (get_or_read entries i x bound is nobody)) ∙ yes)
+IsFirstPlace-read p entries i x bound is passes before =
+    IsFirstPlace-here p entries i nobody bound before (ap p (sym (get_or_read entries i x bound is nobody)) ∙ passes)
 
 -- whether the number at a place is of use
 pub is_useless-place : (entries : List Kept) (n i : ℕ) (x : Kept) (b : Bool) → IsFirstPlace (has_number n) entries i → x ≡ get_or entries i x →

@@ -1,5 +1,5 @@
 -- What a daemon's code says of its results, by the daemon's phase and the request.
-use Rattle.std.specs.Prelude.{◌≡◌, ℕ, Bool, true, false, List, Option, Some, None, Result, Ok, Err}
+use Rattle.std.specs.Prelude.{◌≡◌, ℕ, ◌-◌, ◌≤◌, Bool, true, false, List, Option, Some, None, Result, Ok, Err, slice_get, slice_set}
 use Rattle.eden_base.specs.declared.attr.Attr.{Attr}
 use Rattle.eden_base.specs.declared.errno.Errno.{Errno}
 use Rattle.eden_base.specs.declared.number.FileId.{FileId}
@@ -9,6 +9,7 @@ use Rattle.broker_core.specs.declared.request.Answer.{Answer}
 use Rattle.broker_core.specs.declared.request.Item.{Item}
 use Rattle.broker_core.specs.declared.request.Request.{Request}
 use Rattle.broker_core.specs.declared.request.Request.TheVariants.{Lookup, Forget}
+use Rattle.broker_core.specs.declared.seat.Seat.{Seat}
 use Rattle.world.specs.InodeMap.{forgot, forgotten}
 use Rattle.world.specs.Served.{ServedState, LooksUp}
 use Rattle.world.specs.declared.inode_map.Forgot.{Forgot}
@@ -50,3 +51,29 @@ abbrev pub DaemonForgets : Daemon → Item → Forgot → Daemon → Type 0
 DaemonForgets (Serving old) item told (Serving new) =
     (told ≡ forgot old.map item.node.0 item.k) × (new ≡ record old { map = forgotten old.map item.node.0 item.k })
 DaemonForgets old item told new = ⊥
+
+-- the daemon at a place serves
+pub record ServesAt (daemons : List Daemon) (place : ℕ) : Type 0 where
+  pub served : ServedState
+  pub is_there : slice_get daemons place ≡ Some (Serving served)
+
+-- the daemon at a place answers a look-up
+pub record LooksAt (old : List Daemon) (place : ℕ) (dir : Number) (name : List ℕ) (answer : Answer) (new : List Daemon) : Type 0 where
+  pub served : ServedState
+  pub later : ServedState
+  pub was : slice_get old place ≡ Some (Serving served)
+  pub answers : LooksUp served dir name answer later
+  pub makes : new ≡ slice_set old place (Serving later)
+
+-- the daemon at a place applies a forget
+pub record ForgetsAt (old : List Daemon) (place : ℕ) (item : Item) (told : Forgot) (new : List Daemon) : Type 0 where
+  pub served : ServedState
+  pub was : slice_get old place ≡ Some (Serving served)
+  pub tells : told ≡ forgot served.map item.node.0 item.k
+  pub makes : new ≡ slice_set old place (Serving (record served { map = forgotten served.map item.node.0 item.k }))
+
+-- the daemon of the seat serves
+pub record HolderServes (daemons : List Daemon) (seat : Seat) : Type 0 where
+  pub served : ServedState
+  pub some : 1 ≤ seat.daemon.0
+  pub serves : slice_get daemons (seat.daemon.0 - 1) ≡ Some (Serving served)

@@ -1,7 +1,7 @@
 //! One daemon of the world.
-ghost use Rattle.std.specs.Prelude.{◌≡◌};
+ghost use Rattle.std.specs.Prelude.{◌≡◌, vec_len};
 ghost use Rattle.std.specs.Option.{option_copied};
-ghost use Rattle.world.specs.CodeServed.{is_waiting, IsServing, served_in, DaemonLooks, DaemonForgets};
+ghost use Rattle.world.specs.CodeServed.{is_waiting, IsServing, served_in, DaemonLooks, DaemonForgets, ServesAt, LooksAt, ForgetsAt};
 
 use crate::inode_map::Forgot;
 use crate::served::Served;
@@ -56,4 +56,24 @@ impl Daemon {
             Daemon::Serving(served) => served.forget(item),
         }
     }
+}
+
+/// Lets the daemon at a place answer a look-up.
+pub(crate) fn look_up_at(daemons: &mut Vec<Daemon>, place: usize, alloc: Global, dir: Number, name: &Name) -> Answer
+    requires serves { ServesAt daemons.old.items place }
+    ensures answer { LooksAt daemons.old.items place dir name.now result daemons.new.items }
+    ensures len { vec_len daemons.new ≡ vec_len daemons.old }
+{
+    let daemon = &mut daemons[place];
+    daemon.look_up(alloc, dir, name)
+}
+
+/// Lets the daemon at a place take back what an item says.
+pub(crate) fn forget_at(daemons: &mut Vec<Daemon>, place: usize, item: Item) -> Forgot
+    requires serves { ServesAt daemons.old.items place }
+    ensures forgets { ForgetsAt daemons.old.items place item result daemons.new.items }
+    ensures len { vec_len daemons.new ≡ vec_len daemons.old }
+{
+    let daemon = &mut daemons[place];
+    daemon.forget(item)
 }

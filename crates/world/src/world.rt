@@ -6,7 +6,7 @@ ghost use Rattle.world.specs.State.{started, daemon_of};
 ghost use Rattle.world.specs.Step.{Step};
 ghost use Rattle.world.specs.CodeWorld.{served_of, place_of_daemon, HolderIsAt};
 
-use crate::daemon::Daemon;
+use crate::daemon::{forget_at, look_up_at, Daemon};
 use crate::event::Event;
 use crate::outcome::{Happened, Outcome, Refusal};
 use crate::served::Served;
@@ -106,9 +106,10 @@ impl World {
         }
         let daemon = DaemonId(self.daemons.len() as u64 + 1);
         match self.daemons.push(Daemon::Waiting) {
-            Ok(()) => Outcome::of(Happened::Started(daemon)),
-            Err(_refused) => Outcome::refused(Refusal::NoMemory),
+            Ok(()) => {}
+            Err(_refused) => return Outcome::refused(Refusal::NoMemory),
         }
+        Outcome::of(Happened::Started(daemon))
     }
 
     fn mount(&mut self, daemon: DaemonId) -> Outcome
@@ -168,8 +169,7 @@ impl World {
             Ok(unique) => unique.unwrap(),
             Err(fault) => return Outcome::refused(Refusal::from(fault)),
         };
-        let holder = &mut self.daemons[place];
-        let answer = holder.look_up(self.alloc, dir, name);
+        let answer = look_up_at(&mut self.daemons, place, self.alloc, dir, name);
         let reply = Reply { unique, answer };
         self.broker.settle(&reply);
         Outcome::of(Happened::Answered(reply))
@@ -184,13 +184,11 @@ impl World {
             None => return Outcome::refused(Refusal::NotMounted),
         };
         match self.broker.issue(Request::Forget(item)) {
-            Ok(_unique) => {
-                let holder = &mut self.daemons[place];
-                let forgot = holder.forget(item);
-                Outcome::of(Happened::Forgot { item, forgot })
-            }
-            Err(fault) => Outcome::refused(Refusal::from(fault)),
+            Ok(_unique) => {}
+            Err(fault) => return Outcome::refused(Refusal::from(fault)),
         }
+        let forgot = forget_at(&mut self.daemons, place, item);
+        Outcome::of(Happened::Forgot { item, forgot })
     }
 
     /// The place of the daemon that has the seat, which serves.
