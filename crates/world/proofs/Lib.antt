@@ -11,3 +11,7 @@ mod Forgetting
 mod Matching
 mod Events
 mod Run
+pub mod CodeEntries
+pub mod CodeMap
+pub mod CodeDaemons
+pub mod CodeStep
