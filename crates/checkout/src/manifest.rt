@@ -32,6 +32,8 @@ impl Model for Manifest {
 }
 
 impl Manifest {
+    ghost use Rattle.checkout.specs.Tree.{IsTree, tree_of};
+
     /// A line is `commit ` and forty hexadecimal digits; then come lines `dir PATH` and `file MODE SIZE PATH`. Each is
     /// ended by LF.
     pub fn read(alloc: Global, bytes: &[u8]) -> Result<Manifest, ManifestFault>
@@ -66,6 +68,7 @@ impl Manifest {
     pub fn copy(&self, alloc: Global) -> Result<Manifest, NoMemory>
         ensures copy { IfOk result (λ copy. copy ≡ self.now) }
         ensures is_manifest { IfOk result IsManifest }
+        ensures makes_tree { IfOk result (λ copy. IsTree (tree_of copy)) }
     {
         let lines = copy_lines(alloc, self.lines())?;
         Ok(Manifest {

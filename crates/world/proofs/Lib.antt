@@ -10,7 +10,7 @@ mod Answering
 mod Forgetting
 mod Matching
 mod Events
-mod Run
+mod WholeRun
 pub mod CodeEntries
 pub mod CodeMap
 pub mod CodeDaemons

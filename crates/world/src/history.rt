@@ -1,7 +1,10 @@
 //! A list of events from the beginning of a world.
 ghost use Rattle.std.specs.Prelude.{IfOk};
 ghost use Rattle.world.specs.State.{started};
+ghost use Rattle.std.specs.List.{AllByRecursion};
 ghost use Rattle.world.specs.Step.{Steps};
+ghost use Rattle.world.specs.World.{IsRun, first_world};
+ghost use Rattle.world.specs.Agreement.{all_moves, world_after, Agrees, CountsAreOwed, NumbersNameTheirFirstFile, OneDaemonForEachGeneration, IsGoodForget};
 
 use crate::event::Event;
 use crate::outcome::Outcome;
@@ -13,7 +16,21 @@ use std::alloc::Global;
 /// Lets events happen one after another, and tells what came of each. Memory is wanting for the list of outcomes and
 /// the world alone; within an event it is a refusal, or an answer.
 pub fn run(alloc: Global, manifest: &Manifest, limit: usize, events: &[Event]) -> Result<(World, Vec<Outcome>), NoMemory>
+    // Each event is refused exactly for the first cause that holds, want of memory last, or else made.
     ensures steps { IfOk result (λ r. Steps (started manifest.now limit) events.now r.1.items r.0) }
+
+    // What the events made is a run of moves, and the world after it agrees with the state.
+    ensures moves { IfOk result (λ r.
+        IsRun (first_world manifest.now) (all_moves (first_world manifest.now) events.now r.1.items)) }
+    ensures agrees { IfOk result (λ r. Agrees (world_after manifest.now events.now r.1.items) r.0) }
+
+    ensures counts_are_what_is_owed { IfOk result (λ r.
+        CountsAreOwed (world_after manifest.now events.now r.1.items) r.0) }
+    ensures numbers_name_their_first_file { IfOk result (λ r.
+        NumbersNameTheirFirstFile (world_after manifest.now events.now r.1.items) r.0) }
+    ensures one_daemon_for_each_generation { IfOk result (λ r.
+        OneDaemonForEachGeneration (world_after manifest.now events.now r.1.items)) }
+    ensures no_bad_forget { IfOk result (λ r. AllByRecursion (AllByRecursion IsGoodForget) r.1.items) }
 {
     let mut world = World::new(alloc, manifest, limit)?;
     let mut outcomes = Vec::with_capacity(alloc, events.len())?;

@@ -4,6 +4,8 @@ ghost use Rattle.std.specs.Option.{option_copied};
 ghost use Rattle.broker_core.specs.Broker.{issue_fault};
 ghost use Rattle.world.specs.State.{started, daemon_of};
 ghost use Rattle.world.specs.Step.{Step};
+ghost use Rattle.world.specs.World.{first_world, World as Ideal};
+ghost use Rattle.world.specs.Agreement.{Matches, MovesOn};
 ghost use Rattle.world.specs.CodeWorld.{served_of, place_of_daemon, HolderIsAt};
 
 use crate::daemon::{forget_at, look_up_at, Daemon};
@@ -54,6 +56,7 @@ impl World {
     /// No daemon, and nothing mounted.
     pub fn new(alloc: Global, manifest: &Manifest, limit: usize) -> Result<World, NoMemory>
         ensures new { IfOk result (λ world. world ≡ started manifest.now limit) }
+        ensures matches { IfOk result (Matches (first_world manifest.now)) }
     {
         let manifest = manifest.copy(alloc)?;
         let broker = Broker::new(alloc)?;
@@ -89,6 +92,9 @@ impl World {
     /// Lets one event happen, or refuses it for the first cause that holds. A refusal changes nothing.
     pub fn step(&mut self, event: &Event) -> Outcome
         ensures step { Step self.old event.now result self.new }
+
+        // The event's moves may happen in any world that the state matches, and it matches the world after them.
+        ensures moves_on { (ideal : Ideal) → Matches ideal self.old → MovesOn ideal event.now result self.new }
     {
         match event {
             Event::Start => self.start(),
