@@ -12,7 +12,12 @@ use std::alloc::Global;
 
 /// Lets events happen one after another, and tells what came of each. Memory is wanting for the list of outcomes and
 /// the world alone; within an event it is a refusal, or an answer.
-pub fn run(alloc: Global, manifest: &Manifest, limit: usize, events: &[Event]) -> Result<(World, Vec<Outcome>), NoMemory>
+pub fn run(
+    alloc: Global,
+    manifest: &Manifest,
+    limit: usize,
+    events: &[Event],
+) -> Result<(World, Vec<Outcome>), NoMemory>
     ensures steps { IfOk result (λ r. Steps (started manifest.now limit) events.now r.1.items r.0) }
 {
     let mut world = World::new(alloc, manifest, limit)?;
@@ -23,3 +28,6 @@ pub fn run(alloc: Global, manifest: &Manifest, limit: usize, events: &[Event]) -
     }
     Ok((world, outcomes))
 }
+
+#[cfg(test)]
+mod tests;

@@ -6,7 +6,7 @@ ghost use Rattle.world.specs.State.{started, daemon_of};
 ghost use Rattle.world.specs.Step.{Step};
 ghost use Rattle.world.specs.CodeWorld.{served_of, place_of_daemon, HolderIsAt};
 
-use crate::daemon::{forget_at, look_up_at, Daemon};
+use crate::daemon::{Daemon, forget_at, look_up_at};
 use crate::event::Event;
 use crate::outcome::{Happened, Outcome, Refusal};
 use crate::served::Served;

@@ -22,7 +22,7 @@ loop-event-preserved c =
     let pushed : outcomes ++ outcome ∷ [] ≡ c.push_reserved.new.self.items = sym c.push_reserved.ensures.items in
     record {
       steps = subst (λ (es : List Event). Steps first es c.push_reserved.new.self.items world) taken
-        (subst (λ (os : List (List Happened)). Steps first (take i events ++ event ∷ []) os world) pushed
+          (subst (λ (os : List (List Happened)). Steps first (take i events ++ event ∷ []) os world) pushed
           (Steps-more first (take i events) outcomes c.loop-event.world event outcome world c.loop-event.invariant.steps c.step-outcome.ensures.step));
       len = omega arith;
       room = omega arith;
