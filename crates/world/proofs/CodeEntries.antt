@@ -51,7 +51,7 @@ pruned-dropped entries n i x is e =
     let above : dir_above entries n ≡ dir_of x.place = ap (λ o. option_and_then (λ (kept : Kept). dir_of kept.place) o) (entry_of-place entries n i x is.is_place e) in
     let shorter : length entries ≡ suc (length (remove entries i)) = length_remove entries i is.is_place.bound in
     let step : pruned (suc (length (remove entries i))) (Some n) entries ≡ pruned (length (remove entries i)) (dir_of x.place) (remove entries i) =
-      pruned-step (length (remove entries i)) n entries is.useless ∙ (ap (λ o. pruned (length (remove entries i)) o (without_where (has_number n) entries)) above ∙ ap (λ ys. pruned (length (remove entries i)) (dir_of x.place) ys) is.is_place.removal) in
+    pruned-step (length (remove entries i)) n entries is.useless ∙ (ap (λ o. pruned (length (remove entries i)) o (without_where (has_number n) entries)) above ∙ ap (λ ys. pruned (length (remove entries i)) (dir_of x.place) ys) is.is_place.removal) in
     sym (ap (λ s. pruned s (Some n) entries) shorter ∙ step)
 
 -- the first entry that passes, as a loop finds it

@@ -26,7 +26,7 @@ pub given-again : (map : MapState) (parent : Number) (name : List ℕ) (i : ℕ)
 given-again map parent name i x place is =
     let found : is_some (entry_at map.entries parent.0 name) ≡ true = ap (λ (o : Option Kept). is_some o) (place.value x) in
     let changed : set map.entries i (record x { count = x.count + 1 }) ≡ changed_where (stands_at parent.0 name) once_more map.entries =
-      ap (λ (y : Kept). set map.entries i (record y { count = y.count + 1 })) is ∙ sym (place.change once_more x) in
+    ap (λ (y : Kept). set map.entries i (record y { count = y.count + 1 })) is ∙ sym (place.change once_more x) in
     rw found (ap (λ (entries : List Kept). record map { entries = entries }) changed)
 
 -- lowered, and pruned from the number upwards
@@ -35,5 +35,5 @@ pub forgotten-pruned : (map : MapState) (n k : ℕ) (less now : List Kept) → (
 forgotten-pruned map n k less now other good is e =
     let long : length less ≡ length map.entries = ap (λ (xs : List Kept). length xs) is ∙ length-changed_where (has_number n) (λ kept. record kept { count = kept.count - k }) map.entries in
     let all : now ≡ pruned (length map.entries) (Some n) (lowered map.entries n k) =
-      e ∙ (ap (λ s. pruned s (Some n) less) long ∙ ap (λ (xs : List Kept). pruned (length map.entries) (Some n) xs) is) in
+    e ∙ (ap (λ s. pruned s (Some n) less) long ∙ ap (λ (xs : List Kept). pruned (length map.entries) (Some n) xs) is) in
     rw (other, good) (ap (λ (entries : List Kept). record map { entries = entries }) all)

@@ -61,7 +61,8 @@ Step-looks old dir name place answer daemons broker outcome fine at looks broke 
       seated = record { has_seat = at.has_seat; serves = daemon_of-place old at.seat.daemon place at.is_there ∙ looks.was };
       answers = looks.answers;
       tells = tells;
-      makes = ap (λ (b : BrokerState). record old { broker = b; daemons = daemons }) broke ∙ with_holder old later at.seat.daemon place daemons (Serving looks.later) at.is_there looks.makes } in
+      makes = ap (λ (b : BrokerState). record old { broker = b; daemons = daemons }) broke ∙ with_holder old later at.seat.daemon place daemons (Serving looks.later) at.is_there looks.makes;
+    } in
     subst (λ (o : Option IssueFault). StepBy old (Do (Lookup dir name)) (option_map refusal_of_issue o) outcome (record old { broker = broker; daemons = daemons })) (sym fine) (inl made)
 
 -- a forget that the broker took and the seated daemon applied
@@ -76,7 +77,8 @@ Step-forgets old item place told daemons broker outcome fine at forgets broke te
       served = forgets.served;
       seated = record { has_seat = at.has_seat; serves = daemon_of-place old at.seat.daemon place at.is_there ∙ forgets.was };
       tells = tells ∙ ap (λ (f : Forgot). happened.Forgot item f ∷ []) forgets.tells;
-      makes = ap (λ (b : BrokerState). record old { broker = b; daemons = daemons }) broke ∙ with_holder old later at.seat.daemon place daemons _ at.is_there forgets.makes } in
+      makes = ap (λ (b : BrokerState). record old { broker = b; daemons = daemons }) broke ∙ with_holder old later at.seat.daemon place daemons _ at.is_there forgets.makes;
+    } in
     subst (λ (o : Option IssueFault). StepBy old (Do (Forget item)) (option_map refusal_of_issue o) outcome (record old { broker = broker; daemons = daemons })) (sym fine) (inl made)
 
 -- a mount by a daemon that waited
@@ -86,9 +88,11 @@ pub Step-mounts : (old : State) (d : DaemonId) (place : ℕ) (served : ServedSta
     Step old (Mount d) outcome (record old { broker = broker; daemons = set old.daemons place (Serving served) })
 Step-mounts old d place served broker outcome fine at waits is broke tells =
     let new : State = record old { broker = broker; daemons = set old.daemons place (Serving served) } in
-    let made : Mounts old d outcome new =
-      (tells, ap (λ (b : BrokerState). record old { broker = b; daemons = set old.daemons place (Serving served) }) broke
-        ∙ with_holder old (mounted old.broker d) d place (set old.daemons place (Serving served)) (Serving (new_served old.manifest)) at (ap (λ (s : ServedState). set old.daemons place (Serving s)) is)) in
+    let made : Mounts old d outcome new = (
+      tells,
+      ap (λ (b : BrokerState). record old { broker = b; daemons = set old.daemons place (Serving served) }) broke
+          ∙ with_holder old (mounted old.broker d) d place (set old.daemons place (Serving served)) (Serving (new_served old.manifest)) at (ap (λ (s : ServedState). set old.daemons place (Serving s)) is),
+    ) in
     let waiting : daemon_of old d ≡ Some Waiting = daemon_of-place old d place at ∙ waits in
     subst (λ (o : Option Daemon). StepBy old (Mount d) (mount_refusal old o) outcome new) (sym waiting)
     (subst (λ (o : Option MountFault). StepBy old (Mount d) (option_map refusal_of_mount o) outcome new) (sym fine) (inl made))

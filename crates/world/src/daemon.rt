@@ -59,7 +59,13 @@ impl Daemon {
 }
 
 /// Lets the daemon at a place answer a look-up.
-pub(crate) fn look_up_at(daemons: &mut Vec<Daemon>, place: usize, alloc: Global, dir: Number, name: &Name) -> Answer
+pub(crate) fn look_up_at(
+    daemons: &mut Vec<Daemon>,
+    place: usize,
+    alloc: Global,
+    dir: Number,
+    name: &Name,
+) -> Answer
     requires serves { ServesAt daemons.old.items place }
     ensures answer { LooksAt daemons.old.items place dir name.now result daemons.new.items }
     ensures len { vec_len daemons.new ≡ vec_len daemons.old }

@@ -15,7 +15,12 @@ use std::alloc::Global;
 
 /// Lets events happen one after another, and tells what came of each. Memory is wanting for the list of outcomes and
 /// the world alone; within an event it is a refusal, or an answer.
-pub fn run(alloc: Global, manifest: &Manifest, limit: usize, events: &[Event]) -> Result<(World, Vec<Outcome>), NoMemory>
+pub fn run(
+    alloc: Global,
+    manifest: &Manifest,
+    limit: usize,
+    events: &[Event],
+) -> Result<(World, Vec<Outcome>), NoMemory>
     // Each event is refused exactly for the first cause that holds, want of memory last, or else made.
     ensures steps { IfOk result (λ r. Steps (started manifest.now limit) events.now r.1.items r.0) }
 
@@ -33,10 +38,25 @@ pub fn run(alloc: Global, manifest: &Manifest, limit: usize, events: &[Event]) -
     ensures no_bad_forget { IfOk result (λ r. AllByRecursion (AllByRecursion IsGoodForget) r.1.items) }
 {
     let mut world = World::new(alloc, manifest, limit)?;
+    let outcomes = outcomes_of(alloc, &mut world, events)?;
+    Ok((world, outcomes))
+}
+
+/// What came of each event.
+fn outcomes_of(
+    alloc: Global,
+    world: &mut World,
+    events: &[Event],
+) -> Result<Vec<Outcome>, NoMemory>
+    ensures steps { IfOk result (λ outcomes. Steps world.old events.now outcomes.items world.new) }
+{
     let mut outcomes = Vec::with_capacity(alloc, events.len())?;
     for event in events {
         let outcome = world.step(event);
         outcomes.push_reserved(outcome);
     }
-    Ok((world, outcomes))
+    Ok(outcomes)
 }
+
+#[cfg(test)]
+mod tests;

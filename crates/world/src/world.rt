@@ -8,7 +8,7 @@ ghost use Rattle.world.specs.World.{first_world, World as Ideal};
 ghost use Rattle.world.specs.Agreement.{Matches, MovesOn};
 ghost use Rattle.world.specs.CodeWorld.{served_of, place_of_daemon, HolderIsAt};
 
-use crate::daemon::{forget_at, look_up_at, Daemon};
+use crate::daemon::{Daemon, forget_at, look_up_at};
 use crate::event::Event;
 use crate::outcome::{Happened, Outcome, Refusal};
 use crate::served::Served;
@@ -95,6 +95,12 @@ impl World {
 
         // The event's moves may happen in any world that the state matches, and it matches the world after them.
         ensures moves_on { (ideal : Ideal) → Matches ideal self.old → MovesOn ideal event.now result self.new }
+    {
+        self.decide(event)
+    }
+
+    fn decide(&mut self, event: &Event) -> Outcome
+        ensures { Step self.old event.now result self.new }
     {
         match event {
             Event::Start => self.start(),

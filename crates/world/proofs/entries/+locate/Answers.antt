@@ -18,14 +18,14 @@ pub returns-in-Some-locate : goal.returns-in-Some-locate
 returns-in-Some-locate t c =
     c.child.ensures
     ∙ sym (file_in-linked c.args.steps c.args.tree.now c.args.entries.now c.args.number.0 c.in-Some.place c.index-entries-place.result c.in-Linked.parent c.in-Linked.name _
-      (omega arith) (sym c.eq.ensures ∙ c.if-eq.false) c.in-Some.ensures c.index-entries-place.is (ap (λ (k : Kept). k.place) c.index-entries-place.is ∙ c.in-Linked.is) c.in-Some-locate.ensures)
+    (omega arith) (sym c.eq.ensures ∙ c.if-eq.false) c.in-Some.ensures c.index-entries-place.is (ap (λ (k : Kept). k.place) c.index-entries-place.is ∙ c.in-Linked.is) c.in-Some-locate.ensures)
 
 pub returns-in-None-locate : goal.returns-in-None-locate
 returns-in-None-locate t c =
     sym (file_in-linked c.args.steps c.args.tree.now c.args.entries.now c.args.number.0 c.in-Some.place c.index-entries-place.result c.in-Linked.parent c.in-Linked.name _
-      (omega arith) (sym c.eq.ensures ∙ c.if-eq.false) c.in-Some.ensures c.index-entries-place.is (ap (λ (k : Kept). k.place) c.index-entries-place.is ∙ c.in-Linked.is) c.in-None-locate.ensures)
+    (omega arith) (sym c.eq.ensures ∙ c.if-eq.false) c.in-Some.ensures c.index-entries-place.is (ap (λ (k : Kept). k.place) c.index-entries-place.is ∙ c.in-Linked.is) c.in-None-locate.ensures)
 
 pub returns-in-Unlinked : goal.returns-in-Unlinked
 returns-in-Unlinked t c =
     sym (file_in-unlinked c.args.steps c.args.tree.now c.args.entries.now c.args.number.0 c.in-Some.place c.index-entries-place.result c.in-Unlinked.file
-      (omega arith) (sym c.eq.ensures ∙ c.if-eq.false) c.in-Some.ensures c.index-entries-place.is (ap (λ (k : Kept). k.place) c.index-entries-place.is ∙ c.in-Unlinked.is))
+    (omega arith) (sym c.eq.ensures ∙ c.if-eq.false) c.in-Some.ensures c.index-entries-place.is (ap (λ (k : Kept). k.place) c.index-entries-place.is ∙ c.in-Unlinked.is))

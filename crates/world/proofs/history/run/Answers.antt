@@ -1,29 +1,22 @@
-use Rattle.std.proofs.Common.{List, ◌≡◌, ◌+◌, ◌<◌, ◌++◌, length, take, subst, sym, ap, ◌∙◌, arith, []}
-use Rattle.std.specs.Prelude.{◌∷◌}
-use Rattle.std.proofs.lemmas.List.{take_more}
-use Rattle.world.specs.declared.event.Event.{Event}
-use Rattle.world.specs.declared.outcome.Happened.{Happened}
-use Rattle.world.specs.State.{State, started}
-use Rattle.world.specs.Step.{Steps}
-use Rattle.world.proofs.CodeStep.{Steps-more}
+-- The theorem, from the steps of the whole list.
+use Rattle.world.specs.World.{first_world}
+use Rattle.world.proofs.WholeRun.{Ran, steps-matched}
 use Rattle.world.proofs.history.run.Goals as goal
 
-pub loop-event-preserved : goal.loop-event-preserved
-loop-event-preserved c =
-    let events = c.args.events.now in
-    let i = c.loop-event.event-index in
-    let event = c.event-item.result in
-    let within : i < length events = c.loop-event-test.true in
-    let first : State = started c.args.manifest.now c.args.limit in
-    let outcome = c.step-outcome.result in
-    let outcomes = c.loop-event.outcomes.items in
-    let world = c.step-outcome.new.self in
-    let taken : take i events ++ event ∷ [] ≡ take (i + 1) events = ap (λ (e : Event). take i events ++ e ∷ []) c.event-item.is ∙ sym (take_more events i event within) in
-    let pushed : outcomes ++ outcome ∷ [] ≡ c.push_reserved.new.self.items = sym c.push_reserved.ensures.items in
-    record {
-      steps = subst (λ (es : List Event). Steps first es c.push_reserved.new.self.items world) taken
-        (subst (λ (os : List (List Happened)). Steps first (take i events ++ event ∷ []) os world) pushed
-          (Steps-more first (take i events) outcomes c.loop-event.world event outcome world c.loop-event.invariant.steps c.step-outcome.ensures.step));
-      len = omega arith;
-      room = omega arith;
-    }
+pub returns-clause-moves : goal.returns-clause-moves
+returns-clause-moves c = (steps-matched (first_world c.args.manifest.now) _ _ _ _ c.in_ok-world.ensures.matches c.in_ok-outcomes.ensures).run
+
+pub returns-clause-agrees : goal.returns-clause-agrees
+returns-clause-agrees c = (steps-matched (first_world c.args.manifest.now) _ _ _ _ c.in_ok-world.ensures.matches c.in_ok-outcomes.ensures).matches.agrees
+
+pub returns-clause-counts_are_what_is_owed : goal.returns-clause-counts_are_what_is_owed
+returns-clause-counts_are_what_is_owed c = (steps-matched (first_world c.args.manifest.now) _ _ _ _ c.in_ok-world.ensures.matches c.in_ok-outcomes.ensures).matches.counts
+
+pub returns-clause-numbers_name_their_first_file : goal.returns-clause-numbers_name_their_first_file
+returns-clause-numbers_name_their_first_file c = (steps-matched (first_world c.args.manifest.now) _ _ _ _ c.in_ok-world.ensures.matches c.in_ok-outcomes.ensures).matches.names
+
+pub returns-clause-one_daemon_for_each_generation : goal.returns-clause-one_daemon_for_each_generation
+returns-clause-one_daemon_for_each_generation c = (steps-matched (first_world c.args.manifest.now) _ _ _ _ c.in_ok-world.ensures.matches c.in_ok-outcomes.ensures).matches.one_daemon
+
+pub returns-clause-no_bad_forget : goal.returns-clause-no_bad_forget
+returns-clause-no_bad_forget c = (steps-matched (first_world c.args.manifest.now) _ _ _ _ c.in_ok-world.ensures.matches c.in_ok-outcomes.ensures).forgets

@@ -11,4 +11,4 @@ returns-else-kept-ge-GREATEST_COUNT-clause-given c =
     let kept : Kept = c.index_mut-kept.result.now in
     subst (λ (m : MapState). record map { entries = set map.entries c.in-Some.place (record kept { count = kept.count + 1 }) } ≡ given m c.args.parent c.args.name.now) c.self.view_is
     (given-again map c.args.parent c.args.name.now c.in-Some.place kept
-      (subst (λ entries. IsFirstPlace (stands_at c.args.parent.0 c.args.name.now) entries c.in-Some.place) c.as_slice.ensures.value c.in-Some.ensures) c.index_mut-kept.ensures.value)
+    (subst (λ entries. IsFirstPlace (stands_at c.args.parent.0 c.args.name.now) entries c.in-Some.place) c.as_slice.ensures.value c.in-Some.ensures) c.index_mut-kept.ensures.value)

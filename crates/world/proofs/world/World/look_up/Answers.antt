@@ -30,12 +30,12 @@ pub invariant_of-self-2 : goal.invariant_of-self-2
 invariant_of-self-2 c =
     let answer = c.look_up_at-answer.result in
     let broke : c.settle.new.self.seat ≡ c.self.inside.broker.seat =
-      ap (λ (b : BrokerState). b.seat) c.settle.ensures.settled ∙ (settled-seat c.issue.new.self answer ∙ ap (λ (b : BrokerState). b.seat) c.in-Ok-issue.ensures.issued) in
+    ap (λ (b : BrokerState). b.seat) c.settle.ensures.settled ∙ (settled-seat c.issue.new.self answer ∙ ap (λ (b : BrokerState). b.seat) c.in-Ok-issue.ensures.issued) in
     let last : c.settle.new.self.last ≡ c.self.inside.broker.last =
-      ap (λ (b : BrokerState). b.last) c.settle.ensures.settled ∙ (settled-last c.issue.new.self answer ∙ ap (λ (b : BrokerState). b.last) c.in-Ok-issue.ensures.issued) in
+    ap (λ (b : BrokerState). b.last) c.settle.ensures.settled ∙ (settled-last c.issue.new.self answer ∙ ap (λ (b : BrokerState). b.last) c.in-Ok-issue.ensures.issued) in
     record {
       holder_serves = λ seat e. subst (λ (ds : List Daemon). HolderServes ds seat) (sym c.look_up_at-answer.ensures.answer.makes)
-        (HolderServes-set c.self.inside.daemons.items c.in-Some.place _ seat (c.self.invariant.holder_serves seat (sym broke ∙ e)));
+          (HolderServes-set c.self.inside.daemons.items c.in-Some.place _ seat (c.self.invariant.holder_serves seat (sym broke ∙ e)));
       never_seated = λ e. last ∙ c.self.invariant.never_seated (sym broke ∙ e);
       few = omega (arith, c.look_up_at-answer.ensures.len, c.self.invariant.few);
     }
@@ -48,8 +48,10 @@ returns c =
     let new : State = record old { broker = c.settle.new.self; daemons = c.look_up_at-answer.new.daemons.items } in
     let is : Some c.unwrap-unique.result ≡ Some old.broker.next_unique = sym c.unwrap-unique.ensures ∙ c.in-Ok-issue.ensures.unique in
     let unique : c.unwrap-unique.result ≡ old.broker.next_unique = cc is in
-    record { step = subst (λ (s : State). Step s (Do (Lookup c.args.dir c.args.name.now)) c.of.result new) c.self.view_is
-      (Step-looks old c.args.dir c.args.name.now c.in-Some.place answer c.look_up_at-answer.new.daemons.items c.settle.new.self c.of.result
-        c.in-Ok-issue.ensures.accepted at c.look_up_at-answer.ensures.answer
-        (c.settle.ensures.settled ∙ ap (λ (b : BrokerState). settled b answer) c.in-Ok-issue.ensures.issued)
-        (c.of.ensures.one ∙ ap (λ u. happened.Answered (record { unique = u; answer = answer }) ∷ []) unique)) }
+    record {
+      step = subst (λ (s : State). Step s (Do (Lookup c.args.dir c.args.name.now)) c.of.result new) c.self.view_is
+          (Step-looks old c.args.dir c.args.name.now c.in-Some.place answer c.look_up_at-answer.new.daemons.items c.settle.new.self c.of.result
+          c.in-Ok-issue.ensures.accepted at c.look_up_at-answer.ensures.answer
+          (c.settle.ensures.settled ∙ ap (λ (b : BrokerState). settled b answer) c.in-Ok-issue.ensures.issued)
+          (c.of.ensures.one ∙ ap (λ u. happened.Answered (record { unique = u; answer = answer }) ∷ []) unique));
+    }
