@@ -36,7 +36,7 @@ changed-was es k m change now keeps h = was_in (m == k) refl where
   was_in true e =
       let same : m ≡ k = true-eq m k e in
       let there : option_map change (entry_of es m) ≡ Some now =
-        subst (λ (j : ℕ). option_map change (entry_of es j) ≡ Some now) (sym same) (sym (changed-same es k change keeps.number) ∙ subst (λ (j : ℕ). entry_of (changed_where (has_number k) change es) j ≡ Some now) same h) in
+      subst (λ (j : ℕ). option_map change (entry_of es j) ≡ Some now) (sym same) (sym (changed-same es k change keeps.number) ∙ subst (λ (j : ℕ). entry_of (changed_where (has_number k) change es) j ≡ Some now) same h) in
       let s = some_of_map (entry_of es m) change now there in
       record { kept = s.0; was = s.1; number = ap (λ (x : Kept). x.number) s.2 ∙ keeps.number s.0; place = ap (λ (x : Kept). x.place) s.2 ∙ keeps.place s.0; how = inl (same, s.2) }
   was_in false e =
@@ -48,34 +48,43 @@ unfolding Extends
 changed-extends es k change keeps n kept e = ext_in (n == k) refl where
   ext_in : (b : Bool) → (n == k) ≡ b → (now : Kept) × (entry_of (changed_where (has_number k) change es) n ≡ Some now) × (now.place ≡ kept.place)
   ext_in true t =
-      let same : n ≡ k = true-eq n k t in
-      (change kept, subst (λ (j : ℕ). entry_of (changed_where (has_number k) change es) j ≡ Some (change kept)) (sym same)
-        (changed-same es k change keeps.number ∙ ap (option_map change) (subst (λ (j : ℕ). entry_of es j ≡ Some kept) same e)), keeps.place kept)
+      let same : n ≡ k = true-eq n k t in (
+        change kept,
+        subst (λ (j : ℕ). entry_of (changed_where (has_number k) change es) j ≡ Some (change kept)) (sym same)
+            (changed-same es k change keeps.number ∙ ap (option_map change) (subst (λ (j : ℕ). entry_of es j ≡ Some kept) same e)),
+        keeps.place kept,
+      )
   ext_in false t = (kept, changed-other es k n change keeps.number (false-ne n k t) ∙ e, refl)
 
 pub fits-changed : (tree : Tree) (next : ℕ) (es : List Kept) (k : ℕ) (change : Kept → Kept) → KeepsPlace change → ((x : Kept) → entry_of es k ≡ Some x → (change x).count ≤ greatest_count) →
     Fits tree next es → Fits tree next (changed_where (has_number k) change es)
 fits-changed tree next es k change keeps few fits = record {
-    numbers = numbers-changed es 2 next (has_number k) change keeps.number fits.numbers;
-    numbers_fit = fits.numbers_fit;
-    names_a_file = λ n some. let now = some-is (entry_of new n) some in let w = was n now.0 now.1 in let f = fits.names_a_file n (some-IsSome (entry_of es n) w.kept w.was) in
+  numbers = numbers-changed es 2 next (has_number k) change keeps.number fits.numbers;
+  numbers_fit = fits.numbers_fit;
+  names_a_file = λ n some. let now = some-is (entry_of new n) some in let w = was n now.0 now.1 in let f = fits.names_a_file n (some-IsSome (entry_of es n) w.kept w.was) in
       (f.0, forth n f.0 f.1, f.2);
-    places_are_apart = λ m n one other e f same. let v = was m one e in let w = was n other f in fits.places_are_apart m n v.kept w.kept v.was w.was (sym v.place ∙ same ∙ w.place);
-    files_are_apart = λ m n file s t e f. fits.files_are_apart m n file (some_before m s) (some_before n t) (back m file s e) (back n file t f);
-    unlinked_alike = λ n now file e f. let w = was n now e in
+  places_are_apart = λ m n one other e f same. let v = was m one e in let w = was n other f in fits.places_are_apart m n v.kept w.kept v.was w.was (sym v.place ∙ same ∙ w.place);
+  files_are_apart = λ m n file s t e f. fits.files_are_apart m n file (some_before m s) (some_before n t) (back m file s e) (back n file t f);
+  unlinked_alike = λ n now file e f. let w = was n now e in
       let u = fits.unlinked_alike n w.kept file w.was (back n file (some-IsSome (entry_of new n) now e) f) in
       (λ p. u.0 (subst Rattle.world.specs.Served.IsUnlinkedPlace w.place p), λ p. subst Rattle.world.specs.Served.IsUnlinkedPlace (sym w.place) (u.1 p));
-    counts_fit = λ n now e. count_in n now (was n now e) } where
+  counts_fit = λ n now e. count_in n now (was n now e);
+} where
   new : List Kept
   new = changed_where (has_number k) change es
+
   was : (m : ℕ) (now : Kept) → entry_of new m ≡ Some now → WasEntry es k m change now
   was m now e = changed-was es k m change now keeps e
+
   forth : (n : ℕ) (file : FileId) → file_in next tree es n ≡ Some file → file_in next tree new n ≡ Some file
   forth n file h = file_in-extended next next tree es new n file (changed-extends es k change keeps) (omega arith) h
+
   some_before : (m : ℕ) → IsSome (entry_of new m) → IsSome (entry_of es m)
   some_before m s = let now = some-is (entry_of new m) s in let w = was m now.0 now.1 in some-IsSome (entry_of es m) w.kept w.was
+
   back : (m : ℕ) (file : FileId) → IsSome (entry_of new m) → file_in next tree new m ≡ Some file → file_in next tree es m ≡ Some file
   back m file s h = let f = fits.names_a_file m (some_before m s) in let g : Some f.0 ≡ Some file = sym (forth m f.0 f.1) ∙ h in f.1 ∙ g
+
   count_in : (n : ℕ) (now : Kept) → WasEntry es k n change now → now.count ≤ greatest_count
   count_in n now w = how_in w.how where
     how_in : ((n ≡ k) × (now ≡ change w.kept)) ⊎ ((n ≡ k → ⊥) × (now ≡ w.kept)) → now.count ≤ greatest_count

@@ -67,17 +67,17 @@ file_in-extended zero t tree old new n file ext le h = let one : n ≡ 1 = file_
 file_in-extended (suc s) zero tree old new n file ext le h = absurd (omega arith)
 file_in-extended (suc s) (suc t) tree old new n file ext le h =
     known_in (n == 1) refl (known-entry (suc s) tree old n file h) (λ m f. file_in-extended s t tree old new m f ext (omega arith)) where
-  known_in : (b : Bool) → (n == 1) ≡ b → (n ≡ 1) ⊎ ((kept : Kept) × (entry_of old n ≡ Some kept)) →
-      ((m : ℕ) (f : FileId) → file_in s tree old m ≡ Some f → file_in t tree new m ≡ Some f) → file_in (suc t) tree new n ≡ Some file
-  known_in true e k above = let one : n ≡ 1 = true-eq n 1 e in
-      subst (λ (m : ℕ). file_in (suc t) tree new m ≡ Some file) (sym one) (file_in-root (suc t) tree new ∙ sym (file_in-root (suc s) tree old) ∙ subst (λ (m : ℕ). file_in (suc s) tree old m ≡ Some file) one h)
-  known_in false e (inl one) above = absurd (let t1 = eq-true n 1 one in let none : true ≡ false = sym t1 ∙ e in let x : ⊥ = cc in x)
-  known_in false e (inr (kept, is)) above =
-      let apart : n ≡ 1 → ⊥ = λ i. let t1 = eq-true n 1 i in let none : true ≡ false = sym t1 ∙ e in let x : ⊥ = cc in x in
-      let now = ext n kept is in
-      file_in-entry t tree new n now.0 apart now.1 ∙ ap (λ (p : Place). file_of_place tree p (file_in t tree new (dir_or_root p))) now.2 ∙
-      place_file tree kept.place (file_in s tree old (dir_or_root kept.place)) (file_in t tree new (dir_or_root kept.place)) file
-        (above (dir_or_root kept.place)) (sym (file_in-entry s tree old n kept apart is) ∙ h)
+      known_in : (b : Bool) → (n == 1) ≡ b → (n ≡ 1) ⊎ ((kept : Kept) × (entry_of old n ≡ Some kept)) →
+          ((m : ℕ) (f : FileId) → file_in s tree old m ≡ Some f → file_in t tree new m ≡ Some f) → file_in (suc t) tree new n ≡ Some file
+      known_in true e k above = let one : n ≡ 1 = true-eq n 1 e in
+          subst (λ (m : ℕ). file_in (suc t) tree new m ≡ Some file) (sym one) (file_in-root (suc t) tree new ∙ sym (file_in-root (suc s) tree old) ∙ subst (λ (m : ℕ). file_in (suc s) tree old m ≡ Some file) one h)
+      known_in false e (inl one) above = absurd (let t1 = eq-true n 1 one in let none : true ≡ false = sym t1 ∙ e in let x : ⊥ = cc in x)
+      known_in false e (inr (kept, is)) above =
+          let apart : n ≡ 1 → ⊥ = λ i. let t1 = eq-true n 1 i in let none : true ≡ false = sym t1 ∙ e in let x : ⊥ = cc in x in
+          let now = ext n kept is in
+          file_in-entry t tree new n now.0 apart now.1 ∙ ap (λ (p : Place). file_of_place tree p (file_in t tree new (dir_or_root p))) now.2 ∙
+          place_file tree kept.place (file_in s tree old (dir_or_root kept.place)) (file_in t tree new (dir_or_root kept.place)) file
+          (above (dir_or_root kept.place)) (sym (file_in-entry s tree old n kept apart is) ∙ h)
 
 -- each entry that is left is as it was, and so is the directory that it stands in
 unfoldable pub KeepsAbove : List Kept → List Kept → Type 0

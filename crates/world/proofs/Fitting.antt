@@ -39,8 +39,14 @@ some-is (Some kept) h = (kept, refl)
 -- soundness in these parts, both ways
 pub sound-fits : (served : ServedState) → IsSound served → Fits served.tree served.map.next served.map.entries
 sound-fits served s = record {
-    numbers = s.numbers; numbers_fit = s.numbers_fit; names_a_file = s.names_a_file; places_are_apart = s.places_are_apart;
-    files_are_apart = s.files_are_apart; unlinked_alike = s.unlinked_alike; counts_fit = s.counts_fit }
+  numbers = s.numbers;
+  numbers_fit = s.numbers_fit;
+  names_a_file = s.names_a_file;
+  places_are_apart = s.places_are_apart;
+  files_are_apart = s.files_are_apart;
+  unlinked_alike = s.unlinked_alike;
+  counts_fit = s.counts_fit;
+}
 
 pub sound-of_use : (served : ServedState) → IsSound served → AreOfUseBut None served.map.entries
 unfolding AreOfUseBut
@@ -49,9 +55,15 @@ sound-of_use served s n kept e = inl (s.each_of_use n kept e)
 pub fits-sound : (served : ServedState) → Fits served.tree served.map.next served.map.entries → AreOfUseBut None served.map.entries → IsSound served
 unfolding AreOfUseBut
 fits-sound served f useful = record {
-    numbers = f.numbers; numbers_fit = f.numbers_fit; names_a_file = f.names_a_file; places_are_apart = f.places_are_apart;
-    files_are_apart = f.files_are_apart; unlinked_alike = f.unlinked_alike;
-    each_of_use = λ n kept e. used n kept (useful n kept e); counts_fit = f.counts_fit } where
+  numbers = f.numbers;
+  numbers_fit = f.numbers_fit;
+  names_a_file = f.names_a_file;
+  places_are_apart = f.places_are_apart;
+  files_are_apart = f.files_are_apart;
+  unlinked_alike = f.unlinked_alike;
+  each_of_use = λ n kept e. used n kept (useful n kept e);
+  counts_fit = f.counts_fit;
+} where
   used : (n : ℕ) (kept : Kept) → (is_of_use served.map.entries kept ≡ true) ⊎ (None ≡ Some n) → IsTrue (is_of_use served.map.entries kept)
   used n kept (inl t) = t
   used n kept (inr h) = absurd (let none : ⊥ = cc in none)
@@ -94,10 +106,10 @@ linked_is_not_unlinked tree file e h = contradicts (not (file.0 == 1)) (subst (�
 pub entry-no_root : (tree : Tree) (next : ℕ) (es : List Kept) → IsTree tree → Fits tree next es → (n : ℕ) (kept : Kept) (file : FileId) → entry_of es n ≡ Some kept → file_in next tree es n ≡ Some file → file.0 ≡ 1 → ⊥
 entry-no_root tree next es is fits n kept file e h one =
     place_in kept.place refl (entry-file next tree es n kept file (not-one es next n kept fits.numbers e) e h) where
-  place_in : (place : Place) → kept.place ≡ place → file_of_place tree place (file_in next tree es (dir_or_root place)) ≡ Some file → ⊥
-  place_in (Linked dir name) p g = let l = linked-file tree dir name (file_in next tree es (dir_or_root (Linked dir name))) file g in
-      let low : 1 < file.0 = is.root_has_no_link l.0 name file l.2 in omega arith
-  place_in (Unlinked f) p g = unlinked_is_no_root tree file ((fits.unlinked_alike n kept file e h).0 (subst IsUnlinkedPlace (sym p) tt)) one
+      place_in : (place : Place) → kept.place ≡ place → file_of_place tree place (file_in next tree es (dir_or_root place)) ≡ Some file → ⊥
+      place_in (Linked dir name) p g = let l = linked-file tree dir name (file_in next tree es (dir_or_root (Linked dir name))) file g in
+          let low : 1 < file.0 = is.root_has_no_link l.0 name file l.2 in omega arith
+      place_in (Unlinked f) p g = unlinked_is_no_root tree file ((fits.unlinked_alike n kept file e h).0 (subst IsUnlinkedPlace (sym p) tt)) one
 
 -- what is known: the root, and each entry
 unfoldable pub IsKnown : List Kept → ℕ → Type 0
@@ -131,11 +143,11 @@ pub entry-place : (tree : Tree) (next : ℕ) (es : List Kept) → IsTree tree �
     kept.place ≡ Linked (record { 0 = parent }) name
 entry-place tree next es is fits n parent kept dir file name known at child e h =
     place_in kept.place refl (entry-file next tree es n kept file (not-one es next n kept fits.numbers e) e h) where
-  place_in : (place : Place) → kept.place ≡ place → file_of_place tree place (file_in next tree es (dir_or_root place)) ≡ Some file → kept.place ≡ Linked (record { 0 = parent }) name
-  place_in (Unlinked f) p g = absurd (linked_is_not_unlinked tree file (is.linked_is_linked dir name file child) ((fits.unlinked_alike n kept file e h).0 (subst IsUnlinkedPlace (sym p) tt)))
-  place_in (Linked above named) p g =
-      let l = linked-file tree above named (file_in next tree es above.0) file g in
-      let one = is.links_are_apart l.0 dir named name file l.2 child in
-      let there : file_in next tree es above.0 ≡ Some dir = l.1 ∙ ap Some one.0 in
-      let same : above.0 ≡ parent = known-apart tree next es is fits above.0 parent dir (known-from es above.0 (known-entry next tree es above.0 l.0 l.1)) known there at in
-      p ∙ (λ i. Linked (record { 0 = same i }) (one.1 i))
+      place_in : (place : Place) → kept.place ≡ place → file_of_place tree place (file_in next tree es (dir_or_root place)) ≡ Some file → kept.place ≡ Linked (record { 0 = parent }) name
+      place_in (Unlinked f) p g = absurd (linked_is_not_unlinked tree file (is.linked_is_linked dir name file child) ((fits.unlinked_alike n kept file e h).0 (subst IsUnlinkedPlace (sym p) tt)))
+      place_in (Linked above named) p g =
+          let l = linked-file tree above named (file_in next tree es above.0) file g in
+          let one = is.links_are_apart l.0 dir named name file l.2 child in
+          let there : file_in next tree es above.0 ≡ Some dir = l.1 ∙ ap Some one.0 in
+          let same : above.0 ≡ parent = known-apart tree next es is fits above.0 parent dir (known-from es above.0 (known-entry next tree es above.0 l.0 l.1)) known there at in
+          p ∙ (λ i. Linked (record { 0 = same i }) (one.1 i))

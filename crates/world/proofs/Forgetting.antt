@@ -63,33 +63,44 @@ pub record Forgotten (tree : Tree) (names : List (ℕ × FileId)) (held : List �
 pub forgets-well : (tree : Tree) (names : List (ℕ × FileId)) (held : List ℕ) (m : MapState) (n k : ℕ) → Knows tree names held m → (n ≡ 1 → ⊥) → 1 ≤ k → k ≤ times n held → Forgotten tree names held m n k
 unfolding IsKnown less IsGood
 forgets-well tree names held m n k knows other some few = record {
-    good = rw (not_root, not_bad) (good_in (is_useless es n));
-    knows = rw (not_root, not_bad) whole } where
+  good = rw (not_root, not_bad) (good_in (is_useless es n));
+  knows = rw (not_root, not_bad) whole;
+} where
   not_root : (n == 1) ≡ false
   not_root = eq-false n 1 other
+
   counted : count_of m.entries n ≡ times n held
   counted = knows.counts n other
+
   not_bad : is_bad_item m.entries n k ≡ false
   not_bad = let z : (k == 0) ≡ false = eq-false k 0 (λ e. omega arith) in let c : count_of m.entries n ≡ times n held = counted in let l : nat_lt (count_of m.entries n) k ≡ false = grind (arith, nat_tests) in rw (z, l) refl
+
   es : List Kept
   es = lowered m.entries n k
+
   good_in : (b : Bool) → IsGood (if b then Dropped else Lowered)
   good_in true = tt
   good_in false = tt
+
   keeps : KeepsPlace (less k)
   keeps = record { number = λ x. refl; place = λ x. refl }
+
   entry : (kept : Kept) × (entry_of m.entries n ≡ Some kept)
   entry = some-is (entry_of m.entries n) (counted_entry m.entries n (let c : count_of m.entries n ≡ times n held = counted in omega arith))
+
   fits : Fits tree m.next es
   fits = fits-changed tree m.next m.entries n (less k) keeps (λ x e. let c : x.count ≤ greatest_count = knows.fits.counts_fit n x e in omega arith) knows.fits
+
   left : IsPruned tree m.next es (pruned (length m.entries) (Some n) es)
   left = pruned-IsPruned (length m.entries) (Some n) tree m.next es (let e : length es ≡ length m.entries = length_changed m.entries (has_number n) (less k) in omega arith) fits (lowered-of_use m.entries n (less k) keeps knows.of_use)
+
   count_in : (j : ℕ) → (j ≡ 1 → ⊥) → (b : Bool) → (j == n) ≡ b → count_of (pruned (length m.entries) (Some n) es) j ≡ times j (without_times k n held)
   count_in j d true e = let same : j ≡ n = true-eq j n e in
       subst (λ (i : ℕ). count_of (pruned (length m.entries) (Some n) es) i ≡ times i (without_times k n held)) (sym same)
       (left.counts n ∙ count-changed_same m.entries n (less k) entry.0 keeps entry.1
-        ∙ ap (λ (i : ℕ). i - k) (sym (ap (λ (o : Option Kept). option_map_or (λ (y : Kept). y.count) o 0) entry.1) ∙ counted) ∙ sym (times-same held n k))
+      ∙ ap (λ (i : ℕ). i - k) (sym (ap (λ (o : Option Kept). option_map_or (λ (y : Kept). y.count) o 0) entry.1) ∙ counted) ∙ sym (times-same held n k))
   count_in j d false e = left.counts j ∙ count-changed_other m.entries n j (less k) keeps (false-ne j n e) ∙ knows.counts j d ∙ sym (times-other held n k j (false-ne j n e))
+
   file_in' : (j : ℕ) → (j ≡ 1) ⊎ IsSome (entry_of (pruned (length m.entries) (Some n) es) j) → file_in m.next tree (pruned (length m.entries) (Some n) es) j ≡ Rattle.world.specs.World.file_named names j
   file_in' j (inl one) = subst (λ (i : ℕ). file_in m.next tree (pruned (length m.entries) (Some n) es) i ≡ Rattle.world.specs.World.file_named names i) (sym one)
       (file_in-root m.next tree (pruned (length m.entries) (Some n) es) ∙ sym (file_in-root m.next tree m.entries) ∙ knows.files 1 (inl refl))
@@ -100,5 +111,6 @@ forgets-well tree names held m n k knows other some few = record {
       let some' = some-IsSome (entry_of m.entries j) w.kept w.was in
       let g = knows.fits.names_a_file j some' in
       l.1 ∙ file_in-extended m.next m.next tree m.entries es j g.0 (changed-extends m.entries n (less k) keeps) (omega arith) g.1 ∙ sym g.1 ∙ knows.files j (inr some')
+
   whole : Knows tree names (without_times k n held) (record m { entries = pruned (length m.entries) (Some n) es })
   whole = record { is_tree = knows.is_tree; fits = left.fits; of_use = left.of_use; counts = λ j d. count_in j d (j == n) refl; files = file_in'; numbers = knows.numbers }

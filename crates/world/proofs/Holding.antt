@@ -26,7 +26,7 @@ held-raised_same held n = same_in (first_where (has_number n.0) held) refl where
   same_in None e =
       let t : (n.0 == n.0) ≡ true = eq-true n.0 n.0 refl in
       let one : first_where (has_number n.0) (held ++ record { number = n; count = 1 } ∷ []) ≡ Some (record { number = n; count = 1 }) =
-        first_where-append (has_number n.0) held (record { number = n; count = 1 } ∷ []) ∙ rw (e, t) refl in
+      first_where-append (has_number n.0) held (record { number = n; count = 1 } ∷ []) ∙ rw (e, t) refl in
       rw e (ap (λ (o : Option Held). option_map_or (λ (x : Held). x.count) o 0) one)
 
 pub held-raised_other : (held : List Held) (n : Number) (m : ℕ) → (m ≡ n.0 → ⊥) → held_count (raised held n) m ≡ held_count held m
@@ -35,10 +35,11 @@ held-raised_other held n m d = other_in (is_some (first_where (has_number n.0) h
   count_in : (o : Option Held) → option_map_or (λ (x : Held). x.count) (if is_some o then o else None) 0 ≡ option_map_or (λ (x : Held). x.count) o 0
   count_in None = refl
   count_in (Some h) = refl
+
   other_in : (b : Bool) → held_count (cond b (changed_where (has_number n.0) (λ h. record h { count = h.count + 1 }) held) (held ++ record { number = n; count = 1 } ∷ [])) m ≡ held_count held m
   other_in true = ap (λ (o : Option Held). option_map_or (λ (x : Held). x.count) o 0) (first_where-changed_other (has_number n.0) (has_number m) more held (λ x. refl) (apart m n.0 d))
   other_in false = ap (λ (o : Option Held). option_map_or (λ (x : Held). x.count) o 0) (first_where-append (has_number m) held (record { number = n; count = 1 } ∷ []))
-    ∙ (let f : (n.0 == m) ≡ false = eq-false n.0 m (λ e. d (sym e)) in rw f (count_in (first_where (has_number m) held)))
+      ∙ (let f : (n.0 == m) ≡ false = eq-false n.0 m (λ e. d (sym e)) in rw f (count_in (first_where (has_number m) held)))
 
 fewer : ℕ → Held → Held
 fewer k h = record h { count = h.count - k }
@@ -57,6 +58,7 @@ held-lowered_same held n k once = same_in (nat_le (held_count held n.0) k) refl 
   some_in : (o : Option Held) → option_map_or (λ (x : Held). x.count) (option_map (fewer k) o) 0 ≡ option_map_or (λ (x : Held). x.count) o 0 - k
   some_in None = omega arith
   some_in (Some h) = refl
+
   same_in : (b : Bool) → nat_le (held_count held n.0) k ≡ b → held_count (cond b (without_where (has_number n.0) held) (changed_where (has_number n.0) (λ h. record h { count = h.count - k }) held)) n.0 ≡ held_count held n.0 - k
   same_in true e = let low : held_count held n.0 ≤ k = grind (arith, nat_tests) in
       let nothing : held_count (without_where (has_number n.0) held) n.0 ≡ 0 = ap (λ (o : Option Held). option_map_or (λ (x : Held). x.count) o 0) (once-gone held n.0 once) in omega arith

@@ -11,7 +11,7 @@ mod Forgetting
 mod Matching
 mod Events
 mod WholeRun
-pub mod CodeEntries
-pub mod CodeMap
-pub mod CodeDaemons
-pub mod CodeStep
+pub mod EntryWrites
+pub mod MapWrites
+pub mod DaemonWrites
+pub mod StepLemmas

@@ -82,26 +82,34 @@ served_apart state daemon one other a b = let s : Some (Serving one) ≡ Some (S
 pub books-match : (w : World) (state : State) (seat : Seat) (m : MapState) → Books w state seat → daemon_of state seat.daemon ≡ Some (Serving (served_over w.tree m)) → Knows w.tree w.names w.held m → Matches w state
 unfolding IsKnown
 books-match w state seat m books serves knows = record {
-    agrees = record {
-      manifest = books.manifest; seat = books.seat_is ∙ sym books.broker_seat; last = books.last; held = books.held;
-      no_asks = books.no_asks; no_items = books.no_items; no_replies = books.no_replies;
-      tree = λ s served is. ap (λ (x : ServedState). x.tree) (only s served is) };
-    counts = λ s served is n d. ap (λ (x : ServedState). count_of x.map.entries n) (only s served is) ∙ knows.counts n d ∙ sym (quiet_owed w books.no_items books.no_replies n);
-    names = λ s served is. subst (λ (x : ServedState). NamesAreFirst w x) (sym (only s served is)) (record {
-      root = knows.files 1 (inl refl);
-      files = λ n some. knows.files n (inr some);
-      sound = fits-sound (served_over w.tree m) knows.fits knows.of_use;
-      numbers = knows.numbers });
-    one_daemon = books.one_daemon;
-    manifest_is_tree = books.manifest_is_tree;
-    tree_is_tree = knows.is_tree;
-    holder_serves = λ s is. let same = seat_apart state seat s books.broker_seat is in
+  agrees = record {
+    manifest = books.manifest;
+    seat = books.seat_is ∙ sym books.broker_seat;
+    last = books.last;
+    held = books.held;
+    no_asks = books.no_asks;
+    no_items = books.no_items;
+    no_replies = books.no_replies;
+    tree = λ s served is. ap (λ (x : ServedState). x.tree) (only s served is);
+  };
+  counts = λ s served is n d. ap (λ (x : ServedState). count_of x.map.entries n) (only s served is) ∙ knows.counts n d ∙ sym (quiet_owed w books.no_items books.no_replies n);
+  names = λ s served is. subst (λ (x : ServedState). NamesAreFirst w x) (sym (only s served is)) (record {
+    root = knows.files 1 (inl refl);
+    files = λ n some. knows.files n (inr some);
+    sound = fits-sound (served_over w.tree m) knows.fits knows.of_use;
+    numbers = knows.numbers;
+  });
+  one_daemon = books.one_daemon;
+  manifest_is_tree = books.manifest_is_tree;
+  tree_is_tree = knows.is_tree;
+  holder_serves = λ s is. let same = seat_apart state seat s books.broker_seat is in
       (served_over w.tree m, subst (λ (x : Seat). IsSeated state x (served_over w.tree m)) same (record { has_seat = books.broker_seat; serves = serves }));
-    seat_is_last = λ s is. let same = seat_apart state seat s books.broker_seat is in subst (λ (x : Seat). x.generation ≡ state.broker.last) same books.generation;
-    empty_without_seat = λ none. absurd (let s : Some seat ≡ None = sym books.broker_seat ∙ none in let x : ⊥ = cc in x);
-    held_once = books.once;
-    uniques_were_used = books.uniques;
-    answered_before = books.answered } where
+  seat_is_last = λ s is. let same = seat_apart state seat s books.broker_seat is in subst (λ (x : Seat). x.generation ≡ state.broker.last) same books.generation;
+  empty_without_seat = λ none. absurd (let s : Some seat ≡ None = sym books.broker_seat ∙ none in let x : ⊥ = cc in x);
+  held_once = books.once;
+  uniques_were_used = books.uniques;
+  answered_before = books.answered;
+} where
   only : (s : Seat) (served : ServedState) → IsSeated state s served → served ≡ served_over w.tree m
   only s served is = let same = seat_apart state seat s books.broker_seat is.has_seat in
       served_apart state s.daemon served (served_over w.tree m) is.serves (subst (λ (x : Seat). daemon_of state x.daemon ≡ Some (Serving (served_over w.tree m))) same serves)
@@ -113,12 +121,13 @@ served_is served tree e = λ i. record { map = served.map; tree = e i }
 pub match-knows : (w : World) (state : State) (seat : Seat) (served : ServedState) → Matches w state → IsSeated state seat served → Knows w.tree w.names w.held served.map
 unfolding IsKnown
 match-knows w state seat served mm is = let tree = mm.agrees.tree seat served is in let names = mm.names seat served is in record {
-    is_tree = mm.tree_is_tree;
-    fits = subst (λ (t : Tree). Fits t served.map.next served.map.entries) tree (sound-fits served names.sound);
-    of_use = sound-of_use served names.sound;
-    counts = λ n d. mm.counts seat served is n d ∙ quiet_owed w mm.agrees.no_items mm.agrees.no_replies n;
-    files = λ n known. files_in n known;
-    numbers = names.numbers } where
+  is_tree = mm.tree_is_tree;
+  fits = subst (λ (t : Tree). Fits t served.map.next served.map.entries) tree (sound-fits served names.sound);
+  of_use = sound-of_use served names.sound;
+  counts = λ n d. mm.counts seat served is n d ∙ quiet_owed w mm.agrees.no_items mm.agrees.no_replies n;
+  files = λ n known. files_in n known;
+  numbers = names.numbers;
+} where
   files_in : (n : ℕ) → (n ≡ 1) ⊎ IsSome (entry_of served.map.entries n) → file_in served.map.next w.tree served.map.entries n ≡ file_named w.names n
   files_in n (inl one) = let tree = mm.agrees.tree seat served is in let names = mm.names seat served is in
       subst (λ (j : ℕ). file_in served.map.next w.tree served.map.entries j ≡ file_named w.names j) (sym one) (subst (λ (t : Tree). file_in served.map.next t served.map.entries 1 ≡ file_named w.names 1) tree names.root)
@@ -127,9 +136,21 @@ match-knows w state seat served mm is = let tree = mm.agrees.tree seat served is
 
 pub match-books : (w : World) (state : State) (seat : Seat) → Matches w state → state.broker.seat ≡ Some seat → Books w state seat
 match-books w state seat mm is = record {
-    manifest = mm.agrees.manifest; seat_is = mm.agrees.seat ∙ is; broker_seat = is; last = mm.agrees.last; generation = mm.seat_is_last seat is; held = mm.agrees.held;
-    no_asks = mm.agrees.no_asks; no_items = mm.agrees.no_items; no_replies = mm.agrees.no_replies; one_daemon = mm.one_daemon; manifest_is_tree = mm.manifest_is_tree;
-    once = mm.held_once; uniques = mm.uniques_were_used; answered = mm.answered_before }
+  manifest = mm.agrees.manifest;
+  seat_is = mm.agrees.seat ∙ is;
+  broker_seat = is;
+  last = mm.agrees.last;
+  generation = mm.seat_is_last seat is;
+  held = mm.agrees.held;
+  no_asks = mm.agrees.no_asks;
+  no_items = mm.agrees.no_items;
+  no_replies = mm.agrees.no_replies;
+  one_daemon = mm.one_daemon;
+  manifest_is_tree = mm.manifest_is_tree;
+  once = mm.held_once;
+  uniques = mm.uniques_were_used;
+  answered = mm.answered_before;
+}
 
 pub contains_cons : {X : Type 0} (x y : X) (xs : List X) → Contains (x ∷ xs) y → (x ≡ y) ⊎ Contains xs y
 contains_cons x y xs (zero, low, e) = inl e

@@ -27,6 +27,7 @@ useless es n h = useless_in (entry_of es n) refl h where
   or_parts true c h' = absurd (let none : ⊥ = cc in none)
   or_parts false true h' = absurd (let none : ⊥ = cc in none)
   or_parts false false h' = (refl, refl)
+
   useless_in : (o : Option Kept) → entry_of es n ≡ o → option_map_or (λ (kept : Kept). not (is_of_use es kept)) o false ≡ true → (kept : Kept) × IsUseless es n kept
   useless_in None e h' = absurd (let none : ⊥ = cc in none)
   useless_in (Some kept) e h' =
@@ -52,12 +53,13 @@ unfolding KeepsAbove
 left-keeps es low next n gone are is m now h =
     let l = left es low next n m now are h in
     (l.1, above_in (kid_or_root now.place n (not_kid (is_kid_of n now) refl))) where
-  not_kid : (b : Bool) → is_kid_of n now ≡ b → b ≡ false
-  not_kid true t = absurd (let some = any-first es (has_number m) (is_kid_of n) now (left es low next n m now are h).1 t in let c : true ≡ false = sym some ∙ is.no_kids in let none : ⊥ = cc in none)
-  not_kid false t = refl
-  above_in : (dir_or_root now.place ≡ 1) ⊎ (dir_or_root now.place ≡ n → ⊥) → (dir_or_root now.place ≡ 1) ⊎ (entry_of (without_where (has_number n) es) (dir_or_root now.place) ≡ entry_of es (dir_or_root now.place))
-  above_in (inl one) = inl one
-  above_in (inr other) = inr (without-other es n (dir_or_root now.place) other)
+      not_kid : (b : Bool) → is_kid_of n now ≡ b → b ≡ false
+      not_kid true t = absurd (let some = any-first es (has_number m) (is_kid_of n) now (left es low next n m now are h).1 t in let c : true ≡ false = sym some ∙ is.no_kids in let none : ⊥ = cc in none)
+      not_kid false t = refl
+
+      above_in : (dir_or_root now.place ≡ 1) ⊎ (dir_or_root now.place ≡ n → ⊥) → (dir_or_root now.place ≡ 1) ⊎ (entry_of (without_where (has_number n) es) (dir_or_root now.place) ≡ entry_of es (dir_or_root now.place))
+      above_in (inl one) = inl one
+      above_in (inr other) = inr (without-other es n (dir_or_root now.place) other)
 
 -- the file of an entry that is left
 pub left-file : (tree : Tree) (next : ℕ) (es : List Kept) (n m : ℕ) → Fits tree next es → is_useless es n ≡ true → (m ≡ n → ⊥) → file_in next tree (without_where (has_number n) es) m ≡ file_in next tree es m
@@ -66,19 +68,22 @@ left-file tree next es n m fits h other = let u = useless es n h in
 
 fits-left : (tree : Tree) (next : ℕ) (es : List Kept) (n : ℕ) → Fits tree next es → is_useless es n ≡ true → Fits tree next (without_where (has_number n) es)
 fits-left tree next es n fits h = record {
-    numbers = numbers-without es 2 next (has_number n) fits.numbers;
-    numbers_fit = fits.numbers_fit;
-    names_a_file = λ m some. let now = some-is (entry_of new m) some in let l = was m now.0 now.1 in let f = fits.names_a_file m (some-IsSome (entry_of es m) now.0 l.1) in (f.0, same m l.0 ∙ f.1, f.2);
-    places_are_apart = λ m k one other e f p. fits.places_are_apart m k one other (was m one e).1 (was k other f).1 p;
-    files_are_apart = λ m k file s t e f. let one = some-is (entry_of new m) s in let other = some-is (entry_of new k) t in
+  numbers = numbers-without es 2 next (has_number n) fits.numbers;
+  numbers_fit = fits.numbers_fit;
+  names_a_file = λ m some. let now = some-is (entry_of new m) some in let l = was m now.0 now.1 in let f = fits.names_a_file m (some-IsSome (entry_of es m) now.0 l.1) in (f.0, same m l.0 ∙ f.1, f.2);
+  places_are_apart = λ m k one other e f p. fits.places_are_apart m k one other (was m one e).1 (was k other f).1 p;
+  files_are_apart = λ m k file s t e f. let one = some-is (entry_of new m) s in let other = some-is (entry_of new k) t in
       let v = was m one.0 one.1 in let w = was k other.0 other.1 in
       fits.files_are_apart m k file (some-IsSome (entry_of es m) one.0 v.1) (some-IsSome (entry_of es k) other.0 w.1) (sym (same m v.0) ∙ e) (sym (same k w.0) ∙ f);
-    unlinked_alike = λ m now file e f. let l = was m now e in fits.unlinked_alike m now file l.1 (sym (same m l.0) ∙ f);
-    counts_fit = λ m now e. fits.counts_fit m now (was m now e).1 } where
+  unlinked_alike = λ m now file e f. let l = was m now e in fits.unlinked_alike m now file l.1 (sym (same m l.0) ∙ f);
+  counts_fit = λ m now e. fits.counts_fit m now (was m now e).1;
+} where
   new : List Kept
   new = without_where (has_number n) es
+
   was : (m : ℕ) (now : Kept) → entry_of new m ≡ Some now → (m ≡ n → ⊥) × (entry_of es m ≡ Some now)
   was m now e = left es 2 next n m now fits.numbers e
+
   same : (m : ℕ) → (m ≡ n → ⊥) → file_in next tree new m ≡ file_in next tree es m
   same m other = left-file tree next es n m fits h other
 
@@ -93,29 +98,38 @@ unfolding AreOfUseBut
 left-of_use tree next es n fits h useful m now e = use_in (useful m now l.1) where
   l : (m ≡ n → ⊥) × (entry_of es m ≡ Some now)
   l = left es 2 next n m now fits.numbers e
+
   u : (kept : Kept) × IsUseless es n kept
   u = useless es n h
+
   new : List Kept
   new = without_where (has_number n) es
+
   number : now.number.0 ≡ m
   number = entry_of-number es m now l.1
+
   above : dir_of (u.0).place ≡ Some m → dir_above es n ≡ Some m
   above d = ap (λ (o : Option Kept). option_and_then (λ (k : Kept). dir_of k.place) o) (u.1).entry ∙ d
+
   kids_in : (c : Bool) → is_kid_of m u.0 ≡ c → list_any (is_kid_of m) es ≡ true → (list_any (is_kid_of m) new ≡ true) ⊎ (dir_above es n ≡ Some m)
   kids_in true t k = inr (above (dir_is (u.0).place m t))
   kids_in false t k = inl (any-without es (has_number n) (is_kid_of m) (λ x f. let s : Some x ≡ Some u.0 = sym f ∙ (u.1).entry in let same : x ≡ u.0 = cc in subst (λ (y : Kept). is_kid_of m y ≡ false) (sym same) t) k)
+
   or_in : (b c : Bool) → (b || c) ≡ true → ((b ≡ true) ⊎ (c ≡ true))
   or_in true c k = inl refl
   or_in false c k = inr k
+
   done : (list_any (is_kid_of m) new ≡ true) ⊎ (dir_above es n ≡ Some m) → (is_of_use new now ≡ true) ⊎ (dir_above es n ≡ Some m)
   done (inl k) = inl (or_right (nat_lt 0 now.count) (list_any (is_kid_of now.number.0) new) (subst (λ (j : ℕ). list_any (is_kid_of j) new ≡ true) (sym number) k)) where
     or_right : (b c : Bool) → c ≡ true → (b || c) ≡ true
     or_right true c t = refl
     or_right false c t = t
   done (inr d) = inr d
+
   parts : (nat_lt 0 now.count ≡ true) ⊎ (list_any (is_kid_of now.number.0) es ≡ true) → (is_of_use new now ≡ true) ⊎ (dir_above es n ≡ Some m)
   parts (inl t) = inl (ap (λ b. b || list_any (is_kid_of now.number.0) new) t)
   parts (inr t) = done (kids_in (is_kid_of m u.0) refl (subst (λ (j : ℕ). list_any (is_kid_of j) es ≡ true) number t))
+
   use_in : (is_of_use es now ≡ true) ⊎ (Some n ≡ Some m) → (is_of_use new now ≡ true) ⊎ (dir_above es n ≡ Some m)
   use_in (inl t) = parts (or_in (nat_lt 0 now.count) (list_any (is_kid_of now.number.0) es) t)
   use_in (inr same) = absurd (l.0 (let e' : n ≡ m = cc in sym e'))
@@ -125,11 +139,12 @@ left-count : (tree : Tree) (next : ℕ) (es : List Kept) (n m : ℕ) → Fits tr
 left-count tree next es n m fits h = count_in (m == n) refl where
   u : (kept : Kept) × IsUseless es n kept
   u = useless es n h
+
   count_in : (b : Bool) → (m == n) ≡ b → count_of (without_where (has_number n) es) m ≡ count_of es m
   count_in true t = let same : m ≡ n = true-eq m n t in
       subst (λ (j : ℕ). count_of (without_where (has_number n) es) j ≡ count_of es j) (sym same)
       (ap (λ (o : Option Kept). option_map_or (λ (k : Kept). k.count) o 0) (without-same es 2 next n fits.numbers)
-        ∙ sym (u.1).no_count ∙ sym (ap (λ (o : Option Kept). option_map_or (λ (k : Kept). k.count) o 0) (u.1).entry))
+      ∙ sym (u.1).no_count ∙ sym (ap (λ (o : Option Kept). option_map_or (λ (k : Kept). k.count) o 0) (u.1).entry))
   count_in false t = ap (λ (o : Option Kept). option_map_or (λ (k : Kept). k.count) o 0) (without-other es n m (false-ne m n t))
 
 -- what pruning leaves
@@ -157,6 +172,7 @@ all_of_use es n h useful m now e = in_ (useful m now e) where
   not_not : (b : Bool) → not b ≡ false → b ≡ true
   not_not true k = refl
   not_not false k = absurd (let none : ⊥ = cc in none)
+
   in_ : (is_of_use es now ≡ true) ⊎ (Some n ≡ Some m) → (is_of_use es now ≡ true) ⊎ (None ≡ Some m)
   in_ (inl t) = inl t
   in_ (inr s) = let same : n ≡ m = cc in
@@ -168,12 +184,17 @@ pruned-IsPruned zero but tree next es short fits useful = let nil = empty_list e
 pruned-IsPruned (suc steps) None tree next es short fits useful = stays tree next es fits useful
 pruned-IsPruned (suc steps) (Some n) tree next es short fits useful =
     step_in (is_useless es n) refl (λ h. pruned-IsPruned steps (dir_above es n) tree next (without_where (has_number n) es) (shorter h) (fits-left tree next es n fits h) (left-of_use tree next es n fits h useful)) where
-  new : List Kept
-  new = without_where (has_number n) es
-  shorter : is_useless es n ≡ true → length new ≤ steps
-  shorter h = let u = useless es n h in let l = length-without es (has_number n) u.0 (u.1).entry in omega arith
-  step_in : (b : Bool) → is_useless es n ≡ b → (is_useless es n ≡ true → IsPruned tree next new (pruned steps (dir_above es n) new)) → IsPruned tree next es (cond b (pruned steps (dir_above es n) new) es)
-  step_in true h rest = let r = rest h in record {
-      fits = r.fits; of_use = r.of_use; counts = λ m. r.counts m ∙ left-count tree next es n m fits h;
-      left = λ m now e. let a = r.left m now e in let l = Rattle.world.proofs.Pruning.left es 2 next n m now fits.numbers a.0 in (l.1, a.1 ∙ left-file tree next es n m fits h l.0) }
-  step_in false h rest = stays tree next es fits (all_of_use es n h useful)
+      new : List Kept
+      new = without_where (has_number n) es
+
+      shorter : is_useless es n ≡ true → length new ≤ steps
+      shorter h = let u = useless es n h in let l = length-without es (has_number n) u.0 (u.1).entry in omega arith
+
+      step_in : (b : Bool) → is_useless es n ≡ b → (is_useless es n ≡ true → IsPruned tree next new (pruned steps (dir_above es n) new)) → IsPruned tree next es (cond b (pruned steps (dir_above es n) new) es)
+      step_in true h rest = let r = rest h in record {
+        fits = r.fits;
+        of_use = r.of_use;
+        counts = λ m. r.counts m ∙ left-count tree next es n m fits h;
+        left = λ m now e. let a = r.left m now e in let l = Rattle.world.proofs.Pruning.left es 2 next n m now fits.numbers a.0 in (l.1, a.1 ∙ left-file tree next es n m fits h l.0);
+      }
+      step_in false h rest = stays tree next es fits (all_of_use es n h useful)

@@ -22,19 +22,22 @@ after_all-append w (m ∷ ms) ns = after_all-append (after w m) ms ns
 -- before anything happened
 pub first-matches : (manifest : Manifest) (limit : ℕ) → IsTree (tree_of manifest) → Matches (first_world manifest) (started manifest limit)
 first-matches manifest limit is = record {
-    agrees = record { manifest = refl; seat = refl; last = refl; held = λ n. refl; no_asks = refl; no_items = refl; no_replies = refl; tree = λ seat served s. absurd (nobody seat s.has_seat) };
-    counts = λ seat served s n d. absurd (nobody seat s.has_seat);
-    names = λ seat served s. absurd (nobody seat s.has_seat);
-    one_daemon = λ one other a b e. absurd (nothing one a);
-    manifest_is_tree = is; tree_is_tree = is;
-    holder_serves = λ seat s. absurd (nobody seat s);
-    seat_is_last = λ seat s. absurd (nobody seat s);
-    empty_without_seat = λ e. (refl, refl);
-    held_once = tt;
-    uniques_were_used = λ u c. absurd (nothing u c);
-    answered_before = λ s c. absurd (nothing s c) } where
+  agrees = record { manifest = refl; seat = refl; last = refl; held = λ n. refl; no_asks = refl; no_items = refl; no_replies = refl; tree = λ seat served s. absurd (nobody seat s.has_seat) };
+  counts = λ seat served s n d. absurd (nobody seat s.has_seat);
+  names = λ seat served s. absurd (nobody seat s.has_seat);
+  one_daemon = λ one other a b e. absurd (nothing one a);
+  manifest_is_tree = is;
+  tree_is_tree = is;
+  holder_serves = λ seat s. absurd (nobody seat s);
+  seat_is_last = λ seat s. absurd (nobody seat s);
+  empty_without_seat = λ e. (refl, refl);
+  held_once = tt;
+  uniques_were_used = λ u c. absurd (nothing u c);
+  answered_before = λ s c. absurd (nothing s c);
+} where
   nobody : (seat : Rattle.broker_core.specs.declared.seat.Seat.Seat) → None ≡ Some seat → ⊥
   nobody seat e = let none : ⊥ = cc in none
+
   nothing : {X : Type 0} (x : X) → Rattle.std.specs.Prelude.Contains [] x → ⊥
   nothing x (k, low, e) = let none : ⊥ = omega (arith, low) in none
 
@@ -54,7 +57,8 @@ steps-matched w old (event ∷ events) (outcome ∷ outcomes) new mm (between, s
     record {
       run = run-append w (moves_of w event outcome) (all_moves w' events outcomes) one.run rest.run;
       matches = subst (λ (x : World). Matches x new) (sym (after_all-append w (moves_of w event outcome) (all_moves w' events outcomes))) rest.matches;
-      forgets = (one.forgets, rest.forgets) }
+      forgets = (one.forgets, rest.forgets);
+    }
 
 -- from before anything happened
 pub ran : (manifest : Manifest) (limit : ℕ) (events : List Event) (outcomes : List (List Happened)) (end : State) → IsTree (tree_of manifest) → Steps (started manifest limit) events outcomes end → Ran (first_world manifest) events outcomes end

@@ -4,7 +4,7 @@ pub mod State
 pub mod Step
 pub mod World
 pub mod Agreement
-pub mod CodeEntries
-pub mod CodeServed
-pub mod CodeInside
-pub mod CodeWorld
+pub mod EntryPlaces
+pub mod DaemonWork
+pub mod Inside
+pub mod Holder

@@ -81,8 +81,8 @@ pub record IsSound (served : ServedState) : Type 0 where
   pub names_a_file : (n : ℕ) → IsSome (entry_of served.map.entries n) → (file : FileId) × (file_of served n ≡ Some file) × IsSome (tree_file served.tree file)
   pub places_are_apart : (m n : ℕ) (one other : Kept) → entry_of served.map.entries m ≡ Some one → entry_of served.map.entries n ≡ Some other → one.place ≡ other.place → m ≡ n
   pub files_are_apart : (m n : ℕ) (file : FileId) → IsSome (entry_of served.map.entries m) → IsSome (entry_of served.map.entries n) →
-    file_of served m ≡ Some file → file_of served n ≡ Some file → m ≡ n
+      file_of served m ≡ Some file → file_of served n ≡ Some file → m ≡ n
   pub unlinked_alike : (n : ℕ) (kept : Kept) (file : FileId) → entry_of served.map.entries n ≡ Some kept → file_of served n ≡ Some file →
-    IsUnlinkedPlace kept.place ↔ IsTrue (is_unlinked served.tree file)
+      IsUnlinkedPlace kept.place ↔ IsTrue (is_unlinked served.tree file)
   pub each_of_use : (n : ℕ) (kept : Kept) → entry_of served.map.entries n ≡ Some kept → IsTrue (is_of_use served.map.entries kept)
   pub counts_fit : (n : ℕ) (kept : Kept) → entry_of served.map.entries n ≡ Some kept → kept.count ≤ greatest_count

@@ -57,7 +57,7 @@ pub record Forgets (old : State) (item : Item) (outcome : List Happened) (new : 
   pub seated : IsSeated old seat served
   pub tells : outcome ≡ happened.Forgot item (forgot served.map item.node.0 item.k) ∷ []
   pub makes : new ≡ with_daemon (record old { broker = issued old.broker (Forget item) }) seat.daemon
-    (Serving (record served { map = forgotten served.map item.node.0 item.k }))
+      (Serving (record served { map = forgotten served.map item.node.0 item.k }))
 
 -- what an event that no cause stands against makes
 abbrev pub Makes : State → Event → List Happened → State → Type 0

@@ -43,8 +43,18 @@ pub record World : Type 0 where
 -- before anything happened: nobody serves, and the root alone is named
 abbrev pub first_world : Manifest → World
 first_world manifest = record {
-    manifest = manifest; seat = None; last = 0; tree = tree_of manifest; names = (1, root) ∷ []; held = [];
-    asks = []; items = []; replies = []; answered = []; uniques = [] }
+  manifest = manifest;
+  seat = None;
+  last = 0;
+  tree = tree_of manifest;
+  names = (1, root) ∷ [];
+  held = [];
+  asks = [];
+  items = [];
+  replies = [];
+  answered = [];
+  uniques = [];
+}
 
 -- the file that a number was first given out for in this mount
 abbrev pub file_named : List (ℕ × FileId) → ℕ → Option FileId
@@ -171,8 +181,10 @@ named_after world (Forget item) answer = world.names
 -- an ask leaves for its reply
 abbrev pub worked : World → ℕ → Answer → Option Ask → World
 worked world i answer (Some ask) = record world {
-    names = named_after world ask.request answer; asks = remove world.asks i;
-    replies = world.replies ++ record { unique = ask.unique; answer = answer } ∷ [] }
+  names = named_after world ask.request answer;
+  asks = remove world.asks i;
+  replies = world.replies ++ record { unique = ask.unique; answer = answer } ∷ [];
+}
 worked world i answer None = world
 
 -- the kernel holds once more what an entry gives out
@@ -192,8 +204,11 @@ after world (works i answer) = worked world i answer (slice_get world.asks i)
 after world (applies i) = record world { items = remove world.items i }
 after world (delivers i) = delivered world i (slice_get world.replies i)
 after world (mounts daemon) = record world {
-    seat = Some (record { generation = world.last + 1; daemon = daemon }); last = world.last + 1;
-    tree = tree_of world.manifest; names = (1, root) ∷ [] }
+  seat = Some (record { generation = world.last + 1; daemon = daemon });
+  last = world.last + 1;
+  tree = tree_of world.manifest;
+  names = (1, root) ∷ [];
+}
 after world (claims g daemon) = record world { seat = Some (record { generation = g + 1; daemon = daemon }); last = g + 1 }
 after world ends = record world { seat = None; held = []; asks = []; items = []; replies = []; names = (1, root) ∷ [] }
 after world (accepts i daemon) = record world { answered = option_map_or (λ (seat : Seat). seat ∷ world.answered) world.seat world.answered }

@@ -1,7 +1,7 @@
 //! One daemon of the world.
 ghost use Rattle.std.specs.Prelude.{◌≡◌, vec_len};
 ghost use Rattle.std.specs.Option.{option_copied};
-ghost use Rattle.world.specs.CodeServed.{is_waiting, IsServing, served_in, DaemonLooks, DaemonForgets, ServesAt, LooksAt, ForgetsAt};
+ghost use Rattle.world.specs.DaemonWork.{is_waiting, IsServing, served_in, DaemonLooks, DaemonForgets, ServesAt, LooksAt, ForgetsAt};
 
 use crate::inode_map::Forgot;
 use crate::served::Served;

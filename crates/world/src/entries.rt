@@ -5,7 +5,7 @@ ghost use Rattle.std.specs.List.{list_any};
 ghost use Rattle.eden_base.specs.First.{first_where, IsFirstPlace};
 ghost use Rattle.eden_base.specs.declared.number.Number.{Number};
 ghost use Rattle.world.specs.InodeMap.{has_number, stands_at, is_in, is_place, is_kid_of, is_of_use, is_useless, is_bad_item, lowered, pruned, dir_of, file_in};
-ghost use Rattle.world.specs.CodeEntries.{lowered_or_same, IsUselessPlace};
+ghost use Rattle.world.specs.EntryPlaces.{lowered_or_same, IsUselessPlace};
 
 use crate::inode_map::Kept;
 use checkout::Tree;

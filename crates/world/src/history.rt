@@ -43,11 +43,7 @@ pub fn run(
 }
 
 /// What came of each event.
-fn outcomes_of(
-    alloc: Global,
-    world: &mut World,
-    events: &[Event],
-) -> Result<Vec<Outcome>, NoMemory>
+fn outcomes_of(alloc: Global, world: &mut World, events: &[Event]) -> Result<Vec<Outcome>, NoMemory>
     ensures steps { IfOk result (λ outcomes. Steps world.old events.now outcomes.items world.new) }
 {
     let mut outcomes = Vec::with_capacity(alloc, events.len())?;

@@ -2,7 +2,7 @@
 ghost use Rattle.std.specs.Prelude.{◌≡◌, IfOk};
 ghost use Rattle.world.specs.Served.{new_served, file_of, found_in, errno_of, LooksUp};
 ghost use Rattle.world.specs.InodeMap.{forgot, forgotten};
-ghost use Rattle.world.specs.CodeServed.{Finds, Applies};
+ghost use Rattle.world.specs.DaemonWork.{Finds, Applies};
 
 use crate::inode_map::{Forgot, GiveFault, InodeMap};
 use broker_core::{Answer, Item, Request};

@@ -6,7 +6,7 @@ ghost use Rattle.world.specs.State.{started, daemon_of};
 ghost use Rattle.world.specs.Step.{Step};
 ghost use Rattle.world.specs.World.{first_world, World as Ideal};
 ghost use Rattle.world.specs.Agreement.{Matches, MovesOn};
-ghost use Rattle.world.specs.CodeWorld.{served_of, place_of_daemon, HolderIsAt};
+ghost use Rattle.world.specs.Holder.{served_of, place_of_daemon, HolderIsAt};
 
 use crate::daemon::{Daemon, forget_at, look_up_at};
 use crate::event::Event;
@@ -44,7 +44,7 @@ impl Model for World {
       daemons = w.daemons.items;
     } };
 
-    ghost use Rattle.world.specs.CodeInside.{IsConsistent};
+    ghost use Rattle.world.specs.Inside.{IsConsistent};
 
     ghost invariant = { IsConsistent };
 }

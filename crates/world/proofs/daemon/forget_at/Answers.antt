@@ -1,4 +1,4 @@
-use Rattle.world.proofs.CodeDaemons.{ForgetsAt-read, IsServing-read}
+use Rattle.world.proofs.DaemonWrites.{ForgetsAt-read, IsServing-read}
 use Rattle.world.proofs.daemon.forget_at.Goals as goal
 
 pub forget-requires : goal.forget-requires

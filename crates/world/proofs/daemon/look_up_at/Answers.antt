@@ -1,4 +1,4 @@
-use Rattle.world.proofs.CodeDaemons.{LooksAt-read, IsServing-read}
+use Rattle.world.proofs.DaemonWrites.{LooksAt-read, IsServing-read}
 use Rattle.world.proofs.daemon.look_up_at.Goals as goal
 
 pub look_up-requires : goal.look_up-requires

@@ -1,6 +1,6 @@
 use Rattle.std.proofs.Common.{sym, ◌∙◌, ap, arith}
 use Rattle.world.specs.declared.inode_map.Kept.{Kept}
-use Rattle.world.proofs.CodeEntries.{file_in-root, file_in-no_step, file_in-unknown, file_in-linked, file_in-unlinked}
+use Rattle.world.proofs.EntryWrites.{file_in-root, file_in-no_step, file_in-unknown, file_in-linked, file_in-unlinked}
 use Rattle.world.proofs.entries.+locate.Goals as goal
 
 pub returns-then-eq : goal.returns-then-eq

@@ -1,7 +1,7 @@
 use Rattle.std.proofs.Common.{subst}
 use Rattle.eden_base.specs.First.{IsFirstPlace}
 use Rattle.world.specs.InodeMap.{has_number}
-use Rattle.world.proofs.CodeEntries.{lowered-place}
+use Rattle.world.proofs.EntryWrites.{lowered-place}
 use Rattle.world.proofs.entries.lower.Goals as goal
 
 pub returns-clause-entries : goal.returns-clause-entries

@@ -1,7 +1,7 @@
 use Rattle.std.proofs.Common.{sym, ◌∙◌, arith}
 use Rattle.eden_base.proofs.FirstLemmas.{first_where-nowhere}
 use Rattle.world.specs.InodeMap.{stands_at}
-use Rattle.world.proofs.CodeEntries.{nobody, IsFirstPlace-read}
+use Rattle.world.proofs.EntryWrites.{nobody, IsFirstPlace-read}
 use Rattle.world.proofs.entries.place_at.Goals as goal
 
 pub returns-then-is_place : goal.returns-then-is_place

@@ -5,7 +5,7 @@ use Rattle.world.specs.declared.event.Event.{Event}
 use Rattle.world.specs.declared.outcome.Happened.{Happened}
 use Rattle.world.specs.State.{State}
 use Rattle.world.specs.Step.{Steps}
-use Rattle.world.proofs.CodeStep.{Steps-more}
+use Rattle.world.proofs.StepLemmas.{Steps-more}
 use Rattle.world.proofs.history.outcomes_of.Goals as goal
 
 pub loop-event-preserved : goal.loop-event-preserved

@@ -1,6 +1,6 @@
 use Rattle.std.proofs.Common.{◌≡◌, subst, sym, ◌∙◌}
 use Rattle.world.specs.InodeMap.{MapState, forgotten}
-use Rattle.world.proofs.CodeMap.{forgotten-pruned, false-from_not}
+use Rattle.world.proofs.MapWrites.{forgotten-pruned, false-from_not}
 use Rattle.world.proofs.inode_map.InodeMap.forget.Goals as goal
 
 pub returns-clause-forgotten : goal.returns-clause-forgotten

@@ -2,7 +2,7 @@ use Rattle.std.proofs.Common.{◌≡◌, ◌+◌, set, subst}
 use Rattle.eden_base.specs.First.{IsFirstPlace}
 use Rattle.world.specs.declared.inode_map.Kept.{Kept}
 use Rattle.world.specs.InodeMap.{MapState, given, stands_at}
-use Rattle.world.proofs.CodeMap.{given-again}
+use Rattle.world.proofs.MapWrites.{given-again}
 use Rattle.world.proofs.inode_map.InodeMap.give.Goals as goal
 
 pub returns-else-kept-ge-GREATEST_COUNT-clause-given : goal.returns-else-kept-ge-GREATEST_COUNT-clause-given

@@ -3,12 +3,12 @@ use Rattle.broker_core.specs.Broker.{BrokerState}
 use Rattle.broker_core.specs.declared.request.Request.TheVariants.{Forget}
 use Rattle.world.specs.declared.daemon.Daemon.{Daemon}
 use Rattle.world.specs.declared.event.Event.TheVariants.{Do}
-use Rattle.world.specs.CodeServed.{HolderServes}
-use Rattle.world.specs.CodeWorld.{HolderIsAt}
+use Rattle.world.specs.DaemonWork.{HolderServes}
+use Rattle.world.specs.Holder.{HolderIsAt}
 use Rattle.world.specs.State.{State}
 use Rattle.world.specs.Step.{Step}
-use Rattle.world.proofs.CodeDaemons.{HolderServes-set}
-use Rattle.world.proofs.CodeStep.{Step-forgets}
+use Rattle.world.proofs.DaemonWrites.{HolderServes-set}
+use Rattle.world.proofs.StepLemmas.{Step-forgets}
 use Rattle.world.proofs.world.World.forget.Goals as goal
 
 pub forget_at-forgot-requires : goal.forget_at-forgot-requires

@@ -1,8 +1,8 @@
 use Rattle.std.proofs.Common.{◌≡◌, None, subst}
 use Rattle.std.specs.Prelude.{MatchOption}
 use Rattle.world.specs.State.{State}
-use Rattle.world.specs.CodeWorld.{HolderIsAt}
-use Rattle.world.proofs.CodeDaemons.{HolderIsAt-place}
+use Rattle.world.specs.Holder.{HolderIsAt}
+use Rattle.world.proofs.DaemonWrites.{HolderIsAt-place}
 use Rattle.world.proofs.world.World.holder.Goals as goal
 
 pub returns-in-Some : goal.returns-in-Some

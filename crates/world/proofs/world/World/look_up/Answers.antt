@@ -5,12 +5,12 @@ use Rattle.broker_core.specs.declared.request.Request.TheVariants.{Lookup}
 use Rattle.world.specs.declared.daemon.Daemon.{Daemon}
 use Rattle.world.specs.declared.event.Event.TheVariants.{Do}
 use Rattle.world.specs.declared.outcome.Happened.TheVariants as happened
-use Rattle.world.specs.CodeServed.{HolderServes}
-use Rattle.world.specs.CodeWorld.{HolderIsAt}
+use Rattle.world.specs.DaemonWork.{HolderServes}
+use Rattle.world.specs.Holder.{HolderIsAt}
 use Rattle.world.specs.State.{State}
 use Rattle.world.specs.Step.{Step}
-use Rattle.world.proofs.CodeDaemons.{HolderServes-set}
-use Rattle.world.proofs.CodeStep.{Step-looks, settled-seat, settled-last}
+use Rattle.world.proofs.DaemonWrites.{HolderServes-set}
+use Rattle.world.proofs.StepLemmas.{Step-looks, settled-seat, settled-last}
 use Rattle.world.proofs.world.World.look_up.Goals as goal
 
 pub invariant_of-self : goal.invariant_of-self

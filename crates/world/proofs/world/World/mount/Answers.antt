@@ -7,8 +7,8 @@ use Rattle.world.specs.declared.event.Event.TheVariants.{Mount}
 use Rattle.world.specs.declared.outcome.Happened.TheVariants as happened
 use Rattle.world.specs.State.{State}
 use Rattle.world.specs.Step.{Step}
-use Rattle.world.proofs.CodeDaemons.{HolderServes-mounted, waits-read}
-use Rattle.world.proofs.CodeStep.{Step-mounts}
+use Rattle.world.proofs.DaemonWrites.{HolderServes-mounted, waits-read}
+use Rattle.world.proofs.StepLemmas.{Step-mounts}
 use Rattle.world.proofs.world.World.mount.Goals as goal
 
 pub invariant_of-self : goal.invariant_of-self

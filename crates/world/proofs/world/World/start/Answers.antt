@@ -1,7 +1,7 @@
 use Rattle.std.proofs.Common.{List, subst, sym, arith}
 use Rattle.world.specs.declared.daemon.Daemon.{Daemon}
-use Rattle.world.specs.CodeServed.{HolderServes}
-use Rattle.world.proofs.CodeDaemons.{HolderServes-append}
+use Rattle.world.specs.DaemonWork.{HolderServes}
+use Rattle.world.proofs.DaemonWrites.{HolderServes-append}
 use Rattle.world.proofs.world.World.start.Goals as goal
 
 pub invariant_of-self : goal.invariant_of-self

@@ -2,7 +2,7 @@
 use Rattle.std.specs.Prelude.{◌≡◌, ℕ, ◌-◌, ◌≤◌, List, vec_len, slice_get, Some, None}
 use Rattle.broker_core.specs.declared.seat.Seat.{Seat}
 use Rattle.world.specs.Served.{ServedState}
-use Rattle.world.specs.CodeServed.{HolderServes}
+use Rattle.world.specs.DaemonWork.{HolderServes}
 use Rattle.world.specs.declared.world.World.TheInside.{Inside}
 
 pub record IsConsistent (w : Inside) : Type 0 where

@@ -14,7 +14,7 @@ use Rattle.eden_base.specs.declared.place.Place.TheVariants.{Linked, Unlinked}
 use Rattle.eden_base.specs.First.{first_where, changed_where, without_where, IsFirstPlace}
 use Rattle.world.specs.declared.inode_map.Kept.{Kept}
 use Rattle.world.specs.InodeMap.{has_number, entry_of, count_of, file_in, file_of_place, dir_or_root, is_kid_of, is_of_use, is_useless, is_bad_item, lowered, pruned, dir_of, dir_above}
-use Rattle.world.specs.CodeEntries.{IsUselessPlace, lowered_or_same}
+use Rattle.world.specs.EntryPlaces.{IsUselessPlace, lowered_or_same}
 
 -- an entry, for lists that have none
 abbrev pub nobody : Kept

@@ -24,9 +24,9 @@ use Rattle.world.specs.declared.outcome.Refusal.{Refusal}
 use Rattle.world.specs.Served.{ServedState, new_served}
 use Rattle.world.specs.State.{State, daemon_of, with_daemon, mount_refusal, refusal_of_mount, refusal_of_issue}
 use Rattle.world.specs.Step.{Looks, Forgets, Mounts, Step, StepBy, Steps, IsSeated}
-use Rattle.world.specs.CodeServed.{LooksAt, ForgetsAt}
-use Rattle.world.specs.CodeWorld.{place_of_daemon, HolderIsAt}
-use Rattle.world.proofs.CodeDaemons.{place-is, daemon_of-place}
+use Rattle.world.specs.DaemonWork.{LooksAt, ForgetsAt}
+use Rattle.world.specs.Holder.{place_of_daemon, HolderIsAt}
+use Rattle.world.proofs.DaemonWrites.{place-is, daemon_of-place}
 
 -- a settled answer leaves the seat
 pub settled-seat : (broker : BrokerState) (answer : Answer) → (settled broker answer).seat ≡ broker.seat

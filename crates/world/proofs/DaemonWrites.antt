@@ -14,8 +14,8 @@ use Rattle.world.specs.declared.inode_map.Forgot.{Forgot}
 use Rattle.world.specs.InodeMap.{forgot, forgotten}
 use Rattle.world.specs.Served.{ServedState, LooksUp}
 use Rattle.world.specs.State.{State, daemon_of}
-use Rattle.world.specs.CodeServed.{is_waiting, IsServing, DaemonLooks, DaemonForgets, ServesAt, LooksAt, ForgetsAt, HolderServes}
-use Rattle.world.specs.CodeWorld.{place_of_daemon, HolderIsAt}
+use Rattle.world.specs.DaemonWork.{is_waiting, IsServing, DaemonLooks, DaemonForgets, ServesAt, LooksAt, ForgetsAt, HolderServes}
+use Rattle.world.specs.Holder.{place_of_daemon, HolderIsAt}
 
 -- what stands in a list stands in a longer one
 pub slice_get-append : {X : Type 0} (xs ys : List X) (i : ℕ) (x : X) → slice_get xs i ≡ Some x → slice_get (xs ++ ys) i ≡ Some x

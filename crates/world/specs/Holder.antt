@@ -4,7 +4,7 @@ use Rattle.std.specs.Option.{option_and_then}
 use Rattle.eden_base.specs.declared.number.DaemonId.{DaemonId}
 use Rattle.broker_core.specs.declared.seat.Seat.{Seat}
 use Rattle.world.specs.declared.daemon.Daemon.TheVariants.{Serving}
-use Rattle.world.specs.CodeServed.{served_in}
+use Rattle.world.specs.DaemonWork.{served_in}
 use Rattle.world.specs.Served.{ServedState}
 use Rattle.world.specs.State.{State, daemon_of}
 
