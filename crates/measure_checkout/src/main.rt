@@ -45,7 +45,9 @@ fn main(rt: HostRuntime) -> Result<()> {
         let looked_up = started.elapsed(&rt)?;
         let bytes = text.len();
         println!(rt; "{lines} lines, {found} found")?;
-        eprintln!(rt; "{lines} lines, {bytes} bytes: read {read:?}, tree {made:?}, 100,000 look-ups {looked_up:?}")?;
+        eprintln!(rt;
+            "{lines} lines, {bytes} bytes: read {read:?}, tree {made:?}, 100,000 look-ups {looked_up:?}"
+        )?;
     }
     Ok(())
 }
