@@ -57,7 +57,7 @@ pub from_entries-by_bytes-insert : (es : List (Vec ℕ Global × FileId)) (k : V
 from_entries-by_bytes-insert es k file =
     let o = nat_list_cmp_total in
     same_map o name_cmp-same _ _ (λ q. get-from_entries o _ q ∙ ap (find name_cmp q) (by_bytes-insert_entry es k file) ∙ find-put name_cmp o q k.items file (by_bytes es)
-        ∙ sym (get-insert o _ k.items file q ∙ ap (cond (eq_by_cmp name_cmp q k.items) (Some file)) (get-from_entries o (by_bytes es) q)))
+    ∙ sym (get-insert o _ k.items file q ∙ ap (cond (eq_by_cmp name_cmp q k.items) (Some file)) (get-from_entries o (by_bytes es) q)))
 
 -- the files of one directory, among all links
 find-in_directory : (d dir : ℕ) (name : List ℕ) (es : List (List ℕ × FileId)) → find link_cmp (dir, name) (in_directory d es) ≡ cond (is_eq (nat_cmp dir d)) (find name_cmp name es) None
@@ -128,7 +128,7 @@ pub insert-in_directories : (m n : List (ℕ × FinMap name_cmp FileId)) (dir : 
     from_entries {R = link_cmp} (in_directories n) ≡ insert (from_entries (in_directories m)) (dir, name) file
 insert-in_directories m n dir name file files sorted_m sorted_n before after =
     same_map link_cmp_total link_cmp-same _ _ (λ q.
-      get-in_directories q.0 q.1 n sorted_n ∙ ap (in_it q.0 q.1) (after q.0) ∙ at_link q.0 q.1 ∙ sym (get-insert link_cmp_total (from_entries (in_directories m)) (dir, name) file q))
+    get-in_directories q.0 q.1 n sorted_n ∙ ap (in_it q.0 q.1) (after q.0) ∙ at_link q.0 q.1 ∙ sym (get-insert link_cmp_total (from_entries (in_directories m)) (dir, name) file q))
   where
     old : FinMap link_cmp FileId
     old = from_entries (in_directories m)
@@ -138,18 +138,19 @@ insert-in_directories m n dir name file files sorted_m sorted_n before after =
         elim (nat_cmp d dir) as (λ o. nat_cmp d dir ≡ o → in_it d x (cond (is_eq (nat_cmp dir d)) (Some (insert files name file)) (lookup (is_at (nat_cmp d)) m)) ≡ cond (is_eq (ordering_then o (name_cmp x name))) (Some file) (get old (d, x))) [
           | Less ↦ λ e. rw (nat_cmp_total.antisymm dir d, e) (sym (get-in_directories d x m sorted_m))
           | Equal ↦ λ e.
-            let same : d ≡ dir = nat_cmp-IsAntisymmetric d dir e in
-            rw (nat_cmp_total.antisymm dir d, e) (get-insert nat_list_cmp_total files name file x ∙ ap (cond (eq_by_cmp name_cmp x name) (Some file)) (sym (before x) ∙ sym (get-in_directories dir x m sorted_m) ∙ ap (λ k. get old (k, x)) (sym same)))
+              let same : d ≡ dir = nat_cmp-IsAntisymmetric d dir e in
+              rw (nat_cmp_total.antisymm dir d, e) (get-insert nat_list_cmp_total files name file x ∙ ap (cond (eq_by_cmp name_cmp x name) (Some file)) (sym (before x) ∙ sym (get-in_directories dir x m sorted_m) ∙ ap (λ k. get old (k, x)) (sym same)))
           | Greater ↦ λ e. rw (nat_cmp_total.antisymm dir d, e) (sym (get-in_directories d x m sorted_m))
         ] refl
 
 pub empty_by_bytes : (es : List (Vec ℕ Global × FileId)) → (length es ≡ 0 → from_entries {R = name_cmp} (by_bytes es) ≡ empty) × (from_entries {R = name_cmp} (by_bytes es) ≡ empty → length es ≡ 0)
 empty_by_bytes [] = (λ _. refl, λ _. refl)
-empty_by_bytes (e ∷ es) =
-    (λ h. absurd (omega arith),
-      λ h. let found = get-insert_same nat_list_cmp_total (from_entries {R = name_cmp} (by_bytes es)) e.0.items e.1 in
+empty_by_bytes (e ∷ es) = (
+  λ h. absurd (omega arith),
+  λ h. let found = get-insert_same nat_list_cmp_total (from_entries {R = name_cmp} (by_bytes es)) e.0.items e.1 in
       let none = ap (λ (m : FinMap name_cmp FileId). get m e.0.items) h ∙ get-empty name_cmp e.0.items in
-      absurd (cc))
+      absurd (cc),
+)
 
 -- a link in a directory is among all links, and only it shows that there is one
 pub has_link : (m : FinMap link_cmp FileId) (dir : ℕ) (name : List ℕ) (file : FileId) → get m (dir, name) ≡ Some file → list_any (λ (link : (ℕ × List ℕ) × FileId). link.0.0 == dir) (entries m) ≡ true
@@ -159,9 +160,9 @@ pub has_no_link : (m : FinMap link_cmp FileId) (dir : ℕ) → ((name : List ℕ
 has_no_link m dir none =
     elim (list_any (λ (link : (ℕ × List ℕ) × FileId). link.0.0 == dir) (entries m)) as (λ b. list_any (λ (link : (ℕ × List ℕ) × FileId). link.0.0 == dir) (entries m) ≡ b → b ≡ false) [
       | true ↦ λ e.
-        let r = key_from_any link_cmp_total (λ k. k.0 == dir) m e in
-        let same : r.0.0 ≡ dir = grind (arith, nat_tests) in
-        let gone = ap (λ (d : ℕ). get m (d, r.0.1)) same ∙ none r.0.1 in
-        absurd (cc (r.2, gone))
+          let r = key_from_any link_cmp_total (λ k. k.0 == dir) m e in
+          let same : r.0.0 ≡ dir = grind (arith, nat_tests) in
+          let gone = ap (λ (d : ℕ). get m (d, r.0.1)) same ∙ none r.0.1 in
+          absurd (cc (r.2, gone))
       | false ↦ λ e. refl
     ] refl

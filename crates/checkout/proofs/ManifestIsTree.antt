@@ -54,9 +54,9 @@ module _ (m : Manifest) (is : IsManifest m) where
       elim ((is.each i line here).dir_before) [
         | inl e ↦ (line.name ∷ [], reached_below i line here [] (ap (λ f. Some f) (same_id root line.dir (sym e))))
         | inr w ↦
-          let r = reached n w.0 w.1 (omega (arith, w.2)) w.4 in
-          let same : (file_with (2 + w.0)).0 ≡ line.dir.0 = omega (arith, w.3) in
-          (r.0 ++ line.name ∷ [], reached_below i line here r.0 (r.1 ∙ ap (λ f. Some f) (same_id (file_with (2 + w.0)) line.dir same)))
+            let r = reached n w.0 w.1 (omega (arith, w.2)) w.4 in
+            let same : (file_with (2 + w.0)).0 ≡ line.dir.0 = omega (arith, w.3) in
+            (r.0 ++ line.name ∷ [], reached_below i line here r.0 (r.1 ∙ ap (λ f. Some f) (same_id (file_with (2 + w.0)) line.dir same)))
       ]
 
   file_is : (dir : FileId) (name : List ℕ) (file : FileId) → child_of tree dir name ≡ Some file → IsLinkOf m.lines 2 dir.0 name file
@@ -78,16 +78,16 @@ module _ (m : Manifest) (is : IsManifest m) where
     links_stand_in_dirs = λ dir name file h. let r = file_is dir name file h in ap (kind_of tree) (same_id dir r.line.dir (sym r.dir_is)) ∙ dir_kind r.line.dir r.place ((is.each r.place r.line r.here).dir_before);
     root_has_no_link = λ dir name file h. let r = file_is dir name file h in omega (arith, r.file_is);
     links_are_apart = λ dir other name other_name file h g.
-      let r = file_is dir name file h in
-      let s = file_is other other_name file g in
-      let at : r.place ≡ s.place = omega (arith, r.file_is, s.file_is) in
-      let line : r.line ≡ s.line = let e = ap (slice_get m.lines) at in cc (r.here, s.here) in
-      (same_id dir other (sym r.dir_is ∙ ap (λ (x : Line). x.dir.0) line ∙ s.dir_is), sym r.name_is ∙ ap (λ (x : Line). x.name) line ∙ s.name_is);
+        let r = file_is dir name file h in
+        let s = file_is other other_name file g in
+        let at : r.place ≡ s.place = omega (arith, r.file_is, s.file_is) in
+        let line : r.line ≡ s.line = let e = ap (slice_get m.lines) at in cc (r.here, s.here) in
+        (same_id dir other (sym r.dir_is ∙ ap (λ (x : Line). x.dir.0) line ∙ s.dir_is), sym r.name_is ∙ ap (λ (x : Line). x.name) line ∙ s.name_is);
     linked_is_linked = λ dir name file h. list_any-entries (λ (f : FileId). nat_eq f.0 file.0) (links_from 2 m.lines) (dir.0, name) file h (eq-eqb file.0 file.0 refl);
     links_are_reached = λ dir name file h.
-      let r = file_is dir name file h in
-      let p = reached (suc r.place) r.place r.line (omega arith) r.here in
-      (p.0, p.1 ∙ ap (λ f. Some f) (same_id (file_with (2 + r.place)) file (sym r.file_is)));
+        let r = file_is dir name file h in
+        let p = reached (suc r.place) r.place r.line (omega arith) r.here in
+        (p.0, p.1 ∙ ap (λ f. Some f) (same_id (file_with (2 + r.place)) file (sym r.file_is)));
   }
 
 and-false : (b : Bool) → (b && false) ≡ false
@@ -100,10 +100,10 @@ no_file_is_unlinked m is file f h =
     elim (id_of_file 2 m.lines file.0 f h) [
       | inl one ↦ ap (λ b. not b && not (is_linked (tree_of m) file)) (eq-eqb file.0 1 one)
       | inr w ↦
-        let at = line_at m.lines (file.0 - 2) (omega (arith, w.0, w.1)) in
-        let id : (file_with (2 + (file.0 - 2))).0 ≡ file.0 = omega (arith, w.0) in
-        let child = child_of_line m is (file.0 - 2) at.0 at.1 ∙ ap (λ g. Some g) (same_id (file_with (2 + (file.0 - 2))) file id) in
-        ap (λ b. not (file.0 == 1) && not b) ((tree_of-IsTree m is).linked_is_linked at.0.dir at.0.name file child) ∙ and-false (not (file.0 == 1))
+          let at = line_at m.lines (file.0 - 2) (omega (arith, w.0, w.1)) in
+          let id : (file_with (2 + (file.0 - 2))).0 ≡ file.0 = omega (arith, w.0) in
+          let child = child_of_line m is (file.0 - 2) at.0 at.1 ∙ ap (λ g. Some g) (same_id (file_with (2 + (file.0 - 2))) file id) in
+          ap (λ b. not (file.0 == 1) && not b) ((tree_of-IsTree m is).linked_is_linked at.0.dir at.0.name file child) ∙ and-false (not (file.0 == 1))
     ]
 
 abbrev attr_with : File → ℕ → Attr

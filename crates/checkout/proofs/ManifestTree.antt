@@ -51,7 +51,7 @@ link_of_line (l ∷ ls) id zero line h here =
     ap (λ (x : Line). get (links_from id (l ∷ ls)) (x.dir.0, x.name)) (sym same) ∙ get-insert_same link_cmp_total (links_from (id + 1) ls) (l.dir.0, l.name) (record { 0 = id }) ∙ ap (λ n. Some (file_with n)) e
 link_of_line (l ∷ ls) id (suc i) line h here =
     get-insert_other link_cmp_total link_cmp-same (links_from (id + 1) ls) (l.dir.0, l.name) (record { 0 = id }) (line.dir.0, line.name)
-      (λ e. h.apart (suc i) 0 line l (omega arith) here refl (same_id l.dir line.dir (sym (ap (λ (k : ℕ × List ℕ). k.0) e))) (sym (ap (λ (k : ℕ × List ℕ). k.1) e)))
+    (λ e. h.apart (suc i) 0 line l (omega arith) here refl (same_id l.dir line.dir (sym (ap (λ (k : ℕ × List ℕ). k.0) e))) (sym (ap (λ (k : ℕ × List ℕ). k.1) e)))
     ∙ link_of_line ls (id + 1) i line (AreApart-tail l ls h) here ∙ ap (λ n. Some (file_with n)) (omega arith)
 
 slice_get_inside : (lines : List Line) (i : ℕ) → i < length lines → slice_get lines i ≡ None → ⊥
@@ -89,9 +89,9 @@ file_from_line lines file line h =
     elim (nat_lt file.0 2) as (λ b. nat_lt file.0 2 ≡ b → (if b then None else slice_get lines (file.0 - 2)) ≡ Some line → get (files_from 2 lines) file.0 ≡ Some line.file) [
       | true ↦ λ e g. cc
       | false ↦ λ e g.
-        let at_least : 2 ≤ file.0 = grind (arith, nat_tests) in
-        let id : file.0 ≡ 2 + (file.0 - 2) = omega arith in
-        ap (get (files_from 2 lines)) id ∙ file_of_line 2 (file.0 - 2) lines line g
+          let at_least : 2 ≤ file.0 = grind (arith, nat_tests) in
+          let id : file.0 ≡ 2 + (file.0 - 2) = omega arith in
+          ap (get (files_from 2 lines)) id ∙ file_of_line 2 (file.0 - 2) lines line g
     ] refl h
 
 -- what is no line's and not the root isn't there
@@ -121,11 +121,11 @@ dir_before lines dir h =
       | Some f ↦ λ e k. elim (id_of_file 2 lines dir.0 f e) [
         | inl one ↦ inl one
         | inr w ↦
-          let at = line_at lines (dir.0 - 2) (omega (arith, w.0, w.1)) in
-          let id : dir.0 ≡ 2 + (dir.0 - 2) = omega (arith, w.0) in
-          let same : at.0.file ≡ f = let g = file_of_line 2 (dir.0 - 2) lines at.0 at.1 in let i = ap (get (files_from 2 lines)) id in cc in
-          let kind : at.0.file.kind ≡ Dir = cc in
-          inr (dir.0 - 2, at.0, omega (arith, w.0, w.1), omega (arith, w.0), at.1, kind)
+            let at = line_at lines (dir.0 - 2) (omega (arith, w.0, w.1)) in
+            let id : dir.0 ≡ 2 + (dir.0 - 2) = omega (arith, w.0) in
+            let same : at.0.file ≡ f = let g = file_of_line 2 (dir.0 - 2) lines at.0 at.1 in let i = ap (get (files_from 2 lines)) id in cc in
+            let kind : at.0.file.kind ≡ Dir = cc in
+            inr (dir.0 - 2, at.0, omega (arith, w.0, w.1), omega (arith, w.0), at.1, kind)
       ]
     ] refl h
 
@@ -173,9 +173,9 @@ place_is_new lines i line h here =
     elim (get (links_from 2 (take i lines)) (line.dir.0, line.name)) as (λ o. get (links_from 2 (take i lines)) (line.dir.0, line.name) ≡ o → o ≡ None) [
       | None ↦ λ e. refl
       | Some file ↦ λ e.
-        let r = line_of_link (take i lines) 2 line.dir.0 line.name file e in
-        let t = slice_get-take lines i r.place r.line r.here in
-        absurd (h.apart i r.place line r.line t.0 here t.1 (same_id r.line.dir line.dir r.dir_is) r.name_is)
+          let r = line_of_link (take i lines) 2 line.dir.0 line.name file e in
+          let t = slice_get-take lines i r.place r.line r.here in
+          absurd (h.apart i r.place line r.line t.0 here t.1 (same_id r.line.dir line.dir r.dir_is) r.name_is)
     ] refl
 
 -- one more line adds its link

@@ -31,7 +31,6 @@ get-insert_other {K} {X} {R} o same m k v q other =
       | false ↦ λ e. refl
     ] refl)
 
-
 or-true : (b : Bool) → (b || true) ≡ true
 or-true true = refl
 or-true false = refl
@@ -73,11 +72,11 @@ found_key {K} {X} {R} o p (e ∷ es) h =
     elim (p e.0) as (λ b. p e.0 ≡ b → (b || list_any (λ (x : K × X). p x.0) es) ≡ true → IsFoundKey R p (e ∷ es)) [
       | true ↦ λ t g. record { key = e.0; value = e.1; found = ap (λ r. cond (is_eq r) (Some e.1) (find R e.0 es)) (tied_itself o e.0); passes = t }
       | false ↦ λ t g.
-        let r = found_key o p es g in
-        elim (eq_by_cmp R r.key e.0) as (λ b. eq_by_cmp R r.key e.0 ≡ b → IsFoundKey R p (e ∷ es)) [
-          | true ↦ λ k. record { key = r.key; value = e.1; found = ap (λ b. cond b (Some e.1) (find R r.key es)) k; passes = r.passes }
-          | false ↦ λ k. record { key = r.key; value = r.value; found = ap (λ b. cond b (Some e.1) (find R r.key es)) k ∙ r.found; passes = r.passes }
-        ] refl
+          let r = found_key o p es g in
+          elim (eq_by_cmp R r.key e.0) as (λ b. eq_by_cmp R r.key e.0 ≡ b → IsFoundKey R p (e ∷ es)) [
+            | true ↦ λ k. record { key = r.key; value = e.1; found = ap (λ b. cond b (Some e.1) (find R r.key es)) k; passes = r.passes }
+            | false ↦ λ k. record { key = r.key; value = r.value; found = ap (λ b. cond b (Some e.1) (find R r.key es)) k ∙ r.found; passes = r.passes }
+          ] refl
     ] refl h
 
 pub key_from_any : {K X : Type 0} {R : K → K → Ordering} (o : IsTotalOrder R) (p : K → Bool) (m : FinMap R X) → list_any (λ (e : K × X). p e.0) (entries m) ≡ true → (k : K) × (v : X) × (get m k ≡ Some v) × (p k ≡ true)

@@ -56,12 +56,12 @@ AreLines-push lines l are few size name dir new = record {
       dir_before = rw (e, last.0) (dir_before-front lines l (length lines) l.dir dir);
       place_is_new = λ j other lt there same_dir same_name. elim (slice_get-push lines l j other there) [
         | inl before ↦
-          let found = link_of_line lines 2 j other (apart lines are) before in
-          let d = ap (λ (y : Line). y.dir.0) e in
-          let n = ap (λ (y : Line). y.name) e in
-          let sd = ap (λ (f : FileId). f.0) same_dir in
-          let k : ◌≡◌ {A = ℕ × List ℕ} (other.dir.0, other.name) (l.dir.0, l.name) = λ t. ((sd ∙ d) t, (same_name ∙ n) t) in
-          absurd (let g = ap (get (links_from 2 lines)) k in cc (found, new, g))
+            let found = link_of_line lines 2 j other (apart lines are) before in
+            let d = ap (λ (y : Line). y.dir.0) e in
+            let n = ap (λ (y : Line). y.name) e in
+            let sd = ap (λ (f : FileId). f.0) same_dir in
+            let k : ◌≡◌ {A = ℕ × List ℕ} (other.dir.0, other.name) (l.dir.0, l.name) = λ t. ((sd ∙ d) t, (same_name ∙ n) t) in
+            absurd (let g = ap (get (links_from 2 lines)) k in cc (found, new, g))
         | inr w ↦ absurd (omega (arith, w.0, last.0))
       ];
     }

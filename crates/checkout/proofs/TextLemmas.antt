@@ -17,9 +17,9 @@ parts_at byte (b ∷ bs) h =
     elim (b == byte) as (λ t. nat_lt (cond (not t) (1 + at byte bs) 0) (length (b ∷ bs)) ≡ true → (if t then [] ∷ parts byte bs else in_first b (parts byte bs)) ≡ take (cond (not t) (1 + at byte bs) 0) (b ∷ bs) ∷ parts byte (drop (cond (not t) (1 + at byte bs) 0 + 1) (b ∷ bs))) [
       | true ↦ λ g. refl
       | false ↦ λ g.
-        let here : suc (at byte bs) ≡ 1 + at byte bs = omega arith in
-        let next : suc (at byte bs + 1) ≡ 1 + at byte bs + 1 = omega arith in
-        ap (in_first b) (parts_at byte bs (grind (arith, nat_tests))) ∙ (λ i. take (here i) (b ∷ bs) ∷ parts byte (drop (next i) (b ∷ bs)))
+          let here : suc (at byte bs) ≡ 1 + at byte bs = omega arith in
+          let next : suc (at byte bs + 1) ≡ 1 + at byte bs + 1 = omega arith in
+          ap (in_first b) (parts_at byte bs (grind (arith, nat_tests))) ∙ (λ i. take (here i) (b ∷ bs) ∷ parts byte (drop (next i) (b ∷ bs)))
     ] h
 
 parts_none : (byte : ℕ) (xs : List ℕ) → nat_lt (at byte xs) (length xs) ≡ false → parts byte xs ≡ xs ∷ []
@@ -35,8 +35,8 @@ pub parts-cut : (byte : ℕ) (xs before rest : List ℕ) → cut byte xs ≡ Som
 parts-cut byte xs before rest h =
     elim (nat_lt (at byte xs) (length xs)) as (λ b. nat_lt (at byte xs) (length xs) ≡ b → option_map {U = List ℕ × List ℕ} (λ (i : ℕ). (take i xs, drop (i + 1) xs)) (cond b (Some (at byte xs)) None) ≡ Some (before, rest) → parts byte xs ≡ before ∷ parts byte rest) [
       | true ↦ λ e g.
-        let p : ◌≡◌ {A = List ℕ × List ℕ} (take (at byte xs) xs, drop (at byte xs + 1) xs) (before, rest) = cc in
-        parts_at byte xs e ∙ ap (λ (q : List ℕ × List ℕ). q.0 ∷ parts byte q.1) p
+          let p : ◌≡◌ {A = List ℕ × List ℕ} (take (at byte xs) xs, drop (at byte xs + 1) xs) (before, rest) = cc in
+          parts_at byte xs e ∙ ap (λ (q : List ℕ × List ℕ). q.0 ∷ parts byte q.1) p
       | false ↦ λ e g. cc
     ] refl h
 

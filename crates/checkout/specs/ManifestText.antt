@@ -40,7 +40,7 @@ dir_entry path = record { kind = Dir; perm = Some dir_perm; size = Some 0; path 
 abbrev pub file_entry : List ℕ → Option Entry
 file_entry rest =
     option_and_then (λ (m : List ℕ × List ℕ).
-      option_map (λ (s : List ℕ × List ℕ). record { kind = RegularFile; perm = mode_of m.0; size = size_of s.0; path = s.1 }) (cut 32 m.1)) (cut 32 rest)
+    option_map (λ (s : List ℕ × List ℕ). record { kind = RegularFile; perm = mode_of m.0; size = size_of s.0; path = s.1 }) (cut 32 m.1)) (cut 32 rest)
 
 -- a line is a directory's or a file's
 abbrev pub entry_of : List ℕ → Option Entry
@@ -86,9 +86,10 @@ place_fault lines path =
 -- the line that an entry makes after these lines
 abbrev pub line_said : List Line → Entry → Line
 line_said lines e = record {
-    dir = unwrap_or (parent_of lines e.path) root;
-    name = last (names_of e.path);
-    file = record { kind = e.kind; perm = unwrap_or e.perm dir_perm; size = unwrap_or e.size 0 } }
+  dir = unwrap_or (parent_of lines e.path) root;
+  name = last (names_of e.path);
+  file = record { kind = e.kind; perm = unwrap_or e.perm dir_perm; size = unwrap_or e.size 0 };
+}
 
 -- what a line without a fault of its own makes after these lines
 abbrev pub placed : List Line → Entry → Option ManifestFaultKind → Result Line ManifestFaultKind

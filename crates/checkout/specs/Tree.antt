@@ -97,11 +97,11 @@ pub record IsTree (tree : Tree) : Type 0 where
   pub root_has_no_link : (dir : FileId) (name : List ℕ) (file : FileId) → child_of tree dir name ≡ Some file → 1 < file.0
   -- no file stands twice
   pub links_are_apart : (dir other_dir : FileId) (name other_name : List ℕ) (file : FileId) →
-    child_of tree dir name ≡ Some file → child_of tree other_dir other_name ≡ Some file → (dir ≡ other_dir) × (name ≡ other_name)
+      child_of tree dir name ≡ Some file → child_of tree other_dir other_name ≡ Some file → (dir ≡ other_dir) × (name ≡ other_name)
   pub linked_is_linked : (dir : FileId) (name : List ℕ) (file : FileId) → child_of tree dir name ≡ Some file → is_linked tree file ≡ true
   -- each linked file is reached from the root
   pub links_are_reached : (dir : FileId) (name : List ℕ) (file : FileId) → child_of tree dir name ≡ Some file →
-    (path : List (List ℕ)) × (file_at tree root path ≡ Some file)
+      (path : List (List ℕ)) × (file_at tree root path ≡ Some file)
 
 -- what each directory of a manifest may be used for: all but writing, which is its owner's alone (0o755)
 abbrev pub dir_perm : Perm
@@ -124,7 +124,8 @@ links_from id (line ∷ lines) = insert (links_from (id + 1) lines) (line.dir.0,
 -- the tree of a manifest, before anything is made or removed
 abbrev pub tree_of : Manifest → Tree
 tree_of manifest = record {
-    manifest = manifest;
-    files = files_from 2 manifest.lines;
-    links = links_from 2 manifest.lines;
-    next_file = length manifest.lines + 2 }
+  manifest = manifest;
+  files = files_from 2 manifest.lines;
+  links = links_from 2 manifest.lines;
+  next_file = length manifest.lines + 2;
+}

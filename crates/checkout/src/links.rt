@@ -64,7 +64,13 @@ impl Links {
     }
 
     /// Lets a name in a directory give a file.
-    pub fn insert(&mut self, alloc: Global, dir: FileId, name: &[u8], file: FileId) -> Result<(), NoMemory>
+    pub fn insert(
+        &mut self,
+        alloc: Global,
+        dir: FileId,
+        name: &[u8],
+        file: FileId,
+    ) -> Result<(), NoMemory>
         ensures ok { OnOk result (self.new ≡ insert self.old (dir.0, name.now) file) }
         ensures err { OnErr result (self.new ≡ self.old) }
     {

@@ -5,7 +5,8 @@ use std::alloc::{AllocError, Global};
 use std::process::Abort;
 use std::test::Fail;
 
-const SMALL: &[u8] = b"commit 0123456789abcdef0123456789abcdef01234567\ndir src\nfile 0644 12 src/a\nfile 0755 0 src/b\nfile 0644 7 README\n";
+const SMALL: &[u8] =
+    b"commit 0123456789abcdef0123456789abcdef01234567\ndir src\nfile 0644 12 src/a\nfile 0755 0 src/b\nfile 0644 7 README\n";
 
 const HEAD: &[u8] = b"commit 0123456789abcdef0123456789abcdef01234567\n";
 
@@ -24,7 +25,13 @@ fn joined(alloc: Global, front: &[u8], back: &[u8]) -> Result<Vec<u8>, AllocErro
 }
 
 /// That each of these texts, parted by semicolons, is refused so with an LF after it, below these lines.
-fn each_is(rt: &impl Abort, alloc: Global, above: &[u8], texts: &[u8], fault: ManifestFault) -> Result<(), AllocError> {
+fn each_is(
+    rt: &impl Abort,
+    alloc: Global,
+    above: &[u8],
+    texts: &[u8],
+    fault: ManifestFault,
+) -> Result<(), AllocError> {
     for line in texts.split(|byte| *byte == b';') {
         let mut text = joined(alloc, above, line)?;
         text.push(b'\n')?;
@@ -34,10 +41,18 @@ fn each_is(rt: &impl Abort, alloc: Global, above: &[u8], texts: &[u8], fault: Ma
 }
 
 const BAD_LINES: &[u8] = b";dir; dir z;Dir z;link z;commit z;file;file 0644;file 0644 1";
-const BAD_MODES: &[u8] = b"file 644 1 z;file  0644 1 z;file 10000 1 z;file 0684 1 z;file 0x44 1 z;file 64 01 a//b";
-const BAD_SIZES: &[u8] = b"file 0644  z;file 0644 01 z;file 0644 00 z;file 0644 +1 z;file 0644 -1 z;file 0644 1k z;file 0644 9223372036854775808 z;file 0644 18446744073709551616 z;file 0644 01 a//b";
-const BAD_PATHS: &[u8] = b"dir ;dir src/;file 0644 1 ;file 0644 1 x//y;dir /z;dir .;dir ..;dir src/../z;dir z\0";
+
+const BAD_MODES: &[u8] =
+    b"file 644 1 z;file  0644 1 z;file 10000 1 z;file 0684 1 z;file 0x44 1 z;file 64 01 a//b";
+
+const BAD_SIZES: &[u8] =
+    b"file 0644  z;file 0644 01 z;file 0644 00 z;file 0644 +1 z;file 0644 -1 z;file 0644 1k z;file 0644 9223372036854775808 z;file 0644 18446744073709551616 z;file 0644 01 a//b";
+
+const BAD_PATHS: &[u8] =
+    b"dir ;dir src/;file 0644 1 ;file 0644 1 x//y;dir /z;dir .;dir ..;dir src/../z;dir z\0";
+
 const NO_PARENTS: &[u8] = b"file 0644 1 x/y;dir a/b;dir a/src;dir README/z;dir src/a/z";
+
 const TWICE: &[u8] = b"dir src;dir src/a;file 0644 1 src;file 0644 1 src/b;dir README";
 
 #[test]
@@ -51,16 +66,26 @@ fn tells_the_first_fault_of_a_sixth_line(rt: HostRuntime) -> Result<(), Fail> {
         (NO_PARENTS, NoParent),
         (TWICE, Twice),
     ] {
-        each_is(&rt, rt.alloc(), SMALL, texts, ManifestFault { line: 6, kind })?;
+        each_is(
+            &rt,
+            rt.alloc(),
+            SMALL,
+            texts,
+            ManifestFault { line: 6, kind },
+        )?;
     }
     Ok(())
 }
 
-const NO_COMMITS: &[u8] = b";commit ;commit 0123456789abcdef0123456789abcdef0123456;commit 0123456789abcdef0123456789abcdef012345678;commit 0123456789abcdefg123456789abcdef01234567;commit 0123456789abcdef0123456789abcdef01234567\r;commit  123456789abcdef0123456789abcdef01234567;Commit 0123456789abcdef0123456789abcdef01234567;dir src";
+const NO_COMMITS: &[u8] =
+    b";commit ;commit 0123456789abcdef0123456789abcdef0123456;commit 0123456789abcdef0123456789abcdef012345678;commit 0123456789abcdefg123456789abcdef01234567;commit 0123456789abcdef0123456789abcdef01234567\r;commit  123456789abcdef0123456789abcdef01234567;Commit 0123456789abcdef0123456789abcdef01234567;dir src";
 
 #[test]
 fn tells_the_fault_of_a_first_line(rt: HostRuntime) -> Result<(), Fail> {
-    let none = ManifestFault { line: 1, kind: ManifestFaultKind::NoCommit };
+    let none = ManifestFault {
+        line: 1,
+        kind: ManifestFaultKind::NoCommit,
+    };
     each_is(&rt, rt.alloc(), b"".as_slice(), NO_COMMITS, none)?;
     assert_eq!(rt; fault_of(rt.alloc(), b"".as_slice()), Some(none));
     Ok(())
@@ -68,16 +93,23 @@ fn tells_the_fault_of_a_first_line(rt: HostRuntime) -> Result<(), Fail> {
 
 #[test]
 fn refuses_a_line_that_is_not_ended(rt: HostRuntime) -> Result<(), Fail> {
-    let first = ManifestFault { line: 1, kind: ManifestFaultKind::BadLine };
+    let first = ManifestFault {
+        line: 1,
+        kind: ManifestFaultKind::BadLine,
+    };
     let text = b"commit 0123456789abcdef0123456789abcdef01234567".as_slice();
     assert_eq!(rt; fault_of(rt.alloc(), text), Some(first));
-    let second = ManifestFault { line: 2, kind: ManifestFaultKind::BadLine };
+    let second = ManifestFault {
+        line: 2,
+        kind: ManifestFaultKind::BadLine,
+    };
     let text = joined(rt.alloc(), HEAD, b"dir z".as_slice())?;
     assert_eq!(rt; fault_of(rt.alloc(), text.as_slice()), Some(second));
     Ok(())
 }
 
-const ODD: &[u8] = b"file 0644 9223372036854775807 z\nfile 7777 0 a b  c\nfile 0000 0 \xff\x01\xe9\ndir z\r\ndir ...\ndir  \ndir a\ndir a/a\ndir a/a/a\nfile 0644 1 a/a/a/a\n";
+const ODD: &[u8] =
+    b"file 0644 9223372036854775807 z\nfile 7777 0 a b  c\nfile 0000 0 \xff\x01\xe9\ndir z\r\ndir ...\ndir  \ndir a\ndir a/a\ndir a/a/a\nfile 0644 1 a/a/a/a\n";
 
 #[test]
 fn takes_odd_names_and_great_sizes(rt: HostRuntime) -> Result<(), Fail> {
@@ -125,18 +157,31 @@ fn tells_attributes_as_a_line_has_them(rt: HostRuntime) -> Result<(), Fail> {
     let manifest = Manifest::read(rt.alloc(), SMALL)?;
     let tree = Tree::of(rt.alloc(), &manifest)?;
     let file = tree.attr(FileId(3)).ok_or("file 3")?;
-    assert_eq!(rt; (file.kind, file.perm.bits(), file.size, file.nlink), (Kind::File, 0o644, 12, 1));
+    assert_eq!(rt;
+        (file.kind, file.perm.bits(), file.size, file.nlink),
+        (Kind::File, 0o644, 12, 1)
+    );
     let dir = tree.attr(FileId(2)).ok_or("file 2")?;
-    assert_eq!(rt; (dir.kind, dir.perm.bits(), dir.size, dir.nlink), (Kind::Dir, 0o755, 0, 2));
+    assert_eq!(rt;
+        (dir.kind, dir.perm.bits(), dir.size, dir.nlink),
+        (Kind::Dir, 0o755, 0, 2)
+    );
     let root = tree.attr(FileId::ROOT).ok_or("the root")?;
-    assert_eq!(rt; (root.kind, root.perm.bits(), root.size, root.nlink), (Kind::Dir, 0o755, 0, 2));
+    assert_eq!(rt;
+        (root.kind, root.perm.bits(), root.size, root.nlink),
+        (Kind::Dir, 0o755, 0, 2)
+    );
     assert_eq!(rt; tree.attr(FileId(6)).is_none(), true);
     Ok(())
 }
 
 #[test]
 fn takes_a_directory_of_directories_for_one_with_entries(rt: HostRuntime) -> Result<(), Fail> {
-    let text = joined(rt.alloc(), HEAD, b"dir a\ndir a/b\nfile 0644 0 c\n".as_slice())?;
+    let text = joined(
+        rt.alloc(),
+        HEAD,
+        b"dir a\ndir a/b\nfile 0644 0 c\n".as_slice(),
+    )?;
     let manifest = Manifest::read(rt.alloc(), text.as_slice())?;
     let tree = Tree::of(rt.alloc(), &manifest)?;
     assert_eq!(rt; tree.is_empty_dir(FileId::ROOT), false);
@@ -191,7 +236,11 @@ fn takes_65536_lines_and_no_more(rt: HostRuntime) -> Result<(), Fail> {
         (b"dir f0\n".as_slice(), Twice),
     ] {
         let text = joined(rt.alloc(), full.as_slice(), line)?;
-        assert_eq!(rt; fault_of(rt.alloc(), text.as_slice()), Some(ManifestFault { line: 65537, kind }), "{kind}");
+        assert_eq!(rt;
+            fault_of(rt.alloc(), text.as_slice()),
+            Some(ManifestFault { line: 65537, kind }),
+            "{kind}"
+        );
     }
     Ok(())
 }
@@ -203,7 +252,10 @@ fn takes_names_of_255_bytes_and_deep_paths(rt: HostRuntime) -> Result<(), Fail> 
         text.push(b'x')?;
     }
     let longer = joined(rt.alloc(), text.as_slice(), b"x\n".as_slice())?;
-    let bad = Some(ManifestFault { line: 2, kind: ManifestFaultKind::BadPath });
+    let bad = Some(ManifestFault {
+        line: 2,
+        kind: ManifestFaultKind::BadPath,
+    });
     assert_eq!(rt; fault_of(rt.alloc(), longer.as_slice()), bad);
     text.push(b'\n')?;
     let mut path = Vec::from_slice(rt.alloc(), b"dir d".as_slice())?;
@@ -215,7 +267,10 @@ fn takes_names_of_255_bytes_and_deep_paths(rt: HostRuntime) -> Result<(), Fail> 
     assert_eq!(rt; fault_of(rt.alloc(), text.as_slice()), None);
     text.extend_from_slice(path.as_slice())?;
     text.extend_from_slice(b"/d\n".as_slice())?;
-    let missing = Some(ManifestFault { line: 203, kind: ManifestFaultKind::NoParent });
+    let missing = Some(ManifestFault {
+        line: 203,
+        kind: ManifestFaultKind::NoParent,
+    });
     assert_eq!(rt; fault_of(rt.alloc(), text.as_slice()), missing);
     Ok(())
 }

@@ -2,9 +2,9 @@
 ghost use Rattle.std.specs.Prelude.{◌≡◌, IfOk};
 ghost use Rattle.checkout.specs.Tree.{IsTree, tree_of, child_of, kind_of, attr_of, is_empty_dir, links_from};
 
-use crate::links::Links;
 use crate::Manifest;
 use crate::line::{attr_of, kind_of};
+use crate::links::Links;
 use eden_base::{Attr, FileId, Kind, Name, NoMemory};
 use std::alloc::Global;
 use std::marker::Model;

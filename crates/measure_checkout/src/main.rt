@@ -37,7 +37,7 @@ fn main(rt: HostRuntime) -> Result<()> {
         let name = Name::parse(rt.alloc(), b"file63.txt".as_slice())?;
         let mut found = 0u32;
         let started = Instant::now(&rt)?;
-        for _ in 0..1_000_000u32 {
+        for _ in 0..100_000u32 {
             if tree.child(FileId(2), &name).is_some() {
                 found = found.wrapping_add(1);
             }
@@ -45,7 +45,9 @@ fn main(rt: HostRuntime) -> Result<()> {
         let looked_up = started.elapsed(&rt)?;
         let bytes = text.len();
         println!(rt; "{lines} lines, {found} found")?;
-        eprintln!(rt; "{lines} lines, {bytes} bytes: read {read:?}, tree {made:?}, a million look-ups {looked_up:?}")?;
+        eprintln!(rt;
+            "{lines} lines, {bytes} bytes: read {read:?}, tree {made:?}, 100,000 look-ups {looked_up:?}"
+        )?;
     }
     Ok(())
 }

@@ -9,13 +9,13 @@ pub returns-in-Some-commit_of-clause-commit : goal.returns-in-Some-commit_of-cla
 returns-in-Some-commit_of-clause-commit c =
     let rest = c.in-Some.rest.now in
     ap manifest_of_lines (parts-cut 10 c.args.bytes.now c.in-Some.line.now rest (sym c.in-Some.ensures.parts))
-      ∙ ap (λ o. after_commit o (lines_of rest)) (sym c.in-Some-commit_of.ensures) ∙ after_commit-some c.in-Some-commit_of.commit rest
+    ∙ ap (λ o. after_commit o (lines_of rest)) (sym c.in-Some-commit_of.ensures) ∙ after_commit-some c.in-Some-commit_of.commit rest
 
 pub returns-in-None-commit_of-clause-refused : goal.returns-in-None-commit_of-clause-refused
 returns-in-None-commit_of-clause-refused c =
     let rest = c.in-Some.rest.now in
     ap manifest_of_lines (parts-cut 10 c.args.bytes.now c.in-Some.line.now rest (sym c.in-Some.ensures.parts))
-      ∙ ap (λ o. after_commit o (lines_of rest)) (sym c.in-None-commit_of.ensures)
+    ∙ ap (λ o. after_commit o (lines_of rest)) (sym c.in-None-commit_of.ensures)
 
 pub returns-in-Some-commit_of-2-clause-refused : goal.returns-in-Some-commit_of-2-clause-refused
 returns-in-Some-commit_of-2-clause-refused c =

@@ -13,7 +13,7 @@ returns-in_default-clause-refused c =
     let some : 0 < length c.loop-rest.rest.now = let full : c.is_empty.result ≡ false = cc (c.loop-rest-test.true) in grind (arith, nat_tests) in
     let number = ap (λ n. n + 2) c.len-line.ensures.len in
     sym c.loop-rest.invariant ∙ ap (read_on c.loop-rest.reading (length c.loop-rest.reading + 2)) (parts-no_cut 10 c.loop-rest.rest.now (sym c.in_default.ensures.parts))
-      ∙ read_on-unended c.loop-rest.reading (length c.loop-rest.reading + 2) c.loop-rest.rest.now some ∙ sym (ap (λ n. Err (fault_at n BadLine)) number)
+    ∙ read_on-unended c.loop-rest.reading (length c.loop-rest.reading + 2) c.loop-rest.rest.now some ∙ sym (ap (λ n. Err (fault_at n BadLine)) number)
 
 pub loop-rest-preserved : goal.loop-rest-preserved
 loop-rest-preserved c =
@@ -24,7 +24,7 @@ loop-rest-preserved c =
     let taken = read_on-taken old (length old + 2) text after new c.in-Ok.ensures.added in
     let longer : length old + 2 + 1 ≡ length new + 2 = length_taken old text new c.in-Ok.ensures.added in
     sym (ap (λ n. read_on new n (lines_of after)) longer) ∙ sym taken
-      ∙ sym (ap (read_on old (length old + 2)) (parts-cut 10 c.loop-rest.rest.now text after (sym c.in-Some.ensures.parts))) ∙ c.loop-rest.invariant
+    ∙ sym (ap (read_on old (length old + 2)) (parts-cut 10 c.loop-rest.rest.now text after (sym c.in-Some.ensures.parts))) ∙ c.loop-rest.invariant
 
 pub returns-in-Err-clause-refused : goal.returns-in-Err-clause-refused
 returns-in-Err-clause-refused c =

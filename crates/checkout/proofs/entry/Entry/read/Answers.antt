@@ -17,4 +17,4 @@ returns-in-Some-clause-entry c =
     let line = c.args.line.now in
     let found = c.in-Some.ensures ∙ ap (λ (front : List ℕ). after front line) c.as_slice.ensures in
     ap (λ o. option_or (option_map dir_entry o) (option_and_then file_entry (after (codes "file ") line))) (sym found)
-      ∙ ap (λ (p : Perm). Some (dir_with c.in-Some.path.now p)) (same_perm dir_perm (record { bits = 493; in_range = _ }) refl)
+    ∙ ap (λ (p : Perm). Some (dir_with c.in-Some.path.now p)) (same_perm dir_perm (record { bits = 493; in_range = _ }) refl)

@@ -19,7 +19,7 @@ returns-in-None c =
     let links = c.self.invariant.1 ∙ ap (links_from 2) c.self.view_is in
     let first = parts-cut 47 c.loop-first.rest.now name c.in-Some.after.now (sym c.in-Some.ensures.parts) in
     sym c.loop-first.invariant.0 ∙ ap (file_at tree dir) (ap front first ∙ front-more 47 name c.in-Some.after.now)
-      ∙ ap (option_and_then (λ (f : FileId). file_at tree f rest)) (sym (ap (λ m. get m (dir.0, name)) links) ∙ child)
+    ∙ ap (option_and_then (λ (f : FileId). file_at tree f rest)) (sym (ap (λ m. get m (dir.0, name)) links) ∙ child)
 
 pub loop-first-preserved : goal.loop-first-preserved
 loop-first-preserved c =
@@ -31,7 +31,7 @@ loop-first-preserved c =
     let links = c.self.invariant.1 ∙ ap (links_from 2) c.self.view_is in
     let first = parts-cut 47 c.loop-first.rest.now name c.in-Some.after.now (sym c.in-Some.ensures.parts) in
     let whole = sym c.loop-first.invariant.0 ∙ ap (file_at tree dir) (ap front first ∙ front-more 47 name c.in-Some.after.now)
-      ∙ ap (option_and_then (λ (f : FileId). file_at tree f rest)) (sym (ap (λ m. get m (dir.0, name)) links) ∙ child) in
+    ∙ ap (option_and_then (λ (f : FileId). file_at tree f rest)) (sym (ap (λ m. get m (dir.0, name)) links) ∙ child) in
     (sym whole, sym (ap last first ∙ last-more 47 name c.in-Some.after.now) ∙ c.loop-first.invariant.1)
 
 pub returns : goal.returns
