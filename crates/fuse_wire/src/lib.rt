@@ -1,0 +1,14 @@
+//! The bytes of the Linux FUSE protocol, both ways: what the kernel asks of a daemon, and what the daemon answers.
+#![tactic(auto)]
+
+mod ask;
+mod fault;
+mod item;
+mod opcode;
+mod reader;
+mod reply;
+
+pub use ask::{Ask, Request};
+pub use fault::WireFault;
+pub use item::{Item, Items};
+pub use reply::{Answer, Reply};
