@@ -1,2 +1,4 @@
 pub mod Field
+pub mod Mode
 pub mod Opcode
+pub mod Reading

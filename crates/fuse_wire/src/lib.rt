@@ -3,9 +3,12 @@
 
 mod ask;
 mod fault;
+mod header;
 mod item;
+mod mode;
 mod opcode;
 mod reader;
+mod reading;
 mod reply;
 
 pub use ask::{Ask, Request};

@@ -1,0 +1,43 @@
+//! The first 40 bytes of a request.
+ghost use Rattle.std.specs.Prelude.{◌≡◌, ◌≤◌, length, OnOk, ◌==◌};
+ghost use Rattle.fuse_wire.specs.Reading.{header_of};
+
+use crate::WireFault;
+use crate::reader::Reader;
+use eden_base::Number;
+
+/// What a header says of its request (`struct fuse_in_header`), but for the length and the last 16 bytes.
+#[derive(Clone, Copy)]
+pub(crate) struct Header {
+    pub opcode: u32,
+    pub unique: u64,
+    pub node: Number,
+}
+
+impl Header {
+    /// In bytes.
+    pub(crate) const LEN: usize = 40;
+}
+
+/// The header of a whole request: the length that it tells is that of the bytes.
+#[tactic(auto, unfolding(crate::specs::Reading::header_of))]
+pub(crate) fn read_header(bytes: &[u8]) -> Result<Header, WireFault>
+    ensures header { result ≡ header_of bytes.now }
+    ensures whole { OnOk result (40 ≤ length bytes.now) }
+{
+    if bytes.len() < Header::LEN {
+        return Err(WireFault::Short);
+    }
+    let mut fields = Reader::new(bytes);
+    if fields.u32() as usize != bytes.len() {
+        return Err(WireFault::BadLength);
+    }
+    let opcode = fields.u32();
+    let unique = fields.u64();
+    let node = Number(fields.u64());
+    Ok(Header {
+        opcode,
+        unique,
+        node,
+    })
+}

@@ -1,0 +1,196 @@
+//! Requests read from their bytes.
+ghost use Rattle.std.specs.Prelude.{◌≡◌, ◌≤◌, ◌+◌, ◌*◌, length};
+ghost use Rattle.fuse_wire.specs.Opcode.{opcode_of};
+ghost use Rattle.fuse_wire.specs.Reading.{Gives, HasName, IsNamed, AsksByName, name_of, made_of, forget_of, batch_of, items_at, what_of, lines_of, request_of, items_of};
+
+use crate::header::{Header, read_header};
+use crate::mode;
+use crate::opcode::Opcode;
+use crate::reader::Reader;
+use crate::{Ask, Item, Items, Request, WireFault};
+use eden_base::{Name, NameFault, Number, Perm};
+use std::alloc::Global;
+
+/// CREATE: flags, mode, umask and one more word (`struct fuse_create_in`).
+const CREATE_FIXED: usize = 16;
+const CREATE_MODE: usize = 4;
+
+/// MKDIR: mode and umask (`struct fuse_mkdir_in`).
+const MKDIR_FIXED: usize = 8;
+const MKDIR_MODE: usize = 0;
+
+/// GETATTR: flags, a padding and a handle (`struct fuse_getattr_in`).
+const GETATTR_LEN: usize = 16;
+
+/// FORGET: the count alone.
+const FORGET_LEN: usize = 8;
+
+/// BATCH_FORGET: how many lines, and a padding.
+const BATCH_FIXED: usize = 8;
+const LINE_LEN: usize = 16;
+
+/// A name, and NUL.
+#[tactic(auto, unfolding(crate::specs::Reading::name_of))]
+fn read_name(alloc: Global, body: &[u8]) -> Result<Name, WireFault>
+    ensures { Gives IsNamed result (name_of body.now) }
+{
+    if body.is_empty() {
+        return Err(WireFault::BadBody);
+    }
+    let end = body.len() - 1;
+    if body[end] != 0 {
+        return Err(WireFault::BadBody);
+    }
+    match Name::parse(alloc, &body[..end]) {
+        Ok(name) => Ok(name),
+        Err(NameFault::NoMemory) => Err(WireFault::NoMemory),
+        Err(fault) => Err(WireFault::BadName(fault)),
+    }
+}
+
+/// The name behind a fixed part, and the permissions of the mode that stands in it at a place.
+#[tactic(auto, unfolding(crate::specs::Reading::made_of))]
+fn read_made(
+    alloc: Global,
+    fixed: usize,
+    place: usize,
+    body: &[u8],
+) -> Result<(Name, Perm), WireFault>
+    requires { place + 4 ≤ fixed }
+    ensures { Gives IsNamed result (made_of fixed place body.now) }
+{
+    if body.len() < fixed {
+        return Err(WireFault::BadBody);
+    }
+    let name = read_name(alloc, &body[fixed..])?;
+    let mode = Reader::new(&body[place..]).u32();
+    Ok((name, mode::perm_of(mode)))
+}
+
+/// The line of a FORGET (`struct fuse_forget_in`).
+#[tactic(auto, unfolding(crate::specs::Reading::forget_of))]
+fn read_forget(node: Number, body: &[u8]) -> Result<Item, WireFault>
+    ensures { result ≡ forget_of node body.now }
+{
+    if body.len() != FORGET_LEN {
+        return Err(WireFault::BadBody);
+    }
+    let k = Reader::new(body).u64();
+    Ok(Item { node, k })
+}
+
+/// The lines of a BATCH_FORGET (`struct fuse_batch_forget_in`).
+#[tactic(auto, unfolding(crate::specs::Reading::batch_of))]
+fn read_batch(body: &[u8]) -> Result<Items, WireFault>
+    ensures { result ≡ batch_of body.now }
+{
+    if body.len() < BATCH_FIXED {
+        return Err(WireFault::BadBody);
+    }
+    let count = Reader::new(body).u32() as usize;
+    if count > Items::MAX_LEN || body.len() != BATCH_FIXED + LINE_LEN * count {
+        return Err(WireFault::BadCount);
+    }
+    Ok(read_lines(count, &body[BATCH_FIXED..]))
+}
+
+/// So many lines (`struct fuse_forget_one`).
+fn read_lines(count: usize, lines: &[u8]) -> Items
+    requires whole { length lines.now ≡ 16 * count }
+    requires at_most { count ≤ 256 }
+    ensures { result ≡ items_at count lines.now }
+{
+    let mut fields = Reader::new(lines);
+    let mut items = Items::new();
+    for _ in 0..count {
+        let node = Number(fields.u64());
+        let k = fields.u64();
+        items.push(Item { node, k });
+    }
+    items
+}
+
+/// The request of a header and a body.
+#[tactic(auto, unfolding(crate::specs::Reading::what_of))]
+fn read_what(alloc: Global, header: Header, body: &[u8]) -> Result<Request, WireFault>
+    ensures { Gives HasName result (what_of (opcode_of header.opcode) header.node body.now) }
+{
+    let node = header.node;
+    match Opcode::of(header.opcode) {
+        Opcode::Lookup => {
+            let name = read_name(alloc, body)?;
+            Ok(Request::Lookup { dir: node, name })
+        }
+        Opcode::Unlink => {
+            let name = read_name(alloc, body)?;
+            Ok(Request::Unlink { dir: node, name })
+        }
+        Opcode::Rmdir => {
+            let name = read_name(alloc, body)?;
+            Ok(Request::Rmdir { dir: node, name })
+        }
+        Opcode::Create => {
+            let (name, perm) = read_made(alloc, CREATE_FIXED, CREATE_MODE, body)?;
+            Ok(Request::Create {
+                dir: node,
+                name,
+                perm,
+            })
+        }
+        Opcode::Mkdir => {
+            let (name, perm) = read_made(alloc, MKDIR_FIXED, MKDIR_MODE, body)?;
+            Ok(Request::Mkdir {
+                dir: node,
+                name,
+                perm,
+            })
+        }
+        Opcode::Getattr => {
+            if body.len() != GETATTR_LEN {
+                return Err(WireFault::BadBody);
+            }
+            Ok(Request::Getattr { node })
+        }
+        Opcode::Forget => {
+            let item = read_forget(node, body)?;
+            Ok(Request::Forget(item))
+        }
+        Opcode::BatchForget => {
+            let items = read_batch(body)?;
+            Ok(Request::BatchForget(items))
+        }
+        Opcode::Other(opcode) => Ok(Request::Other { opcode, node }),
+    }
+}
+
+/// The request that the bytes are.
+#[tactic(auto, unfolding(crate::specs::Reading::request_of))]
+pub fn read_request(alloc: Global, bytes: &[u8]) -> Result<Ask, WireFault>
+    ensures exact { Gives AsksByName result (request_of bytes.now) }
+{
+    let header = read_header(bytes)?;
+    let what = read_what(alloc, header, &bytes[Header::LEN..])?;
+    Ok(Ask {
+        unique: header.unique,
+        what,
+    })
+}
+
+/// The lines of a forget of either form. Any other request is `BadBody`. It takes no memory.
+#[tactic(auto, unfolding(crate::specs::Reading::items_of, crate::specs::Reading::lines_of))]
+pub fn read_items(bytes: &[u8]) -> Result<Items, WireFault>
+    ensures exact { result ≡ items_of bytes.now }
+{
+    let header = read_header(bytes)?;
+    let body = &bytes[Header::LEN..];
+    match Opcode::of(header.opcode) {
+        Opcode::Forget => {
+            let item = read_forget(header.node, body)?;
+            let mut items = Items::new();
+            items.push(item);
+            Ok(items)
+        }
+        Opcode::BatchForget => read_batch(body),
+        _ => Err(WireFault::BadBody),
+    }
+}
