@@ -127,5 +127,8 @@ HasName request = ⊥
 abbrev pub IsNamed : {X : Type 0} → X → Type 0
 IsNamed x = Unit {0}
 
+abbrev pub HasNoName : {X : Type 0} → X → Type 0
+HasNoName x = ⊥
+
 abbrev pub AsksByName : Ask → Type 0
 AsksByName ask = HasName ask.what

@@ -1,7 +1,7 @@
 //! Requests read from their bytes.
 ghost use Rattle.std.specs.Prelude.{◌≡◌, ◌≤◌, ◌+◌, ◌*◌, length};
 ghost use Rattle.fuse_wire.specs.Opcode.{opcode_of};
-ghost use Rattle.fuse_wire.specs.Reading.{Gives, HasName, IsNamed, AsksByName, name_of, made_of, forget_of, batch_of, items_at, what_of, lines_of, request_of, items_of};
+ghost use Rattle.fuse_wire.specs.Reading.{Gives, HasName, IsNamed, HasNoName, AsksByName, name_of, made_of, forget_of, batch_of, items_at, what_of, lines_of, request_of, items_of};
 
 use crate::header::{Header, read_header};
 use crate::mode;
@@ -62,15 +62,18 @@ fn read_made(
     if body.len() < fixed {
         return Err(WireFault::BadBody);
     }
-    let name = read_name(alloc, &body[fixed..])?;
-    let mode = Reader::new(&body[place..]).u32();
+    let (_, mode_on) = body.split_at(place);
+    let mode = Reader::new(mode_on).u32();
+    let (_, rest) = body.split_at(fixed);
+    let name = read_name(alloc, rest)?;
     Ok((name, mode::perm_of(mode)))
 }
 
 /// The line of a FORGET (`struct fuse_forget_in`).
 #[tactic(auto, unfolding(crate::specs::Reading::forget_of))]
 fn read_forget(node: Number, body: &[u8]) -> Result<Item, WireFault>
-    ensures { result ≡ forget_of node body.now }
+    ensures value { result ≡ forget_of node body.now }
+    ensures no_want { Gives HasNoName result (forget_of node body.now) }
 {
     if body.len() != FORGET_LEN {
         return Err(WireFault::BadBody);
@@ -82,7 +85,8 @@ fn read_forget(node: Number, body: &[u8]) -> Result<Item, WireFault>
 /// The lines of a BATCH_FORGET (`struct fuse_batch_forget_in`).
 #[tactic(auto, unfolding(crate::specs::Reading::batch_of))]
 fn read_batch(body: &[u8]) -> Result<Items, WireFault>
-    ensures { result ≡ batch_of body.now }
+    ensures value { result ≡ batch_of body.now }
+    ensures no_want { Gives HasNoName result (batch_of body.now) }
 {
     if body.len() < BATCH_FIXED {
         return Err(WireFault::BadBody);
@@ -91,7 +95,8 @@ fn read_batch(body: &[u8]) -> Result<Items, WireFault>
     if count > Items::MAX_LEN || body.len() != BATCH_FIXED + LINE_LEN * count {
         return Err(WireFault::BadCount);
     }
-    Ok(read_lines(count, &body[BATCH_FIXED..]))
+    let (_, lines) = body.split_at(BATCH_FIXED);
+    Ok(read_lines(count, lines))
 }
 
 /// So many lines (`struct fuse_forget_one`).
@@ -169,7 +174,8 @@ pub fn read_request(alloc: Global, bytes: &[u8]) -> Result<Ask, WireFault>
     ensures exact { Gives AsksByName result (request_of bytes.now) }
 {
     let header = read_header(bytes)?;
-    let what = read_what(alloc, header, &bytes[Header::LEN..])?;
+    let (_, body) = bytes.split_at(Header::LEN);
+    let what = read_what(alloc, header, body)?;
     Ok(Ask {
         unique: header.unique,
         what,
@@ -182,7 +188,7 @@ pub fn read_items(bytes: &[u8]) -> Result<Items, WireFault>
     ensures exact { result ≡ items_of bytes.now }
 {
     let header = read_header(bytes)?;
-    let body = &bytes[Header::LEN..];
+    let (_, body) = bytes.split_at(Header::LEN);
     match Opcode::of(header.opcode) {
         Opcode::Forget => {
             let item = read_forget(header.node, body)?;
