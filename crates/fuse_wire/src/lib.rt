@@ -10,6 +10,8 @@ mod opcode;
 mod reader;
 mod reading;
 mod reply;
+mod reply_writer;
+mod request_writer;
 
 pub use ask::{Ask, Request};
 pub use fault::WireFault;

@@ -1,0 +1,128 @@
+//! Requests as bytes, on the broker's side.
+ghost use Rattle.std.specs.Prelude.{◌≡◌, ◌++◌, ◌∷◌, [], OnOk, IfOk, length};
+ghost use Rattle.std.specs.List.{flat_map};
+ghost use Rattle.fuse_wire.specs.Field.{u32_bytes, u64_bytes};
+ghost use Rattle.fuse_wire.specs.Opcode.{code};
+ghost use Rattle.fuse_wire.specs.RequestText.{zeros, opcode, nodeid, IsSendable, name_text, create_body, mkdir_body, batch_body, line, body, header, request_text};
+
+use crate::header::Header;
+use crate::opcode::Opcode;
+use crate::mode::mode_of;
+use crate::{Ask, Item, Items, Request};
+use byteorder::{ByteOrder, LittleEndian};
+use eden_base::{Kind, Name, NoMemory, Perm};
+use std::alloc::Global;
+
+#[tactic(auto, unfolding(crate::specs::Field::u32_bytes))]
+fn put_u32(out: &mut Vec<u8>, value: u32) -> Result<(), NoMemory>
+    ensures { OnOk result (out.new.items ≡ out.old.items ++ u32_bytes value) }
+{
+    let mut field = [0u8; 4];
+    LittleEndian::write_u32(&mut field, value);
+    out.extend_from_slice(&field)?;
+    Ok(())
+}
+
+#[tactic(auto, unfolding(crate::specs::Field::u64_bytes))]
+fn put_u64(out: &mut Vec<u8>, value: u64) -> Result<(), NoMemory>
+    ensures { OnOk result (out.new.items ≡ out.old.items ++ u64_bytes value) }
+{
+    let mut field = [0u8; 8];
+    LittleEndian::write_u64(&mut field, value);
+    out.extend_from_slice(&field)?;
+    Ok(())
+}
+
+#[tactic(auto, unfolding(crate::specs::RequestText::zeros))]
+fn put_4_zeros(out: &mut Vec<u8>) -> Result<(), NoMemory>
+    ensures { OnOk result (out.new.items ≡ out.old.items ++ zeros 4) }
+{
+    out.extend_from_slice(&[0; 4])?;
+    Ok(())
+}
+
+#[tactic(auto, unfolding(crate::specs::RequestText::zeros))]
+fn put_8_zeros(out: &mut Vec<u8>) -> Result<(), NoMemory>
+    ensures { OnOk result (out.new.items ≡ out.old.items ++ zeros 8) }
+{
+    out.extend_from_slice(&[0; 8])?;
+    Ok(())
+}
+
+#[tactic(auto, unfolding(crate::specs::RequestText::zeros))]
+fn put_16_zeros(out: &mut Vec<u8>) -> Result<(), NoMemory>
+    ensures { OnOk result (out.new.items ≡ out.old.items ++ zeros 16) }
+{
+    out.extend_from_slice(&[0; 16])?;
+    Ok(())
+}
+
+fn put_name(out: &mut Vec<u8>, name: &Name) -> Result<(), NoMemory>
+    ensures { OnOk result (out.new.items ≡ out.old.items ++ name_text name.now) }
+{
+    out.extend_from_slice(name.bytes())?;
+    out.push(0)?;
+    Ok(())
+}
+
+fn put_lines(out: &mut Vec<u8>, items: &[Item]) -> Result<(), NoMemory>
+    ensures { OnOk result (out.new.items ≡ out.old.items ++ flat_map line items.now) }
+{
+    for item in items {
+        put_line(out, *item)?;
+    }
+    Ok(())
+}
+
+fn put_line(out: &mut Vec<u8>, item: Item) -> Result<(), NoMemory>
+    ensures { OnOk result (out.new.items ≡ out.old.items ++ line item) }
+{
+    put_u64(out, item.node.0)?;
+    put_u64(out, item.k)?;
+    Ok(())
+}
+
+/// What follows the header.
+fn put_body(out: &mut Vec<u8>, request: &Request) -> Result<(), NoMemory>
+    ensures { OnOk result (out.new.items ≡ out.old.items ++ body request.now) }
+{
+    match request {
+        Request::Lookup { name, .. }
+        | Request::Unlink { name, .. }
+        | Request::Rmdir { name, .. } => put_name(out, name),
+        Request::Create { name, perm, .. } => put_create(out, name, *perm),
+        Request::Mkdir { name, perm, .. } => put_mkdir(out, name, *perm),
+        Request::Getattr { .. } => put_16_zeros(out),
+        Request::Forget(item) => put_u64(out, item.k),
+        Request::BatchForget(items) => put_batch(out, items),
+        Request::Other { .. } => Ok(()),
+    }
+}
+
+/// Flags, mode, umask and one more word, then the name (`struct fuse_create_in`).
+fn put_create(out: &mut Vec<u8>, name: &Name, perm: Perm) -> Result<(), NoMemory>
+    ensures { OnOk result (out.new.items ≡ out.old.items ++ create_body name.now perm) }
+{
+    put_4_zeros(out)?;
+    put_u32(out, mode_of(Kind::File, perm))?;
+    put_8_zeros(out)?;
+    put_name(out, name)
+}
+
+/// Mode and umask, then the name (`struct fuse_mkdir_in`).
+fn put_mkdir(out: &mut Vec<u8>, name: &Name, perm: Perm) -> Result<(), NoMemory>
+    ensures { OnOk result (out.new.items ≡ out.old.items ++ mkdir_body name.now perm) }
+{
+    put_u32(out, u32::from(perm.bits()))?;
+    put_4_zeros(out)?;
+    put_name(out, name)
+}
+
+/// The count and a padding, then the lines (`struct fuse_batch_forget_in`).
+fn put_batch(out: &mut Vec<u8>, items: &Items) -> Result<(), NoMemory>
+    ensures { OnOk result (out.new.items ≡ out.old.items ++ batch_body items.now) }
+{
+    put_u32(out, items.len() as u32)?;
+    put_4_zeros(out)?;
+    put_lines(out, items.as_slice())
+}
