@@ -4,30 +4,15 @@ ghost use Rattle.fuse_wire.specs.Opcode.{opcode_of};
 ghost use Rattle.fuse_wire.specs.Reading.{Gives, HasName, IsNamed, HasNoName, AsksByName, name_of, made_of, forget_of, batch_of, items_at, what_of, lines_of, request_of, items_of};
 
 use crate::header::{Header, read_header};
+use crate::layout::{
+    BATCH_FIXED, CREATE_FIXED, CREATE_MODE, FORGET_LEN, GETATTR_LEN, LINE_LEN, MKDIR_FIXED, MKDIR_MODE,
+};
 use crate::mode;
 use crate::opcode::Opcode;
 use crate::reader::Reader;
 use crate::{Ask, Item, Items, Request, WireFault};
 use eden_base::{Name, NameFault, Number, Perm};
 use std::alloc::Global;
-
-/// CREATE: flags, mode, umask and one more word (`struct fuse_create_in`).
-const CREATE_FIXED: usize = 16;
-const CREATE_MODE: usize = 4;
-
-/// MKDIR: mode and umask (`struct fuse_mkdir_in`).
-const MKDIR_FIXED: usize = 8;
-const MKDIR_MODE: usize = 0;
-
-/// GETATTR: flags, a padding and a handle (`struct fuse_getattr_in`).
-const GETATTR_LEN: usize = 16;
-
-/// FORGET: the count alone.
-const FORGET_LEN: usize = 8;
-
-/// BATCH_FORGET: how many lines, and a padding.
-const BATCH_FIXED: usize = 8;
-const LINE_LEN: usize = 16;
 
 /// A name, and NUL.
 #[tactic(auto, unfolding(crate::specs::Reading::name_of))]

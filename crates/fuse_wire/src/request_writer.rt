@@ -1,17 +1,104 @@
 //! Requests as bytes, on the broker's side.
-ghost use Rattle.std.specs.Prelude.{◌≡◌, ◌++◌, ◌∷◌, [], OnOk, IfOk, length};
+ghost use Rattle.std.specs.Prelude.{◌≡◌, ◌≤◌, ◌++◌, ◌∷◌, [], OnOk, IfOk, length};
 ghost use Rattle.std.specs.List.{flat_map};
 ghost use Rattle.fuse_wire.specs.Field.{u32_bytes, u64_bytes};
 ghost use Rattle.fuse_wire.specs.Opcode.{code};
 ghost use Rattle.fuse_wire.specs.RequestText.{zeros, opcode, nodeid, IsSendable, name_text, create_body, mkdir_body, batch_body, line, body, header, request_text};
 
 use crate::header::Header;
+use crate::layout::{BATCH_FIXED, CREATE_FIXED, FORGET_LEN, GETATTR_LEN, LINE_LEN, MKDIR_FIXED};
 use crate::opcode::Opcode;
 use crate::mode::mode_of;
 use crate::{Ask, Item, Items, Request};
 use byteorder::{ByteOrder, LittleEndian};
 use eden_base::{Kind, Name, NoMemory, Perm};
 use std::alloc::Global;
+
+/// The bytes of a request. What no reader looks at is 0.
+#[tactic(auto, using(std::proofs::Common::append_assoc))]
+pub fn write_request(alloc: Global, ask: &Ask) -> Result<Vec<u8>, NoMemory>
+    requires { IsSendable ask.now.what }
+    ensures text { IfOk result (λ bytes. bytes.items ≡ request_text ask.now) }
+{
+    let len = Header::LEN + body_len(&ask.what);
+    let mut out = Vec::with_capacity(alloc, len)?;
+    put_header(&mut out, len as u32, ask)?;
+    put_body(&mut out, &ask.what)?;
+    Ok(out)
+}
+
+/// The header (`struct fuse_in_header`).
+#[tactic(auto, using(std::proofs::Common::append_assoc))]
+fn put_header(out: &mut Vec<u8>, len: u32, ask: &Ask) -> Result<(), NoMemory>
+    ensures { OnOk result (out.new.items ≡ out.old.items ++ (header len (code (opcode ask.now.what)) ask.now.unique (nodeid ask.now.what) ++ zeros 16)) }
+{
+    put_u32(out, len)?;
+    put_u32(out, opcode_of(&ask.what).code())?;
+    put_u64(out, ask.unique)?;
+    put_u64(out, nodeid(&ask.what))?;
+    put_16_zeros(out)?;
+    Ok(())
+}
+
+fn opcode_of(request: &Request) -> Opcode
+    ensures { result ≡ opcode request.now }
+{
+    match request {
+        Request::Lookup { .. } => Opcode::Lookup,
+        Request::Getattr { .. } => Opcode::Getattr,
+        Request::Create { .. } => Opcode::Create,
+        Request::Mkdir { .. } => Opcode::Mkdir,
+        Request::Unlink { .. } => Opcode::Unlink,
+        Request::Rmdir { .. } => Opcode::Rmdir,
+        Request::Forget(_) => Opcode::Forget,
+        Request::BatchForget(_) => Opcode::BatchForget,
+        Request::Other { opcode, .. } => Opcode::Other(*opcode),
+    }
+}
+
+/// The nodeid of the header; a batch is of many.
+fn nodeid(request: &Request) -> u64
+    ensures { result ≡ nodeid request.now }
+{
+    match request {
+        Request::Lookup { dir, .. }
+        | Request::Create { dir, .. }
+        | Request::Mkdir { dir, .. }
+        | Request::Unlink { dir, .. }
+        | Request::Rmdir { dir, .. } => dir.0,
+        Request::Getattr { node } | Request::Other { node, .. } => node.0,
+        Request::Forget(item) => item.node.0,
+        Request::BatchForget(_) => 0,
+    }
+}
+
+/// How long what follows the header is.
+#[tactic(auto, using(crate::proofs::Lengths::lengths))]
+fn body_len(request: &Request) -> usize
+    ensures len { result ≡ length (body request.now) }
+    ensures at_most { result ≤ 4104 }
+{
+    match request {
+        Request::Lookup { name, .. }
+        | Request::Unlink { name, .. }
+        | Request::Rmdir { name, .. } => name_len(name),
+        Request::Create { name, .. } => CREATE_FIXED + name_len(name),
+        Request::Mkdir { name, .. } => MKDIR_FIXED + name_len(name),
+        Request::Getattr { .. } => GETATTR_LEN,
+        Request::Forget(_) => FORGET_LEN,
+        Request::BatchForget(items) => BATCH_FIXED + LINE_LEN * items.len(),
+        Request::Other { .. } => 0,
+    }
+}
+
+/// How long a name and its NUL are.
+#[tactic(auto, using(crate::proofs::Lengths::name_is_short))]
+fn name_len(name: &Name) -> usize
+    ensures len { result ≡ length (name_text name.now) }
+    ensures at_most { result ≤ 256 }
+{
+    name.bytes().len() + 1
+}
 
 #[tactic(auto, unfolding(crate::specs::Field::u32_bytes))]
 fn put_u32(out: &mut Vec<u8>, value: u32) -> Result<(), NoMemory>
