@@ -9,6 +9,7 @@ use Rattle.eden_base.specs.declared.name.NameFault.{NameFault}
 use Rattle.eden_base.specs.Name.{IsNameText, name_fault}
 use Rattle.fuse_wire.specs.declared.item.Item.{Item}
 use Rattle.fuse_wire.specs.Field.{u32_bytes, u64_bytes}
+use Rattle.fuse_wire.specs.ReplyText.{reply_header}
 use Rattle.fuse_wire.specs.RequestText.{zeros, line, name_text}
 
 pub length-u32_bytes : (n : ℕ) → length (u32_bytes n) ≡ 4
@@ -31,5 +32,9 @@ length-lines (item ∷ items) =
 -- a name has at most 255 bytes
 pub name_is_short : (name : List ℕ) → IsNameText name → length name ≤ 255
 name_is_short name is = grind (arith, nat_tests)
+
+pub length-reply_header : (len error unique : ℕ) → length (reply_header len error unique) ≡ 16
+length-reply_header len error unique =
+    omega (arith, length-append (u32_bytes len ++ u32_bytes error) (u64_bytes unique), length-append (u32_bytes len) (u32_bytes error), length-u32_bytes len, length-u32_bytes error, length-u64_bytes unique)
 
 pub ruleset lengths = (length-u32_bytes, length-u64_bytes, length-zeros, length-lines, length-append)

@@ -1,2 +1,5 @@
+pub mod Fields
 pub mod Lengths
 pub mod Lines
+pub mod ReplyLaws
+pub mod Written

@@ -21,7 +21,7 @@ goes_on items done count lines lt read =
     let left : count - done ≡ suc (count - (done + 1)) = omega arith in
     let next : drop 16 (drop (16 * done) lines) ≡ drop (16 * (done + 1)) lines = drop-drop 16 (16 * done) lines ∙ ap (λ (n : ℕ). drop n lines) (omega arith) in
     let front : items ++ items_at (count - done) (drop (16 * done) lines) ≡ (items ++ line_at (drop (16 * done) lines) ∷ []) ++ items_at (count - (done + 1)) (drop (16 * (done + 1)) lines) =
-      rw (left, next) (sym (append_assoc items (line_at (drop (16 * done) lines) ∷ []) (items_at (count - (done + 1)) (drop (16 * (done + 1)) lines)))) in
+    rw (left, next) (sym (append_assoc items (line_at (drop (16 * done) lines) ∷ []) (items_at (count - (done + 1)) (drop (16 * (done + 1)) lines)))) in
     record { many = omega (arith, length-append items (line_at (drop (16 * done) lines) ∷ []), read.many); whole = sym front ∙ read.whole }
 
 pub is_done : (items : List Item) (done count : ℕ) (lines : List ℕ) → count ≤ done → AreRead items done count lines → items ≡ items_at count lines

@@ -16,7 +16,7 @@ code BatchForget = 42
 code (Other n) = n
 
 -- the opcode of a number
-abbrev pub opcode_of : ℕ → Opcode
+unfoldable pub opcode_of : ℕ → Opcode
 opcode_of n =
     if n == 1 then Lookup
     else if n == 2 then Forget

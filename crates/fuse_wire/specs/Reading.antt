@@ -34,15 +34,18 @@ Gives HoldsName (Err fault) read = read ≡ Err fault
 abbrev pub body_of : List ℕ → List ℕ
 body_of bytes = drop 40 bytes
 
+-- its fields behind the length
+unfoldable pub fields_of : List ℕ → Header
+fields_of bytes = record {
+    opcode = u32_at (drop 4 bytes);
+    unique = u64_at (drop 8 bytes);
+    node = record { 0 = u64_at (drop 16 bytes) };
+  }
+
 unfoldable pub header_of : List ℕ → Result Header WireFault
 header_of bytes =
     if nat_lt (length bytes) 40 then Err Short
-    else if u32_at bytes == length bytes
-    then Ok (record {
-      opcode = u32_at (drop 4 bytes);
-      unique = u64_at (drop 8 bytes);
-      node = record { 0 = u64_at (drop 16 bytes) };
-    })
+    else if u32_at bytes == length bytes then Ok (fields_of bytes)
     else Err BadLength
 
 -- ---- the bodies

@@ -1,6 +1,6 @@
 -- The one spelling of a reply (linux/fuse.h: fuse_out_header, fuse_entry_out, fuse_attr_out, fuse_open_out,
 -- fuse_attr). What a daemon does not tell here (times, owners, how long an answer may be kept) is 0.
-use Rattle.std.specs.Prelude.{◌≡◌, ℕ, ◌+◌, ◌-◌, List, [], ◌++◌, length}
+use Rattle.std.specs.Prelude.{◌≡◌, ◌<◌, ◌^◌, ℕ, ◌+◌, ◌-◌, List, [], ◌++◌, length}
 use Rattle.eden_base.specs.declared.attr.Attr.{Attr}
 use Rattle.eden_base.specs.declared.errno.Errno.{Errno}
 use Rattle.eden_base.specs.declared.errno.Errno.TheVariants.{ENOENT, EIO, ENOMEM, EEXIST, ENOTDIR, EISDIR, EINVAL, ENOSPC, ENAMETOOLONG, ENOSYS, ENOTEMPTY, EOVERFLOW, ESTALE}
@@ -55,8 +55,25 @@ payload (Attrs number attr) = zeros 16 ++ attributes number attr
 payload Done = []
 payload (Error errno) = []
 
--- the header: the length of the whole, the error, the unique; and what follows
+-- the length of the whole, the error, the unique
+abbrev pub reply_header : ℕ → ℕ → ℕ → List ℕ
+reply_header len error unique = u32_bytes len ++ u32_bytes error ++ u64_bytes unique
+
 abbrev pub reply_text : Reply → List ℕ
 reply_text reply =
-    (u32_bytes (16 + length (payload reply.answer)) ++ u32_bytes (error_word reply.answer) ++ u64_bytes reply.unique)
-    ++ payload reply.answer
+    reply_header (16 + length (payload reply.answer)) (error_word reply.answer) reply.unique ++ payload reply.answer
+
+-- numbers of the sizes that their fields have
+pub record FitsAttr (number : Number) (attr : Attr) : Type 0 where
+  pub number_fits : number.0 < 2 ^ 64
+  pub size_fits : attr.size < 2 ^ 64
+  pub nlink_fits : attr.nlink < 2 ^ 32
+
+abbrev pub FitsAnswer : Answer → Type 0
+FitsAnswer (Entry number attr) = FitsAttr number attr
+FitsAnswer (Opened number attr) = FitsAttr number attr
+FitsAnswer (Attrs number attr) = FitsAttr number attr
+FitsAnswer answer = Unit {0}
+
+abbrev pub FitsReply : Reply → Type 0
+FitsReply reply = (reply.unique < 2 ^ 64) × FitsAnswer reply.answer

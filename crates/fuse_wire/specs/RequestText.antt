@@ -145,4 +145,3 @@ pub record IsRequestText (ask : Ask) (bytes : List ℕ) : Type 0 where
   pub sixteen : length others ≡ 16
   pub is_body : IsBody ask.what rest
   pub parts : bytes ≡ (header (40 + length rest) (code (opcode ask.what)) ask.unique node ++ others) ++ rest
-

@@ -1,6 +1,6 @@
 //! The first 40 bytes of a request.
 ghost use Rattle.std.specs.Prelude.{◌≡◌, ◌≤◌, length, OnOk, ◌==◌};
-ghost use Rattle.fuse_wire.specs.Reading.{Gives, HasNoName, header_of};
+ghost use Rattle.fuse_wire.specs.Reading.{Gives, HasNoName, fields_of, header_of};
 
 use crate::WireFault;
 use crate::reader::Reader;
@@ -14,9 +14,30 @@ pub(crate) struct Header {
     pub node: Number,
 }
 
+/// In bytes.
+const LENGTH_LEN: usize = 4;
+
 impl Header {
     /// In bytes.
     pub(crate) const LEN: usize = 40;
+
+    /// The header of bytes that have one, whatever length it tells.
+    #[tactic(auto, unfolding(crate::specs::Reading::fields_of))]
+    pub(crate) fn of(bytes: &[u8]) -> Header
+        requires { 40 ≤ length bytes.now }
+        ensures { result ≡ fields_of bytes.now }
+    {
+        let mut fields = Reader::new(bytes);
+        fields.skip(LENGTH_LEN);
+        let opcode = fields.u32();
+        let unique = fields.u64();
+        let node = Number(fields.u64());
+        Header {
+            opcode,
+            unique,
+            node,
+        }
+    }
 }
 
 /// The header of a whole request: the length that it tells is that of the bytes.
@@ -29,16 +50,8 @@ pub(crate) fn read_header(bytes: &[u8]) -> Result<Header, WireFault>
     if bytes.len() < Header::LEN {
         return Err(WireFault::Short);
     }
-    let mut fields = Reader::new(bytes);
-    if fields.u32() as usize != bytes.len() {
+    if Reader::new(bytes).u32() as usize != bytes.len() {
         return Err(WireFault::BadLength);
     }
-    let opcode = fields.u32();
-    let unique = fields.u64();
-    let node = Number(fields.u64());
-    Ok(Header {
-        opcode,
-        unique,
-        node,
-    })
+    Ok(Header::of(bytes))
 }

@@ -2,6 +2,7 @@
 #![tactic(auto)]
 
 mod ask;
+mod errno;
 mod fault;
 mod header;
 mod item;
@@ -10,12 +11,18 @@ mod mode;
 mod opcode;
 mod reader;
 mod reading;
+mod refusal;
 mod reply;
+mod reply_reader;
 mod reply_writer;
 mod request_writer;
 
 pub use ask::{Ask, Request};
 pub use fault::WireFault;
 pub use item::{Item, Items};
+pub use reading::{read_items, read_request};
+pub use refusal::fault_reply;
 pub use reply::{Answer, Reply};
+pub use reply_reader::read_reply;
+pub use reply_writer::write_reply;
 pub use request_writer::write_request;

@@ -18,6 +18,7 @@ pub(crate) enum Opcode {
 }
 
 impl Opcode {
+    #[tactic(auto, unfolding(crate::specs::Opcode::opcode_of))]
     pub(crate) fn of(code: u32) -> Opcode
         ensures { result ≡ opcode_of code }
     {

@@ -44,4 +44,13 @@ impl<'a> Reader<'a> {
         self.at += 8;
         value
     }
+
+    /// So many bytes that are not looked at.
+    pub(crate) fn skip(&mut self, count: usize)
+        requires { self.old.at + count ≤ length self.old.bytes.now }
+        ensures bytes { self.new.bytes.now ≡ self.old.bytes.now }
+        ensures at { self.new.at ≡ self.old.at + count }
+    {
+        self.at += count;
+    }
 }

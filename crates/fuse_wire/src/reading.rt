@@ -5,12 +5,12 @@ ghost use Rattle.fuse_wire.specs.Reading.{Gives, HasName, IsNamed, HasNoName, As
 
 use crate::header::{Header, read_header};
 use crate::layout::{
-    BATCH_FIXED, CREATE_FIXED, CREATE_MODE, FORGET_LEN, GETATTR_LEN, LINE_LEN, MKDIR_FIXED, MKDIR_MODE,
+    BATCH_FIXED, CREATE_FIXED, CREATE_MODE, FORGET_LEN, GETATTR_LEN, LINE_LEN, MKDIR_FIXED,
+    MKDIR_MODE,
 };
-use crate::mode;
 use crate::opcode::Opcode;
 use crate::reader::Reader;
-use crate::{Ask, Item, Items, Request, WireFault};
+use crate::{Ask, Item, Items, Request, WireFault, mode};
 use eden_base::{Name, NameFault, Number, Perm};
 use std::alloc::Global;
 

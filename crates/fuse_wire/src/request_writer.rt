@@ -7,8 +7,8 @@ ghost use Rattle.fuse_wire.specs.RequestText.{zeros, opcode, nodeid, IsSendable,
 
 use crate::header::Header;
 use crate::layout::{BATCH_FIXED, CREATE_FIXED, FORGET_LEN, GETATTR_LEN, LINE_LEN, MKDIR_FIXED};
-use crate::opcode::Opcode;
 use crate::mode::mode_of;
+use crate::opcode::Opcode;
 use crate::{Ask, Item, Items, Request};
 use byteorder::{ByteOrder, LittleEndian};
 use eden_base::{Kind, Name, NoMemory, Perm};
@@ -79,9 +79,8 @@ fn body_len(request: &Request) -> usize
     ensures at_most { result ≤ 4104 }
 {
     match request {
-        Request::Lookup { name, .. }
-        | Request::Unlink { name, .. }
-        | Request::Rmdir { name, .. } => name_len(name),
+        Request::Lookup { name, .. } | Request::Unlink { name, .. } | Request::Rmdir { name, .. } =>
+            name_len(name),
         Request::Create { name, .. } => CREATE_FIXED + name_len(name),
         Request::Mkdir { name, .. } => MKDIR_FIXED + name_len(name),
         Request::Getattr { .. } => GETATTR_LEN,
@@ -174,9 +173,8 @@ fn put_body(out: &mut Vec<u8>, request: &Request) -> Result<(), NoMemory>
     ensures { OnOk result (out.new.items ≡ out.old.items ++ body request.now) }
 {
     match request {
-        Request::Lookup { name, .. }
-        | Request::Unlink { name, .. }
-        | Request::Rmdir { name, .. } => put_name(out, name),
+        Request::Lookup { name, .. } | Request::Unlink { name, .. } | Request::Rmdir { name, .. } =>
+            put_name(out, name),
         Request::Create { name, perm, .. } => put_create(out, name, *perm),
         Request::Mkdir { name, perm, .. } => put_mkdir(out, name, *perm),
         Request::Getattr { .. } => put_16_zeros(out),
