@@ -1,6 +1,6 @@
 -- A reply that was written is read again as itself.
-use Rattle.std.proofs.Common.{rules, ◌≡◌, ℕ, ◌+◌, ◌-◌, ◌%◌, ◌^◌, ◌<◌, ◌≤◌, Bool, true, false, cond, List, [], ◌∷◌, ◌++◌, length, drop, Option, Some, None, Result, Ok, Err, refl, sym, ap, subst, ◌∙◌, append_assoc, length-append, arith}
-use Rattle.std.proofs.Math.Nat.{mod-eq_of_lt}
+use Rattle.std.proofs.Common.{◌≡◌, ℕ, ◌+◌, ◌-◌, ◌%◌, ◌^◌, ◌<◌, ◌≤◌, Bool, true, false, cond, List, [], ◌∷◌, ◌++◌, length, drop, Option, Some, None, Result, Ok, Err, refl, sym, ap, subst, ◌∙◌, ◌⊎◌, inl, inr, append_assoc, length-append, arith}
+use Rattle.std.proofs.Math.Bridge.{le_prop}
 use Rattle.std.proofs.lemmas.Bool.Decides.{nat_tests}
 use Rattle.std.proofs.lemmas.List.{append-nil, drop_at, drop-drop}
 use Rattle.eden_base.specs.declared.attr.Attr.{Attr}
@@ -23,9 +23,14 @@ use Rattle.fuse_wire.proofs.Lengths.{lengths, length-u32_bytes, length-u64_bytes
 
 -- ---- modes
 
+abbrev made_perm : (b : ℕ) → b ≤ 4095 → Perm
+made_perm b le = record { bits = b; in_range = le }
+
 -- permissions are their bits
 pub perm_ext : (p q : Perm) → p.bits ≡ q.bits → p ≡ q
-perm_ext p q e = search rules
+perm_ext p q e =
+    let P : ℕ → Type 0 = λ b. (le : b ≤ 4095) → p ≡ made_perm b le in
+    subst P e (λ le. ap (made_perm p.bits) (le_prop p.in_range le)) q.in_range
 
 kind_of_sum : (kind : Kind) (bits : ℕ) → bits ≤ 4095 → kind_of (type_bits kind + bits) ≡ kind
 kind_of_sum File bits le = grind (arith, nat_tests)
@@ -92,19 +97,132 @@ attributes_again number attr after fits =
       ap (λ (x : ℕ). made x (u64_at (drop 8 bytes)) (u32_at (drop 64 bytes))) mode_is ∙ ap (λ (x : ℕ). made (mode attr) x (u32_at (drop 64 bytes))) size_is ∙ ap (made (mode attr) attr.size) nlink_is in
     (ap (λ (x : ℕ). let n : Number = record { 0 = x } in n) n_is, same ∙ made_again attr)
 
--- ---- errors
+-- ---- whole replies
 
-pub errno_again : (errno : Errno) → errno_of (4294967296 - (4294967296 - errno_number errno)) ≡ Some errno
-errno_again ENOENT = refl
-errno_again EIO = refl
-errno_again ENOMEM = refl
-errno_again EEXIST = refl
-errno_again ENOTDIR = refl
-errno_again EISDIR = refl
-errno_again EINVAL = refl
-errno_again ENOSPC = refl
-errno_again ENAMETOOLONG = refl
-errno_again ENOSYS = refl
-errno_again ENOTEMPTY = refl
-errno_again EOVERFLOW = refl
-errno_again ESTALE = refl
+abbrev header_is : Reply → List ℕ
+header_is reply = reply_header (16 + length (payload reply.answer)) (error_word reply.answer) reply.unique
+
+pub payload_fits : (answer : Answer) → length (payload answer) ≤ 144
+payload_fits (Entry number attr) = grind (arith, lengths)
+payload_fits (Opened number attr) = grind (arith, lengths)
+payload_fits (Attrs number attr) = grind (arith, lengths)
+payload_fits Done = grind (arith, lengths)
+payload_fits (Error errno) = grind (arith, lengths)
+
+pub error_fits : (answer : Answer) → error_word answer < 2 ^ 32
+error_fits (Entry number attr) = omega arith
+error_fits (Opened number attr) = omega arith
+error_fits (Attrs number attr) = omega arith
+error_fits Done = omega arith
+error_fits (Error ENOENT) = omega arith
+error_fits (Error EIO) = omega arith
+error_fits (Error ENOMEM) = omega arith
+error_fits (Error EEXIST) = omega arith
+error_fits (Error ENOTDIR) = omega arith
+error_fits (Error EISDIR) = omega arith
+error_fits (Error EINVAL) = omega arith
+error_fits (Error ENOSPC) = omega arith
+error_fits (Error ENAMETOOLONG) = omega arith
+error_fits (Error ENOSYS) = omega arith
+error_fits (Error ENOTEMPTY) = omega arith
+error_fits (Error EOVERFLOW) = omega arith
+error_fits (Error ESTALE) = omega arith
+
+pub length-reply_text : (reply : Reply) → length (reply_text reply) ≡ 16 + length (payload reply.answer)
+length-reply_text reply =
+    omega (arith, length-append (header_is reply) (payload reply.answer), length-reply_header (16 + length (payload reply.answer)) (error_word reply.answer) reply.unique)
+
+-- the fields of the header
+pub record HeaderIs (reply : Reply) (bytes : List ℕ) : Type 0 where
+  pub len : u32_at bytes ≡ 16 + length (payload reply.answer)
+  pub error : u32_at (drop 4 bytes) ≡ error_word reply.answer
+  pub unique : u64_at (drop 8 bytes) ≡ reply.unique
+  pub rest : drop 16 bytes ≡ payload reply.answer
+
+pub header_again : (reply : Reply) → FitsReply reply → HeaderIs reply (reply_text reply)
+header_again reply fits =
+    let bytes = reply_text reply in
+    let rest = payload reply.answer in
+    let len = 16 + length rest in
+    let error = error_word reply.answer in
+    let r2 = u64_bytes reply.unique ++ rest in
+    let r1 = u32_bytes error ++ r2 in
+    let all : bytes ≡ u32_bytes len ++ r1 = simp append_assoc in
+    let at4 : drop 4 bytes ≡ r1 = behind bytes (u32_bytes len) r1 0 4 4 all (length-u32_bytes len) refl in
+    let at8 : drop 8 bytes ≡ r2 = behind bytes (u32_bytes error) r2 4 4 8 at4 (length-u32_bytes error) refl in
+    let at16 : drop 16 bytes ≡ rest = behind bytes (u64_bytes reply.unique) rest 8 8 16 at8 (length-u64_bytes reply.unique) refl in
+    let short : len < 2 ^ 32 = omega (arith, payload_fits reply.answer) in
+    record {
+      len = ap u32_at all ∙ u32_again len r1 short;
+      error = ap u32_at at4 ∙ u32_again error r2 (error_fits reply.answer);
+      unique = ap u64_at at8 ∙ u64_again reply.unique rest fits.0;
+      rest = at16;
+    }
+
+-- attributes at a place of a payload
+attributes_at : (bytes before : List ℕ) (number : Number) (attr : Attr) (after : List ℕ) (n k : ℕ) → drop 16 bytes ≡ before ++ (attributes number attr ++ after) → length before ≡ n → 16 + n ≡ k → FitsAttr number attr
+    → (number_at (drop k bytes) ≡ number) × (attr_at (drop k bytes) ≡ attr)
+attributes_at bytes before number attr after n k rest len is fits =
+    let there : drop k bytes ≡ attributes number attr ++ after = behind bytes before (attributes number attr ++ after) 16 n k rest len is in
+    rw there (attributes_again number attr after fits)
+
+failure_is : (errno : Errno) (bytes : List ℕ) → answer_at (error_word (Error errno)) bytes ≡ Some (Error errno)
+unfolding answer_at
+failure_is ENOENT bytes = refl
+failure_is EIO bytes = refl
+failure_is ENOMEM bytes = refl
+failure_is EEXIST bytes = refl
+failure_is ENOTDIR bytes = refl
+failure_is EISDIR bytes = refl
+failure_is EINVAL bytes = refl
+failure_is ENOSPC bytes = refl
+failure_is ENAMETOOLONG bytes = refl
+failure_is ENOSYS bytes = refl
+failure_is ENOTEMPTY bytes = refl
+failure_is EOVERFLOW bytes = refl
+failure_is ESTALE bytes = refl
+
+answer_is : (answer : Answer) (bytes : List ℕ) → FitsAnswer answer → length bytes ≡ 16 + length (payload answer) → drop 16 bytes ≡ payload answer → answer_at (error_word answer) bytes ≡ Some answer
+unfolding answer_at
+answer_is (Entry number attr) bytes fits len rest =
+    let regrouped : entry number attr ≡ (u64_bytes number.0 ++ zeros 32) ++ (attributes number attr ++ []) = ap (λ (t : List ℕ). (u64_bytes number.0 ++ zeros 32) ++ t) (sym (append-nil (attributes number attr))) in
+    let forty : length (u64_bytes number.0 ++ zeros 32) ≡ 40 = omega (arith, length-append (u64_bytes number.0) (zeros 32), length-u64_bytes number.0, length-zeros 32) in
+    let there = attributes_at bytes (u64_bytes number.0 ++ zeros 32) number attr [] 40 56 (rest ∙ regrouped) forty refl fits in
+    let long : length bytes ≡ 144 = omega (arith, length-append (u64_bytes number.0 ++ zeros 32) (attributes number attr), length-attributes number attr) in
+    rw (long, there.0, there.1) refl
+answer_is (Opened number attr) bytes fits len rest =
+    let regrouped : entry number attr ++ zeros 16 ≡ (u64_bytes number.0 ++ zeros 32) ++ (attributes number attr ++ zeros 16) = append_assoc (u64_bytes number.0 ++ zeros 32) (attributes number attr) (zeros 16) in
+    let forty : length (u64_bytes number.0 ++ zeros 32) ≡ 40 = omega (arith, length-append (u64_bytes number.0) (zeros 32), length-u64_bytes number.0, length-zeros 32) in
+    let there = attributes_at bytes (u64_bytes number.0 ++ zeros 32) number attr (zeros 16) 40 56 (rest ∙ regrouped) forty refl fits in
+    let long : length bytes ≡ 160 = omega (arith, length-append (entry number attr) (zeros 16), length-zeros 16, length-append (u64_bytes number.0 ++ zeros 32) (attributes number attr), length-attributes number attr) in
+    rw (long, there.0, there.1) refl
+answer_is (Attrs number attr) bytes fits len rest =
+    let regrouped : zeros 16 ++ attributes number attr ≡ zeros 16 ++ (attributes number attr ++ []) = ap (λ (t : List ℕ). zeros 16 ++ t) (sym (append-nil (attributes number attr))) in
+    let there = attributes_at bytes (zeros 16) number attr [] 16 32 (rest ∙ regrouped) (length-zeros 16) refl fits in
+    let long : length bytes ≡ 120 = omega (arith, length-append (zeros 16) (attributes number attr), length-zeros 16, length-attributes number attr) in
+    rw (long, there.0, there.1) refl
+answer_is Done bytes fits len rest = let long : length bytes ≡ 16 = omega arith in rw long refl
+answer_is (Error errno) bytes fits len rest = failure_is errno bytes
+
+-- a reply is its fields
+pub same_reply : (unique : ℕ) (answer : Answer) (reply : Reply) → unique ≡ reply.unique → answer ≡ reply.answer → record { unique = unique; answer = answer } ≡ reply
+same_reply unique answer reply e f =
+    ap (λ (u : ℕ). let r : Reply = record { unique = u; answer = answer } in r) e ∙ ap (λ (a : Answer). let r : Reply = record { unique = reply.unique; answer = a } in r) f
+
+-- what is read of the text of a reply
+pub record ReadAs (reply : Reply) (bytes : List ℕ) : Type 0 where
+  pub long : 16 ≤ length bytes
+  pub len : u32_at bytes ≡ length bytes
+  pub unique : u64_at (drop 8 bytes) ≡ reply.unique
+  pub answer : answer_at (u32_at (drop 4 bytes)) bytes ≡ Some reply.answer
+
+pub reply_again : (reply : Reply) (bytes : List ℕ) → FitsReply reply → bytes ≡ reply_text reply → ReadAs reply bytes
+reply_again reply bytes fits is =
+    let header : HeaderIs reply bytes = subst (HeaderIs reply) (sym is) (header_again reply fits) in
+    let len : length bytes ≡ 16 + length (payload reply.answer) = ap length is ∙ length-reply_text reply in
+    record {
+      long = omega arith;
+      len = header.len ∙ sym len;
+      unique = header.unique;
+      answer = ap (λ (e : ℕ). answer_at e bytes) header.error ∙ answer_is reply.answer bytes fits.1 len header.rest;
+    }
