@@ -1,5 +1,7 @@
+pub mod Bodies
 pub mod Fields
 pub mod Lengths
 pub mod Lines
 pub mod ReplyLaws
+pub mod Requests
 pub mod Written

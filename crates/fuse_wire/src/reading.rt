@@ -1,7 +1,8 @@
 //! Requests read from their bytes.
-ghost use Rattle.std.specs.Prelude.{◌≡◌, ◌≤◌, ◌+◌, ◌*◌, length};
+ghost use Rattle.std.specs.Prelude.{◌≡◌, ◌≤◌, ◌+◌, ◌*◌, length, IfOk, Ok};
 ghost use Rattle.fuse_wire.specs.Opcode.{opcode_of};
 ghost use Rattle.fuse_wire.specs.Reading.{Gives, HasName, IsNamed, HasNoName, AsksByName, name_of, made_of, forget_of, batch_of, items_at, what_of, lines_of, request_of, items_of};
+ghost use Rattle.fuse_wire.specs.RequestText.{IsRequestText, FitsAsk};
 
 use crate::header::{Header, read_header};
 use crate::layout::{
@@ -154,9 +155,20 @@ fn read_what(alloc: Global, header: Header, body: &[u8]) -> Result<Request, Wire
 }
 
 /// The request that the bytes are.
-#[tactic(auto, unfolding(crate::specs::Reading::request_of))]
 pub fn read_request(alloc: Global, bytes: &[u8]) -> Result<Ask, WireFault>
+    // What is read is spelled so.
+    ensures text { IfOk result (λ ask. IsRequestText ask bytes.now) }
+    // What is spelled so is read, unless memory for its name runs out.
+    ensures only { (ask : Ask) → FitsAsk ask → IsRequestText ask bytes.now → Gives AsksByName result (Ok ask) }
+    // Which fault it is.
     ensures exact { Gives AsksByName result (request_of bytes.now) }
+{
+    read_ask(alloc, bytes)
+}
+
+#[tactic(auto, unfolding(crate::specs::Reading::request_of))]
+fn read_ask(alloc: Global, bytes: &[u8]) -> Result<Ask, WireFault>
+    ensures { Gives AsksByName result (request_of bytes.now) }
 {
     let header = read_header(bytes)?;
     let (_, body) = bytes.split_at(Header::LEN);

@@ -1,9 +1,10 @@
 //! Requests as bytes, on the broker's side.
-ghost use Rattle.std.specs.Prelude.{◌≡◌, ◌≤◌, ◌++◌, ◌∷◌, [], OnOk, IfOk, length};
+ghost use Rattle.std.specs.Prelude.{◌≡◌, ◌≤◌, ◌++◌, ◌∷◌, [], OnOk, IfOk, Ok, length};
 ghost use Rattle.std.specs.List.{flat_map};
 ghost use Rattle.fuse_wire.specs.Field.{u32_bytes, u64_bytes};
 ghost use Rattle.fuse_wire.specs.Opcode.{code};
-ghost use Rattle.fuse_wire.specs.RequestText.{zeros, opcode, nodeid, IsSendable, name_text, create_body, mkdir_body, batch_body, line, body, header, request_text};
+ghost use Rattle.fuse_wire.specs.RequestText.{zeros, opcode, nodeid, IsSendable, name_text, create_body, mkdir_body, batch_body, line, body, header, request_text, IsRequestText};
+ghost use Rattle.fuse_wire.specs.Reading.{request_of};
 
 use crate::header::Header;
 use crate::layout::{BATCH_FIXED, CREATE_FIXED, FORGET_LEN, GETATTR_LEN, LINE_LEN, MKDIR_FIXED};
@@ -19,6 +20,8 @@ use std::alloc::Global;
 pub fn write_request(alloc: Global, ask: &Ask) -> Result<Vec<u8>, NoMemory>
     requires { IsSendable ask.now.what }
     ensures text { IfOk result (λ bytes. bytes.items ≡ request_text ask.now) }
+    ensures is_text { IfOk result (λ bytes. IsRequestText ask.now bytes.items) }
+    ensures read_again { IfOk result (λ bytes. request_of bytes.items ≡ Ok ask.now) }
 {
     let len = Header::LEN + body_len(&ask.what);
     let mut out = Vec::with_capacity(alloc, len)?;
