@@ -1,10 +1,11 @@
 -- The bodies of requests: what is read of one is spelled so, and what is spelled so is read.
-use Rattle.std.proofs.Common.{◌≡◌, ◌≢◌, ℕ, zero, suc, ◌+◌, ◌-◌, ◌*◌, ◌%◌, ◌^◌, ◌<◌, ◌≤◌, Bool, true, false, cond, not, ◌&&◌, ◌||◌, eqb, ltb, List, [], ◌∷◌, ◌++◌, length, take, drop, get_or, Option, Some, None, Result, Ok, Err, refl, sym, ap, subst, ◌∙◌, append_assoc, length-append, length-take, length-drop, drop-cons, arith}
+use Rattle.std.proofs.Common.{All, ◌≡◌, ◌≢◌, ℕ, zero, suc, ◌+◌, ◌-◌, ◌*◌, ◌%◌, ◌^◌, ◌<◌, ◌≤◌, Bool, true, false, cond, not, ◌&&◌, ◌||◌, eqb, ltb, List, [], ◌∷◌, ◌++◌, length, take, drop, get_or, Option, Some, None, Result, Ok, Err, refl, sym, ap, subst, ◌∙◌, append_assoc, length-append, length-take, length-drop, drop-cons, arith}
 use Rattle.std.specs.Prelude.{◌==◌, nat_lt, slice_index}
 use Rattle.std.specs.List.{flat_map, AllByRecursion}
 use Rattle.std.proofs.lemmas.Bool.{ltb-false, le-ltb, lt-ltb, eqb-true}
 use Rattle.std.proofs.lemmas.Bool.Decides.{nat_tests}
 use Rattle.std.proofs.lemmas.List.{append-nil, take-append-drop, drop-drop, drop_at, nil_from_length, take_at, drop_all, get_or-append_right}
+use Rattle.std.proofs.lemmas.List.Elements.{recursion_from_All}
 use Rattle.std.proofs.lemmas.List.Concat.{flat_map-cons}
 use Rattle.eden_base.specs.declared.attr.Perm.{Perm}
 use Rattle.eden_base.specs.declared.name.NameFault.{NameFault}
@@ -140,11 +141,11 @@ create_found body name perm are is =
     let word' : u32_bytes (u32_at second) ++ drop 8 body ≡ second = ap (λ (d : List ℕ). u32_bytes (u32_at second) ++ d) (sym (drop-drop 4 4 body)) ∙ word in
     let last : take 8 (drop 8 body) ++ drop 16 body ≡ drop 8 body = parted body 8 8 in
     let whole : (take 4 body ++ u32_bytes (u32_at second) ++ take 8 (drop 8 body)) ++ drop 16 body ≡ body =
-      append_assoc (take 4 body ++ u32_bytes (u32_at second)) (take 8 (drop 8 body)) (drop 16 body)
-      ∙ ap (λ (d : List ℕ). (take 4 body ++ u32_bytes (u32_at second)) ++ d) last
-      ∙ append_assoc (take 4 body) (u32_bytes (u32_at second)) (drop 8 body)
-      ∙ ap (λ (d : List ℕ). take 4 body ++ d) word'
-      ∙ take-append-drop 4 body in
+    append_assoc (take 4 body ++ u32_bytes (u32_at second)) (take 8 (drop 8 body)) (drop 16 body)
+    ∙ ap (λ (d : List ℕ). (take 4 body ++ u32_bytes (u32_at second)) ++ d) last
+    ∙ append_assoc (take 4 body) (u32_bytes (u32_at second)) (drop 8 body)
+    ∙ ap (λ (d : List ℕ). take 4 body ++ d) word'
+    ∙ take-append-drop 4 body in
     record {
       flags = take 4 body;
       mode = u32_at second;
@@ -177,7 +178,7 @@ mkdir_found body name perm are is =
     let word = u32_front body are (omega (arith, is.long)) in
     let last : take 4 (drop 4 body) ++ drop 8 body ≡ drop 4 body = parted body 4 4 in
     let whole : (u32_bytes (u32_at body) ++ take 4 (drop 4 body)) ++ drop 8 body ≡ body =
-      append_assoc (u32_bytes (u32_at body)) (take 4 (drop 4 body)) (drop 8 body) ∙ ap (λ (d : List ℕ). u32_bytes (u32_at body) ++ d) last ∙ word in
+    append_assoc (u32_bytes (u32_at body)) (take 4 (drop 4 body)) (drop 8 body) ∙ ap (λ (d : List ℕ). u32_bytes (u32_at body) ++ d) last ∙ word in
     record {
       mode = u32_at body;
       others = take 4 (drop 4 body);
@@ -231,7 +232,7 @@ lines_found (suc n) bytes are len =
     let k = u64_front (drop 8 bytes) (AreBytes-drop 8 bytes are) (omega (arith, length-drop 8 bytes)) in
     let k' : u64_bytes (u64_at (drop 8 bytes)) ++ drop 16 bytes ≡ drop 8 bytes = ap (λ (d : List ℕ). u64_bytes (u64_at (drop 8 bytes)) ++ d) (sym (drop-drop 8 8 bytes)) ∙ k in
     let whole : line first ++ drop 16 bytes ≡ bytes =
-      append_assoc (u64_bytes (u64_at bytes)) (u64_bytes (u64_at (drop 8 bytes))) (drop 16 bytes) ∙ ap (λ (d : List ℕ). u64_bytes (u64_at bytes) ++ d) k' ∙ node in
+    append_assoc (u64_bytes (u64_at bytes)) (u64_bytes (u64_at (drop 8 bytes))) (drop 16 bytes) ∙ ap (λ (d : List ℕ). u64_bytes (u64_at bytes) ++ d) k' ∙ node in
     (flat_map-cons line first (items_at n (drop 16 bytes)) ∙ ap (λ (d : List ℕ). line first ++ d) ih.0 ∙ whole, ap suc ih.1)
 
 pub lines_again : (items : List Item) → AllByRecursion FitsItem items → items_at (length items) (flat_map line items) ≡ items
@@ -244,8 +245,8 @@ lines_again (item ∷ items) fits =
     let all : bytes ≡ u64_bytes item.node.0 ++ r1 = flat_map-cons line item items ∙ append_assoc (u64_bytes item.node.0) (u64_bytes item.k) rest in
     let at8 : drop 8 bytes ≡ r1 = behind bytes (u64_bytes item.node.0) r1 0 8 8 all (length-u64_bytes item.node.0) refl in
     let at16 : drop 16 bytes ≡ rest = behind bytes (u64_bytes item.k) rest 8 8 16 at8 (length-u64_bytes item.k) refl in
-    let node : u64_at bytes ≡ item.node.0 = ap u64_at all ∙ u64_again item.node.0 r1 fits.0.0 in
-    let k : u64_at (drop 8 bytes) ≡ item.k = ap u64_at at8 ∙ u64_again item.k rest fits.0.1 in
+    let node : u64_at bytes ≡ item.node.0 = ap u64_at all ∙ u64_again item.node.0 r1 fits.0.node_fits in
+    let k : u64_at (drop 8 bytes) ≡ item.k = ap u64_at at8 ∙ u64_again item.k rest fits.0.k_fits in
     let made : ℕ → ℕ → List ℕ → List Item = λ m n bs. record { node = record { 0 = m }; k = n } ∷ items_at (length items) bs in
     ap (λ (m : ℕ). made m (u64_at (drop 8 bytes)) (drop 16 bytes)) node ∙ ap (λ (n : ℕ). made item.node.0 n (drop 16 bytes)) k ∙ ap (λ (bs : List ℕ). made item.node.0 item.k bs) at16
     ∙ ap (λ (is : List Item). item ∷ is) (lines_again items fits.1)
@@ -265,7 +266,7 @@ batch_found body items are e =
     let word = u32_front body are (omega arith) in
     let last : take 4 (drop 4 body) ++ drop 8 body ≡ drop 4 body = parted body 4 4 in
     let whole : (u32_bytes count ++ take 4 (drop 4 body)) ++ drop 8 body ≡ body =
-      append_assoc (u32_bytes count) (take 4 (drop 4 body)) (drop 8 body) ∙ ap (λ (d : List ℕ). u32_bytes count ++ d) last ∙ word in
+    append_assoc (u32_bytes count) (take 4 (drop 4 body)) (drop 8 body) ∙ ap (λ (d : List ℕ). u32_bytes count ++ d) last ∙ word in
     record {
       others = take 4 (drop 4 body);
       four = omega (arith, length-take 4 (drop 4 body), length-drop 4 body);
@@ -273,7 +274,7 @@ batch_found body items are e =
       parts = sym whole ∙ ap (λ (d : List ℕ). (u32_bytes count ++ take 4 (drop 4 body)) ++ d) (sym lines.0 ∙ ap (flat_map line) same) ∙ ap (λ (n : ℕ). (u32_bytes n ++ take 4 (drop 4 body)) ++ flat_map line items) many;
     }
 
-pub batch_again : (body : List ℕ) (items : List Item) → AllByRecursion FitsItem items → IsBatchBody items body → batch_of body ≡ Ok items
+pub batch_again : (body : List ℕ) (items : List Item) → All FitsItem items → IsBatchBody items body → batch_of body ≡ Ok items
 unfolding batch_of
 batch_again body items fits is =
     let n = length items in
@@ -287,5 +288,5 @@ batch_again body items fits is =
     let long : ltb (length body) 8 ≡ false = le-ltb _ _ (omega arith) in
     let small : ltb 256 n ≡ false = le-ltb _ _ is.at_most in
     let exact : eqb (length body) (8 + 16 * n) ≡ true = yes_eq _ _ len in
-    let items_are : items_at n (drop 8 body) ≡ items = ap (items_at n) at8 ∙ lines_again items fits in
+    let items_are : items_at n (drop 8 body) ≡ items = ap (items_at n) at8 ∙ lines_again items (recursion_from_All FitsItem items fits) in
     rw (count, long, small, exact, items_are) refl

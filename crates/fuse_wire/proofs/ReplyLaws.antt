@@ -94,7 +94,7 @@ attributes_again number attr after fits =
     let mode_is : u32_at (drop 60 bytes) ≡ mode attr = ap u32_at at60 ∙ u32_again (mode attr) r4 (mode_fits attr) in
     let nlink_is : u32_at (drop 64 bytes) ≡ attr.nlink = ap u32_at at64 ∙ u32_again attr.nlink r5 fits.nlink_fits in
     let same : made (u32_at (drop 60 bytes)) (u64_at (drop 8 bytes)) (u32_at (drop 64 bytes)) ≡ made (mode attr) attr.size attr.nlink =
-      ap (λ (x : ℕ). made x (u64_at (drop 8 bytes)) (u32_at (drop 64 bytes))) mode_is ∙ ap (λ (x : ℕ). made (mode attr) x (u32_at (drop 64 bytes))) size_is ∙ ap (made (mode attr) attr.size) nlink_is in
+    ap (λ (x : ℕ). made x (u64_at (drop 8 bytes)) (u32_at (drop 64 bytes))) mode_is ∙ ap (λ (x : ℕ). made (mode attr) x (u32_at (drop 64 bytes))) size_is ∙ ap (made (mode attr) attr.size) nlink_is in
     (ap (λ (x : ℕ). let n : Number = record { 0 = x } in n) n_is, same ∙ made_again attr)
 
 -- ---- whole replies

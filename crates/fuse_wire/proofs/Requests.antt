@@ -20,7 +20,7 @@ use Rattle.fuse_wire.specs.declared.opcode.Opcode.TheVariants.{Lookup, Forget, G
 use Rattle.fuse_wire.specs.Field.{u32_bytes, u64_bytes, u32_at, u64_at}
 use Rattle.fuse_wire.specs.Opcode.{code, opcode_of}
 use Rattle.fuse_wire.specs.Reading.{◌>>=◌, Gives, AsksByName, body_of, fields_of, header_of, name_of, made_of, batch_of, forget_of, what_of, request_of}
-use Rattle.fuse_wire.specs.RequestText.{opcode, nodeid, header, IsBody, IsNodeid, IsRequestText, FitsBody, FitsAsk}
+use Rattle.fuse_wire.specs.RequestText.{opcode, nodeid, header, IsBody, IsNodeid, IsRequestText, IsSendable, FitsBody, FitsAsk}
 use Rattle.fuse_wire.proofs.Bodies.{bind_ok, guard_ok, test_ok, done, ok_is, yes_eq, parted, pair, name_found, name_again, made_found, made_again, create_found, create_again, mkdir_found, mkdir_again, forget_found, forget_again, batch_found, batch_again}
 use Rattle.fuse_wire.proofs.Fields.{AreBytes, AreBytes-drop, u32_again, u64_again, u32_below, u64_below, u32_front, u64_front}
 use Rattle.fuse_wire.proofs.Lengths.{length-u32_bytes, length-u64_bytes}
@@ -199,10 +199,26 @@ request_again ask bytes fits is =
     let node : Number = record { 0 = u64_at (drop 16 bytes) } in
     let node_is : IsNodeid ask.what node.0 = nodeid_read ask.what is.node node.0 r4 fits.nodeid_fits is.is_nodeid (ap u64_at at16) in
     let what : what_of (opcode_of (u32_at (drop 4 bytes))) node (drop 40 bytes) ≡ Ok ask.what =
-      ap (λ (k : ℕ). what_of (opcode_of k) node (drop 40 bytes)) code_is ∙ ap (λ (o : Opcode). what_of o node (drop 40 bytes)) (opcode_again ask.what is.rest is.is_body) ∙ ap (what_of (opcode ask.what) node) at40 ∙ what_again ask.what node is.rest fits.body_fits node_is is.is_body in
+    ap (λ (k : ℕ). what_of (opcode_of k) node (drop 40 bytes)) code_is ∙ ap (λ (o : Opcode). what_of o node (drop 40 bytes)) (opcode_again ask.what is.rest is.is_body) ∙ ap (what_of (opcode ask.what) node) at40 ∙ what_again ask.what node is.rest fits.body_fits node_is is.is_body in
     rw (long, same, what, unique_is) refl
 
 -- what a call read is spelled so
 pub is_text : (bytes : List ℕ) (r : Result Ask WireFault) → AreBytes bytes → Gives AsksByName r (request_of bytes) → IfOk r (λ ask. IsRequestText ask bytes)
 is_text bytes (Ok ask) are given = request_found bytes ask are given
 is_text bytes (Err fault) are given = tt
+
+-- what has a body may be sent
+is_sendable : (what : Request) (body : List ℕ) → IsBody what body → IsSendable what
+is_sendable (requests.Lookup dir name) body is = tt
+is_sendable (requests.Getattr node) body is = tt
+is_sendable (requests.Create dir name perm) body is = tt
+is_sendable (requests.Mkdir dir name perm) body is = tt
+is_sendable (requests.Unlink dir name) body is = tt
+is_sendable (requests.Rmdir dir name) body is = tt
+is_sendable (requests.Forget item) body is = tt
+is_sendable (requests.BatchForget items) body is = tt
+is_sendable (requests.Other n node) body is = is
+
+pub may_be_sent : (bytes : List ℕ) (r : Result Ask WireFault) → IfOk r (λ ask. IsRequestText ask bytes) → IfOk r (λ ask. IsSendable ask.what)
+may_be_sent bytes (Ok ask) text = is_sendable ask.what text.rest text.is_body
+may_be_sent bytes (Err fault) text = tt

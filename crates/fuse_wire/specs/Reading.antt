@@ -37,10 +37,10 @@ body_of bytes = drop 40 bytes
 -- its fields behind the length
 unfoldable pub fields_of : List ℕ → Header
 fields_of bytes = record {
-    opcode = u32_at (drop 4 bytes);
-    unique = u64_at (drop 8 bytes);
-    node = record { 0 = u64_at (drop 16 bytes) };
-  }
+  opcode = u32_at (drop 4 bytes);
+  unique = u64_at (drop 8 bytes);
+  node = record { 0 = u64_at (drop 16 bytes) };
+}
 
 unfoldable pub header_of : List ℕ → Result Header WireFault
 header_of bytes =

@@ -1,7 +1,7 @@
 -- The bytes of a request (linux/fuse.h: fuse_in_header, and the struct of each opcode): as they are written, where
 -- what no reader looks at is 0, and all the bytes that are read as a request.
-use Rattle.std.specs.Prelude.{◌≡◌, ◌<◌, ◌≤◌, ◌^◌, ◌+◌, ◌%◌, ℕ, List, [], ◌∷◌, ◌++◌, length, replicate}
-use Rattle.std.specs.List.{flat_map, AllByRecursion}
+use Rattle.std.specs.Prelude.{All, ◌≡◌, ◌<◌, ◌≤◌, ◌^◌, ◌+◌, ◌%◌, ℕ, List, [], ◌∷◌, ◌++◌, length, replicate}
+use Rattle.std.specs.List.{flat_map}
 use Rattle.eden_base.specs.declared.attr.Perm.{Perm}
 use Rattle.eden_base.specs.declared.number.Number.{Number}
 use Rattle.eden_base.specs.Name.{IsNameText}
@@ -149,12 +149,13 @@ pub record IsRequestText (ask : Ask) (bytes : List ℕ) : Type 0 where
 
 -- ---- numbers of the sizes that their fields have
 
-abbrev pub FitsItem : Item → Type 0
-FitsItem item = (item.node.0 < 2 ^ 64) × (item.k < 2 ^ 64)
+pub record FitsItem (item : Item) : Type 0 where
+  pub node_fits : item.node.0 < 2 ^ 64
+  pub k_fits : item.k < 2 ^ 64
 
 abbrev pub FitsBody : Request → Type 0
 FitsBody (Forget item) = item.k < 2 ^ 64
-FitsBody (BatchForget items) = AllByRecursion FitsItem items
+FitsBody (BatchForget items) = All FitsItem items
 FitsBody request = Unit {0}
 
 pub record FitsAsk (ask : Ask) : Type 0 where

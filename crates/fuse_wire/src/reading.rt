@@ -2,7 +2,7 @@
 ghost use Rattle.std.specs.Prelude.{◌≡◌, ◌≤◌, ◌+◌, ◌*◌, length, IfOk, Ok};
 ghost use Rattle.fuse_wire.specs.Opcode.{opcode_of};
 ghost use Rattle.fuse_wire.specs.Reading.{Gives, HasName, IsNamed, HasNoName, AsksByName, name_of, made_of, forget_of, batch_of, items_at, what_of, lines_of, request_of, items_of};
-ghost use Rattle.fuse_wire.specs.RequestText.{IsRequestText, FitsAsk};
+ghost use Rattle.fuse_wire.specs.RequestText.{IsRequestText, IsSendable, FitsAsk};
 
 use crate::header::{Header, read_header};
 use crate::layout::{
@@ -160,6 +160,7 @@ pub fn read_request(alloc: Global, bytes: &[u8]) -> Result<Ask, WireFault>
     ensures text { IfOk result (λ ask. IsRequestText ask bytes.now) }
     // What is spelled so is read, unless memory for its name runs out.
     ensures only { (ask : Ask) → FitsAsk ask → IsRequestText ask bytes.now → Gives AsksByName result (Ok ask) }
+    ensures sendable { IfOk result (λ ask. IsSendable ask.what) }
     // Which fault it is.
     ensures exact { Gives AsksByName result (request_of bytes.now) }
 {

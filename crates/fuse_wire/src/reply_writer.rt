@@ -1,8 +1,8 @@
 //! Replies as bytes.
-ghost use Rattle.std.specs.Prelude.{◌≡◌, ◌++◌, ◌+◌, ◌≤◌, length, take, drop};
+ghost use Rattle.std.specs.Prelude.{◌<◌, ◌^◌, ◌≡◌, ◌++◌, ◌+◌, ◌≤◌, length, take, drop};
 ghost use Rattle.fuse_wire.specs.Field.{u32_bytes, u64_bytes};
 ghost use Rattle.fuse_wire.specs.RequestText.{zeros};
-ghost use Rattle.fuse_wire.specs.ReplyText.{error_word, mode, attributes, entry, payload, reply_header, reply_text};
+ghost use Rattle.fuse_wire.specs.ReplyText.{error_word, mode, attributes, entry, payload, reply_header, reply_text, FitsAttr, FitsAnswer, FitsReply};
 ghost use Rattle.fuse_wire.specs.Writing.{Writes};
 
 use crate::errno::error_word;
@@ -19,6 +19,8 @@ use eden_base::{Attr, Number};
 pub fn write_reply(reply: &Reply, out: &mut [u8; 160]) -> usize
     ensures text { out.new ≡ reply_text reply.now ++ drop result out.old }
     ensures len { result ≡ length (reply_text reply.now) }
+    // With this `read_reply` gives the reply back.
+    ensures fits { FitsReply reply.now }
 {
     let len = REPLY_HEADER_LEN + payload_len(&reply.answer);
     let at = put_header(out, len as u32, reply);
@@ -29,6 +31,7 @@ pub fn write_reply(reply: &Reply, out: &mut [u8; 160]) -> usize
 fn put_header(out: &mut [u8; 160], len: u32, reply: &Reply) -> usize
     ensures field { Writes out.old out.new 0 (reply_header len (error_word reply.now.answer) reply.now.unique) }
     ensures after { result ≡ 16 }
+    ensures fits { reply.now.unique < 2 ^ 64 }
 {
     let at = put_u32(out, 0, len);
     let at = put_u32(out, at, error_word(&reply.answer));
@@ -55,6 +58,7 @@ fn put_payload(out: &mut [u8; 160], at: usize, answer: &Answer) -> usize
     requires { at ≡ 16 }
     ensures field { Writes out.old out.new at (payload answer.now) }
     ensures after { result ≡ at + length (payload answer.now) }
+    ensures fits { FitsAnswer answer.now }
 {
     match answer {
         Answer::Entry { number, attr } => put_entry(out, at, *number, attr),
@@ -76,6 +80,7 @@ fn put_entry(out: &mut [u8; 160], at: usize, number: Number, attr: &Attr) -> usi
     requires { at + 128 ≤ 160 }
     ensures field { Writes out.old out.new at (entry number attr.now) }
     ensures after { result ≡ at + 128 }
+    ensures fits { FitsAttr number attr.now }
 {
     let at = put_u64(out, at, number.0);
     let at = put_zeros(out, at, VALID_LEN);
@@ -88,6 +93,7 @@ fn put_attributes(out: &mut [u8; 160], at: usize, number: Number, attr: &Attr) -
     requires { at + 88 ≤ 160 }
     ensures field { Writes out.old out.new at (attributes number attr.now) }
     ensures after { result ≡ at + 88 }
+    ensures fits { FitsAttr number attr.now }
 {
     let at = put_u64(out, at, number.0);
     let at = put_u64(out, at, attr.size);

@@ -1,9 +1,10 @@
 //! Requests as bytes, on the broker's side.
-ghost use Rattle.std.specs.Prelude.{◌≡◌, ◌≤◌, ◌++◌, ◌∷◌, [], OnOk, IfOk, Ok, length};
+ghost use Rattle.std.specs.Prelude.{All, ◌<◌, ◌^◌, ◌≡◌, ◌≤◌, ◌++◌, ◌∷◌, [], OnOk, IfOk, Ok, length};
 ghost use Rattle.std.specs.List.{flat_map};
 ghost use Rattle.fuse_wire.specs.Field.{u32_bytes, u64_bytes};
 ghost use Rattle.fuse_wire.specs.Opcode.{code};
-ghost use Rattle.fuse_wire.specs.RequestText.{zeros, opcode, nodeid, IsSendable, name_text, create_body, mkdir_body, batch_body, line, body, header, request_text, IsRequestText};
+ghost use Rattle.fuse_wire.specs.RequestText.{zeros, opcode, nodeid, IsSendable, name_text, create_body, mkdir_body, batch_body, line, body, header, request_text, IsBody, IsRequestText, FitsBody, FitsItem};
+ghost use Rattle.eden_base.specs.Name.{IsNameText};
 ghost use Rattle.fuse_wire.specs.Reading.{request_of};
 
 use crate::header::Header;
@@ -24,21 +25,29 @@ pub fn write_request(alloc: Global, ask: &Ask) -> Result<Vec<u8>, NoMemory>
     ensures read_again { IfOk result (λ bytes. request_of bytes.items ≡ Ok ask.now) }
 {
     let len = Header::LEN + body_len(&ask.what);
+    let code = opcode_of(&ask.what).code();
     let mut out = Vec::with_capacity(alloc, len)?;
-    put_header(&mut out, len as u32, ask)?;
+    put_header(&mut out, len as u32, code, ask.unique, nodeid(&ask.what))?;
     put_body(&mut out, &ask.what)?;
     Ok(out)
 }
 
 /// The header (`struct fuse_in_header`).
 #[tactic(auto, using(std::proofs::Common::append_assoc))]
-fn put_header(out: &mut Vec<u8>, len: u32, ask: &Ask) -> Result<(), NoMemory>
-    ensures { OnOk result (out.new.items ≡ out.old.items ++ (header len (code (opcode ask.now.what)) ask.now.unique (nodeid ask.now.what) ++ zeros 16)) }
+fn put_header(
+    out: &mut Vec<u8>,
+    len: u32,
+    code: u32,
+    unique: u64,
+    node: u64,
+) -> Result<(), NoMemory>
+    ensures header { OnOk result (out.new.items ≡ out.old.items ++ (header len code unique node ++ zeros 16)) }
+    ensures fits { unique < 2 ^ 64 }
 {
     put_u32(out, len)?;
-    put_u32(out, opcode_of(&ask.what).code())?;
-    put_u64(out, ask.unique)?;
-    put_u64(out, nodeid(&ask.what))?;
+    put_u32(out, code)?;
+    put_u64(out, unique)?;
+    put_u64(out, node)?;
     put_16_zeros(out)?;
     Ok(())
 }
@@ -76,10 +85,11 @@ fn nodeid(request: &Request) -> u64
 }
 
 /// How long what follows the header is.
-#[tactic(auto, using(crate::proofs::Lengths::lengths))]
+#[tactic(auto, using(crate::proofs::Lengths::lengths, crate::proofs::OwnTexts::own_bodies))]
 fn body_len(request: &Request) -> usize
     ensures len { result ≡ length (body request.now) }
     ensures at_most { result ≤ 4104 }
+    ensures is_body { IsSendable request.now → IsBody request.now (body request.now) }
 {
     match request {
         Request::Lookup { name, .. } | Request::Unlink { name, .. } | Request::Rmdir { name, .. } =>
@@ -88,9 +98,19 @@ fn body_len(request: &Request) -> usize
         Request::Mkdir { name, .. } => MKDIR_FIXED + name_len(name),
         Request::Getattr { .. } => GETATTR_LEN,
         Request::Forget(_) => FORGET_LEN,
-        Request::BatchForget(items) => BATCH_FIXED + LINE_LEN * items.len(),
+        Request::BatchForget(items) => BATCH_FIXED + lines_len(items.as_slice()),
         Request::Other { .. } => 0,
     }
+}
+
+/// How long the lines of a batch are.
+#[tactic(auto, using(crate::proofs::Lengths::lengths))]
+fn lines_len(items: &[Item]) -> usize
+    requires { length items.now ≤ 256 }
+    ensures len { result ≡ length (flat_map line items.now) }
+    ensures at_most { result ≤ 4096 }
+{
+    LINE_LEN * items.len()
 }
 
 /// How long a name and its NUL are.
@@ -98,6 +118,7 @@ fn body_len(request: &Request) -> usize
 fn name_len(name: &Name) -> usize
     ensures len { result ≡ length (name_text name.now) }
     ensures at_most { result ≤ 256 }
+    ensures is_name { IsNameText name.now }
 {
     name.bytes().len() + 1
 }
@@ -155,7 +176,8 @@ fn put_name(out: &mut Vec<u8>, name: &Name) -> Result<(), NoMemory>
 }
 
 fn put_lines(out: &mut Vec<u8>, items: &[Item]) -> Result<(), NoMemory>
-    ensures { OnOk result (out.new.items ≡ out.old.items ++ flat_map line items.now) }
+    ensures lines { OnOk result (out.new.items ≡ out.old.items ++ flat_map line items.now) }
+    ensures fits { OnOk result (All FitsItem items.now) }
 {
     for item in items {
         put_line(out, *item)?;
@@ -164,7 +186,8 @@ fn put_lines(out: &mut Vec<u8>, items: &[Item]) -> Result<(), NoMemory>
 }
 
 fn put_line(out: &mut Vec<u8>, item: Item) -> Result<(), NoMemory>
-    ensures { OnOk result (out.new.items ≡ out.old.items ++ line item) }
+    ensures line { OnOk result (out.new.items ≡ out.old.items ++ line item) }
+    ensures fits { FitsItem item }
 {
     put_u64(out, item.node.0)?;
     put_u64(out, item.k)?;
@@ -173,7 +196,8 @@ fn put_line(out: &mut Vec<u8>, item: Item) -> Result<(), NoMemory>
 
 /// What follows the header.
 fn put_body(out: &mut Vec<u8>, request: &Request) -> Result<(), NoMemory>
-    ensures { OnOk result (out.new.items ≡ out.old.items ++ body request.now) }
+    ensures body { OnOk result (out.new.items ≡ out.old.items ++ body request.now) }
+    ensures fits { OnOk result (FitsBody request.now) }
 {
     match request {
         Request::Lookup { name, .. } | Request::Unlink { name, .. } | Request::Rmdir { name, .. } =>
@@ -208,7 +232,8 @@ fn put_mkdir(out: &mut Vec<u8>, name: &Name, perm: Perm) -> Result<(), NoMemory>
 
 /// The count and a padding, then the lines (`struct fuse_batch_forget_in`).
 fn put_batch(out: &mut Vec<u8>, items: &Items) -> Result<(), NoMemory>
-    ensures { OnOk result (out.new.items ≡ out.old.items ++ batch_body items.now) }
+    ensures body { OnOk result (out.new.items ≡ out.old.items ++ batch_body items.now) }
+    ensures fits { OnOk result (All FitsItem items.now) }
 {
     put_u32(out, items.len() as u32)?;
     put_4_zeros(out)?;
