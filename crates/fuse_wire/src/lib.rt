@@ -26,3 +26,8 @@ pub use reply::{Answer, Reply};
 pub use reply_reader::read_reply;
 pub use reply_writer::write_reply;
 pub use request_writer::write_request;
+
+#[cfg(test)]
+mod tests;
+#[cfg(test)]
+mod vectors;
