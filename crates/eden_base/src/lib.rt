@@ -16,3 +16,6 @@ pub use name::{Name, NameFault};
 pub use name_room::NameRoom;
 pub use number::{DaemonId, FileId, Number};
 pub use place::Place;
+
+#[cfg(test)]
+mod tests;

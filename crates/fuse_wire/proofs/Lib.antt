@@ -1,5 +1,6 @@
 pub mod Bodies
 pub mod Fields
+pub mod Forgets
 pub mod Lengths
 pub mod Lines
 pub mod OwnTexts

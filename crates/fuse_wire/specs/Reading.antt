@@ -116,6 +116,16 @@ items_of bytes = do
   header ← header_of bytes
   lines_of (opcode_of header.opcode) header.node (body_of bytes)
 
+-- the lines of a request that is a forget
+abbrev pub lines_told : Request → Result (List Item) WireFault
+lines_told (requests.Forget item) = Ok (item ∷ [])
+lines_told (requests.BatchForget items) = Ok items
+lines_told request = Err BadBody
+
+-- the bytes are a forget of these lines
+abbrev pub IsForgetOf : List ℕ → List Item → Type 0
+IsForgetOf bytes items = (ask : Ask) × (request_of bytes ≡ Ok ask) × (lines_told ask.what ≡ Ok items)
+
 -- ---- what takes memory
 
 -- a name is all that takes memory

@@ -1,7 +1,7 @@
 //! Requests read from their bytes.
 ghost use Rattle.std.specs.Prelude.{◌≡◌, ◌≤◌, ◌+◌, ◌*◌, length, IfOk, Ok};
 ghost use Rattle.fuse_wire.specs.Opcode.{opcode_of};
-ghost use Rattle.fuse_wire.specs.Reading.{Gives, HasName, IsNamed, HasNoName, AsksByName, name_of, made_of, forget_of, batch_of, items_at, what_of, lines_of, request_of, items_of};
+ghost use Rattle.fuse_wire.specs.Reading.{Gives, HasName, IsNamed, HasNoName, AsksByName, name_of, made_of, forget_of, batch_of, items_at, what_of, lines_of, request_of, items_of, lines_told, IsForgetOf};
 ghost use Rattle.fuse_wire.specs.RequestText.{IsRequestText, IsSendable, FitsAsk};
 
 use crate::header::{Header, read_header};
@@ -181,9 +181,20 @@ fn read_ask(alloc: Global, bytes: &[u8]) -> Result<Ask, WireFault>
 }
 
 /// The lines of a forget of either form. Any other request is `BadBody`. It takes no memory.
-#[tactic(auto, unfolding(crate::specs::Reading::items_of, crate::specs::Reading::lines_of))]
 pub fn read_items(bytes: &[u8]) -> Result<Items, WireFault>
+    // What is read are the lines of the forget that the bytes are.
+    ensures forget { IfOk result (IsForgetOf bytes.now) }
+    // Of each request its lines are read.
+    ensures only { (ask : Ask) → request_of bytes.now ≡ Ok ask → result ≡ lines_told ask.what }
+    // Which fault it is.
     ensures exact { result ≡ items_of bytes.now }
+{
+    read_lines_of(bytes)
+}
+
+#[tactic(auto, unfolding(crate::specs::Reading::items_of, crate::specs::Reading::lines_of))]
+fn read_lines_of(bytes: &[u8]) -> Result<Items, WireFault>
+    ensures { result ≡ items_of bytes.now }
 {
     let header = read_header(bytes)?;
     let (_, body) = bytes.split_at(Header::LEN);
