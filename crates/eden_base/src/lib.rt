@@ -5,6 +5,7 @@ mod attr;
 mod errno;
 mod memory;
 mod name;
+mod name_room;
 mod number;
 mod place;
 
@@ -12,5 +13,9 @@ pub use attr::{Attr, Kind, Perm};
 pub use errno::Errno;
 pub use memory::NoMemory;
 pub use name::{Name, NameFault};
+pub use name_room::NameRoom;
 pub use number::{DaemonId, FileId, Number};
 pub use place::Place;
+
+#[cfg(test)]
+mod tests;

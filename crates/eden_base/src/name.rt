@@ -7,7 +7,7 @@ ghost use Rattle.std.specs.Cmp.{partial_equiv_from_equiv};
 ghost use Rattle.std.proofs.Common.{refl};
 ghost use Rattle.eden_base.specs.Name.{is_separator, is_dots, name_fault, IsNameText, IsNameRefusal};
 
-use crate::NoMemory;
+use crate::{NameRoom, NoMemory};
 use std::alloc::Global;
 use std::cmp::Ordering;
 use std::marker::Model;
@@ -75,6 +75,15 @@ impl Name {
             Ok(bytes) => Ok(Name { bytes }),
             Err(_refused) => Err(NoMemory),
         }
+    }
+
+    /// The same name, in memory that was taken before.
+    pub fn copy_to(&self, room: NameRoom) -> Name
+        ensures copy { result ≡ self.now }
+    {
+        let NameRoom { mut bytes } = room;
+        bytes.extend_from_slice(self.bytes.as_slice()).unwrap();
+        Name { bytes }
     }
 
     /// Whether the two are one name, byte for byte.

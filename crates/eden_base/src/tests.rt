@@ -1,0 +1,57 @@
+//! Names of all kinds, limits, and that calls succeed.
+use super::*;
+use std::alloc::Global;
+use std::test::Fail;
+
+/// The fault of bytes that are no name.
+fn fault_of(alloc: Global, bytes: &[u8]) -> Option<NameFault> {
+    match Name::parse(alloc, bytes) {
+        Ok(_) => None,
+        Err(fault) => Some(fault),
+    }
+}
+
+#[test]
+fn refuses_what_is_no_name(rt: HostRuntime) {
+    let alloc = rt.alloc();
+    let long = [b'n'; 256];
+    for (bytes, fault) in [
+        (b"".as_slice(), NameFault::Empty),
+        (long.as_slice(), NameFault::TooLong),
+        (b"a/b".as_slice(), NameFault::BadByte),
+        (b"a\0b".as_slice(), NameFault::BadByte),
+        (b".".as_slice(), NameFault::Dots),
+        (b"..".as_slice(), NameFault::Dots),
+    ] {
+        assert_eq!(rt; fault_of(alloc, bytes), Some(fault));
+    }
+}
+
+#[test]
+fn copies_a_name(rt: HostRuntime) -> Result<(), Fail> {
+    let alloc = rt.alloc();
+    let longest = [b'n'; 255];
+    for bytes in [b"...".as_slice(), longest.as_slice()] {
+        let name = Name::parse(alloc, bytes)?;
+        assert_eq!(rt; name.bytes(), bytes);
+        assert!(rt; name.copy(alloc)?.is(&name));
+        assert!(rt; name.copy_to(NameRoom::new(alloc)?) == name);
+    }
+    Ok(())
+}
+
+#[test]
+fn orders_names_by_bytes(rt: HostRuntime) -> Result<(), Fail> {
+    let alloc = rt.alloc();
+    let upper = Name::parse(alloc, b"README")?;
+    let lower = Name::parse(alloc, b"src")?;
+    assert!(rt; upper < lower);
+    assert!(rt; upper.cmp(&lower) == std::cmp::Ordering::Less);
+    Ok(())
+}
+
+#[test]
+fn takes_permissions_of_twelve_bits(rt: HostRuntime) {
+    assert_eq!(rt; Perm::of(0o7777).map(Perm::bits), Some(0o7777));
+    assert!(rt; Perm::of(0o10000).is_none());
+}

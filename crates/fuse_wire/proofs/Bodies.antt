@@ -1,0 +1,292 @@
+-- The bodies of requests: what is read of one is spelled so, and what is spelled so is read.
+use Rattle.std.proofs.Common.{All, ◌≡◌, ◌≢◌, ℕ, zero, suc, ◌+◌, ◌-◌, ◌*◌, ◌%◌, ◌^◌, ◌<◌, ◌≤◌, Bool, true, false, cond, not, ◌&&◌, ◌||◌, eqb, ltb, List, [], ◌∷◌, ◌++◌, length, take, drop, get_or, Option, Some, None, Result, Ok, Err, refl, sym, ap, subst, ◌∙◌, append_assoc, length-append, length-take, length-drop, drop-cons, arith}
+use Rattle.std.specs.Prelude.{◌==◌, nat_lt, slice_index}
+use Rattle.std.specs.List.{flat_map, AllByRecursion}
+use Rattle.std.proofs.lemmas.Bool.{ltb-false, le-ltb, lt-ltb, eqb-true}
+use Rattle.std.proofs.lemmas.Bool.Decides.{nat_tests}
+use Rattle.std.proofs.lemmas.List.{append-nil, take-append-drop, drop-drop, drop_at, nil_from_length, take_at, drop_all, get_or-append_right}
+use Rattle.std.proofs.lemmas.List.Elements.{recursion_from_All}
+use Rattle.std.proofs.lemmas.List.Concat.{flat_map-cons}
+use Rattle.eden_base.specs.declared.attr.Perm.{Perm}
+use Rattle.eden_base.specs.declared.name.NameFault.{NameFault}
+use Rattle.eden_base.specs.declared.number.Number.{Number}
+use Rattle.eden_base.specs.Name.{IsNameText, name_fault}
+use Rattle.fuse_wire.specs.declared.fault.WireFault.{WireFault}
+use Rattle.fuse_wire.specs.declared.fault.WireFault.TheVariants.{Short, BadLength, BadBody, BadCount, BadName}
+use Rattle.fuse_wire.specs.declared.item.Item.{Item}
+use Rattle.fuse_wire.specs.Field.{u32_bytes, u64_bytes, u32_at, u64_at}
+use Rattle.fuse_wire.specs.Mode.{perm_of}
+use Rattle.fuse_wire.specs.Reading.{◌>>=◌, checked, name_of, made_of, items_at, batch_of, forget_of}
+use Rattle.fuse_wire.specs.RequestText.{name_text, line, IsMode, IsCreateBody, IsMkdirBody, IsBatchBody, FitsItem}
+use Rattle.fuse_wire.proofs.Fields.{AreBytes, AreBytes-drop, u32_again, u64_again, u32_below, u64_below, u32_front, u64_front}
+use Rattle.fuse_wire.proofs.Lengths.{length-u32_bytes, length-u64_bytes, length-lines}
+use Rattle.fuse_wire.proofs.ReplyLaws.{behind, perm_ext}
+
+-- ---- steps that did not fail
+
+pub bind_ok : {A B : Type 0} (r : Result A WireFault) (f : A → Result B WireFault) (y : B) → (r >>= f) ≡ Ok y → (x : A) × (r ≡ Ok x) × (f x ≡ Ok y)
+bind_ok (Ok x) f y e = (x, refl, e)
+bind_ok (Err fault) f y e = absurd cc
+
+pub guard_ok : {A : Type 0} (b : Bool) (fault : WireFault) (r : Result A WireFault) (y : A) → cond b (Err fault) r ≡ Ok y → (b ≡ false) × (r ≡ Ok y)
+guard_ok true fault r y e = absurd cc
+guard_ok false fault r y e = (refl, e)
+
+pub test_ok : {A : Type 0} (b : Bool) (fault : WireFault) (r : Result A WireFault) (y : A) → cond b r (Err fault) ≡ Ok y → (b ≡ true) × (r ≡ Ok y)
+test_ok true fault r y e = (refl, e)
+test_ok false fault r y e = absurd cc
+
+abbrev pub done : {A : Type 0} → A → Result A WireFault
+done x = Ok x
+
+pub ok_is : {A : Type 0} (x y : A) → done x ≡ done y → x ≡ y
+ok_is x y e = cc
+
+and_true : (a b : Bool) → (a && b) ≡ true → (a ≡ true) × (b ≡ true)
+and_true true b e = (refl, e)
+and_true false b e = absurd cc
+
+or_false : (a b : Bool) → (a || b) ≡ false → (a ≡ false) × (b ≡ false)
+or_false true b e = absurd cc
+or_false false b e = (refl, e)
+
+not_false : (b : Bool) → not b ≡ false → b ≡ true
+not_false true e = refl
+not_false false e = absurd cc
+
+pub yes_eq : (a b : ℕ) → a ≡ b → eqb a b ≡ true
+yes_eq a b e = grind (arith, nat_tests)
+
+-- ---- names
+
+checked_ok : (cut name : List ℕ) (fault : Option NameFault) → checked cut fault ≡ Ok name → (fault ≡ None) × (cut ≡ name)
+checked_ok cut name None e = (refl, ok_is cut name e)
+checked_ok cut name (Some fault) e = absurd cc
+
+-- a list up to its last, and its last
+last_apart : (xs : List ℕ) (n : ℕ) → n + 1 ≡ length xs → take n xs ++ get_or xs n 0 ∷ [] ≡ xs
+last_apart xs n is =
+    let rest : drop (suc n) xs ≡ [] = drop_all (suc n) xs (omega arith) in
+    let last : drop n xs ≡ get_or xs n 0 ∷ [] = drop-cons xs n 0 (omega arith) ∙ ap (λ (r : List ℕ). get_or xs n 0 ∷ r) rest in
+    ap (λ (d : List ℕ). take n xs ++ d) (sym last) ∙ take-append-drop n xs
+
+pub name_found : (body name : List ℕ) → name_of body ≡ Ok name → IsNameText name × (body ≡ name_text name)
+unfolding name_of
+name_found body name e =
+    let n = length body - 1 in
+    let t = test_ok (ltb 0 (length body) && eqb (slice_index body n) 0) BadBody (checked (take n body) (name_fault (take n body))) name e in
+    let tests = and_true (ltb 0 (length body)) (eqb (slice_index body n) 0) t.0 in
+    let some : 0 < length body = grind (arith, nat_tests) in
+    let nul : slice_index body n ≡ 0 = eqb-true _ _ tests.1 in
+    let is = checked_ok (take n body) name (name_fault (take n body)) t.1 in
+    let apart : take n body ++ slice_index body n ∷ [] ≡ body = last_apart body n (omega arith) in
+    let whole : body ≡ name ++ 0 ∷ [] = sym apart ∙ ap (λ (b : ℕ). take n body ++ b ∷ []) nul ∙ ap (λ (m : List ℕ). m ++ 0 ∷ []) is.1 in
+    (subst (λ (m : List ℕ). name_fault m ≡ None) is.1 is.0, whole)
+
+pub name_again : (name : List ℕ) → IsNameText name → name_of (name_text name) ≡ Ok name
+unfolding name_of
+name_again name is =
+    let len : length (name_text name) - 1 ≡ length name = omega (arith, length-append name (0 ∷ [])) in
+    let some : ltb 0 (length (name_text name)) ≡ true = lt-ltb _ _ (omega (arith, length-append name (0 ∷ []))) in
+    let first : length name - length name ≡ 0 = omega arith in
+    let nul : slice_index (name_text name) (length name) ≡ 0 = get_or-append_right name (0 ∷ []) (length name) (length name) 0 refl (omega arith) ∙ ap (λ (i : ℕ). get_or (0 ∷ []) i 0) first in
+    let cut : take (length name) (name_text name) ≡ name = take_at name (0 ∷ []) (length name) refl in
+    rw (len, some, nul, cut, is) refl
+
+-- ---- a mode and a name
+
+-- so many bytes from a place on, and the rest
+pub parted : (bytes : List ℕ) (n m : ℕ) → take m (drop n bytes) ++ drop (n + m) bytes ≡ drop n bytes
+parted bytes n m = ap (λ (d : List ℕ). take m (drop n bytes) ++ d) (sym (drop-drop m n bytes)) ∙ take-append-drop m (drop n bytes)
+
+-- what is read of a body behind whose fixed part a name stands
+pub record IsMade (fixed place : ℕ) (body name : List ℕ) (perm : Perm) : Type 0 where
+  pub long : fixed ≤ length body
+  pub is_name : IsNameText name
+  pub rest : drop fixed body ≡ name_text name
+  pub low : u32_at (drop place body) % 4096 ≡ perm.bits
+
+abbrev pub pair : List ℕ → Perm → List ℕ × Perm
+pair name perm = (name, perm)
+
+pub made_found : (fixed place : ℕ) (body name : List ℕ) (perm : Perm) → made_of fixed place body ≡ Ok (name, perm) → IsMade fixed place body name perm
+unfolding made_of
+made_found fixed place body name perm e =
+    let g = guard_ok (ltb (length body) fixed) BadBody (name_of (drop fixed body) >>= λ n. Ok (n, perm_of (u32_at (drop place body)))) (name, perm) e in
+    let b = bind_ok (name_of (drop fixed body)) (λ n. Ok (pair n (perm_of (u32_at (drop place body))))) (name, perm) g.1 in
+    let same : pair b.0 (perm_of (u32_at (drop place body))) ≡ pair name perm = ok_is (pair b.0 (perm_of (u32_at (drop place body)))) (pair name perm) b.2 in
+    let found = name_found (drop fixed body) b.0 b.1 in
+    let names : b.0 ≡ name = ap (λ (p : List ℕ × Perm). p.0) same in
+    let perms : perm_of (u32_at (drop place body)) ≡ perm = ap (λ (p : List ℕ × Perm). p.1) same in
+    record {
+      long = ltb-false _ _ g.0;
+      is_name = subst IsNameText names found.0;
+      rest = found.1 ∙ ap name_text names;
+      low = ap (λ (p : Perm). p.bits) perms;
+    }
+
+pub made_again : (fixed place : ℕ) (body name : List ℕ) (perm : Perm) → IsMade fixed place body name perm → made_of fixed place body ≡ Ok (name, perm)
+unfolding made_of
+made_again fixed place body name perm is =
+    let long : ltb (length body) fixed ≡ false = le-ltb _ _ is.long in
+    let read : name_of (drop fixed body) ≡ Ok name = ap name_of is.rest ∙ name_again name is.is_name in
+    let perms : perm_of (u32_at (drop place body)) ≡ perm = perm_ext (perm_of (u32_at (drop place body))) perm is.low in
+    let made : (name_of (drop fixed body) >>= λ n. Ok (n, perm_of (u32_at (drop place body)))) ≡ Ok (name, perm_of (u32_at (drop place body))) = rw read refl in
+    rw long (made ∙ ap (λ (p : Perm). done (pair name p)) perms)
+
+pub create_found : (body name : List ℕ) (perm : Perm) → AreBytes body → IsMade 16 4 body name perm → IsCreateBody name perm body
+create_found body name perm are is =
+    let second = drop 4 body in
+    let word = u32_front second (AreBytes-drop 4 body are) (omega (arith, length-drop 4 body, is.long)) in
+    let word' : u32_bytes (u32_at second) ++ drop 8 body ≡ second = ap (λ (d : List ℕ). u32_bytes (u32_at second) ++ d) (sym (drop-drop 4 4 body)) ∙ word in
+    let last : take 8 (drop 8 body) ++ drop 16 body ≡ drop 8 body = parted body 8 8 in
+    let whole : (take 4 body ++ u32_bytes (u32_at second) ++ take 8 (drop 8 body)) ++ drop 16 body ≡ body =
+    append_assoc (take 4 body ++ u32_bytes (u32_at second)) (take 8 (drop 8 body)) (drop 16 body)
+    ∙ ap (λ (d : List ℕ). (take 4 body ++ u32_bytes (u32_at second)) ++ d) last
+    ∙ append_assoc (take 4 body) (u32_bytes (u32_at second)) (drop 8 body)
+    ∙ ap (λ (d : List ℕ). take 4 body ++ d) word'
+    ∙ take-append-drop 4 body in
+    record {
+      flags = take 4 body;
+      mode = u32_at second;
+      others = take 8 (drop 8 body);
+      four = omega (arith, length-take 4 body, is.long);
+      is_mode = record { in_range = u32_below second (AreBytes-drop 4 body are); low = is.low };
+      eight = omega (arith, length-take 8 (drop 8 body), length-drop 8 body, is.long);
+      is_name = is.is_name;
+      parts = sym whole ∙ ap (λ (d : List ℕ). (take 4 body ++ u32_bytes (u32_at second) ++ take 8 (drop 8 body)) ++ d) is.rest;
+    }
+
+pub create_again : (body name : List ℕ) (perm : Perm) → IsCreateBody name perm body → IsMade 16 4 body name perm
+create_again body name perm is =
+    let r2 = is.others ++ name_text name in
+    let r1 = u32_bytes is.mode ++ r2 in
+    let all : body ≡ is.flags ++ r1 = is.parts ∙ simp append_assoc in
+    let at4 : drop 4 body ≡ r1 = behind body is.flags r1 0 4 4 all is.four refl in
+    let at8 : drop 8 body ≡ r2 = behind body (u32_bytes is.mode) r2 4 4 8 at4 (length-u32_bytes is.mode) refl in
+    let at16 : drop 16 body ≡ name_text name = behind body is.others (name_text name) 8 8 16 at8 is.eight refl in
+    let mode : u32_at (drop 4 body) ≡ is.mode = ap u32_at at4 ∙ u32_again is.mode r2 is.is_mode.in_range in
+    record {
+      long = rw all (omega (arith, length-append is.flags r1, length-append (u32_bytes is.mode) r2, length-append is.others (name_text name), is.four, is.eight, length-u32_bytes is.mode));
+      is_name = is.is_name;
+      rest = at16;
+      low = ap (λ (m : ℕ). m % 4096) mode ∙ is.is_mode.low;
+    }
+
+pub mkdir_found : (body name : List ℕ) (perm : Perm) → AreBytes body → IsMade 8 0 body name perm → IsMkdirBody name perm body
+mkdir_found body name perm are is =
+    let word = u32_front body are (omega (arith, is.long)) in
+    let last : take 4 (drop 4 body) ++ drop 8 body ≡ drop 4 body = parted body 4 4 in
+    let whole : (u32_bytes (u32_at body) ++ take 4 (drop 4 body)) ++ drop 8 body ≡ body =
+    append_assoc (u32_bytes (u32_at body)) (take 4 (drop 4 body)) (drop 8 body) ∙ ap (λ (d : List ℕ). u32_bytes (u32_at body) ++ d) last ∙ word in
+    record {
+      mode = u32_at body;
+      others = take 4 (drop 4 body);
+      is_mode = record { in_range = u32_below body are; low = is.low };
+      four = omega (arith, length-take 4 (drop 4 body), length-drop 4 body, is.long);
+      is_name = is.is_name;
+      parts = sym whole ∙ ap (λ (d : List ℕ). (u32_bytes (u32_at body) ++ take 4 (drop 4 body)) ++ d) is.rest;
+    }
+
+pub mkdir_again : (body name : List ℕ) (perm : Perm) → IsMkdirBody name perm body → IsMade 8 0 body name perm
+mkdir_again body name perm is =
+    let r1 = is.others ++ name_text name in
+    let all : body ≡ u32_bytes is.mode ++ r1 = is.parts ∙ simp append_assoc in
+    let at4 : drop 4 body ≡ r1 = behind body (u32_bytes is.mode) r1 0 4 4 all (length-u32_bytes is.mode) refl in
+    let at8 : drop 8 body ≡ name_text name = behind body is.others (name_text name) 4 4 8 at4 is.four refl in
+    let mode : u32_at body ≡ is.mode = ap u32_at all ∙ u32_again is.mode r1 is.is_mode.in_range in
+    record {
+      long = rw all (omega (arith, length-append (u32_bytes is.mode) r1, length-append is.others (name_text name), is.four, length-u32_bytes is.mode));
+      is_name = is.is_name;
+      rest = at8;
+      low = ap (λ (m : ℕ). m % 4096) mode ∙ is.is_mode.low;
+    }
+
+-- ---- forgets
+
+pub forget_found : (node : Number) (body : List ℕ) (item : Item) → AreBytes body → forget_of node body ≡ Ok item → (item.node ≡ node) × (body ≡ u64_bytes item.k)
+unfolding forget_of
+forget_found node body item are e =
+    let read : Item = record { node = node; k = u64_at body } in
+    let t = test_ok (eqb (length body) 8) BadBody (Ok read) item e in
+    let same : read ≡ item = ok_is read item t.1 in
+    let eight : length body ≡ 8 = eqb-true _ _ t.0 in
+    let none : drop 8 body ≡ [] = drop_all 8 body (omega arith) in
+    let whole : body ≡ u64_bytes (u64_at body) = sym (u64_front body are (omega arith)) ∙ ap (λ (d : List ℕ). u64_bytes (u64_at body) ++ d) none ∙ append-nil (u64_bytes (u64_at body)) in
+    (ap (λ (i : Item). i.node) (sym same), whole ∙ ap (λ (i : Item). u64_bytes i.k) same)
+
+pub forget_again : (item : Item) → item.k < 2 ^ 64 → forget_of item.node (u64_bytes item.k) ≡ Ok item
+unfolding forget_of
+forget_again item fits =
+    let k : u64_at (u64_bytes item.k) ≡ item.k = ap u64_at (sym (append-nil (u64_bytes item.k))) ∙ u64_again item.k [] fits in
+    let made : ℕ → Item = λ n. record { node = item.node; k = n } in
+    rw (length-u64_bytes item.k) (ap (λ (n : ℕ). done (made n)) k)
+
+pub lines_found : (n : ℕ) (bytes : List ℕ) → AreBytes bytes → length bytes ≡ 16 * n → (flat_map line (items_at n bytes) ≡ bytes) × (length (items_at n bytes) ≡ n)
+unfolding items_at
+lines_found zero bytes are len = let none : bytes ≡ [] = nil_from_length bytes (omega arith) in (sym none, refl)
+lines_found (suc n) bytes are len =
+    let first : Item = record { node = record { 0 = u64_at bytes }; k = u64_at (drop 8 bytes) } in
+    let ih = lines_found n (drop 16 bytes) (AreBytes-drop 16 bytes are) (omega (arith, length-drop 16 bytes)) in
+    let node = u64_front bytes are (omega arith) in
+    let k = u64_front (drop 8 bytes) (AreBytes-drop 8 bytes are) (omega (arith, length-drop 8 bytes)) in
+    let k' : u64_bytes (u64_at (drop 8 bytes)) ++ drop 16 bytes ≡ drop 8 bytes = ap (λ (d : List ℕ). u64_bytes (u64_at (drop 8 bytes)) ++ d) (sym (drop-drop 8 8 bytes)) ∙ k in
+    let whole : line first ++ drop 16 bytes ≡ bytes =
+    append_assoc (u64_bytes (u64_at bytes)) (u64_bytes (u64_at (drop 8 bytes))) (drop 16 bytes) ∙ ap (λ (d : List ℕ). u64_bytes (u64_at bytes) ++ d) k' ∙ node in
+    (flat_map-cons line first (items_at n (drop 16 bytes)) ∙ ap (λ (d : List ℕ). line first ++ d) ih.0 ∙ whole, ap suc ih.1)
+
+pub lines_again : (items : List Item) → AllByRecursion FitsItem items → items_at (length items) (flat_map line items) ≡ items
+unfolding items_at
+lines_again [] fits = refl
+lines_again (item ∷ items) fits =
+    let bytes = flat_map line (item ∷ items) in
+    let rest = flat_map line items in
+    let r1 = u64_bytes item.k ++ rest in
+    let all : bytes ≡ u64_bytes item.node.0 ++ r1 = flat_map-cons line item items ∙ append_assoc (u64_bytes item.node.0) (u64_bytes item.k) rest in
+    let at8 : drop 8 bytes ≡ r1 = behind bytes (u64_bytes item.node.0) r1 0 8 8 all (length-u64_bytes item.node.0) refl in
+    let at16 : drop 16 bytes ≡ rest = behind bytes (u64_bytes item.k) rest 8 8 16 at8 (length-u64_bytes item.k) refl in
+    let node : u64_at bytes ≡ item.node.0 = ap u64_at all ∙ u64_again item.node.0 r1 fits.0.node_fits in
+    let k : u64_at (drop 8 bytes) ≡ item.k = ap u64_at at8 ∙ u64_again item.k rest fits.0.k_fits in
+    let made : ℕ → ℕ → List ℕ → List Item = λ m n bs. record { node = record { 0 = m }; k = n } ∷ items_at (length items) bs in
+    ap (λ (m : ℕ). made m (u64_at (drop 8 bytes)) (drop 16 bytes)) node ∙ ap (λ (n : ℕ). made item.node.0 n (drop 16 bytes)) k ∙ ap (λ (bs : List ℕ). made item.node.0 item.k bs) at16
+    ∙ ap (λ (is : List Item). item ∷ is) (lines_again items fits.1)
+
+pub batch_found : (body : List ℕ) (items : List Item) → AreBytes body → batch_of body ≡ Ok items → IsBatchBody items body
+unfolding batch_of
+batch_found body items are e =
+    let count = u32_at body in
+    let g = guard_ok (ltb (length body) 8) BadBody (cond (ltb 256 count || not (eqb (length body) (8 + 16 * count))) (Err BadCount) (Ok (items_at count (drop 8 body)))) items e in
+    let h = guard_ok (ltb 256 count || not (eqb (length body) (8 + 16 * count))) BadCount (Ok (items_at count (drop 8 body))) items g.1 in
+    let tests = or_false (ltb 256 count) (not (eqb (length body) (8 + 16 * count))) h.0 in
+    let at_most : count ≤ 256 = ltb-false _ _ tests.0 in
+    let len : length body ≡ 8 + 16 * count = eqb-true _ _ (not_false (eqb (length body) (8 + 16 * count)) tests.1) in
+    let same : items_at count (drop 8 body) ≡ items = ok_is (items_at count (drop 8 body)) items h.1 in
+    let lines = lines_found count (drop 8 body) (AreBytes-drop 8 body are) (omega (arith, length-drop 8 body)) in
+    let many : count ≡ length items = sym lines.1 ∙ ap length same in
+    let word = u32_front body are (omega arith) in
+    let last : take 4 (drop 4 body) ++ drop 8 body ≡ drop 4 body = parted body 4 4 in
+    let whole : (u32_bytes count ++ take 4 (drop 4 body)) ++ drop 8 body ≡ body =
+    append_assoc (u32_bytes count) (take 4 (drop 4 body)) (drop 8 body) ∙ ap (λ (d : List ℕ). u32_bytes count ++ d) last ∙ word in
+    record {
+      others = take 4 (drop 4 body);
+      four = omega (arith, length-take 4 (drop 4 body), length-drop 4 body);
+      at_most = omega arith;
+      parts = sym whole ∙ ap (λ (d : List ℕ). (u32_bytes count ++ take 4 (drop 4 body)) ++ d) (sym lines.0 ∙ ap (flat_map line) same) ∙ ap (λ (n : ℕ). (u32_bytes n ++ take 4 (drop 4 body)) ++ flat_map line items) many;
+    }
+
+pub batch_again : (body : List ℕ) (items : List Item) → All FitsItem items → IsBatchBody items body → batch_of body ≡ Ok items
+unfolding batch_of
+batch_again body items fits is =
+    let n = length items in
+    let rest = flat_map line items in
+    let r1 = is.others ++ rest in
+    let all : body ≡ u32_bytes n ++ r1 = is.parts ∙ append_assoc (u32_bytes n) is.others rest in
+    let at4 : drop 4 body ≡ r1 = behind body (u32_bytes n) r1 0 4 4 all (length-u32_bytes n) refl in
+    let at8 : drop 8 body ≡ rest = behind body is.others rest 4 4 8 at4 is.four refl in
+    let count : u32_at body ≡ n = ap u32_at all ∙ u32_again n r1 (omega (arith, is.at_most)) in
+    let len : length body ≡ 8 + 16 * n = ap length all ∙ omega (arith, length-append (u32_bytes n) r1, length-append is.others rest, length-u32_bytes n, is.four, length-lines items) in
+    let long : ltb (length body) 8 ≡ false = le-ltb _ _ (omega arith) in
+    let small : ltb 256 n ≡ false = le-ltb _ _ is.at_most in
+    let exact : eqb (length body) (8 + 16 * n) ≡ true = yes_eq _ _ len in
+    let items_are : items_at n (drop 8 body) ≡ items = ap (items_at n) at8 ∙ lines_again items (recursion_from_All FitsItem items fits) in
+    rw (count, long, small, exact, items_are) refl

@@ -1,0 +1,65 @@
+-- A number that was written is read again, and bytes that were read as a number are its bytes.
+use Rattle.std.proofs.Common.{◌≡◌, ℕ, ◌+◌, ◌*◌, ◌^◌, ◌<◌, ◌≤◌, List, [], ◌∷◌, ◌++◌, length, take, drop, get_or, refl, sym, ap, ◌∙◌, inl, inr, length-take, arith}
+use Rattle.std.specs.Int.{w32, w64, from_le_bytes}
+use Rattle.std.proofs.lemmas.Bool.{cases_lt}
+use Rattle.std.proofs.lemmas.List.{take-append-drop, get_or-take, get_or-drop, get_or_past}
+use Rattle.std.proofs.lemmas.Nat.{le_bytes_4, le_bytes_8}
+use Rattle.byteorder.specs.Endian.{little_number}
+use Rattle.byteorder.specs.Numbers.{little_number-reads_back, little_from-append, little_from-lt}
+use Rattle.fuse_wire.specs.Field.{u32_bytes, u64_bytes, u32_at, u64_at}
+
+-- each is a byte
+abbrev pub AreBytes : List ℕ → Type 0
+AreBytes bytes = (i : ℕ) → get_or bytes i 0 < 256
+
+pub AreBytes-drop : (n : ℕ) (bytes : List ℕ) → AreBytes bytes → AreBytes (drop n bytes)
+AreBytes-drop n bytes are i = rw get_or-drop (are (n + i))
+
+pub AreBytes-take : (n : ℕ) (bytes : List ℕ) → AreBytes bytes → AreBytes (take n bytes)
+AreBytes-take n bytes are i =
+    elim (cases_lt i n) [
+      | inl lt ↦ rw (get_or-take n bytes i 0 lt) (are i)
+      | inr le ↦ rw (get_or_past (take n bytes) i 0 (omega (arith, length-take n bytes))) (omega arith)
+    ]
+
+-- ---- what was written is read again
+
+pub u32_again : (n : ℕ) (rest : List ℕ) → n < 2 ^ 32 → u32_at (u32_bytes n ++ rest) ≡ n
+unfolding u32_at u32_bytes
+u32_again n rest lt = little_number-reads_back 4 n rest lt
+
+pub u64_again : (n : ℕ) (rest : List ℕ) → n < 2 ^ 64 → u64_at (u64_bytes n ++ rest) ≡ n
+unfolding u64_at u64_bytes
+u64_again n rest lt = little_number-reads_back 8 n rest lt
+
+-- ---- what is read was written
+
+pub u32_below : (bytes : List ℕ) → AreBytes bytes → u32_at bytes < 2 ^ 32
+unfolding u32_at
+u32_below bytes are = little_from-lt 0 4 bytes are
+
+pub u64_below : (bytes : List ℕ) → AreBytes bytes → u64_at bytes < 2 ^ 64
+unfolding u64_at
+u64_below bytes are = little_from-lt 0 8 bytes are
+
+pub u32_front : (bytes : List ℕ) → AreBytes bytes → 4 ≤ length bytes → u32_bytes (u32_at bytes) ++ drop 4 bytes ≡ bytes
+unfolding u32_at u32_bytes
+u32_front bytes are long =
+    let front = take 4 bytes in
+    let whole = take-append-drop 4 bytes in
+    let four : length front ≡ 4 = omega (arith, length-take 4 bytes) in
+    let same : little_number 4 bytes ≡ little_number 4 front = ap (little_number 4) (sym whole) ∙ little_from-append 4 front (drop 4 bytes) (omega arith) in
+    let as_std : little_number 4 front ≡ from_le_bytes w32 front = omega arith in
+    let back = le_bytes_4 front (little_number 4 bytes) four (AreBytes-take 4 bytes are) (same ∙ as_std) in
+    ap (λ (b : List ℕ). b ++ drop 4 bytes) back ∙ whole
+
+pub u64_front : (bytes : List ℕ) → AreBytes bytes → 8 ≤ length bytes → u64_bytes (u64_at bytes) ++ drop 8 bytes ≡ bytes
+unfolding u64_at u64_bytes
+u64_front bytes are long =
+    let front = take 8 bytes in
+    let whole = take-append-drop 8 bytes in
+    let eight : length front ≡ 8 = omega (arith, length-take 8 bytes) in
+    let same : little_number 8 bytes ≡ little_number 8 front = ap (little_number 8) (sym whole) ∙ little_from-append 8 front (drop 8 bytes) (omega arith) in
+    let as_std : little_number 8 front ≡ from_le_bytes w64 front = omega arith in
+    let back = le_bytes_8 front (little_number 8 bytes) eight (AreBytes-take 8 bytes are) (same ∙ as_std) in
+    ap (λ (b : List ℕ). b ++ drop 8 bytes) back ∙ whole

@@ -1,0 +1,40 @@
+-- How long the parts of a message are.
+use Rattle.std.proofs.Common.{◌≡◌, ℕ, ◌+◌, ◌*◌, ◌≤◌, ◌<◌, Bool, true, false, cond, ltb, List, [], ◌∷◌, ◌++◌, length, Option, Some, None, refl, sym, ap, ◌∙◌, length-append, arith}
+use Rattle.std.specs.List.{flat_map}
+use Rattle.std.proofs.lemmas.Bool.{ltb-false}
+use Rattle.std.proofs.lemmas.Bool.Decides.{nat_tests}
+use Rattle.std.proofs.lemmas.List.{length-replicate}
+use Rattle.std.proofs.lemmas.List.Concat.{flat_map-cons}
+use Rattle.eden_base.specs.declared.name.NameFault.{NameFault}
+use Rattle.eden_base.specs.Name.{IsNameText, name_fault}
+use Rattle.fuse_wire.specs.declared.item.Item.{Item}
+use Rattle.fuse_wire.specs.Field.{u32_bytes, u64_bytes}
+use Rattle.fuse_wire.specs.ReplyText.{reply_header}
+use Rattle.fuse_wire.specs.RequestText.{zeros, line, name_text}
+
+pub length-u32_bytes : (n : ℕ) → length (u32_bytes n) ≡ 4
+unfolding u32_bytes
+length-u32_bytes n = refl
+
+pub length-u64_bytes : (n : ℕ) → length (u64_bytes n) ≡ 8
+unfolding u64_bytes
+length-u64_bytes n = refl
+
+pub length-zeros : (n : ℕ) → length (zeros n) ≡ n
+unfolding zeros
+length-zeros n = length-replicate n 0
+
+pub length-lines : (items : List Item) → length (flat_map line items) ≡ 16 * length items
+length-lines [] = refl
+length-lines (item ∷ items) =
+    ap length (flat_map-cons line item items) ∙ omega (arith, length-append (line item) (flat_map line items), length-append (u64_bytes item.node.0) (u64_bytes item.k), length-u64_bytes item.node.0, length-u64_bytes item.k, length-lines items)
+
+-- a name has at most 255 bytes
+pub name_is_short : (name : List ℕ) → IsNameText name → length name ≤ 255
+name_is_short name is = grind (arith, nat_tests)
+
+pub length-reply_header : (len error unique : ℕ) → length (reply_header len error unique) ≡ 16
+length-reply_header len error unique =
+    omega (arith, length-append (u32_bytes len ++ u32_bytes error) (u64_bytes unique), length-append (u32_bytes len) (u32_bytes error), length-u32_bytes len, length-u32_bytes error, length-u64_bytes unique)
+
+pub ruleset lengths = (length-u32_bytes, length-u64_bytes, length-zeros, length-lines, length-append)

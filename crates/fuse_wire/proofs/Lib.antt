@@ -1,0 +1,9 @@
+pub mod Bodies
+pub mod Fields
+pub mod Forgets
+pub mod Lengths
+pub mod Lines
+pub mod OwnTexts
+pub mod ReplyLaws
+pub mod Requests
+pub mod Written

@@ -1,0 +1,68 @@
+-- What is written is a text.
+use Rattle.std.proofs.Common.{◌≡◌, ℕ, ◌+◌, ◌%◌, ◌^◌, ◌<◌, ◌≤◌, List, [], ◌∷◌, ◌++◌, length, Result, Ok, refl, sym, ap, subst, ◌∙◌, arith}
+use Rattle.eden_base.specs.declared.attr.Perm.{Perm}
+use Rattle.eden_base.specs.declared.number.Number.{Number}
+use Rattle.eden_base.specs.Name.{IsNameText}
+use Rattle.fuse_wire.specs.declared.ask.Ask.{Ask}
+use Rattle.fuse_wire.specs.declared.ask.Request.{Request}
+use Rattle.fuse_wire.specs.declared.ask.Request.TheVariants.{Lookup, Getattr, Create, Mkdir, Unlink, Rmdir, Forget, BatchForget, Other}
+use Rattle.fuse_wire.specs.declared.item.Item.{Item}
+use Rattle.fuse_wire.specs.Field.{u32_bytes, u64_bytes}
+use Rattle.fuse_wire.specs.Opcode.{code}
+use Rattle.fuse_wire.specs.Reading.{request_of}
+use Rattle.fuse_wire.specs.RequestText.{zeros, opcode, nodeid, name_text, create_body, mkdir_body, batch_body, body, IsBody, IsNodeid, IsCreateBody, IsMkdirBody, IsBatchBody, IsRequestText, request_text, FitsBody, FitsAsk}
+use Rattle.fuse_wire.proofs.Lengths.{length-zeros}
+use Rattle.fuse_wire.proofs.Requests.{request_again}
+
+pub create_is_body : (name : List ℕ) (perm : Perm) → IsNameText name → IsCreateBody name perm (create_body name perm)
+create_is_body name perm is = record {
+  flags = zeros 4;
+  mode = 32768 + perm.bits;
+  others = zeros 8;
+  four = length-zeros 4;
+  is_mode = record { in_range = omega (arith, perm.in_range); low = omega (arith, perm.in_range) };
+  eight = length-zeros 8;
+  is_name = is;
+  parts = refl;
+}
+
+pub mkdir_is_body : (name : List ℕ) (perm : Perm) → IsNameText name → IsMkdirBody name perm (mkdir_body name perm)
+mkdir_is_body name perm is = record {
+  mode = perm.bits;
+  others = zeros 4;
+  is_mode = record { in_range = omega (arith, perm.in_range); low = omega (arith, perm.in_range) };
+  four = length-zeros 4;
+  is_name = is;
+  parts = refl;
+}
+
+pub batch_is_body : (items : List Item) → length items ≤ 256 → IsBatchBody items (batch_body items)
+batch_is_body items le = record { others = zeros 4; four = length-zeros 4; at_most = le; parts = refl }
+
+pub ruleset own_bodies = (create_is_body, mkdir_is_body, batch_is_body, length-zeros)
+
+own_nodeid : (request : Request) → IsNodeid request (nodeid request)
+own_nodeid (Lookup dir name) = refl
+own_nodeid (Getattr node) = refl
+own_nodeid (Create dir name perm) = refl
+own_nodeid (Mkdir dir name perm) = refl
+own_nodeid (Unlink dir name) = refl
+own_nodeid (Rmdir dir name) = refl
+own_nodeid (Forget item) = refl
+own_nodeid (BatchForget items) = tt
+own_nodeid (Other n node) = refl
+
+pub own_text : (ask : Ask) → length (body ask.what) ≤ 4104 → IsBody ask.what (body ask.what) → IsRequestText ask (request_text ask)
+own_text ask short is = record {
+  node = nodeid ask.what;
+  others = zeros 16;
+  rest = body ask.what;
+  is_nodeid = own_nodeid ask.what;
+  sixteen = length-zeros 16;
+  len_fits = omega arith;
+  is_body = is;
+  parts = refl;
+}
+
+pub own_text_again : (ask : Ask) → FitsAsk ask → length (body ask.what) ≤ 4104 → IsBody ask.what (body ask.what) → request_of (request_text ask) ≡ Ok ask
+own_text_again ask fits short is = request_again ask (request_text ask) fits (own_text ask short is)

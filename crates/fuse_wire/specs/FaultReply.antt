@@ -1,0 +1,35 @@
+-- What a refused request is answered.
+use Rattle.std.specs.Prelude.{◌≡◌, ℕ, Bool, true, false, nat_lt, List, length, Option, Some, None, if◌then◌else◌}
+use Rattle.eden_base.specs.declared.errno.Errno.{Errno}
+use Rattle.eden_base.specs.declared.errno.Errno.TheVariants.{ENOMEM, EINVAL, ENAMETOOLONG}
+use Rattle.eden_base.specs.declared.name.NameFault.TheVariants.{TooLong}
+use Rattle.fuse_wire.specs.declared.fault.WireFault.{WireFault}
+use Rattle.fuse_wire.specs.declared.fault.WireFault.TheVariants.{BadName, NoMemory}
+use Rattle.fuse_wire.specs.declared.header.Header.{Header}
+use Rattle.fuse_wire.specs.declared.opcode.Opcode.{Opcode}
+use Rattle.fuse_wire.specs.declared.opcode.Opcode.TheVariants.{Forget, BatchForget}
+use Rattle.fuse_wire.specs.declared.reply.Answer.TheVariants.{Error}
+use Rattle.fuse_wire.specs.declared.reply.Reply.{Reply}
+use Rattle.fuse_wire.specs.Opcode.{opcode_of}
+use Rattle.fuse_wire.specs.Reading.{fields_of}
+
+-- the kernel waits for no reply to a forget
+abbrev pub is_forget : Opcode → Bool
+is_forget Forget = true
+is_forget BatchForget = true
+is_forget opcode = false
+
+abbrev pub errno_of_fault : WireFault → Errno
+errno_of_fault (BadName TooLong) = ENAMETOOLONG
+errno_of_fault NoMemory = ENOMEM
+errno_of_fault fault = EINVAL
+
+-- an error to the request of a header, where the kernel waits
+abbrev pub refusal_of : Header → WireFault → Option Reply
+refusal_of header fault =
+    if is_forget (opcode_of header.opcode) then None
+    else Some (record { unique = header.unique; answer = Error (errno_of_fault fault) })
+
+-- and where there is a header
+abbrev pub fault_reply_of : List ℕ → WireFault → Option Reply
+fault_reply_of bytes fault = if nat_lt (length bytes) 40 then None else refusal_of (fields_of bytes) fault

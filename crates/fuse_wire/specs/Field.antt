@@ -1,0 +1,17 @@
+-- Numbers as the structs of linux/fuse.h hold them on a machine that is little endian: the lowest byte first.
+use Rattle.std.specs.Prelude.{ℕ, List}
+use Rattle.byteorder.specs.Endian.{little_bytes, little_number}
+
+-- a number of four bytes, and one of eight
+unfoldable pub u32_bytes : ℕ → List ℕ
+u32_bytes n = little_bytes 4 n
+
+unfoldable pub u64_bytes : ℕ → List ℕ
+u64_bytes n = little_bytes 8 n
+
+-- the number in the first four bytes, and in the first eight
+unfoldable pub u32_at : List ℕ → ℕ
+u32_at bytes = little_number 4 bytes
+
+unfoldable pub u64_at : List ℕ → ℕ
+u64_at bytes = little_number 8 bytes

@@ -1,0 +1,9 @@
+pub mod FaultReply
+pub mod Field
+pub mod Mode
+pub mod Opcode
+pub mod Reading
+pub mod ReplyReading
+pub mod ReplyText
+pub mod RequestText
+pub mod Writing

@@ -1,0 +1,79 @@
+-- The one spelling of a reply (linux/fuse.h: fuse_out_header, fuse_entry_out, fuse_attr_out, fuse_open_out,
+-- fuse_attr). What a daemon does not tell here (times, owners, how long an answer may be kept) is 0.
+use Rattle.std.specs.Prelude.{◌≡◌, ◌<◌, ◌^◌, ℕ, ◌+◌, ◌-◌, List, [], ◌++◌, length}
+use Rattle.eden_base.specs.declared.attr.Attr.{Attr}
+use Rattle.eden_base.specs.declared.errno.Errno.{Errno}
+use Rattle.eden_base.specs.declared.errno.Errno.TheVariants.{ENOENT, EIO, ENOMEM, EEXIST, ENOTDIR, EISDIR, EINVAL, ENOSPC, ENAMETOOLONG, ENOSYS, ENOTEMPTY, EOVERFLOW, ESTALE}
+use Rattle.eden_base.specs.declared.number.Number.{Number}
+use Rattle.fuse_wire.specs.declared.reply.Answer.{Answer}
+use Rattle.fuse_wire.specs.declared.reply.Answer.TheVariants.{Entry, Opened, Attrs, Done, Error}
+use Rattle.fuse_wire.specs.declared.reply.Reply.{Reply}
+use Rattle.fuse_wire.specs.Field.{u32_bytes, u64_bytes}
+use Rattle.fuse_wire.specs.Mode.{type_bits}
+use Rattle.fuse_wire.specs.RequestText.{zeros}
+
+-- the numbers of errno.h on Linux
+abbrev pub errno_number : Errno → ℕ
+errno_number ENOENT = 2
+errno_number EIO = 5
+errno_number ENOMEM = 12
+errno_number EEXIST = 17
+errno_number ENOTDIR = 20
+errno_number EISDIR = 21
+errno_number EINVAL = 22
+errno_number ENOSPC = 28
+errno_number ENAMETOOLONG = 36
+errno_number ENOSYS = 38
+errno_number ENOTEMPTY = 39
+errno_number EOVERFLOW = 75
+errno_number ESTALE = 116
+
+-- the error field: 0, or the negative number in two's complement of 32 bits
+abbrev pub error_word : Answer → ℕ
+error_word (Error errno) = 4294967296 - errno_number errno
+error_word answer = 0
+
+-- the mode of a file
+abbrev pub mode : Attr → ℕ
+mode attr = type_bits attr.kind + attr.perm.bits
+
+-- ino, size; blocks and three times, with nanoseconds; mode, nlink; uid, gid, rdev; blksize; flags
+abbrev pub attributes : Number → Attr → List ℕ
+attributes number attr =
+    u64_bytes number.0 ++ u64_bytes attr.size ++ zeros 44 ++ u32_bytes (mode attr) ++ u32_bytes attr.nlink ++ zeros 12
+    ++ u32_bytes 4096 ++ zeros 4
+
+-- the nodeid; its generation and how long the entry and its attributes may be kept; the attributes
+abbrev pub entry : Number → Attr → List ℕ
+entry number attr = u64_bytes number.0 ++ zeros 32 ++ attributes number attr
+
+-- what follows the header: after an entry a file handle and its flags, before lone attributes how long they may be kept
+abbrev pub payload : Answer → List ℕ
+payload (Entry number attr) = entry number attr
+payload (Opened number attr) = entry number attr ++ zeros 16
+payload (Attrs number attr) = zeros 16 ++ attributes number attr
+payload Done = []
+payload (Error errno) = []
+
+-- the length of the whole, the error, the unique
+abbrev pub reply_header : ℕ → ℕ → ℕ → List ℕ
+reply_header len error unique = u32_bytes len ++ u32_bytes error ++ u64_bytes unique
+
+abbrev pub reply_text : Reply → List ℕ
+reply_text reply =
+    reply_header (16 + length (payload reply.answer)) (error_word reply.answer) reply.unique ++ payload reply.answer
+
+-- numbers of the sizes that their fields have
+pub record FitsAttr (number : Number) (attr : Attr) : Type 0 where
+  pub number_fits : number.0 < 2 ^ 64
+  pub size_fits : attr.size < 2 ^ 64
+  pub nlink_fits : attr.nlink < 2 ^ 32
+
+abbrev pub FitsAnswer : Answer → Type 0
+FitsAnswer (Entry number attr) = FitsAttr number attr
+FitsAnswer (Opened number attr) = FitsAttr number attr
+FitsAnswer (Attrs number attr) = FitsAttr number attr
+FitsAnswer answer = Unit {0}
+
+abbrev pub FitsReply : Reply → Type 0
+FitsReply reply = (reply.unique < 2 ^ 64) × FitsAnswer reply.answer

@@ -1,0 +1,57 @@
+//! The first 40 bytes of a request.
+ghost use Rattle.std.specs.Prelude.{◌≡◌, ◌≤◌, length, OnOk, ◌==◌};
+ghost use Rattle.fuse_wire.specs.Reading.{Gives, HasNoName, fields_of, header_of};
+
+use crate::WireFault;
+use crate::reader::Reader;
+use eden_base::Number;
+
+/// What a header says of its request (`struct fuse_in_header`), but for the length and the last 16 bytes.
+#[derive(Clone, Copy)]
+pub(crate) struct Header {
+    pub opcode: u32,
+    pub unique: u64,
+    pub node: Number,
+}
+
+/// In bytes.
+const LENGTH_LEN: usize = 4;
+
+impl Header {
+    /// In bytes.
+    pub(crate) const LEN: usize = 40;
+
+    /// The header of bytes that have one, whatever length it tells.
+    #[tactic(auto, unfolding(crate::specs::Reading::fields_of))]
+    pub(crate) fn of(bytes: &[u8]) -> Header
+        requires { 40 ≤ length bytes.now }
+        ensures { result ≡ fields_of bytes.now }
+    {
+        let mut fields = Reader::new(bytes);
+        fields.skip(LENGTH_LEN);
+        let opcode = fields.u32();
+        let unique = fields.u64();
+        let node = Number(fields.u64());
+        Header {
+            opcode,
+            unique,
+            node,
+        }
+    }
+}
+
+/// The header of a whole request: the length that it tells is that of the bytes.
+#[tactic(auto, unfolding(crate::specs::Reading::header_of))]
+pub(crate) fn read_header(bytes: &[u8]) -> Result<Header, WireFault>
+    ensures header { result ≡ header_of bytes.now }
+    ensures no_want { Gives HasNoName result (header_of bytes.now) }
+    ensures whole { OnOk result (40 ≤ length bytes.now) }
+{
+    if bytes.len() < Header::LEN {
+        return Err(WireFault::Short);
+    }
+    if Reader::new(bytes).u32() as usize != bytes.len() {
+        return Err(WireFault::BadLength);
+    }
+    Ok(Header::of(bytes))
+}

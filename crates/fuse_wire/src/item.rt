@@ -1,0 +1,89 @@
+//! What the kernel forgets.
+ghost use Rattle.std.specs.Prelude.{◌≡◌, ◌<◌, ◌≤◌, List, [], ◌∷◌, ◌++◌, length, ◌==◌, nat_eq};
+
+use arrayvec::ArrayVec;
+use eden_base::Number;
+use std::marker::Model;
+
+/// One line of a forget: the kernel holds the number `k` times less (`nlookup` of `linux/fuse.h`).
+#[derive(Clone, Copy, Debug, PartialEq, Eq)]
+pub struct Item {
+    pub node: Number,
+    pub k: u64,
+}
+
+impl Default for Item {
+    fn default() -> Item {
+        Item {
+            node: Number(0),
+            k: 0,
+        }
+    }
+}
+
+/// The lines of a batch, at most 256 (this project's own limit), in order. They lie in the value itself.
+#[derive(Drop)]
+pub struct Items {
+    items: ArrayVec<Item, 256>,
+}
+
+impl Model for Items {
+    ghost use Rattle.std.specs.Prelude.{◌≤◌, List, length};
+    ghost use Rattle.fuse_wire.specs.declared.item.Item.{Item};
+
+    ghost Value = { List Item };
+
+    ghost view = { λ batch. batch.items.items };
+
+    ghost invariant = { λ batch. length batch.items.items ≤ 256 };
+}
+
+impl Items {
+    pub const MAX_LEN: usize = 256;
+
+    /// A batch of nothing.
+    pub fn new() -> Items
+        ensures empty { result ≡ [] }
+    {
+        Items {
+            items: ArrayVec::new(),
+        }
+    }
+
+    /// Adds a line at the end.
+    pub fn push(&mut self, item: Item)
+        requires { length self.old < 256 }
+        ensures pushed { self.new ≡ self.old ++ item ∷ [] }
+    {
+        self.items.push(item);
+    }
+
+    pub fn as_slice(&self) -> &[Item]
+        ensures items { result.now ≡ self.now }
+        ensures at_most { length result.now ≤ 256 }
+    {
+        self.items.as_slice()
+    }
+
+    pub fn len(&self) -> usize
+        ensures len { result ≡ length self.now }
+        ensures at_most { result ≤ 256 }
+    {
+        self.items.len()
+    }
+
+    pub fn is_empty(&self) -> bool
+        ensures { result ≡ (length self.now == 0) }
+    {
+        self.items.is_empty()
+    }
+
+    /// The same lines once more. It takes no memory.
+    pub fn copy(&self) -> Items
+        ensures copy { result ≡ self.now }
+    {
+        Items {
+            items: ArrayVec::try_from(self.items.as_slice()).unwrap(),
+        }
+    }
+}

@@ -1,0 +1,33 @@
+//! The bytes of the Linux FUSE protocol, both ways: what the kernel asks of a daemon, and what the daemon answers.
+#![tactic(auto)]
+
+mod ask;
+mod errno;
+mod fault;
+mod header;
+mod item;
+mod layout;
+mod mode;
+mod opcode;
+mod reader;
+mod reading;
+mod refusal;
+mod reply;
+mod reply_reader;
+mod reply_writer;
+mod request_writer;
+
+pub use ask::{Ask, Request};
+pub use fault::WireFault;
+pub use item::{Item, Items};
+pub use reading::{read_items, read_request};
+pub use refusal::fault_reply;
+pub use reply::{Answer, Reply};
+pub use reply_reader::read_reply;
+pub use reply_writer::write_reply;
+pub use request_writer::write_request;
+
+#[cfg(test)]
+mod tests;
+#[cfg(test)]
+mod vectors;

@@ -1,0 +1,119 @@
+//! Replies read from their bytes, on the broker's side.
+ghost use Rattle.std.specs.Prelude.{◌≡◌, ◌≢◌, ◌≤◌, ◌<◌, ◌↔◌, ◌+◌, length, drop, IsTrue, IfOk, IfErr, IsErrOf, Ok};
+ghost use Rattle.fuse_wire.specs.Field.{u32_at};
+ghost use Rattle.fuse_wire.specs.ReplyText.{reply_text, FitsReply};
+ghost use Rattle.fuse_wire.specs.ReplyReading.{answer_at, number_at, attr_at, IsReplyFault};
+
+use crate::errno::errno_of;
+use crate::layout::{BLOCKS_AND_TIMES_LEN, REPLY_HEADER_LEN};
+use crate::reader::Reader;
+use crate::{Answer, Reply, WireFault, mode, write_reply};
+use eden_base::{Attr, Number};
+
+/// The reply that the bytes are. A reply has one spelling: other bytes are `BadBody`. It takes no memory.
+pub fn read_reply(bytes: &[u8]) -> Result<Reply, WireFault>
+    ensures text { IfOk result (λ reply. bytes.now ≡ reply_text reply) }
+    ensures only { (reply : Reply) → FitsReply reply → bytes.now ≡ reply_text reply → result ≡ Ok reply }
+    ensures short { IsErrOf result WireFault.Short ↔ (length bytes.now < 16) }
+    ensures bad_length { IsErrOf result WireFault.BadLength ↔ ((16 ≤ length bytes.now) × (u32_at bytes.now ≢ length bytes.now)) }
+    ensures no_others { IfErr result IsReplyFault }
+{
+    if bytes.len() < REPLY_HEADER_LEN {
+        return Err(WireFault::Short);
+    }
+    let mut fields = Reader::new(bytes);
+    if fields.u32() as usize != bytes.len() {
+        return Err(WireFault::BadLength);
+    }
+    let error = fields.u32();
+    let unique = fields.u64();
+    let Some(answer) = answer_of(error, bytes) else {
+        return Err(WireFault::BadBody);
+    };
+    let reply = Reply { unique, answer };
+    if !is_text_of(bytes, &reply) {
+        return Err(WireFault::BadBody);
+    }
+    Ok(reply)
+}
+
+/// Whether the bytes are the spelling of the reply.
+#[tactic(auto, using(crate::proofs::Lengths::lengths))]
+fn is_text_of(bytes: &[u8], reply: &Reply) -> bool
+    ensures { IsTrue result ↔ (bytes.now ≡ reply_text reply.now) }
+{
+    let mut text = [0u8; 160];
+    let len = write_reply(reply, &mut text);
+    are_same(&text[..len], bytes)
+}
+
+fn are_same(left: &[u8], right: &[u8]) -> bool
+    ensures { IsTrue result ↔ (left.now ≡ right.now) }
+{
+    left == right
+}
+
+/// Lengths of whole replies, and where their attributes are.
+const DONE_LEN: usize = 16;
+
+const ATTRS_LEN: usize = 120;
+
+const ATTRS_AT: usize = 32;
+
+const ENTRY_REPLY_LEN: usize = 144;
+
+const OPENED_LEN: usize = 160;
+
+const ENTRY_ATTRIBUTES_AT: usize = 56;
+
+/// The one answer whose text the bytes can be, by their length and the fields that vary.
+#[tactic(auto, unfolding(crate::specs::ReplyReading::answer_at))]
+fn answer_of(error: u32, bytes: &[u8]) -> Option<Answer>
+    ensures { result ≡ answer_at error bytes.now }
+{
+    if error != 0 {
+        return match errno_of(u32::MAX - error + 1) {
+            Some(errno) => Some(Answer::Error(errno)),
+            None => None,
+        };
+    }
+    match bytes.len() {
+        DONE_LEN => Some(Answer::Done),
+        ATTRS_LEN => {
+            let (number, attr) = attributes_at(bytes, ATTRS_AT);
+            Some(Answer::Attrs { number, attr })
+        }
+        ENTRY_REPLY_LEN => {
+            let (number, attr) = attributes_at(bytes, ENTRY_ATTRIBUTES_AT);
+            Some(Answer::Entry { number, attr })
+        }
+        OPENED_LEN => {
+            let (number, attr) = attributes_at(bytes, ENTRY_ATTRIBUTES_AT);
+            Some(Answer::Opened { number, attr })
+        }
+        _ => None,
+    }
+}
+
+/// The fields of `struct fuse_attr` that vary.
+#[tactic(auto, unfolding(crate::specs::ReplyReading::attr_at))]
+fn attributes_at(bytes: &[u8], place: usize) -> (Number, Attr)
+    requires { place + 88 ≤ length bytes.now }
+    ensures number { result.0 ≡ number_at (drop place bytes.now) }
+    ensures attr { result.1 ≡ attr_at (drop place bytes.now) }
+{
+    let (_, attributes) = bytes.split_at(place);
+    let mut fields = Reader::new(attributes);
+    let number = Number(fields.u64());
+    let size = fields.u64();
+    fields.skip(BLOCKS_AND_TIMES_LEN);
+    let mode = fields.u32();
+    let nlink = fields.u32();
+    let attr = Attr {
+        kind: mode::kind_of(mode),
+        perm: mode::perm_of(mode),
+        size,
+        nlink,
+    };
+    (number, attr)
+}
