@@ -47,6 +47,11 @@ lowered held n k =
     if nat_le (held_count held n.0) k then without_where (has_number n.0) held
     else changed_where (has_number n.0) (λ h. record h { count = h.count - k }) held
 
+-- a request that is answered
+abbrev pub IsAsk : Request → Type 0
+IsAsk (Lookup dir name) = Unit {0}
+IsAsk (Forget item) = ⊥
+
 -- the root, or a number that the kernel holds
 abbrev pub may_be_asked : BrokerState → ℕ → Bool
 may_be_asked broker n = n == 1 || nat_lt 0 (held_count broker.held n)

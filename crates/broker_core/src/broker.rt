@@ -9,7 +9,7 @@ use std::alloc::Global;
 use std::marker::Model;
 use thiserror::Error;
 
-/// Why a daemon could not mount.
+/// Why a daemon could not mount. The first that holds is told, in this order.
 #[derive(Clone, Copy, Debug, PartialEq, Eq, Error)]
 pub enum MountFault {
     #[error("another daemon has the seat")]
@@ -18,22 +18,25 @@ pub enum MountFault {
     LastGeneration,
 }
 
-/// Why a request of the kernel was not taken.
+/// Why a request of the kernel was not taken. The first that holds is told, in this order.
 #[derive(Clone, Copy, Debug, PartialEq, Eq, Error)]
 pub enum IssueFault {
     #[error("no daemon serves the mount")]
     NotMounted,
+    /// Of an ask: its number is neither the root nor held.
     #[error("the kernel does not hold the number")]
     NotHeld,
     #[error("a forget of the root, of nothing, or of more than the kernel holds")]
     BadForget,
+    /// Of an ask: the last unique was given.
     #[error("no unique is left")]
     Full,
+    /// Of an ask: there is no room for one more number.
     #[error("out of memory")]
     NoMemory,
 }
 
-/// What the kernel holds, and who serves it.
+/// What the kernel holds, and who serves it. Clauses see it as a `BrokerState`.
 #[derive(Drop)]
 pub struct Broker {
     seat: Option<Seat>,
@@ -62,6 +65,13 @@ impl Model for Broker {
 }
 
 impl Broker {
+    /// The greatest generation.
+    pub const LAST_GENERATION: u64 = (1 << 63) - 1;
+
+    /// The greatest unique.
+    pub const LAST_UNIQUE: u64 = (1 << 63) - 1;
+
+    /// A mount before any daemon serves it.
     pub fn new(alloc: Global) -> Result<Broker, NoMemory>
         ensures new { IfOk result (λ broker. broker ≡ new_broker) }
     {
@@ -74,7 +84,7 @@ impl Broker {
         })
     }
 
-    /// Gives a daemon the seat, and answers the generation at which it serves.
+    /// Gives a daemon the seat, and answers the generation at which it serves: 1 for the first.
     pub fn mount(&mut self, daemon: DaemonId) -> Result<u64, MountFault>
         ensures generation { IfOk result (λ generation. generation ≡ self.old.last + 1) }
         ensures mounted { OnOk result (self.new ≡ mounted self.old daemon) }
@@ -93,12 +103,6 @@ impl Broker {
         self.seat = Some(Seat { generation, daemon });
         Ok(generation)
     }
-
-    /// The greatest generation.
-    pub const LAST_GENERATION: u64 = (1 << 63) - 1;
-
-    /// The greatest unique.
-    pub const LAST_UNIQUE: u64 = (1 << 63) - 1;
 
     /// Why `issue` would refuse the request, want of memory apart.
     pub fn refusal(&self, request: &Request) -> Option<IssueFault>
@@ -135,14 +139,15 @@ impl Broker {
         None
     }
 
-    /// Takes a request of the kernel. An ask gets the next unique, from 1, and room for the number that its reply
-    /// may bring; a forget lowers at once what the kernel holds, and gets no unique.
+    /// Takes a request of the kernel. An ask gets the next unique, from 1, and room for the number that its
+    /// reply may bring. A forget lowers at once what the kernel holds, and gets no unique and takes no memory.
     pub fn issue(&mut self, request: Request) -> Result<Option<u64>, IssueFault>
         ensures unique { IfOk result (λ unique. unique ≡ unique_of self.old request) }
         ensures issued { OnOk result (self.new ≡ issued self.old request) }
         ensures accepted { OnOk result (issue_fault self.old request ≡ None) }
         ensures refused { IfErr result (IsIssueRefusal self.old request) }
         ensures unchanged { OnErr result (self.new ≡ self.old) }
+        ensures without_room { result ≡ Err IssueFault.NoMemory → self.old.spare ≡ 0 }
     {
         if let Some(fault) = self.refusal(&request) {
             return Err(fault);
@@ -162,7 +167,8 @@ impl Broker {
         Ok(Some(unique))
     }
 
-    /// Hands a reply to the kernel, which holds the number of an entry once more.
+    /// Hands a reply to the kernel, which then holds the number of an entry once more. That takes no memory:
+    /// an ask made the room.
     pub fn settle(&mut self, reply: &Reply)
         requires room { HasRoomFor self.old reply.now.answer }
         ensures settled { self.new ≡ settled self.old reply.now.answer }
@@ -173,7 +179,8 @@ impl Broker {
         }
     }
 
-    /// How often the kernel holds a number: 0 where it does not, and for the root, which it holds uncounted.
+    /// How often the kernel holds a number: as often as entries gave it and no forget took it back. The root,
+    /// which no look-up gives, is held uncounted.
     pub fn held(&self, number: Number) -> u64
         ensures count { result ≡ held_count self.now.held number.0 }
     {
@@ -183,16 +190,20 @@ impl Broker {
         }
     }
 
-    /// The least number above this one that the kernel holds.
+    /// The least number above this one that the kernel holds, the uncounted root apart.
     pub fn held_after(&self, number: Number) -> Option<Number>
         ensures least { IsLeastHeldAfter self.now.held number.0 result }
     {
         least_after(&self.held, number)
     }
 
+    /// Who serves, if anyone.
     pub fn seat(&self) -> Option<Seat>
         ensures seat { result ≡ self.now.seat }
     {
         self.seat
     }
 }
+
+#[cfg(test)]
+mod tests;

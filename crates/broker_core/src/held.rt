@@ -17,7 +17,8 @@ pub struct Held {
 
 /// The place of a number in the list.
 pub(crate) fn place_of(held: &[Held], number: Number) -> Option<usize>
-    ensures { MatchOption result (first_where (has_number number.0) held.now ≡ None) (IsFirstPlace (has_number number.0) held.now) }
+    ensures { let is_it = has_number number.0 in
+        MatchOption result (first_where is_it held.now ≡ None) (IsFirstPlace is_it held.now) }
 {
     for (place, holding) in held.iter().enumerate() {
         if holding.number == number {

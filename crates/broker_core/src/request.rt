@@ -1,5 +1,6 @@
 //! What the kernel asks, and what it is answered.
-ghost use Rattle.std.specs.Prelude.{◌≡◌, IfOk};
+ghost use Rattle.std.specs.Prelude.{◌≡◌, IfOk, OnErr};
+ghost use Rattle.broker_core.specs.Broker.{IsAsk};
 
 use eden_base::{Attr, Errno, Name, NoMemory, Number};
 use std::alloc::Global;
@@ -22,8 +23,10 @@ pub enum Request {
 }
 
 impl Request {
+    /// The same request once more. A forget takes no memory.
     pub fn copy(&self, alloc: Global) -> Result<Request, NoMemory>
         ensures copy { IfOk result (λ request. request ≡ self.now) }
+        ensures refused { OnErr result (IsAsk self.now) }
     {
         match self {
             Request::Lookup { dir, name } => {
@@ -40,6 +43,7 @@ impl Request {
 pub enum Answer {
     /// The file's number and attributes. It raises the number's lookup count by one.
     Entry { number: Number, attr: Attr },
+    /// The request failed, and the kernel holds nothing more.
     Error(Errno),
 }
 
@@ -49,3 +53,6 @@ pub struct Reply {
     pub unique: u64,
     pub answer: Answer,
 }
+
+#[cfg(test)]
+mod tests;

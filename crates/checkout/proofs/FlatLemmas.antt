@@ -1,11 +1,11 @@
 -- Look-ups in the indexes, as look-ups in the maps that they hold.
-use Rattle.std.proofs.Common.{◌≡◌, ℕ, Bool, true, false, cond, subst, List, [], ◌∷◌, ◌++◌, Option, Some, None, refl, sym, ap, ◌∙◌}
-use Rattle.std.specs.Ordering.{nat_cmp, is_eq, eq_by_cmp, ordering_then, match_ordering, on, then_cmp}
+use Rattle.std.proofs.Common.{◌≡◌, ◌==◌, length, arith, eq-eqb, ℕ, Bool, true, false, cond, subst, List, [], ◌∷◌, ◌++◌, Option, Some, None, refl, sym, ap, ◌∙◌}
+use Rattle.std.specs.Ordering.{nat_cmp, is_eq, eq_by_cmp, ordering_then, match_ordering}
 use Rattle.std.specs.declared.cmp.Ordering.{Ordering}
 use Rattle.std.specs.declared.cmp.Ordering.TheVariants.{Less, Equal, Greater}
 use Rattle.std.specs.Cmp.{IsTotalOrder, nat_cmp_total, on_total, then_total}
 use Rattle.std.specs.Cmp.Lexicographic.{slice_cmp, nat_list_cmp_total}
-use Rattle.std.specs.FinMap.{FinMap, entries, get, insert, from_entries, find, put, IsAntisymmetric, nat_cmp-IsAntisymmetric, slice_cmp-IsAntisymmetric, get-entries, get-from_entries, get-insert, same_map}
+use Rattle.std.specs.FinMap.{FinMap, empty, get-empty, entries, get, insert, from_entries, find, put, IsAntisymmetric, nat_cmp-IsAntisymmetric, slice_cmp-IsAntisymmetric, get-entries, get-from_entries, get-insert, same_map}
 use Rattle.std.specs.FinMap.Entries.{find-put, by_order}
 use Rattle.std.specs.Map.{lookup, keys_of}
 use Rattle.std.specs.List.{AllByRecursion}
@@ -16,6 +16,9 @@ use Rattle.std.specs.Option.{option_and_then, option_or}
 use Rattle.std.specs.declared.alloc.Global.{Global}
 use Rattle.std.specs.declared.vec.Vec.{Vec}
 use Rattle.eden_base.specs.declared.number.FileId.{FileId}
+use Rattle.std.specs.List.{list_any}
+use Rattle.std.proofs.lemmas.Bool.Decides.{nat_tests}
+use Rattle.checkout.proofs.MapLemmas.{get-insert_same, any_key-entries, key_from_any}
 use Rattle.checkout.specs.Flat.{by_bytes, in_directory, in_directories}
 use Rattle.checkout.specs.Tree.{link_cmp}
 
@@ -139,3 +142,26 @@ insert-in_directories m n dir name file files sorted_m sorted_n before after =
             rw (nat_cmp_total.antisymm dir d, e) (get-insert nat_list_cmp_total files name file x ∙ ap (cond (eq_by_cmp name_cmp x name) (Some file)) (sym (before x) ∙ sym (get-in_directories dir x m sorted_m) ∙ ap (λ k. get old (k, x)) (sym same)))
           | Greater ↦ λ e. rw (nat_cmp_total.antisymm dir d, e) (sym (get-in_directories d x m sorted_m))
         ] refl
+
+pub empty_by_bytes : (es : List (Vec ℕ Global × FileId)) → (length es ≡ 0 → from_entries {R = name_cmp} (by_bytes es) ≡ empty) × (from_entries {R = name_cmp} (by_bytes es) ≡ empty → length es ≡ 0)
+empty_by_bytes [] = (λ _. refl, λ _. refl)
+empty_by_bytes (e ∷ es) =
+    (λ h. absurd (omega arith),
+      λ h. let found = get-insert_same nat_list_cmp_total (from_entries {R = name_cmp} (by_bytes es)) e.0.items e.1 in
+      let none = ap (λ (m : FinMap name_cmp FileId). get m e.0.items) h ∙ get-empty name_cmp e.0.items in
+      absurd (cc))
+
+-- a link in a directory is among all links, and only it shows that there is one
+pub has_link : (m : FinMap link_cmp FileId) (dir : ℕ) (name : List ℕ) (file : FileId) → get m (dir, name) ≡ Some file → list_any (λ (link : (ℕ × List ℕ) × FileId). link.0.0 == dir) (entries m) ≡ true
+has_link m dir name file h = any_key-entries link_cmp-same (λ k. k.0 == dir) m (dir, name) file h (eq-eqb dir dir refl)
+
+pub has_no_link : (m : FinMap link_cmp FileId) (dir : ℕ) → ((name : List ℕ) → get m (dir, name) ≡ None) → list_any (λ (link : (ℕ × List ℕ) × FileId). link.0.0 == dir) (entries m) ≡ false
+has_no_link m dir none =
+    elim (list_any (λ (link : (ℕ × List ℕ) × FileId). link.0.0 == dir) (entries m)) as (λ b. list_any (λ (link : (ℕ × List ℕ) × FileId). link.0.0 == dir) (entries m) ≡ b → b ≡ false) [
+      | true ↦ λ e.
+        let r = key_from_any link_cmp_total (λ k. k.0 == dir) m e in
+        let same : r.0.0 ≡ dir = grind (arith, nat_tests) in
+        let gone = ap (λ (d : ℕ). get m (d, r.0.1)) same ∙ none r.0.1 in
+        absurd (cc (r.2, gone))
+      | false ↦ λ e. refl
+    ] refl

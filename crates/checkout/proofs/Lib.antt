@@ -2,3 +2,4 @@ pub mod FlatLemmas
 pub mod ManifestIsTree
 pub mod ManifestTree
 pub mod MapLemmas
+pub mod MoreLines

@@ -1,16 +1,15 @@
 -- What a manifest says is a tree.
-use Rattle.std.proofs.Common.{◌≡◌, ℕ, zero, suc, ◌+◌, ◌<◌, ◌≤◌, Bool, true, List, [], ◌∷◌, ◌++◌, length, Option, Some, None, IsSome, refl, sym, ap, ◌∙◌, ◌⊎◌, inl, inr, arith, nat_eq, eq-eqb}
+use Rattle.std.proofs.Common.{◌≡◌, ℕ, zero, suc, ◌+◌, ◌<◌, ◌-◌, Bool, true, false, not, ◌&&◌, ◌==◌, if◌then◌else◌, List, [], ◌∷◌, ◌++◌, length, Option, Some, None, IsSome, refl, sym, ap, ◌∙◌, inl, inr, arith, nat_eq, eq-eqb}
 use Rattle.std.specs.List.{slice_get}
 use Rattle.std.specs.Option.{option_map, option_and_then}
 use Rattle.std.specs.FinMap.{get}
-use Rattle.std.proofs.lemmas.Option.{slice_get_within}
-use Rattle.eden_base.specs.declared.attr.Kind.{Kind}
+use Rattle.eden_base.specs.declared.attr.Attr.{Attr}
 use Rattle.eden_base.specs.declared.attr.Kind.TheVariants.{Dir}
 use Rattle.eden_base.specs.declared.number.FileId.{FileId}
-use Rattle.checkout.specs.Manifest.{File, Line, Manifest, IsLine, IsDirBefore, IsManifest}
-use Rattle.checkout.specs.Tree.{Tree, files_from, links_from, root, tree_of, file_of, kind_of, child_of, file_at, is_linked, IsTree}
+use Rattle.checkout.specs.Manifest.{File, Line, Manifest, IsDirBefore, IsManifest}
+use Rattle.checkout.specs.Tree.{Tree, files_from, links_from, root, tree_of, kind_of, child_of, file_at, is_linked, is_unlinked, nlink_of, nlink_of_kind, attr_of, attr_of_linked, IsTree}
 use Rattle.checkout.proofs.MapLemmas.{list_any-entries}
-use Rattle.checkout.proofs.ManifestTree.{file_with, same_id, IsLinkOf, line_of_link, AreApart, link_of_line, root_of_files, file_of_line, id_of_file}
+use Rattle.checkout.proofs.ManifestTree.{file_with, same_id, IsLinkOf, line_of_link, AreApart, link_of_line, root_of_files, file_of_line, id_of_file, line_at}
 
 pub apart_lines : (m : Manifest) → IsManifest m → AreApart m.lines
 apart_lines m h = record { apart = λ i j a b lt at_i at_j. (h.each i a at_i).place_is_new j b lt at_j }
@@ -68,7 +67,7 @@ module _ (m : Manifest) (is : IsManifest m) where
 
   below_next : (q : ℕ) (o : Option File) → get (files_from 2 m.lines) q ≡ o → IsSome o → q < length m.lines + 2
   below_next q None e h = cc
-  below_next q (Some f) e h = elim (id_of_file 2 m.lines q f e) [ inl one ↦ omega (arith, one) | inr lt ↦ omega (arith, lt) ]
+  below_next q (Some f) e h = elim (id_of_file 2 m.lines q f e) [ inl one ↦ omega (arith, one) | inr lt ↦ omega (arith, lt.1) ]
 
   pub tree_of-IsTree : IsTree (tree_of m)
   tree_of-IsTree = record {
@@ -90,3 +89,29 @@ module _ (m : Manifest) (is : IsManifest m) where
       let p = reached (suc r.place) r.place r.line (omega arith) r.here in
       (p.0, p.1 ∙ ap (λ f. Some f) (same_id (file_with (2 + r.place)) file (sym r.file_is)));
   }
+
+and-false : (b : Bool) → (b && false) ≡ false
+and-false true = refl
+and-false false = refl
+
+-- every file of a manifest's tree is the root or linked
+no_file_is_unlinked : (m : Manifest) → IsManifest m → (file : FileId) (f : File) → get (files_from 2 m.lines) file.0 ≡ Some f → is_unlinked (tree_of m) file ≡ false
+no_file_is_unlinked m is file f h =
+    elim (id_of_file 2 m.lines file.0 f h) [
+      | inl one ↦ ap (λ b. not b && not (is_linked (tree_of m) file)) (eq-eqb file.0 1 one)
+      | inr w ↦
+        let at = line_at m.lines (file.0 - 2) (omega (arith, w.0, w.1)) in
+        let id : (file_with (2 + (file.0 - 2))).0 ≡ file.0 = omega (arith, w.0) in
+        let child = child_of_line m is (file.0 - 2) at.0 at.1 ∙ ap (λ g. Some g) (same_id (file_with (2 + (file.0 - 2))) file id) in
+        ap (λ b. not (file.0 == 1) && not b) ((tree_of-IsTree m is).linked_is_linked at.0.dir at.0.name file child) ∙ and-false (not (file.0 == 1))
+    ]
+
+abbrev attr_with : File → ℕ → Attr
+attr_with f n = record { kind = f.kind; perm = f.perm; size = f.size; nlink = n }
+
+pub attr_of-tree_of : (m : Manifest) → IsManifest m → (file : FileId) → attr_of (tree_of m) file ≡ option_map attr_of_linked (get (files_from 2 m.lines) file.0)
+attr_of-tree_of m is file =
+    elim (get (files_from 2 m.lines) file.0) as (λ o. get (files_from 2 m.lines) file.0 ≡ o → option_map (λ (f : File). record { kind = f.kind; perm = f.perm; size = f.size; nlink = nlink_of (tree_of m) file f.kind }) o ≡ option_map attr_of_linked o) [
+      | None ↦ λ e. refl
+      | Some f ↦ λ e. ap (λ (b : Bool). Some (attr_with f (if b then 0 else nlink_of_kind f.kind))) (no_file_is_unlinked m is file f e)
+    ] refl

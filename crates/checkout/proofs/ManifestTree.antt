@@ -1,11 +1,14 @@
 -- The files and links of a manifest's lines, line by line.
-use Rattle.std.proofs.Common.{◌≡◌, ℕ, zero, suc, ◌+◌, ◌-◌, ◌<◌, ◌≤◌, List, [], ◌∷◌, ◌++◌, length, take, Option, Some, None, IsSome, refl, sym, ap, subst, ◌∙◌, ◌⊎◌, inl, inr, arith}
+use Rattle.std.proofs.Common.{◌≡◌, ℕ, zero, suc, ◌+◌, ◌-◌, ◌<◌, ◌≤◌, true, false, nat_lt, if◌then◌else◌, List, [], ◌∷◌, ◌++◌, length, take, Some, None, refl, sym, ap, ◌∙◌, ◌⊎◌, inl, inr, arith}
+use Rattle.std.proofs.lemmas.Bool.Decides.{nat_tests}
 use Rattle.std.specs.List.{slice_get}
+use Rattle.std.specs.Option.{option_map}
+use Rattle.eden_base.specs.declared.attr.Kind.TheVariants.{Dir}
 use Rattle.std.specs.Ordering.{nat_cmp}
 use Rattle.std.specs.Cmp.{nat_cmp_total}
-use Rattle.std.specs.FinMap.{FinMap, get, insert, empty, find, get-empty, nat_cmp-IsAntisymmetric, from_entries, from_entries_push, get-from_entries}
+use Rattle.std.specs.FinMap.{get, insert, empty, find, get-empty, nat_cmp-IsAntisymmetric, from_entries, from_entries_push, get-from_entries}
 use Rattle.eden_base.specs.declared.number.FileId.{FileId}
-use Rattle.checkout.specs.Manifest.{File, Line}
+use Rattle.checkout.specs.Manifest.{File, Line, IsDirBefore, line_of}
 use Rattle.checkout.specs.Tree.{link_cmp, files_from, links_from, root_file}
 use Rattle.checkout.proofs.FlatLemmas.{link_cmp_total, link_cmp-same}
 use Rattle.checkout.proofs.MapLemmas.{get-insert_cases, get-insert_same, get-insert_other}
@@ -51,6 +54,11 @@ link_of_line (l ∷ ls) id (suc i) line h here =
       (λ e. h.apart (suc i) 0 line l (omega arith) here refl (same_id l.dir line.dir (sym (ap (λ (k : ℕ × List ℕ). k.0) e))) (sym (ap (λ (k : ℕ × List ℕ). k.1) e)))
     ∙ link_of_line ls (id + 1) i line (AreApart-tail l ls h) here ∙ ap (λ n. Some (file_with n)) (omega arith)
 
+slice_get_inside : (lines : List Line) (i : ℕ) → i < length lines → slice_get lines i ≡ None → ⊥
+slice_get_inside [] i lt h = omega arith
+slice_get_inside (l ∷ ls) zero lt h = cc
+slice_get_inside (l ∷ ls) (suc i) lt h = slice_get_inside ls i (omega arith) h
+
 -- files
 pub root_of_files : (id : ℕ) (lines : List Line) → 2 ≤ id → get (files_from id lines) 1 ≡ Some root_file
 root_of_files id [] h = get-insert_same nat_cmp_total empty 1 root_file
@@ -67,14 +75,59 @@ file_of_line id (suc i) (l ∷ ls) line h =
     ∙ ap (get (files_from (id + 1) ls)) (omega arith) ∙ file_of_line (id + 1) i ls line h
 
 -- a file of a manifest's tree is the root or a line's
-pub id_of_file : (id : ℕ) (lines : List Line) (q : ℕ) (file : File) → get (files_from id lines) q ≡ Some file → (q ≡ 1) ⊎ (q < id + length lines)
+pub id_of_file : (id : ℕ) (lines : List Line) (q : ℕ) (file : File) → get (files_from id lines) q ≡ Some file → (q ≡ 1) ⊎ ((id ≤ q) × (q < id + length lines))
 id_of_file id [] q file h =
     elim (get-insert_cases nat_cmp_total nat_cmp-IsAntisymmetric empty 1 root_file q file h) [ inl w ↦ inl w.0 | inr g ↦ absurd (let e = get-empty {X = File} nat_cmp q in cc) ]
 id_of_file id (l ∷ ls) q file h =
     elim (get-insert_cases nat_cmp_total nat_cmp-IsAntisymmetric (files_from (id + 1) ls) id l.file q file h) [
-      | inl w ↦ inr (omega (arith, w.0))
-      | inr g ↦ elim (id_of_file (id + 1) ls q file g) [ inl e ↦ inl e | inr lt ↦ inr (omega (arith, lt)) ]
+      | inl w ↦ inr (omega (arith, w.0), omega (arith, w.0))
+      | inr g ↦ elim (id_of_file (id + 1) ls q file g) [ inl e ↦ inl e | inr lt ↦ inr (omega (arith, lt.0), omega (arith, lt.1)) ]
     ]
+
+pub file_from_line : (lines : List Line) (file : FileId) (line : Line) → line_of lines file ≡ Some line → get (files_from 2 lines) file.0 ≡ Some line.file
+file_from_line lines file line h =
+    elim (nat_lt file.0 2) as (λ b. nat_lt file.0 2 ≡ b → (if b then None else slice_get lines (file.0 - 2)) ≡ Some line → get (files_from 2 lines) file.0 ≡ Some line.file) [
+      | true ↦ λ e g. cc
+      | false ↦ λ e g.
+        let at_least : 2 ≤ file.0 = grind (arith, nat_tests) in
+        let id : file.0 ≡ 2 + (file.0 - 2) = omega arith in
+        ap (get (files_from 2 lines)) id ∙ file_of_line 2 (file.0 - 2) lines line g
+    ] refl h
+
+-- what is no line's and not the root isn't there
+pub no_file : (lines : List Line) (file : FileId) → (file.0 ≡ 1 → ⊥) → line_of lines file ≡ None → get (files_from 2 lines) file.0 ≡ None
+no_file lines file other h =
+    elim (get (files_from 2 lines) file.0) as (λ o. get (files_from 2 lines) file.0 ≡ o → o ≡ None) [
+      | None ↦ λ e. refl
+      | Some f ↦ λ e. absurd (elim (id_of_file 2 lines file.0 f e) [ inl one ↦ other one | inr w ↦ outside w.0 w.1 ])
+    ] refl
+  where
+    outside : 2 ≤ file.0 → file.0 < 2 + length lines → ⊥
+    outside low high =
+        let test : nat_lt file.0 2 ≡ false = grind (arith, nat_tests) in
+        let none : slice_get lines (file.0 - 2) ≡ None = ap (λ b. if b then None else slice_get lines (file.0 - 2)) (sym test) ∙ h in
+        slice_get_inside lines (file.0 - 2) (omega arith) none
+
+pub line_at : (lines : List Line) (i : ℕ) → i < length lines → (line : Line) × (slice_get lines i ≡ Some line)
+line_at [] i lt = absurd (omega arith)
+line_at (l ∷ ls) zero lt = (l, refl)
+line_at (l ∷ ls) (suc i) lt = line_at ls i (omega arith)
+
+-- a directory of the lines is the root or an earlier line's
+pub dir_before : (lines : List Line) (dir : FileId) → option_map (λ (f : File). f.kind) (get (files_from 2 lines) dir.0) ≡ Some Dir → IsDirBefore lines (length lines) dir
+dir_before lines dir h =
+    elim (get (files_from 2 lines) dir.0) as (λ o. get (files_from 2 lines) dir.0 ≡ o → option_map (λ (f : File). f.kind) o ≡ Some Dir → IsDirBefore lines (length lines) dir) [
+      | None ↦ λ e k. cc
+      | Some f ↦ λ e k. elim (id_of_file 2 lines dir.0 f e) [
+        | inl one ↦ inl one
+        | inr w ↦
+          let at = line_at lines (dir.0 - 2) (omega (arith, w.0, w.1)) in
+          let id : dir.0 ≡ 2 + (dir.0 - 2) = omega (arith, w.0) in
+          let same : at.0.file ≡ f = let g = file_of_line 2 (dir.0 - 2) lines at.0 at.1 in let i = ap (get (files_from 2 lines)) id in cc in
+          let kind : at.0.file.kind ≡ Dir = cc in
+          inr (dir.0 - 2, at.0, omega (arith, w.0, w.1), omega (arith, w.0), at.1, kind)
+      ]
+    ] refl h
 
 -- links as pairs
 abbrev numbered : ℕ → List Line → List ((ℕ × List ℕ) × FileId)

@@ -1,11 +1,11 @@
 -- Look-ups in a finite map after an insertion, and its entries.
-use Rattle.std.proofs.Common.{◌≡◌, Bool, true, false, cond, ◌||◌, List, [], ◌∷◌, Option, Some, None, refl, sym, ap, ◌∙◌, ◌⊎◌, inl, inr}
+use Rattle.std.proofs.Common.{◌≡◌, Bool, true, false, cond, ◌||◌, List, [], ◌∷◌, length, Some, refl, sym, ap, ◌∙◌, ◌⊎◌, inl, inr}
 use Rattle.std.specs.List.{list_any}
 use Rattle.std.specs.Ordering.{is_eq, eq_by_cmp}
 use Rattle.std.specs.declared.cmp.Ordering.{Ordering}
 use Rattle.std.specs.declared.cmp.Ordering.TheVariants.{Less, Equal, Greater}
 use Rattle.std.specs.Cmp.{IsTotalOrder, tied_itself}
-use Rattle.std.specs.FinMap.{FinMap, entries, get, insert, find, get-entries, get-insert, IsAntisymmetric}
+use Rattle.std.specs.FinMap.{FinMap, entries, get, insert, find, empty, get-entries, get-insert, empty_of_len, len-entries, IsAntisymmetric}
 
 -- a key that ties is the key, in an order that tells keys apart
 tied : {K : Type 0} {R : K → K → Ordering} → IsAntisymmetric R → (x y : K) (o : Ordering) → R x y ≡ o → is_eq o ≡ true → x ≡ y
@@ -47,3 +47,46 @@ list_any-find {K} {X} R p q (e ∷ es) v h t =
 
 pub list_any-entries : {K X : Type 0} {R : K → K → Ordering} (p : X → Bool) (m : FinMap R X) (q : K) (v : X) → get m q ≡ Some v → p v ≡ true → list_any (λ (e : K × X). p e.1) (entries m) ≡ true
 list_any-entries {R = R} p m q v h t = list_any-find R p q (entries m) v (sym (get-entries m q) ∙ h) t
+
+-- what is found stands under its key among the entries
+any_key-find : {K X : Type 0} (R : K → K → Ordering) → IsAntisymmetric R → (p : K → Bool) (q : K) (es : List (K × X)) (v : X) → find R q es ≡ Some v → p q ≡ true → list_any (λ (e : K × X). p e.0) es ≡ true
+any_key-find R same p q [] v h t = cc
+any_key-find {K} {X} R same p q (e ∷ es) v h t =
+    elim (eq_by_cmp R q e.0) as (λ b. eq_by_cmp R q e.0 ≡ b → cond b (Some e.1) (find R q es) ≡ Some v → list_any (λ (x : K × X). p x.0) (e ∷ es) ≡ true) [
+      | true ↦ λ k g. ap (λ b. b || list_any (λ (x : K × X). p x.0) es) (ap p (sym (tied same q e.0 (R q e.0) refl k)) ∙ t)
+      | false ↦ λ k g. ap (λ b. p e.0 || b) (any_key-find R same p q es v g t) ∙ or-true (p e.0)
+    ] refl h
+
+pub any_key-entries : {K X : Type 0} {R : K → K → Ordering} → IsAntisymmetric R → (p : K → Bool) (m : FinMap R X) (q : K) (v : X) → get m q ≡ Some v → p q ≡ true → list_any (λ (e : K × X). p e.0) (entries m) ≡ true
+any_key-entries {R = R} same p m q v h t = any_key-find R same p q (entries m) v (sym (get-entries m q) ∙ h) t
+
+-- a key among the entries is found
+pub record IsFoundKey {K X : Type 0} (R : K → K → Ordering) (p : K → Bool) (es : List (K × X)) : Type 0 where
+  pub key : K
+  pub value : X
+  pub found : find R key es ≡ Some value
+  pub passes : p key ≡ true
+
+found_key : {K X : Type 0} {R : K → K → Ordering} (o : IsTotalOrder R) (p : K → Bool) (es : List (K × X)) → list_any (λ (e : K × X). p e.0) es ≡ true → IsFoundKey R p es
+found_key o p [] h = absurd (cc)
+found_key {K} {X} {R} o p (e ∷ es) h =
+    elim (p e.0) as (λ b. p e.0 ≡ b → (b || list_any (λ (x : K × X). p x.0) es) ≡ true → IsFoundKey R p (e ∷ es)) [
+      | true ↦ λ t g. record { key = e.0; value = e.1; found = ap (λ r. cond (is_eq r) (Some e.1) (find R e.0 es)) (tied_itself o e.0); passes = t }
+      | false ↦ λ t g.
+        let r = found_key o p es g in
+        elim (eq_by_cmp R r.key e.0) as (λ b. eq_by_cmp R r.key e.0 ≡ b → IsFoundKey R p (e ∷ es)) [
+          | true ↦ λ k. record { key = r.key; value = e.1; found = ap (λ b. cond b (Some e.1) (find R r.key es)) k; passes = r.passes }
+          | false ↦ λ k. record { key = r.key; value = r.value; found = ap (λ b. cond b (Some e.1) (find R r.key es)) k ∙ r.found; passes = r.passes }
+        ] refl
+    ] refl h
+
+pub key_from_any : {K X : Type 0} {R : K → K → Ordering} (o : IsTotalOrder R) (p : K → Bool) (m : FinMap R X) → list_any (λ (e : K × X). p e.0) (entries m) ≡ true → (k : K) × (v : X) × (get m k ≡ Some v) × (p k ≡ true)
+key_from_any o p m h = let r = found_key o p (entries m) h in (r.key, r.value, get-entries m r.key ∙ r.found, r.passes)
+
+-- a map with entries finds the first of them
+pub empty_or_found : {K X : Type 0} {R : K → K → Ordering} (o : IsTotalOrder R) (m : FinMap R X) → (m ≡ empty) ⊎ ((k : K) × (v : X) × (get m k ≡ Some v))
+empty_or_found {K} {X} {R} o m =
+    elim (entries m) as (λ es. entries m ≡ es → (m ≡ empty) ⊎ ((k : K) × (v : X) × (get m k ≡ Some v))) [
+      | [] ↦ λ e. inl (empty_of_len m (len-entries m ∙ ap length e))
+      | x ∷ xs ↦ λ e. inr (x.0, x.1, get-entries m x.0 ∙ ap (find R x.0) e ∙ ap (λ r. cond (is_eq r) (Some x.1) (find R x.0 xs)) (tied_itself o x.0))
+    ] refl

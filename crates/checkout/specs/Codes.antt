@@ -42,3 +42,6 @@ links_code = map.code (coded× coded_ℕ (coded_list coded_ℕ)) file_id_code
 abbrev pub tree_code : Coded Tree
 tree_code =
     code_by (Manifest × (map.FinMap nat_cmp File × (map.FinMap link_cmp FileId × ℕ))) (coded× manifest_code (coded× (map.code coded_ℕ file_code) (coded× links_code coded_ℕ))) (λ t. (t.manifest, (t.files, (t.links, t.next_file)))) (λ p. record { manifest = p.0; files = p.1.0; links = p.1.1.0; next_file = p.1.1.1 }) (λ _. refl)
+
+abbrev pub lines_code : Coded (List Line)
+lines_code = coded_list line_code

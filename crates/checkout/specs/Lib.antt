@@ -1,4 +1,5 @@
 pub mod Codes
 pub mod Flat
 pub mod Manifest
+pub mod Text
 pub mod Tree

@@ -1,6 +1,6 @@
 -- What a manifest says: the commit of a checkout, and its files in an order in which each directory stands before
 -- what it holds. (This project's own; a manifest stands for the store of objects that EdenFS asks.)
-use Rattle.std.specs.Prelude.{◌≡◌, ◌≢◌, ℕ, ◌+◌, ◌-◌, ◌^◌, ◌<◌, ◌≤◌, ◌⊎◌, List, length, slice_get, Option, Some}
+use Rattle.std.specs.Prelude.{◌≡◌, ◌≢◌, ℕ, ◌+◌, ◌-◌, ◌^◌, ◌<◌, ◌≤◌, ◌⊎◌, List, length, slice_get, Option, Some, None, nat_lt, if◌then◌else◌}
 use Rattle.eden_base.specs.declared.attr.Kind.{Kind}
 use Rattle.eden_base.specs.declared.attr.Kind.TheVariants.{Dir}
 use Rattle.eden_base.specs.declared.attr.Perm.{Perm}
@@ -40,3 +40,12 @@ pub record IsManifest (m : Manifest) : Type 0 where
   pub commit : length m.commit ≡ 20
   pub few : length m.lines ≤ 65535
   pub each : (i : ℕ) (line : Line) → slice_get m.lines i ≡ Some line → IsLine m.lines i line
+
+-- lines that each stand below an earlier one, no two at one place
+pub record AreLines (lines : List Line) : Type 0 where
+  pub few : length lines ≤ 65535
+  pub each : (i : ℕ) (line : Line) → slice_get lines i ≡ Some line → IsLine lines i line
+
+-- the line of a file; the root has none
+abbrev pub line_of : List Line → FileId → Option Line
+line_of lines file = if nat_lt file.0 2 then None else slice_get lines (file.0 - 2)

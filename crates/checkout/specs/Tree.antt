@@ -1,7 +1,7 @@
 -- The tree of a checkout: its files, the names that lead to them, and the file that would be made next. Files are
 -- never taken out of it while a mount lasts. (EdenFS's documents on inodes and the overlay; the next file is this
 -- project's own.)
-use Rattle.std.specs.Prelude.{◌≡◌, ℕ, ◌+◌, ◌^◌, ◌<◌, Bool, true, ◌&&◌, ◌==◌, not, List, [], ◌∷◌, length, Option, Some, None, IsSome, IsTrue, if◌then◌else◌}
+use Rattle.std.specs.Prelude.{◌≡◌, ℕ, ◌+◌, ◌^◌, ◌<◌, Bool, true, false, ◌&&◌, ◌==◌, not, List, [], ◌∷◌, length, Option, Some, None, IsSome, if◌then◌else◌}
 use Rattle.std.specs.Option.{option_map, option_and_then}
 use Rattle.std.specs.List.{list_any}
 use Rattle.std.specs.Ordering.{nat_cmp, ordering_then}
@@ -51,10 +51,24 @@ is_unlinked tree file = not (file.0 == 1) && not (is_linked tree file)
 abbrev pub has_links : Tree → FileId → Bool
 has_links tree dir = list_any (λ (link : (ℕ × List ℕ) × FileId). link.0.0 == dir.0) (entries tree.links)
 
+-- it is a directory
+abbrev pub is_dir : Option Kind → Bool
+is_dir None = false
+is_dir (Some RegularFile) = false
+is_dir (Some Dir) = true
+
+-- a directory of the tree in which no link stands
+abbrev pub is_empty_dir : Tree → FileId → Bool
+is_empty_dir tree dir = is_dir (kind_of tree dir) && not (has_links tree dir)
+
 -- how many names lead to a linked file, as stat(2) counts them: a directory names itself
 abbrev pub nlink_of_kind : Kind → ℕ
 nlink_of_kind RegularFile = 1
 nlink_of_kind Dir = 2
+
+-- what a daemon tells the kernel of a file while a name leads to it
+abbrev pub attr_of_linked : File → Attr
+attr_of_linked f = record { kind = f.kind; perm = f.perm; size = f.size; nlink = nlink_of_kind f.kind }
 
 -- an unlinked file has none
 abbrev pub nlink_of : Tree → FileId → Kind → ℕ

@@ -1,5 +1,5 @@
 //! The names in one directory, and the file that each of them gives.
-ghost use Rattle.std.specs.Prelude.{◌≡◌, OnOk, OnErr};
+ghost use Rattle.std.specs.Prelude.{◌≡◌, ◌↔◌, IsTrue, OnOk, OnErr};
 ghost use Rattle.std.specs.Ordering.{nat_cmp};
 ghost use Rattle.std.specs.Cmp.Lexicographic.{slice_cmp};
 ghost use Rattle.std.specs.FinMap.{FinMap, empty, get, insert};
@@ -44,6 +44,12 @@ impl Directory {
         ensures { result ≡ get self.now name.now }
     {
         self.files.get(name).copied()
+    }
+
+    pub fn is_empty(&self) -> bool
+        ensures { IsTrue result ↔ (self.now ≡ empty) }
+    {
+        self.files.is_empty()
     }
 
     /// Lets a name give a file.

@@ -2,11 +2,16 @@
 #![tactic(auto)]
 
 mod directory;
+mod entry;
+mod fault;
+mod field;
 mod line;
 mod links;
 mod manifest;
+mod reading;
 mod tree;
 
+pub use fault::{ManifestFault, ManifestFaultKind};
 pub use line::Line;
 pub use manifest::Manifest;
 pub use tree::Tree;

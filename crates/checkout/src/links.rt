@@ -1,6 +1,7 @@
 //! The names in every directory, and the file that each of them gives.
-ghost use Rattle.std.specs.Prelude.{◌≡◌, OnOk, OnErr};
-ghost use Rattle.std.specs.FinMap.{FinMap, empty, get, insert};
+ghost use Rattle.std.specs.Prelude.{◌≡◌, ◌==◌, OnOk, OnErr};
+ghost use Rattle.std.specs.FinMap.{FinMap, empty, entries, get, insert};
+ghost use Rattle.std.specs.List.{list_any};
 
 use crate::directory::Directory;
 use eden_base::{FileId, NoMemory};
@@ -49,6 +50,16 @@ impl Links {
         match self.directories.get(&dir.0) {
             Some(directory) => directory.get(name),
             None => None,
+        }
+    }
+
+    /// Whether a name stands in the directory.
+    pub fn has_links(&self, dir: FileId) -> bool
+        ensures { result ≡ list_any (λ link. link.0.0 == dir.0) (entries self.now) }
+    {
+        match self.directories.get(&dir.0) {
+            Some(directory) => !directory.is_empty(),
+            None => false,
         }
     }
 

@@ -2,7 +2,9 @@
 ghost use Rattle.std.specs.Prelude.{◌≡◌, IfOk};
 ghost use Rattle.checkout.specs.Manifest.{IsManifest};
 
-use crate::Line;
+use crate::field::cut;
+use crate::reading::Reading;
+use crate::{Line, ManifestFault, ManifestFaultKind};
 use eden_base::NoMemory;
 use std::alloc::Global;
 use std::marker::Model;
@@ -29,6 +31,19 @@ impl Model for Manifest {
 }
 
 impl Manifest {
+    /// A line is `commit ` and forty hexadecimal digits; then come lines `dir PATH` and `file MODE SIZE PATH`. Each is
+    /// ended by LF.
+    pub fn read(alloc: Global, bytes: &[u8]) -> Result<Manifest, ManifestFault>
+        ensures { IfOk result IsManifest }
+    {
+        let (commit, rest) = match read_commit(bytes) {
+            Ok(parts) => parts,
+            Err(kind) => return Err(ManifestFault { line: 1, kind }),
+        };
+        let lines = read_lines(alloc, rest)?.into_lines();
+        Ok(Manifest { commit, lines })
+    }
+
     /// The name of the commit, as Git and EdenFS have it: twenty bytes of a hash.
     pub fn commit(&self) -> [u8; 20]
         ensures commit { result ≡ self.now.commit }
@@ -55,6 +70,50 @@ impl Manifest {
             lines,
         })
     }
+}
+
+/// The commit, and what comes after its line.
+fn read_commit(bytes: &[u8]) -> Result<([u8; 20], &[u8]), ManifestFaultKind> {
+    match cut(bytes, b'\n') {
+        Some((line, rest)) => match commit_of(line) {
+            Some(commit) => Ok((commit, rest)),
+            None => Err(ManifestFaultKind::NoCommit),
+        },
+        None => match commit_of(bytes) {
+            Some(_) => Err(ManifestFaultKind::BadLine),
+            None => Err(ManifestFaultKind::NoCommit),
+        },
+    }
+}
+
+/// The commit that the first line names.
+fn commit_of(line: &[u8]) -> Option<[u8; 20]> {
+    let digits = line.strip_prefix(b"commit ".as_slice())?;
+    let mut commit = [0; 20];
+    match hex::decode_to_slice(digits, &mut commit) {
+        Ok(()) => Some(commit),
+        Err(_) => None,
+    }
+}
+
+/// The lines after the first.
+fn read_lines(alloc: Global, bytes: &[u8]) -> Result<Reading, ManifestFault> {
+    let mut reading = Reading::new(alloc);
+    let mut rest = bytes;
+    while !rest.is_empty() {
+        let line = reading.len() + 2;
+        let Some((text, after)) = cut(rest, b'\n') else {
+            return Err(ManifestFault {
+                line,
+                kind: ManifestFaultKind::BadLine,
+            });
+        };
+        match reading.add(alloc, text) {
+            Ok(()) => rest = after,
+            Err(kind) => return Err(ManifestFault { line, kind }),
+        }
+    }
+    Ok(reading)
 }
 
 fn copy_lines(alloc: Global, lines: &[Line]) -> Result<Vec<Line>, NoMemory>

@@ -1,10 +1,11 @@
 //! The files of a checkout and the names that lead to them.
 ghost use Rattle.std.specs.Prelude.{◌≡◌, IfOk};
-ghost use Rattle.checkout.specs.Tree.{IsTree, tree_of, child_of, links_from};
+ghost use Rattle.checkout.specs.Tree.{IsTree, tree_of, child_of, kind_of, attr_of, is_empty_dir, links_from};
 
 use crate::links::Links;
 use crate::Manifest;
-use eden_base::{FileId, Name, NoMemory};
+use crate::line::{attr_of, kind_of};
+use eden_base::{Attr, FileId, Kind, Name, NoMemory};
 use std::alloc::Global;
 use std::marker::Model;
 
@@ -46,6 +47,31 @@ impl Tree {
         ensures is_tree { IsTree self.now }
     {
         self.manifest.commit()
+    }
+
+    /// Whether the tree has the file, as a directory or not.
+    pub fn kind(&self, file: FileId) -> Option<Kind>
+        ensures { result ≡ kind_of self.now file }
+    {
+        kind_of(self.manifest.lines(), file)
+    }
+
+    /// What a daemon tells the kernel of a file of the tree.
+    pub fn attr(&self, file: FileId) -> Option<Attr>
+        ensures { result ≡ attr_of self.now file }
+    {
+        attr_of(self.manifest.lines(), file)
+    }
+
+    /// Whether the file is a directory of the tree without a name in it. What is no directory isn't an empty one.
+    pub fn is_empty_dir(&self, dir: FileId) -> bool
+        ensures { result ≡ is_empty_dir self.now dir }
+    {
+        match self.kind(dir) {
+            Some(Kind::Dir) => !self.links.has_links(dir),
+            Some(Kind::File) => false,
+            None => false,
+        }
     }
 
     /// The file under a name in a directory.

@@ -1,5 +1,5 @@
 -- An insertion into the map is one into the view.
-use Rattle.std.proofs.Common.{ap, sym, ◌∙◌}
+use Rattle.std.proofs.Common.{ap, ◌∙◌}
 use Rattle.std.specs.FinMap.{from_entries}
 use Rattle.checkout.specs.Flat.{by_bytes}
 use Rattle.checkout.proofs.FlatLemmas.{from_entries-by_bytes-insert}

@@ -1,5 +1,5 @@
 -- A name that is inserted into its directory is inserted into all links.
-use Rattle.std.proofs.Common.{◌≡◌, ℕ, List, Some, IsSome, cond, refl, ap, sym, ◌∙◌}
+use Rattle.std.proofs.Common.{ℕ, Some, IsSome, cond, refl, ap, sym, ◌∙◌}
 use Rattle.std.specs.Ordering.{nat_cmp}
 use Rattle.std.specs.FinMap.{FinMap, from_entries, get, insert, get-empty}
 use Rattle.std.specs.BTreeMap.{BTreeMap, is_at}

@@ -1,6 +1,4 @@
 -- What the manifest says is a tree.
-use Rattle.std.proofs.Common.{ap, subst, sym, ◌∙◌}
-use Rattle.checkout.specs.Tree.{IsTree, Tree}
 use Rattle.checkout.proofs.ManifestIsTree.{tree_of-IsTree}
 use Rattle.checkout.proofs.tree.Tree.commit.Goals as goal
 

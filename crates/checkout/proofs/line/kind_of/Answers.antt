@@ -1,0 +1,22 @@
+-- The root, a line's file, or none.
+use Rattle.std.proofs.Common.{Some, arith, ap, sym, ◌∙◌}
+use Rattle.std.specs.Option.{option_map}
+use Rattle.std.specs.FinMap.{get}
+use Rattle.checkout.specs.Manifest.{File, Line}
+use Rattle.checkout.specs.Tree.{files_from}
+use Rattle.checkout.proofs.ManifestTree.{root_of_files, file_from_line, no_file}
+use Rattle.checkout.proofs.line.kind_of.Goals as goal
+
+pub returns-then-file-eq1 : goal.returns-then-file-eq1
+returns-then-file-eq1 c =
+    let lines = c.args.lines.now in
+    sym (ap (option_map (λ (f : File). f.kind)) (ap (get (files_from 2 lines)) c.if-file-eq1.true ∙ root_of_files 2 lines (omega arith)))
+
+pub returns-in-Some : goal.returns-in-Some
+returns-in-Some c =
+    let lines = c.args.lines.now in
+    ap (λ (l : Line). Some l.file.kind) c.line.view_is ∙ sym (ap (option_map (λ (f : File). f.kind)) (file_from_line lines c.args.file c.in-Some.line.now (sym c.in-Some.ensures)))
+
+pub returns-in-None : goal.returns-in-None
+returns-in-None c =
+    sym (ap (option_map (λ (f : File). f.kind)) (no_file c.args.lines.now c.args.file c.if-file-eq1.false (sym c.in-None.ensures)))
