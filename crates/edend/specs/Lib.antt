@@ -1,4 +1,6 @@
 -- The definitions that the contracts of this crate cite.
 pub mod EventLine
+pub mod Input
+pub mod Lines
 pub mod Number
 pub mod Words
