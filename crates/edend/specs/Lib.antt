@@ -3,4 +3,5 @@ pub mod EventLine
 pub mod Input
 pub mod Lines
 pub mod Number
+pub mod Refusal
 pub mod Words

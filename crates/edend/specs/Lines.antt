@@ -1,6 +1,7 @@
 -- The lines of a text, and the line `--` that parts a script.
 use Rattle.std.specs.Prelude.{◌≡◌, ℕ, ◌+◌, ◌==◌, Bool, true, List, [], ◌∷◌, length, map, take, drop, Option, Some, None, is_none, position, codes, if◌then◌else◌}
 use Rattle.std.specs.List.{onto_first, before_first, after_first}
+use Rattle.world.specs.declared.event.Event.{Event}
 use Rattle.edend.specs.EventLine.{event_of}
 use Rattle.edend.specs.Words.{is_word}
 
@@ -30,5 +31,19 @@ pub record IsSplit (script manifest events : List ℕ) (first : ℕ) : Type 0 wh
   pub first_is : first + length (lines_of events) ≡ length (lines_of script) + 1
 
 -- the place of the first line that says no event
-abbrev pub first_bad : List ℕ → Option ℕ
-first_bad text = position is_none (map event_of (lines_of text))
+abbrev pub first_bad : List (List ℕ) → Option ℕ
+first_bad lines = position is_none (map event_of lines)
+
+-- the events that the lines behind a script's marker say
+pub record SaysEvents (script : List ℕ) (events : List Event) : Type 0 where
+  pub lines : List (List ℕ)
+  pub behind : lines_behind (lines_of script) ≡ Some lines
+  pub each : map Some events ≡ map event_of lines
+
+-- the number of the first line behind a script's marker that says no event
+pub record IsBadLine (script : List ℕ) (number : ℕ) : Type 0 where
+  pub lines : List (List ℕ)
+  pub place : ℕ
+  pub behind : lines_behind (lines_of script) ≡ Some lines
+  pub is_first : first_bad lines ≡ Some place
+  pub number_is : number + length lines ≡ length (lines_of script) + place + 1

@@ -1,6 +1,7 @@
 //! Why a script was not run to its end.
 ghost use Rattle.edend.specs.declared.fault.Fault.TheVariants.{NoMemory as WantOfMemory};
 ghost use Rattle.std.specs.Prelude.{◌≡◌};
+ghost use Rattle.edend.specs.Refusal.{fault_of_manifest};
 
 use checkout::{ManifestFault, ManifestFaultKind};
 use eden_base::NoMemory;
@@ -56,6 +57,8 @@ impl<T: Drop> From<AllocFailed<T>> for Fault {
 }
 
 impl From<ManifestFault> for Fault {
+    ghost from_gives = { λ fault gives. gives ≡ fault_of_manifest fault };
+
     fn from(fault: ManifestFault) -> Fault {
         match fault.kind {
             ManifestFaultKind::NoMemory => Fault::NoMemory,

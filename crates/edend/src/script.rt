@@ -1,7 +1,8 @@
 //! A script: a manifest, a line `--`, and lines that say what happens.
-ghost use Rattle.std.specs.Prelude.{◌≡◌, ℕ, ◌+◌, ◌≤◌, ◌<◌, ◌^◌, length, map, option_map, Some, None, IfOk, IfSome, MatchOption};
+ghost use Rattle.std.specs.Prelude.{◌≡◌, ◌+◌, ◌≤◌, ◌<◌, ◌^◌, length, map, Some, None, IfOk, IfErr, IfSome, MatchOption};
 ghost use Rattle.edend.specs.EventLine.{event_of};
-ghost use Rattle.edend.specs.Lines.{lines_of, lines_behind, first_bad, IsSplit};
+ghost use Rattle.edend.specs.Lines.{lines_of, lines_behind, IsSplit, SaysEvents};
+ghost use Rattle.edend.specs.Refusal.{IsScriptRefusal, IsEventsRefusal};
 
 use crate::Fault;
 use crate::event_line::read_event;
@@ -20,7 +21,10 @@ pub struct Script {
 
 impl Script {
     /// The script that bytes write.
-    pub fn read(alloc: Global, bytes: &[u8]) -> Result<Script, Fault> {
+    pub fn read(alloc: Global, bytes: &[u8]) -> Result<Script, Fault>
+        ensures events { IfOk result (λ script. SaysEvents bytes.now script.events.items) }
+        ensures refused { IfErr result (IsScriptRefusal bytes.now) }
+    {
         let Some(parts) = split(bytes) else {
             return Err(Fault::NoEvents);
         };
@@ -66,8 +70,7 @@ fn split(script: &[u8]) -> Option<Parts<'_>>
 fn read_events(alloc: Global, text: &[u8], first: usize) -> Result<Vec<Event>, Fault>
     requires room { first + length text.now < 2 ^ 64 }
     ensures events { IfOk result (λ events. map Some events.items ≡ map event_of (lines_of text.now)) }
-    ensures bad_line { (line : ℕ) → result ≡ Err (Fault.BadLine line)
-        → option_map (λ i. first + i) (first_bad text.now) ≡ Some line }
+    ensures refused { IfErr result (IsEventsRefusal (lines_of text.now) first) }
 {
     let mut events = Vec::new(alloc);
     let mut rest = text;
