@@ -4,3 +4,7 @@ pub mod State
 pub mod Step
 pub mod World
 pub mod Agreement
+pub mod CodeEntries
+pub mod CodeServed
+pub mod CodeInside
+pub mod CodeWorld

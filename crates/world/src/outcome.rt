@@ -1,7 +1,12 @@
 //! What came of an event.
+ghost use Rattle.std.specs.Prelude.{◌≡◌, [], ◌∷◌};
+ghost use Rattle.world.specs.State.{refusal_of_mount, refusal_of_issue};
+
 use crate::inode_map::Forgot;
+use arrayvec::ArrayVec;
 use broker_core::{IssueFault, Item, MountFault, Reply};
 use eden_base::{DaemonId, NoMemory};
+use std::marker::Model;
 use thiserror::Error;
 
 /// Why an event was refused. A refusal changes nothing.
@@ -37,4 +42,85 @@ pub enum Happened {
     Answered(Reply),
     Forgot { item: Item, forgot: Forgot },
     Refused(Refusal),
+}
+
+impl From<MountFault> for Refusal {
+    ghost from_gives = { λ fault refusal. refusal ≡ refusal_of_mount fault };
+
+    fn from(fault: MountFault) -> Refusal {
+        match fault {
+            MountFault::Seated => Refusal::Seated,
+            MountFault::LastGeneration => Refusal::LastGeneration,
+        }
+    }
+}
+
+impl From<IssueFault> for Refusal {
+    ghost from_gives = { λ fault refusal. refusal ≡ refusal_of_issue fault };
+
+    fn from(fault: IssueFault) -> Refusal {
+        match fault {
+            IssueFault::NotMounted => Refusal::NotMounted,
+            IssueFault::NotHeld => Refusal::NotHeld,
+            IssueFault::BadForget => Refusal::BadForget,
+            IssueFault::Full => Refusal::Full,
+            IssueFault::NoMemory => Refusal::NoMemory,
+        }
+    }
+}
+
+/// The value of the unused places of an outcome.
+impl Default for Happened {
+    fn default() -> Happened {
+        Happened::Refused(Refusal::NoMemory)
+    }
+}
+
+/// What came of one event, in its order.
+#[derive(Drop)]
+pub struct Outcome {
+    happened: ArrayVec<Happened, 5>,
+}
+
+impl Model for Outcome {
+    ghost use Rattle.std.specs.Prelude.{List};
+    ghost use Rattle.world.specs.declared.outcome.Happened.{Happened};
+
+    ghost Value = { List Happened };
+
+    ghost view = { λ o. o.happened.items };
+}
+
+impl Outcome {
+    /// Nothing happened.
+    pub fn nothing() -> Outcome
+        ensures nothing { result ≡ [] }
+    {
+        Outcome {
+            happened: ArrayVec::new(),
+        }
+    }
+
+    /// One thing happened.
+    pub fn of(happened: Happened) -> Outcome
+        ensures one { result ≡ happened ∷ [] }
+    {
+        let mut all = ArrayVec::new();
+        all.push(happened);
+        Outcome { happened: all }
+    }
+
+    /// The event was refused.
+    pub fn refused(refusal: Refusal) -> Outcome
+        ensures refused { result ≡ Happened.Refused refusal ∷ [] }
+    {
+        Outcome::of(Happened::Refused(refusal))
+    }
+
+    /// What happened, in its order.
+    pub fn happened(&self) -> &[Happened]
+        ensures happened { result.now ≡ self.now }
+    {
+        self.happened.as_slice()
+    }
 }

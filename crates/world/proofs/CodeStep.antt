@@ -1,0 +1,102 @@
+-- What the world's methods did is a step.
+use Rattle.std.proofs.Common.{◌≡◌, ℕ, ◌+◌, ◌-◌, ◌<◌, List, [], ◌∷◌, ◌++◌, length, Option, Some, None, set, refl, sym, ap, ◌∙◌, subst, inl, inr, ◌⊎◌}
+use Rattle.std.specs.Prelude.{slice_get}
+use Rattle.std.specs.Option.{option_map}
+use Rattle.eden_base.specs.declared.number.DaemonId.{DaemonId}
+use Rattle.eden_base.specs.declared.number.Number.{Number}
+use Rattle.checkout.specs.Manifest.{Manifest}
+use Rattle.broker_core.specs.Broker.{BrokerState, mount_fault, issue_fault, mounted, issued, settled}
+use Rattle.broker_core.specs.declared.broker.MountFault.{MountFault}
+use Rattle.broker_core.specs.declared.broker.IssueFault.{IssueFault}
+use Rattle.broker_core.specs.declared.request.Answer.{Answer}
+use Rattle.broker_core.specs.declared.request.Answer.TheVariants.{Entry, Error}
+use Rattle.broker_core.specs.declared.request.Item.{Item}
+use Rattle.broker_core.specs.declared.request.Request.{Request}
+use Rattle.broker_core.specs.declared.request.Request.TheVariants.{Lookup, Forget}
+use Rattle.world.specs.declared.daemon.Daemon.{Daemon}
+use Rattle.world.specs.declared.daemon.Daemon.TheVariants.{Waiting, Serving}
+use Rattle.world.specs.declared.event.Event.{Event}
+use Rattle.world.specs.declared.event.Event.TheVariants.{Mount, Do}
+use Rattle.world.specs.declared.inode_map.Forgot.{Forgot}
+use Rattle.world.specs.declared.outcome.Happened.{Happened}
+use Rattle.world.specs.declared.outcome.Happened.TheVariants as happened
+use Rattle.world.specs.declared.outcome.Refusal.{Refusal}
+use Rattle.world.specs.Served.{ServedState, new_served}
+use Rattle.world.specs.State.{State, daemon_of, with_daemon, mount_refusal, refusal_of_mount, refusal_of_issue}
+use Rattle.world.specs.Step.{Looks, Forgets, Mounts, Step, StepBy, Steps, IsSeated}
+use Rattle.world.specs.CodeServed.{LooksAt, ForgetsAt}
+use Rattle.world.specs.CodeWorld.{place_of_daemon, HolderIsAt}
+use Rattle.world.proofs.CodeDaemons.{place-is, daemon_of-place}
+
+-- a settled answer leaves the seat
+pub settled-seat : (broker : BrokerState) (answer : Answer) → (settled broker answer).seat ≡ broker.seat
+settled-seat broker (Entry number attr) = refl
+settled-seat broker (Error errno) = refl
+
+pub settled-last : (broker : BrokerState) (answer : Answer) → (settled broker answer).last ≡ broker.last
+settled-last broker (Entry number attr) = refl
+settled-last broker (Error errno) = refl
+
+-- the seated daemon after it went on
+with_holder : (old : State) (broker : BrokerState) (d : DaemonId) (place : ℕ) (daemons : List Daemon) (later : Daemon) → place_of_daemon d ≡ Some place →
+    daemons ≡ set old.daemons place later → (let new : State = record old { broker = broker; daemons = daemons } in new ≡ with_daemon (record old { broker = broker }) d later)
+with_holder old broker d place daemons later at e =
+    let is = place-is d place at in
+    let same : d.0 - 1 ≡ place = is.1 in
+    ap (λ (ds : List Daemon). record old { broker = broker; daemons = ds }) (e ∙ ap (λ i. set old.daemons i later) (sym same))
+
+-- a look-up that the broker took and the seated daemon answered
+pub Step-looks : (old : State) (dir : Number) (name : List ℕ) (place : ℕ) (answer : Answer) (daemons : List Daemon) (broker : BrokerState) (outcome : List Happened) →
+    issue_fault old.broker (Lookup dir name) ≡ None → HolderIsAt old place → LooksAt old.daemons place dir name answer daemons →
+    broker ≡ settled (issued old.broker (Lookup dir name)) answer →
+    outcome ≡ happened.Answered (record { unique = old.broker.next_unique; answer = answer }) ∷ [] →
+    Step old (Do (Lookup dir name)) outcome (record old { broker = broker; daemons = daemons })
+Step-looks old dir name place answer daemons broker outcome fine at looks broke tells =
+    let later : BrokerState = settled (issued old.broker (Lookup dir name)) answer in
+    let made : Looks old dir name outcome (record old { broker = broker; daemons = daemons }) = record {
+      seat = at.seat;
+      served = looks.served;
+      later = looks.later;
+      answer = answer;
+      seated = record { has_seat = at.has_seat; serves = daemon_of-place old at.seat.daemon place at.is_there ∙ looks.was };
+      answers = looks.answers;
+      tells = tells;
+      makes = ap (λ (b : BrokerState). record old { broker = b; daemons = daemons }) broke ∙ with_holder old later at.seat.daemon place daemons (Serving looks.later) at.is_there looks.makes } in
+    subst (λ (o : Option IssueFault). StepBy old (Do (Lookup dir name)) (option_map refusal_of_issue o) outcome (record old { broker = broker; daemons = daemons })) (sym fine) (inl made)
+
+-- a forget that the broker took and the seated daemon applied
+pub Step-forgets : (old : State) (item : Item) (place : ℕ) (told : Forgot) (daemons : List Daemon) (broker : BrokerState) (outcome : List Happened) →
+    issue_fault old.broker (Forget item) ≡ None → HolderIsAt old place → ForgetsAt old.daemons place item told daemons →
+    broker ≡ issued old.broker (Forget item) → outcome ≡ happened.Forgot item told ∷ [] →
+    Step old (Do (Forget item)) outcome (record old { broker = broker; daemons = daemons })
+Step-forgets old item place told daemons broker outcome fine at forgets broke tells =
+    let later : BrokerState = issued old.broker (Forget item) in
+    let made : Forgets old item outcome (record old { broker = broker; daemons = daemons }) = record {
+      seat = at.seat;
+      served = forgets.served;
+      seated = record { has_seat = at.has_seat; serves = daemon_of-place old at.seat.daemon place at.is_there ∙ forgets.was };
+      tells = tells ∙ ap (λ (f : Forgot). happened.Forgot item f ∷ []) forgets.tells;
+      makes = ap (λ (b : BrokerState). record old { broker = b; daemons = daemons }) broke ∙ with_holder old later at.seat.daemon place daemons _ at.is_there forgets.makes } in
+    subst (λ (o : Option IssueFault). StepBy old (Do (Forget item)) (option_map refusal_of_issue o) outcome (record old { broker = broker; daemons = daemons })) (sym fine) (inl made)
+
+-- a mount by a daemon that waited
+pub Step-mounts : (old : State) (d : DaemonId) (place : ℕ) (served : ServedState) (broker : BrokerState) (outcome : List Happened) → mount_fault old.broker ≡ None →
+    place_of_daemon d ≡ Some place → slice_get old.daemons place ≡ Some Waiting → served ≡ new_served old.manifest → broker ≡ mounted old.broker d →
+    outcome ≡ happened.Mounted (old.broker.last + 1) ∷ [] →
+    Step old (Mount d) outcome (record old { broker = broker; daemons = set old.daemons place (Serving served) })
+Step-mounts old d place served broker outcome fine at waits is broke tells =
+    let new : State = record old { broker = broker; daemons = set old.daemons place (Serving served) } in
+    let made : Mounts old d outcome new =
+      (tells, ap (λ (b : BrokerState). record old { broker = b; daemons = set old.daemons place (Serving served) }) broke
+        ∙ with_holder old (mounted old.broker d) d place (set old.daemons place (Serving served)) (Serving (new_served old.manifest)) at (ap (λ (s : ServedState). set old.daemons place (Serving s)) is)) in
+    let waiting : daemon_of old d ≡ Some Waiting = daemon_of-place old d place at ∙ waits in
+    subst (λ (o : Option Daemon). StepBy old (Mount d) (mount_refusal old o) outcome new) (sym waiting)
+    (subst (λ (o : Option MountFault). StepBy old (Mount d) (option_map refusal_of_mount o) outcome new) (sym fine) (inl made))
+
+-- one more event
+pub Steps-more : (first : State) (events : List Event) (outcomes : List (List Happened)) (between : State) (event : Event) (outcome : List Happened) (last : State) →
+    Steps first events outcomes between → Step between event outcome last → Steps first (events ++ event ∷ []) (outcomes ++ outcome ∷ []) last
+Steps-more first [] [] between event outcome last h step = (last, subst (λ (s : State). Step s event outcome last) h step, refl)
+Steps-more first [] (o ∷ outcomes) between event outcome last h step = absurd h
+Steps-more first (e ∷ events) [] between event outcome last h step = absurd h
+Steps-more first (e ∷ events) (o ∷ outcomes) between event outcome last h step = (h.0, h.1, Steps-more h.0 events outcomes between event outcome last h.2 step)

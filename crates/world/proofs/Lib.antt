@@ -1,0 +1,4 @@
+pub mod CodeEntries
+pub mod CodeMap
+pub mod CodeDaemons
+pub mod CodeStep

@@ -1,0 +1,31 @@
+use Rattle.std.proofs.Common.{sym, ◌∙◌, ap, arith}
+use Rattle.world.specs.declared.inode_map.Kept.{Kept}
+use Rattle.world.proofs.CodeEntries.{file_in-root, file_in-no_step, file_in-unknown, file_in-linked, file_in-unlinked}
+use Rattle.world.proofs.entries.+locate.Goals as goal
+
+pub returns-then-eq : goal.returns-then-eq
+returns-then-eq t c = sym (file_in-root c.args.steps c.args.tree.now c.args.entries.now c.args.number.0 (sym c.eq.ensures ∙ c.if-eq.true))
+
+pub returns-then-steps-eq0 : goal.returns-then-steps-eq0
+returns-then-steps-eq0 t c =
+    sym (file_in-no_step c.args.steps c.args.tree.now c.args.entries.now c.args.number.0 c.if-steps-eq0.true (sym c.eq.ensures ∙ c.if-eq.false))
+
+pub returns-in-None : goal.returns-in-None
+returns-in-None t c =
+    sym (file_in-unknown c.args.steps c.args.tree.now c.args.entries.now c.args.number.0 (sym c.eq.ensures ∙ c.if-eq.false) c.in-None.ensures)
+
+pub returns-in-Some-locate : goal.returns-in-Some-locate
+returns-in-Some-locate t c =
+    c.child.ensures
+    ∙ sym (file_in-linked c.args.steps c.args.tree.now c.args.entries.now c.args.number.0 c.in-Some.place c.index-entries-place.result c.in-Linked.parent c.in-Linked.name _
+      (omega arith) (sym c.eq.ensures ∙ c.if-eq.false) c.in-Some.ensures c.index-entries-place.is (ap (λ (k : Kept). k.place) c.index-entries-place.is ∙ c.in-Linked.is) c.in-Some-locate.ensures)
+
+pub returns-in-None-locate : goal.returns-in-None-locate
+returns-in-None-locate t c =
+    sym (file_in-linked c.args.steps c.args.tree.now c.args.entries.now c.args.number.0 c.in-Some.place c.index-entries-place.result c.in-Linked.parent c.in-Linked.name _
+      (omega arith) (sym c.eq.ensures ∙ c.if-eq.false) c.in-Some.ensures c.index-entries-place.is (ap (λ (k : Kept). k.place) c.index-entries-place.is ∙ c.in-Linked.is) c.in-None-locate.ensures)
+
+pub returns-in-Unlinked : goal.returns-in-Unlinked
+returns-in-Unlinked t c =
+    sym (file_in-unlinked c.args.steps c.args.tree.now c.args.entries.now c.args.number.0 c.in-Some.place c.index-entries-place.result c.in-Unlinked.file
+      (omega arith) (sym c.eq.ensures ∙ c.if-eq.false) c.in-Some.ensures c.index-entries-place.is (ap (λ (k : Kept). k.place) c.index-entries-place.is ∙ c.in-Unlinked.is))

@@ -1,0 +1,12 @@
+-- What the world keeps of its fields, whatever happens.
+use Rattle.std.specs.Prelude.{◌≡◌, ℕ, ◌-◌, ◌≤◌, List, vec_len, slice_get, Some, None}
+use Rattle.broker_core.specs.declared.seat.Seat.{Seat}
+use Rattle.world.specs.Served.{ServedState}
+use Rattle.world.specs.CodeServed.{HolderServes}
+use Rattle.world.specs.declared.world.World.TheInside.{Inside}
+
+pub record IsConsistent (w : Inside) : Type 0 where
+  pub holder_serves : (seat : Seat) → w.broker.seat ≡ Some seat → HolderServes w.daemons.items seat
+  -- a seat that was taken is never left
+  pub never_seated : w.broker.seat ≡ None → w.broker.last ≡ 0
+  pub few : vec_len w.daemons ≤ 1024

@@ -1,0 +1,213 @@
+//! All daemons and the kernel's side of their mount.
+ghost use Rattle.std.specs.Prelude.{◌≡◌, ◌-◌, ◌<◌, None, IfOk, MatchOption};
+ghost use Rattle.std.specs.Option.{option_copied};
+ghost use Rattle.broker_core.specs.Broker.{issue_fault};
+ghost use Rattle.world.specs.State.{started, daemon_of};
+ghost use Rattle.world.specs.Step.{Step};
+ghost use Rattle.world.specs.CodeWorld.{served_of, place_of_daemon, HolderIsAt};
+
+use crate::daemon::{forget_at, look_up_at, Daemon};
+use crate::event::Event;
+use crate::outcome::{Happened, Outcome, Refusal};
+use crate::served::Served;
+use broker_core::{Broker, Item, Reply, Request};
+use checkout::Manifest;
+use eden_base::{DaemonId, Name, NoMemory, Number};
+use std::alloc::Global;
+use std::marker::Model;
+
+/// The daemons of one mount, in the order in which they started, and the kernel.
+#[derive(Drop)]
+pub struct World {
+    alloc: Global,
+    manifest: Manifest,
+    limit: usize,
+    broker: Broker,
+    daemons: Vec<Daemon>,
+}
+
+impl Model for World {
+    ghost use Rattle.std.specs.Coded.{codes};
+    ghost use Rattle.checkout.specs.Codes.{tree_code, manifest_code};
+    ghost use Rattle.world.specs.State.{State};
+
+    ghost Value = { State };
+
+    ghost coded = { Prim.hlevel (codes, tree_code, manifest_code) };
+
+    ghost view = { λ w. record {
+      manifest = w.manifest;
+      limit = w.limit;
+      broker = w.broker;
+      daemons = w.daemons.items;
+    } };
+
+    ghost use Rattle.world.specs.CodeInside.{IsConsistent};
+
+    ghost invariant = { IsConsistent };
+}
+
+impl World {
+    /// How many daemons a world starts at most, those that ended among them.
+    pub const MOST_DAEMONS: usize = 1024;
+
+    /// No daemon, and nothing mounted.
+    pub fn new(alloc: Global, manifest: &Manifest, limit: usize) -> Result<World, NoMemory>
+        ensures new { IfOk result (λ world. world ≡ started manifest.now limit) }
+    {
+        let manifest = manifest.copy(alloc)?;
+        let broker = Broker::new(alloc)?;
+        Ok(World {
+            alloc,
+            manifest,
+            limit,
+            broker,
+            daemons: Vec::new(alloc),
+        })
+    }
+
+    /// The kernel's side.
+    pub fn broker(&self) -> &Broker
+        ensures broker { result.now ≡ self.now.broker }
+    {
+        &self.broker
+    }
+
+    /// What a daemon serves: nothing where it waits, and where there is no such daemon.
+    pub fn served(&self, daemon: DaemonId) -> Option<&Served>
+        ensures served { option_copied result ≡ served_of self.now daemon }
+    {
+        match place_of(daemon) {
+            Some(place) => match self.daemons.as_slice().get(place) {
+                Some(daemon) => daemon.served(),
+                None => None,
+            },
+            None => None,
+        }
+    }
+
+    /// Lets one event happen, or refuses it for the first cause that holds. A refusal changes nothing.
+    pub fn step(&mut self, event: &Event) -> Outcome
+        ensures step { Step self.old event.now result self.new }
+    {
+        match event {
+            Event::Start => self.start(),
+            Event::Mount(daemon) => self.mount(*daemon),
+            Event::Do(request) => self.carry_out(request),
+            Event::Show => Outcome::nothing(),
+        }
+    }
+
+    fn start(&mut self) -> Outcome
+        ensures step { Step self.old Event.Start result self.new }
+    {
+        if self.daemons.len() >= World::MOST_DAEMONS {
+            return Outcome::refused(Refusal::Full);
+        }
+        let daemon = DaemonId(self.daemons.len() as u64 + 1);
+        match self.daemons.push(Daemon::Waiting) {
+            Ok(()) => {}
+            Err(_refused) => return Outcome::refused(Refusal::NoMemory),
+        }
+        Outcome::of(Happened::Started(daemon))
+    }
+
+    fn mount(&mut self, daemon: DaemonId) -> Outcome
+        ensures step { Step self.old (Event.Mount daemon) result self.new }
+    {
+        let place = match place_of(daemon) {
+            Some(place) => place,
+            None => return Outcome::refused(Refusal::NoDaemon),
+        };
+        if place >= self.daemons.len() {
+            return Outcome::refused(Refusal::NoDaemon);
+        }
+        if !self.daemons[place].is_waiting() {
+            return Outcome::refused(Refusal::WrongPhase);
+        }
+        if self.broker.seat().is_some() {
+            return Outcome::refused(Refusal::Seated);
+        }
+        let served = match Served::new(self.alloc, &self.manifest, self.limit) {
+            Ok(served) => served,
+            Err(NoMemory) => return Outcome::refused(Refusal::NoMemory),
+        };
+        match self.broker.mount(daemon) {
+            Ok(generation) => {
+                self.daemons[place] = Daemon::Serving(served);
+                Outcome::of(Happened::Mounted(generation))
+            }
+            Err(fault) => Outcome::refused(Refusal::from(fault)),
+        }
+    }
+
+    fn carry_out(&mut self, request: &Request) -> Outcome
+        ensures step { Step self.old (Event.Do request.now) result self.new }
+    {
+        if let Some(fault) = self.broker.refusal(request) {
+            return Outcome::refused(Refusal::from(fault));
+        }
+        match request {
+            Request::Lookup { dir, name } => self.look_up(*dir, name),
+            Request::Forget(item) => self.forget(*item),
+        }
+    }
+
+    fn look_up(&mut self, dir: Number, name: &Name) -> Outcome
+        requires accepted { issue_fault self.old.broker (Request.Lookup dir name.now) ≡ None }
+        ensures step { Step self.old (Event.Do (Request.Lookup dir name.now)) result self.new }
+    {
+        let copy = match name.copy(self.alloc) {
+            Ok(copy) => copy,
+            Err(NoMemory) => return Outcome::refused(Refusal::NoMemory),
+        };
+        let place = match self.holder() {
+            Some(place) => place,
+            None => return Outcome::refused(Refusal::NotMounted),
+        };
+        let unique = match self.broker.issue(Request::Lookup { dir, name: copy }) {
+            Ok(unique) => unique.unwrap(),
+            Err(fault) => return Outcome::refused(Refusal::from(fault)),
+        };
+        let answer = look_up_at(&mut self.daemons, place, self.alloc, dir, name);
+        let reply = Reply { unique, answer };
+        self.broker.settle(&reply);
+        Outcome::of(Happened::Answered(reply))
+    }
+
+    fn forget(&mut self, item: Item) -> Outcome
+        requires accepted { issue_fault self.old.broker (Request.Forget item) ≡ None }
+        ensures step { Step self.old (Event.Do (Request.Forget item)) result self.new }
+    {
+        let place = match self.holder() {
+            Some(place) => place,
+            None => return Outcome::refused(Refusal::NotMounted),
+        };
+        match self.broker.issue(Request::Forget(item)) {
+            Ok(_unique) => {}
+            Err(fault) => return Outcome::refused(Refusal::from(fault)),
+        }
+        let forgot = forget_at(&mut self.daemons, place, item);
+        Outcome::of(Happened::Forgot { item, forgot })
+    }
+
+    /// The place of the daemon that has the seat, which serves.
+    fn holder(&self) -> Option<usize>
+        ensures holder { MatchOption result (self.now.broker.seat ≡ None) (HolderIsAt self.now) }
+    {
+        match self.broker.seat() {
+            Some(seat) => place_of(seat.daemon),
+            None => None,
+        }
+    }
+}
+
+/// The place of a daemon in the list, if there is one so long.
+fn place_of(daemon: DaemonId) -> Option<usize>
+    ensures { result ≡ place_of_daemon daemon }
+{
+    if daemon.0 == 0 {
+        return None;
+    }
+    Some((daemon.0 - 1) as usize)
+}
