@@ -3,3 +3,5 @@ pub mod ManifestIsTree
 pub mod ManifestTree
 pub mod MapLemmas
 pub mod MoreLines
+pub mod ReadLemmas
+pub mod TextLemmas

@@ -1,8 +1,9 @@
 //! What one line of a manifest says.
-ghost use Rattle.std.specs.Prelude.{◌<◌, ◌^◌, IfOk};
+ghost use Rattle.std.specs.Prelude.{◌≡◌, ◌<◌, ◌^◌, IfErr, IfOk, Some};
+ghost use Rattle.checkout.specs.ManifestText.{dir_entry, entry_of, file_entry, entry_fault};
 
 use crate::ManifestFaultKind;
-use crate::field::{cut, is_path, mode_of, size_of};
+use crate::field::{after, cut, mode_of, size_of};
 use eden_base::{Kind, Perm};
 
 /// A file's kind, permissions and size, and its path.
@@ -16,20 +17,12 @@ pub struct Entry<'a> {
 
 impl<'a> Entry<'a> {
     /// What a line says, without its LF.
-    pub fn read(text: &'a [u8]) -> Result<Entry<'a>, ManifestFaultKind>
-        ensures { IfOk result (λ e. e.size < 2 ^ 63) }
+    pub fn read(line: &'a [u8]) -> Result<Entry<'a>, ManifestFaultKind>
+        ensures entry { IfOk result (λ e. entry_of line.now ≡ Some (record { kind = e.kind; perm = Some e.perm; size = Some e.size; path = e.path.now })) }
+        ensures small { IfOk result (λ e. e.size < 2 ^ 63) }
+        ensures refused { IfErr result (λ fault. entry_fault (entry_of line.now) ≡ Some fault) }
     {
-        let entry = Entry::fields(text)?;
-        if !is_path(entry.path) {
-            return Err(ManifestFaultKind::BadPath);
-        }
-        Ok(entry)
-    }
-
-    fn fields(text: &'a [u8]) -> Result<Entry<'a>, ManifestFaultKind>
-        ensures { IfOk result (λ e. e.size < 2 ^ 63) }
-    {
-        if let Some(path) = text.strip_prefix(b"dir ".as_slice()) {
+        if let Some(path) = after(b"dir ".as_slice(), line) {
             return Ok(Entry {
                 kind: Kind::Dir,
                 perm: Perm::DIRECTORY,
@@ -37,9 +30,18 @@ impl<'a> Entry<'a> {
                 path,
             });
         }
-        let Some(rest) = text.strip_prefix(b"file ".as_slice()) else {
-            return Err(ManifestFaultKind::BadLine);
-        };
+        if let Some(rest) = after(b"file ".as_slice(), line) {
+            return Entry::of_file(rest);
+        }
+        Err(ManifestFaultKind::BadLine)
+    }
+
+    /// Of `MODE SIZE PATH`.
+    fn of_file(rest: &'a [u8]) -> Result<Entry<'a>, ManifestFaultKind>
+        ensures entry { IfOk result (λ e. file_entry rest.now ≡ Some (record { kind = e.kind; perm = Some e.perm; size = Some e.size; path = e.path.now })) }
+        ensures small { IfOk result (λ e. e.size < 2 ^ 63) }
+        ensures refused { IfErr result (λ fault. entry_fault (file_entry rest.now) ≡ Some fault) }
+    {
         let Some((mode, rest)) = cut(rest, b' ') else {
             return Err(ManifestFaultKind::BadLine);
         };

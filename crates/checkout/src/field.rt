@@ -1,9 +1,10 @@
 //! The fields of a manifest's line.
-ghost use Rattle.std.specs.Prelude.{◌≡◌, ◌<◌, ◌+◌, ◌^◌, ◌==◌, IfSome, is_none, length, position};
-ghost use Rattle.std.specs.Option.{option_map};
-ghost use Rattle.std.specs.List.{list_any};
-ghost use Rattle.eden_base.specs.Name.{is_separator, is_dots, name_fault};
-ghost use Rattle.checkout.specs.Text.{cut};
+ghost use Rattle.std.specs.Prelude.{◌≡◌, ◌<◌, ◌+◌, ◌-◌, ◌^◌, ◌==◌, IfSome, IsTrue, length, nat_lt, position, if◌then◌else◌};
+ghost use Rattle.std.specs.Option.{SomeIff, option_copied, option_map};
+ghost use Rattle.std.specs.List.{list_all, list_any};
+ghost use Rattle.eden_base.specs.Name.{is_separator, is_dots};
+ghost use Rattle.checkout.specs.Text.{after, cut, parts, mode_of, size_of, is_octal, has_leading_zero, is_decimal, decimal};
+ghost use Rattle.checkout.specs.Names.{is_name};
 
 use eden_base::{Name, Perm};
 
@@ -26,9 +27,16 @@ fn first_of(bytes: &[u8], byte: u8) -> Option<usize>
     bytes.iter().position(|b| *b == byte)
 }
 
+/// What follows a front, if the text has it.
+pub fn after<'a>(front: &[u8], text: &'a [u8]) -> Option<&'a [u8]>
+    ensures { option_copied result ≡ after front.now text.now }
+{
+    text.strip_prefix(front)
+}
+
 /// Whether the bytes are a name, as `Name::parse` has it.
 pub fn is_name(bytes: &[u8]) -> bool
-    ensures { result ≡ is_none (name_fault bytes.now) }
+    ensures { result ≡ is_name bytes.now }
 {
     if bytes.is_empty() {
         return false;
@@ -64,7 +72,9 @@ fn is_dots(bytes: &[u8]) -> bool
 }
 
 /// Whether all that the slashes of a path part are names.
-pub fn is_path(path: &[u8]) -> bool {
+pub fn is_path(path: &[u8]) -> bool
+    ensures { result ≡ list_all is_name (parts 47 path.now) }
+{
     let mut rest = path;
     while let Some((name, after)) = cut(rest, b'/') {
         if !is_name(name) {
@@ -76,11 +86,16 @@ pub fn is_path(path: &[u8]) -> bool {
 }
 
 /// The permissions of four octal digits.
-pub fn mode_of(digits: &[u8]) -> Option<Perm> {
+pub fn mode_of(digits: &[u8]) -> Option<Perm>
+    ensures { result ≡ mode_of digits.now }
+{
     match digits {
         [a, b, c, d] => {
-            let bits = octal(*a)? * 512 + octal(*b)? * 64 + octal(*c)? * 8 + octal(*d)?;
-            Perm::of(bits)
+            let a = octal(*a)?;
+            let b = octal(*b)?;
+            let c = octal(*c)?;
+            let d = octal(*d)?;
+            Perm::of(a * 512 + b * 64 + c * 8 + d)
         }
         _ => None,
     }
@@ -88,7 +103,7 @@ pub fn mode_of(digits: &[u8]) -> Option<Perm> {
 
 /// The value of an octal digit.
 fn octal(digit: u8) -> Option<u16>
-    ensures { IfSome result (λ n. n < 8) }
+    ensures { SomeIff result (IsTrue (is_octal digit)) (digit - 48) }
 {
     match digit {
         b'0'..=b'7' => Some((digit - b'0') as u16),
@@ -98,20 +113,50 @@ fn octal(digit: u8) -> Option<u16>
 
 /// The number below 2^63 that decimal digits write without a leading zero.
 pub fn size_of(digits: &[u8]) -> Option<u64>
-    ensures { IfSome result (λ n. n < 2 ^ 63) }
+    ensures size { result ≡ size_of digits.now }
+    ensures small { IfSome result (λ n. n < 2 ^ 63) }
 {
-    if digits.is_empty() || digits.len() > 1 && digits[0] == b'0' {
+    if digits.is_empty() {
         return None;
     }
+    if has_leading_zero(digits) {
+        return None;
+    }
+    if !is_decimal(digits) {
+        return None;
+    }
+    value_of(digits)
+}
+
+fn has_leading_zero(digits: &[u8]) -> bool
+    ensures { result ≡ has_leading_zero digits.now }
+{
+    match digits {
+        [first, _, ..] => *first == b'0',
+        _ => false,
+    }
+}
+
+fn is_decimal(digits: &[u8]) -> bool
+    ensures { result ≡ list_all is_decimal digits.now }
+{
+    digits.iter().all(|d| *d >= b'0' && *d <= b'9')
+}
+
+/// The number of these digits, if it is below 2^63.
+fn value_of(digits: &[u8]) -> Option<u64>
+    ensures value { result ≡ (if nat_lt (decimal digits.now) (2 ^ 63) then Some (decimal digits.now) else None) }
+    ensures small { IfSome result (λ n. n < 2 ^ 63) }
+{
     let mut value: u64 = 0;
     for digit in digits {
-        if *digit < b'0' || *digit > b'9' || value > 922337203685477580 {
+        if value > 922337203685477580 {
             return None;
         }
-        value = value * 10 + (*digit - b'0') as u64;
-        if value > 9223372036854775807 {
-            return None;
-        }
+        value = value * 10 + digit.saturating_sub(b'0') as u64;
+    }
+    if value > 9223372036854775807 {
+        return None;
     }
     Some(value)
 }

@@ -1,6 +1,7 @@
 //! What a checkout contains: the manifest that every daemon is handed, and the tree that requests change.
 #![tactic(auto)]
 
+mod backing;
 mod directory;
 mod entry;
 mod fault;
@@ -11,7 +12,11 @@ mod manifest;
 mod reading;
 mod tree;
 
+pub use backing::{Backing, BackingFault, ManifestBacking};
 pub use fault::{ManifestFault, ManifestFaultKind};
 pub use line::Line;
 pub use manifest::Manifest;
 pub use tree::Tree;
+
+#[cfg(test)]
+mod tests;

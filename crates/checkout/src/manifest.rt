@@ -1,8 +1,9 @@
 //! The list of what a commit contains.
-ghost use Rattle.std.specs.Prelude.{◌≡◌, IfOk};
+ghost use Rattle.std.specs.Prelude.{◌≡◌, [], IfErr, IfOk, Ok};
 ghost use Rattle.checkout.specs.Manifest.{IsManifest};
+ghost use Rattle.checkout.specs.ManifestText.{commit_of, lines_of, manifest_of, read_on, with_commit, IsManifestRefusal, IsRefusal};
 
-use crate::field::cut;
+use crate::field::{after, cut};
 use crate::reading::Reading;
 use crate::{Line, ManifestFault, ManifestFaultKind};
 use eden_base::NoMemory;
@@ -34,7 +35,9 @@ impl Manifest {
     /// A line is `commit ` and forty hexadecimal digits; then come lines `dir PATH` and `file MODE SIZE PATH`. Each is
     /// ended by LF.
     pub fn read(alloc: Global, bytes: &[u8]) -> Result<Manifest, ManifestFault>
-        ensures { IfOk result IsManifest }
+        ensures manifest { IfOk result (λ manifest. manifest_of bytes.now ≡ Ok manifest) }
+        ensures is_manifest { IfOk result IsManifest }
+        ensures refused { IfErr result (IsManifestRefusal bytes.now) }
     {
         let (commit, rest) = match read_commit(bytes) {
             Ok(parts) => parts,
@@ -64,7 +67,7 @@ impl Manifest {
         ensures copy { IfOk result (λ copy. copy ≡ self.now) }
         ensures is_manifest { IfOk result IsManifest }
     {
-        let lines = copy_lines(alloc, self.lines.as_slice())?;
+        let lines = copy_lines(alloc, self.lines())?;
         Ok(Manifest {
             commit: self.commit,
             lines,
@@ -73,7 +76,10 @@ impl Manifest {
 }
 
 /// The commit, and what comes after its line.
-fn read_commit(bytes: &[u8]) -> Result<([u8; 20], &[u8]), ManifestFaultKind> {
+fn read_commit(bytes: &[u8]) -> Result<([u8; 20], &[u8]), ManifestFaultKind>
+    ensures commit { IfOk result (λ p. manifest_of bytes.now ≡ with_commit p.0 (read_on [] 2 (lines_of p.1.now))) }
+    ensures refused { IfErr result (IsRefusal (manifest_of bytes.now) 1) }
+{
     match cut(bytes, b'\n') {
         Some((line, rest)) => match commit_of(line) {
             Some(commit) => Ok((commit, rest)),
@@ -87,8 +93,10 @@ fn read_commit(bytes: &[u8]) -> Result<([u8; 20], &[u8]), ManifestFaultKind> {
 }
 
 /// The commit that the first line names.
-fn commit_of(line: &[u8]) -> Option<[u8; 20]> {
-    let digits = line.strip_prefix(b"commit ".as_slice())?;
+fn commit_of(line: &[u8]) -> Option<[u8; 20]>
+    ensures { result ≡ commit_of line.now }
+{
+    let digits = after(b"commit ".as_slice(), line)?;
     let mut commit = [0; 20];
     match hex::decode_to_slice(digits, &mut commit) {
         Ok(()) => Some(commit),
@@ -97,7 +105,10 @@ fn commit_of(line: &[u8]) -> Option<[u8; 20]> {
 }
 
 /// The lines after the first.
-fn read_lines(alloc: Global, bytes: &[u8]) -> Result<Reading, ManifestFault> {
+fn read_lines(alloc: Global, bytes: &[u8]) -> Result<Reading, ManifestFault>
+    ensures lines { IfOk result (λ lines. read_on [] 2 (lines_of bytes.now) ≡ Ok lines) }
+    ensures refused { IfErr result (λ fault. IsRefusal (read_on [] 2 (lines_of bytes.now)) fault.line fault.kind) }
+{
     let mut reading = Reading::new(alloc);
     let mut rest = bytes;
     while !rest.is_empty() {

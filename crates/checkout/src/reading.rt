@@ -1,15 +1,17 @@
 //! The lines of a manifest that were read so far.
-ghost use Rattle.std.specs.Prelude.{◌≡◌, [], ◌∷◌, ◌++◌, ◌<◌, ◌≤◌, ◌^◌, IfOk, length};
+ghost use Rattle.std.specs.Prelude.{◌≡◌, [], ◌∷◌, ◌++◌, ◌<◌, ◌≤◌, ◌^◌, IfErr, IfOk, IsOkAnd, MatchOption, OnOk, length, Some, None};
 ghost use Rattle.std.specs.FinMap.{get};
 ghost use Rattle.checkout.specs.Manifest.{AreLines, IsDirBefore};
-ghost use Rattle.checkout.specs.Tree.{links_from};
+ghost use Rattle.checkout.specs.ManifestText.{line_of_text, IsLineRefusal, parent_of, place_fault, names_of, tree_so_far};
+ghost use Rattle.checkout.specs.Text.{front, last};
+ghost use Rattle.checkout.specs.Tree.{file_at, links_from, root};
 
 use crate::entry::Entry;
-use crate::field::cut;
+use crate::field::{cut, is_path};
 use crate::line::kind_of;
 use crate::links::Links;
 use crate::{Line, ManifestFaultKind};
-use eden_base::{FileId, Kind, Name};
+use eden_base::{FileId, Kind, Name, NoMemory};
 use std::alloc::Global;
 use std::marker::Model;
 
@@ -35,6 +37,9 @@ impl Model for Reading {
 }
 
 impl Reading {
+    /// Of a manifest, the first line apart.
+    const MAX_LINES: usize = 65535;
+
     pub fn new(alloc: Global) -> Reading
         ensures { result ≡ [] }
     {
@@ -60,14 +65,15 @@ impl Reading {
     }
 
     /// Takes one more line, without its LF.
-    pub fn add(&mut self, alloc: Global, text: &[u8]) -> Result<(), ManifestFaultKind> {
+    pub fn add(&mut self, alloc: Global, text: &[u8]) -> Result<(), ManifestFaultKind>
+        ensures added { OnOk result (IsOkAnd (line_of_text self.old text.now) (λ line. self.new ≡ self.old ++ line ∷ [])) }
+        ensures refused { IfErr result (IsLineRefusal (line_of_text self.old text.now)) }
+    {
         let entry = Entry::read(text)?;
         let (dir, bytes) = self.place(entry.path)?;
-        if self.lines.len() >= 65535 {
-            return Err(ManifestFaultKind::TooManyLines);
-        }
-        let Ok(name) = Name::parse(alloc, bytes) else {
-            return Err(ManifestFaultKind::NoMemory);
+        let name = match Name::parse(alloc, bytes) {
+            Ok(name) => name,
+            Err(_) => return Err(ManifestFaultKind::NoMemory),
         };
         let line = Line {
             dir,
@@ -76,14 +82,24 @@ impl Reading {
             perm: entry.perm,
             size: entry.size,
         };
-        self.push(alloc, line)
+        match self.push(alloc, line) {
+            Ok(()) => Ok(()),
+            Err(_) => Err(ManifestFaultKind::NoMemory),
+        }
     }
 
-    /// The directory and the name that a path ends in: a new place.
+    /// The directory and the name that a path ends in, where the next line may stand.
     fn place<'a>(&self, path: &'a [u8]) -> Result<(FileId, &'a [u8]), ManifestFaultKind>
-        ensures dir { IfOk result (λ p. IsDirBefore self.now (length self.now) p.0) }
+        ensures fits { OnOk result (place_fault self.now path.now ≡ None) }
+        ensures dir { IfOk result (λ p. parent_of self.now path.now ≡ Some p.0) }
+        ensures name { IfOk result (λ p. p.1.now ≡ last (names_of path.now)) }
+        ensures before { IfOk result (λ p. IsDirBefore self.now (length self.now) p.0) }
         ensures new { IfOk result (λ p. get (links_from 2 self.now) (p.0.0, p.1.now) ≡ None) }
+        ensures refused { IfErr result (λ fault. place_fault self.now path.now ≡ Some fault) }
     {
+        if !is_path(path) {
+            return Err(ManifestFaultKind::BadPath);
+        }
         let Some((dir, name)) = self.walk(path) else {
             return Err(ManifestFaultKind::NoParent);
         };
@@ -93,23 +109,34 @@ impl Reading {
             None => return Err(ManifestFaultKind::NoParent),
         }
         match self.links.get(dir, name) {
-            None => Ok((dir, name)),
-            Some(_) => Err(ManifestFaultKind::Twice),
+            None => {}
+            Some(_) => return Err(ManifestFaultKind::Twice),
         }
+        if self.len() >= Reading::MAX_LINES {
+            return Err(ManifestFaultKind::TooManyLines);
+        }
+        Ok((dir, name))
     }
 
     /// The file that all but the last name of a path lead to, and that name.
-    fn walk<'a>(&self, path: &'a [u8]) -> Option<(FileId, &'a [u8])> {
+    fn walk<'a>(&self, path: &'a [u8]) -> Option<(FileId, &'a [u8])>
+        ensures { let found = file_at (tree_so_far self.now) root (front (names_of path.now)) in
+            MatchOption result (found ≡ None) (λ p. (found ≡ Some p.0) × (p.1.now ≡ last (names_of path.now))) }
+    {
         let mut dir = FileId::ROOT;
         let mut rest = path;
-        while let Some((name, after)) = cut(rest, b'/') {
-            dir = self.links.get(dir, name)?;
+        while let Some((first, after)) = cut(rest, b'/') {
+            match self.links.get(dir, first) {
+                Some(child) => dir = child,
+                None => return None,
+            }
             rest = after;
         }
         Some((dir, rest))
     }
 
-    fn push(&mut self, alloc: Global, line: Line) -> Result<(), ManifestFaultKind>
+    /// A line at a new place.
+    fn push(&mut self, alloc: Global, line: Line) -> Result<(), NoMemory>
         requires room { length self.old < 65535 }
         requires size { line.file.size < 2 ^ 63 }
         requires dir { IsDirBefore self.old (length self.old) line.dir }
@@ -117,13 +144,8 @@ impl Reading {
         ensures { IfOk result (λ _. self.new ≡ self.old ++ line ∷ []) }
     {
         let file = FileId(self.len() as u64 + 2);
-        if self.lines.reserve(1).is_err() {
-            return Err(ManifestFaultKind::NoMemory);
-        }
-        match self.links.insert(alloc, line.dir, line.name.bytes(), file) {
-            Ok(()) => {}
-            Err(_) => return Err(ManifestFaultKind::NoMemory),
-        }
+        self.lines.reserve(1)?;
+        self.links.insert(alloc, line.dir, line.name.bytes(), file)?;
         self.lines.push(line).unwrap();
         Ok(())
     }

@@ -1,5 +1,5 @@
 -- What is a directory of the lines stands before the next.
-use Rattle.std.proofs.Common.{◌≡◌, Some}
+use Rattle.std.proofs.Common.{◌≡◌, Some, sym}
 use Rattle.std.specs.Option.{option_map}
 use Rattle.std.specs.FinMap.{get}
 use Rattle.eden_base.specs.declared.attr.Kind.TheVariants.{Dir}
@@ -8,7 +8,7 @@ use Rattle.checkout.specs.Tree.{files_from}
 use Rattle.checkout.proofs.ManifestTree.{dir_before}
 use Rattle.checkout.proofs.reading.Reading.place.Goals as goal
 
-pub returns-in-None-get-clause-dir : goal.returns-in-None-get-clause-dir
-returns-in-None-get-clause-dir c =
-    let kind : option_map (λ (f : File). f.kind) (get (files_from 2 c.as_slice.result.now) c.in-Some.dir.0) ≡ Some Dir = cc (c.in-Some-Dir.ensures, c.in-Some-Dir.is, c.in-Some-Dir.field-0-is) in
+pub returns-clause-before : goal.returns-clause-before
+returns-clause-before c =
+    let kind : option_map (λ (f : File). f.kind) (get (files_from 2 c.as_slice.result.now) c.in-Some.dir.0) ≡ Some Dir = cc (c.in-Some-Dir.ensures, c.in-Some-Dir.field-0-is) in
     rw (← c.self.view_is, ← c.as_slice.ensures.value) (dir_before c.as_slice.result.now c.in-Some.dir kind)

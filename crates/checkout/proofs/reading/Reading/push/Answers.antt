@@ -17,7 +17,7 @@ invariant_of-self-2 c =
     let all = (rw c.unwrap.ensures at c.push.ensures.items) ∙ ap (λ xs. xs ++ line ∷ []) (c.reserve.ensures.items ∙ c.self.view_is) in
     let id : c.len.result + 2 ≡ 2 + length lines = omega (arith, c.len.ensures.len) in
     rw all (AreLines-push lines line are c.requires.room c.requires.size name c.requires.dir c.requires.new,
-      c.in-Ok.ensures.ok
+      c.in_ok-insert.ensures.ok
         ∙ ap (λ m. insert m (c.line.inside.dir.0, c.bytes.result.now) (file_with (c.len.result + 2))) (c.self.invariant.1 ∙ ap (links_from 2) c.self.view_is)
         ∙ ap (λ n. insert (links_from 2 lines) (c.line.inside.dir.0, n) (file_with (c.len.result + 2))) c.bytes.ensures.bytes
         ∙ ap (λ (l : Line). insert (links_from 2 lines) (l.dir.0, l.name) (file_with (c.len.result + 2))) c.line.view_is

@@ -1,0 +1,13 @@
+-- Every file of a manifest's tree is linked.
+use Rattle.std.proofs.Common.{List, ap, sym, ◌∙◌}
+use Rattle.std.specs.Option.{option_map}
+use Rattle.std.specs.FinMap.{get}
+use Rattle.checkout.specs.Manifest.{Line}
+use Rattle.checkout.specs.Tree.{attr_of_linked, files_from}
+use Rattle.checkout.proofs.ManifestIsTree.{attr_of-tree_of}
+use Rattle.checkout.proofs.backing.ManifestBackingBacking.attr.Goals as goal
+
+pub returns-in-Some-clause-attr : goal.returns-in-Some-clause-attr
+returns-in-Some-clause-attr c =
+    attr_of-tree_of c.args.self.now.manifest.now c.lines.ensures.is_manifest c.args.file
+      ∙ ap (λ (ls : List Line). option_map attr_of_linked (get (files_from 2 ls) c.args.file.0)) (sym c.lines.ensures.lines) ∙ sym c.in-Some.ensures

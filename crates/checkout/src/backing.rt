@@ -1,0 +1,75 @@
+//! What a checkout stands on: the store that knows the files' attributes.
+ghost use Rattle.std.specs.Prelude.{◌≡◌, ◌<◌, ◌≤◌, ℕ, IfOk, IsOk, IsSome, OnErr, OnOk, Option, Some};
+ghost use Rattle.eden_base.specs.declared.attr.Attr.{Attr};
+ghost use Rattle.eden_base.specs.declared.number.FileId.{FileId};
+ghost use Rattle.checkout.specs.Tree.{attr_of, tree_of};
+
+use crate::Manifest;
+use crate::line::attr_of;
+use eden_base::{Attr, FileId};
+use thiserror::Error;
+
+/// The store gave no answer. It may give one when it is asked again.
+#[derive(Clone, Copy, Debug, PartialEq, Eq, Error)]
+#[error("the backing of the checkout failed")]
+pub struct BackingFault;
+
+/// A store of a commit's files. What it holds never changes; it may fail to tell it.
+pub trait Backing {
+    /// What a daemon tells the kernel of each file, while its names lead to it.
+    ghost content: { Self → FileId → Option Attr };
+
+    /// How often it failed.
+    ghost failed: { Self → ℕ };
+
+    /// Of a file that the store holds.
+    fn attr(&mut self, file: FileId) -> Result<Attr, BackingFault>
+        requires held { IsSome (content self.old file) }
+        ensures attr { IfOk result (λ attr. content self.old file ≡ Some attr) }
+        ensures same_content { (other : FileId) → content self.new other ≡ content self.old other }
+        // an answer doesn't count, and a fault does
+        ensures answered { OnOk result (failed self.new ≡ failed self.old) }
+        ensures failed { OnErr result (failed self.old < failed self.new) };
+
+    /// How often it failed.
+    fn failures(&self) -> u64
+        ensures { result ≡ failed self.now };
+}
+
+/// The store that a manifest is itself. It takes no memory and never fails.
+#[derive(Drop)]
+pub struct ManifestBacking<'a> {
+    manifest: &'a Manifest,
+}
+
+impl<'a> ManifestBacking<'a> {
+    pub fn of(manifest: &'a Manifest) -> ManifestBacking<'a>
+        ensures { result.manifest.now ≡ manifest.now }
+    {
+        ManifestBacking { manifest }
+    }
+}
+
+impl Backing for ManifestBacking<'_> {
+    ghost content = { λ backing file. attr_of (tree_of backing.manifest.now) file };
+
+    ghost failed = { λ _. 0 };
+
+    fn attr(&mut self, file: FileId) -> Result<Attr, BackingFault>
+        requires held { IsSome (attr_of (tree_of self.old.manifest.now) file) }
+        ensures attr { IfOk result (λ attr. attr_of (tree_of self.old.manifest.now) file ≡ Some attr) }
+        ensures same_content { (other : FileId) → attr_of (tree_of self.new.manifest.now) other ≡ attr_of (tree_of self.old.manifest.now) other }
+        ensures answered { OnOk result (◌≡◌ {A = ℕ} 0 0) }
+        ensures failed { OnErr result (0 < 0) }
+        ensures never_fails { IsOk result }
+    {
+        match attr_of(self.manifest.lines(), file) {
+            Some(attr) => Ok(attr),
+            None => Err(BackingFault),
+        }
+    }
+
+    fn failures(&self) -> u64 {
+        0
+    }
+}

@@ -1,0 +1,236 @@
+//! What a small manifest says, and the first fault of lines that are none.
+use crate::{Backing, Manifest, ManifestBacking, ManifestFault, ManifestFaultKind, Tree};
+use eden_base::{FileId, Kind, Name};
+use std::alloc::{AllocError, Global};
+use std::process::Abort;
+use std::test::Fail;
+
+const SMALL: &[u8] = b"commit 0123456789abcdef0123456789abcdef01234567\ndir src\nfile 0644 12 src/a\nfile 0755 0 src/b\nfile 0644 7 README\n";
+
+const HEAD: &[u8] = b"commit 0123456789abcdef0123456789abcdef01234567\n";
+
+/// The fault of a text, if it is no manifest.
+fn fault_of(alloc: Global, text: &[u8]) -> Option<ManifestFault> {
+    match Manifest::read(alloc, text) {
+        Ok(_) => None,
+        Err(fault) => Some(fault),
+    }
+}
+
+fn joined(alloc: Global, front: &[u8], back: &[u8]) -> Result<Vec<u8>, AllocError> {
+    let mut text = Vec::from_slice(alloc, front)?;
+    text.extend_from_slice(back)?;
+    Ok(text)
+}
+
+/// That each of these texts, parted by semicolons, is refused so with an LF after it, below these lines.
+fn each_is(rt: &impl Abort, alloc: Global, above: &[u8], texts: &[u8], fault: ManifestFault) -> Result<(), AllocError> {
+    for line in texts.split(|byte| *byte == b';') {
+        let mut text = joined(alloc, above, line)?;
+        text.push(b'\n')?;
+        assert_eq!(rt; fault_of(alloc, text.as_slice()), Some(fault), "{line:?}");
+    }
+    Ok(())
+}
+
+const BAD_LINES: &[u8] = b";dir; dir z;Dir z;link z;commit z;file;file 0644;file 0644 1";
+const BAD_MODES: &[u8] = b"file 644 1 z;file  0644 1 z;file 10000 1 z;file 0684 1 z;file 0x44 1 z;file 64 01 a//b";
+const BAD_SIZES: &[u8] = b"file 0644  z;file 0644 01 z;file 0644 00 z;file 0644 +1 z;file 0644 -1 z;file 0644 1k z;file 0644 9223372036854775808 z;file 0644 18446744073709551616 z;file 0644 01 a//b";
+const BAD_PATHS: &[u8] = b"dir ;dir src/;file 0644 1 ;file 0644 1 x//y;dir /z;dir .;dir ..;dir src/../z;dir z\0";
+const NO_PARENTS: &[u8] = b"file 0644 1 x/y;dir a/b;dir a/src;dir README/z;dir src/a/z";
+const TWICE: &[u8] = b"dir src;dir src/a;file 0644 1 src;file 0644 1 src/b;dir README";
+
+#[test]
+fn tells_the_first_fault_of_a_sixth_line(rt: HostRuntime) -> Result<(), Fail> {
+    use ManifestFaultKind::{BadLine, BadMode, BadPath, BadSize, NoParent, Twice};
+    for (texts, kind) in [
+        (BAD_LINES, BadLine),
+        (BAD_MODES, BadMode),
+        (BAD_SIZES, BadSize),
+        (BAD_PATHS, BadPath),
+        (NO_PARENTS, NoParent),
+        (TWICE, Twice),
+    ] {
+        each_is(&rt, rt.alloc(), SMALL, texts, ManifestFault { line: 6, kind })?;
+    }
+    Ok(())
+}
+
+const NO_COMMITS: &[u8] = b";commit ;commit 0123456789abcdef0123456789abcdef0123456;commit 0123456789abcdef0123456789abcdef012345678;commit 0123456789abcdefg123456789abcdef01234567;commit 0123456789abcdef0123456789abcdef01234567\r;commit  123456789abcdef0123456789abcdef01234567;Commit 0123456789abcdef0123456789abcdef01234567;dir src";
+
+#[test]
+fn tells_the_fault_of_a_first_line(rt: HostRuntime) -> Result<(), Fail> {
+    let none = ManifestFault { line: 1, kind: ManifestFaultKind::NoCommit };
+    each_is(&rt, rt.alloc(), b"".as_slice(), NO_COMMITS, none)?;
+    assert_eq!(rt; fault_of(rt.alloc(), b"".as_slice()), Some(none));
+    Ok(())
+}
+
+#[test]
+fn refuses_a_line_that_is_not_ended(rt: HostRuntime) -> Result<(), Fail> {
+    let first = ManifestFault { line: 1, kind: ManifestFaultKind::BadLine };
+    let text = b"commit 0123456789abcdef0123456789abcdef01234567".as_slice();
+    assert_eq!(rt; fault_of(rt.alloc(), text), Some(first));
+    let second = ManifestFault { line: 2, kind: ManifestFaultKind::BadLine };
+    let text = joined(rt.alloc(), HEAD, b"dir z".as_slice())?;
+    assert_eq!(rt; fault_of(rt.alloc(), text.as_slice()), Some(second));
+    Ok(())
+}
+
+const ODD: &[u8] = b"file 0644 9223372036854775807 z\nfile 7777 0 a b  c\nfile 0000 0 \xff\x01\xe9\ndir z\r\ndir ...\ndir  \ndir a\ndir a/a\ndir a/a/a\nfile 0644 1 a/a/a/a\n";
+
+#[test]
+fn takes_odd_names_and_great_sizes(rt: HostRuntime) -> Result<(), Fail> {
+    let text = joined(rt.alloc(), HEAD, ODD)?;
+    let manifest = Manifest::read(rt.alloc(), text.as_slice())?;
+    assert_eq!(rt; manifest.lines().len(), 10);
+    assert_eq!(rt; fault_of(rt.alloc(), HEAD), None);
+    Ok(())
+}
+
+#[test]
+fn reads_a_commit_in_either_case(rt: HostRuntime) -> Result<(), Fail> {
+    let text = b"commit 0123456789ABCDEF0123456789abcdef01234567\n";
+    let manifest = Manifest::read(rt.alloc(), text.as_slice())?;
+    let commit = manifest.commit();
+    assert_eq!(rt; commit[7], 0xef);
+    assert_eq!(rt; commit[15], 0xef);
+    assert_eq!(rt; commit[19], 0x67);
+    Ok(())
+}
+
+#[test]
+fn finds_the_files_of_a_small_manifest(rt: HostRuntime) -> Result<(), Fail> {
+    let manifest = Manifest::read(rt.alloc(), SMALL)?.copy(rt.alloc())?;
+    let tree = Tree::of(rt.alloc(), &manifest)?;
+    let src = Name::parse(rt.alloc(), b"src".as_slice())?;
+    let a = Name::parse(rt.alloc(), b"a".as_slice())?;
+    let readme = Name::parse(rt.alloc(), b"README".as_slice())?;
+    assert_eq!(rt; tree.commit(), manifest.commit());
+    assert_eq!(rt; tree.child(FileId::ROOT, &src), Some(FileId(2)));
+    assert_eq!(rt; tree.child(FileId(2), &a), Some(FileId(3)));
+    assert_eq!(rt; tree.child(FileId::ROOT, &readme), Some(FileId(5)));
+    assert_eq!(rt; tree.child(FileId::ROOT, &a), None);
+    assert_eq!(rt; tree.child(FileId(3), &a), None);
+    assert_eq!(rt; tree.kind(FileId::ROOT), Some(Kind::Dir));
+    assert_eq!(rt; tree.kind(FileId(2)), Some(Kind::Dir));
+    assert_eq!(rt; tree.kind(FileId(5)), Some(Kind::File));
+    assert_eq!(rt; tree.kind(FileId(0)), None);
+    assert_eq!(rt; tree.kind(FileId(6)), None);
+    Ok(())
+}
+
+#[test]
+fn tells_attributes_as_a_line_has_them(rt: HostRuntime) -> Result<(), Fail> {
+    let manifest = Manifest::read(rt.alloc(), SMALL)?;
+    let tree = Tree::of(rt.alloc(), &manifest)?;
+    let file = tree.attr(FileId(3)).ok_or("file 3")?;
+    assert_eq!(rt; (file.kind, file.perm.bits(), file.size, file.nlink), (Kind::File, 0o644, 12, 1));
+    let dir = tree.attr(FileId(2)).ok_or("file 2")?;
+    assert_eq!(rt; (dir.kind, dir.perm.bits(), dir.size, dir.nlink), (Kind::Dir, 0o755, 0, 2));
+    let root = tree.attr(FileId::ROOT).ok_or("the root")?;
+    assert_eq!(rt; (root.kind, root.perm.bits(), root.size, root.nlink), (Kind::Dir, 0o755, 0, 2));
+    assert_eq!(rt; tree.attr(FileId(6)).is_none(), true);
+    Ok(())
+}
+
+#[test]
+fn takes_a_directory_of_directories_for_one_with_entries(rt: HostRuntime) -> Result<(), Fail> {
+    let text = joined(rt.alloc(), HEAD, b"dir a\ndir a/b\nfile 0644 0 c\n".as_slice())?;
+    let manifest = Manifest::read(rt.alloc(), text.as_slice())?;
+    let tree = Tree::of(rt.alloc(), &manifest)?;
+    assert_eq!(rt; tree.is_empty_dir(FileId::ROOT), false);
+    assert_eq!(rt; tree.is_empty_dir(FileId(2)), false);
+    assert_eq!(rt; tree.is_empty_dir(FileId(3)), true);
+    assert_eq!(rt; tree.is_empty_dir(FileId(4)), false);
+    assert_eq!(rt; tree.is_empty_dir(FileId(5)), false);
+    Ok(())
+}
+
+#[test]
+fn answers_from_the_manifest_and_never_fails(rt: HostRuntime) -> Result<(), Fail> {
+    let manifest = Manifest::read(rt.alloc(), SMALL)?;
+    let tree = Tree::of(rt.alloc(), &manifest)?;
+    let mut backing = ManifestBacking::of(&manifest);
+    assert_eq!(rt; tree.attr(FileId(4)).is_some(), true);
+    let attr = backing.attr(FileId(4))?;
+    assert_eq!(rt; (attr.perm.bits(), attr.size, attr.nlink), (0o755, 0, 1));
+    assert_eq!(rt; backing.failures(), 0);
+    Ok(())
+}
+
+#[test]
+fn tells_a_fault_as_a_script_does(rt: HostRuntime) -> Result<(), Fail> {
+    let fault = fault_of(rt.alloc(), b"".as_slice()).ok_or("a fault")?;
+    let text = format!(in rt.alloc(); "fault: {fault}")?;
+    assert_eq!(rt; text.as_str(), "fault: line 1: NoCommit");
+    Ok(())
+}
+
+/// A manifest of a commit and this many files.
+fn many(alloc: Global, files: u32) -> Result<Vec<u8>, AllocError> {
+    let mut text = Vec::from_slice(alloc, HEAD)?;
+    for i in 0..files {
+        let line = format!(in alloc; "file 0644 0 f{i}\n")?;
+        text.extend_from_slice(line.as_bytes())?;
+    }
+    Ok(text)
+}
+
+#[test]
+fn takes_65536_lines_and_no_more(rt: HostRuntime) -> Result<(), Fail> {
+    use ManifestFaultKind::{BadLine, TooManyLines, Twice};
+    let full = many(rt.alloc(), 65535)?;
+    let manifest = Manifest::read(rt.alloc(), full.as_slice())?;
+    let tree = Tree::of(rt.alloc(), &manifest)?;
+    let name = Name::parse(rt.alloc(), b"f65534".as_slice())?;
+    assert_eq!(rt; tree.child(FileId::ROOT, &name), Some(FileId(65536)));
+    for (line, kind) in [
+        (b"file 0644 0 z\n".as_slice(), TooManyLines),
+        (b"file 0644 0 z".as_slice(), BadLine),
+        (b"dir f0\n".as_slice(), Twice),
+    ] {
+        let text = joined(rt.alloc(), full.as_slice(), line)?;
+        assert_eq!(rt; fault_of(rt.alloc(), text.as_slice()), Some(ManifestFault { line: 65537, kind }), "{kind}");
+    }
+    Ok(())
+}
+
+#[test]
+fn takes_names_of_255_bytes_and_deep_paths(rt: HostRuntime) -> Result<(), Fail> {
+    let mut text = joined(rt.alloc(), HEAD, b"dir ".as_slice())?;
+    for _ in 0..255 {
+        text.push(b'x')?;
+    }
+    let longer = joined(rt.alloc(), text.as_slice(), b"x\n".as_slice())?;
+    let bad = Some(ManifestFault { line: 2, kind: ManifestFaultKind::BadPath });
+    assert_eq!(rt; fault_of(rt.alloc(), longer.as_slice()), bad);
+    text.push(b'\n')?;
+    let mut path = Vec::from_slice(rt.alloc(), b"dir d".as_slice())?;
+    for _ in 0..200 {
+        text.extend_from_slice(path.as_slice())?;
+        text.push(b'\n')?;
+        path.extend_from_slice(b"/d".as_slice())?;
+    }
+    assert_eq!(rt; fault_of(rt.alloc(), text.as_slice()), None);
+    text.extend_from_slice(path.as_slice())?;
+    text.extend_from_slice(b"/d\n".as_slice())?;
+    let missing = Some(ManifestFault { line: 203, kind: ManifestFaultKind::NoParent });
+    assert_eq!(rt; fault_of(rt.alloc(), text.as_slice()), missing);
+    Ok(())
+}
+
+#[test]
+fn wants_memory_last(rt: HostRuntime) -> Result<(), Fail> {
+    match Manifest::read(rt.alloc(), SMALL) {
+        Ok(manifest) => match Tree::of(rt.alloc(), &manifest) {
+            Ok(_) => {}
+            Err(_) => println!(rt; "the tree wants memory")?,
+        },
+        Err(fault) => {
+            assert_eq!(rt; fault.kind, ManifestFaultKind::NoMemory);
+            println!(rt; "{fault}")?;
+        }
+    }
+    Ok(())
+}
