@@ -1,7 +1,8 @@
 //! A script's bytes, read whole.
-ghost use Rattle.std.specs.Prelude.{◌≡◌, ◌≤◌, ◌<◌, ◌++◌, true, length, IfOk, IfSome};
+ghost use Rattle.std.specs.Prelude.{◌≡◌, ◌≤◌, ◌<◌, ◌++◌, true, length, IfOk, IfErr, IfSome};
 ghost use Rattle.std.specs.Io.KnownBytes.{IsAtEnd};
 ghost use Rattle.edend.specs.Input.{Reads};
+ghost use Rattle.edend.specs.Refusal.{IsReadRefusal};
 
 use crate::Fault;
 use std::alloc::Global;
@@ -20,6 +21,7 @@ pub fn read_whole<R: Read>(alloc: Global, reader: &mut R) -> Result<Vec<u8>, Fau
     ensures len { IfOk result (λ bytes. length bytes.items ≤ MAX_LEN) }
     ensures whole { IfOk result (λ bytes.
         IfSome (R.remaining reader.old) (λ all. bytes.items ≡ all)) }
+    ensures refused { IfErr result IsReadRefusal }
     ensures too_long { result ≡ Err Fault.TooLong
         → IfSome (R.remaining reader.old) (λ all. MAX_LEN < length all) }
 {
@@ -41,6 +43,7 @@ fn read_once<R: Read>(reader: &mut R, chunk: &mut [u8], bytes: &mut Vec<u8>) -> 
     ensures more { IfOk result (λ _. Reads (R.remaining reader.old) bytes.old.items
         (R.remaining reader.new) bytes.new.items) }
     ensures end { IfOk result (λ is_last. is_last ≡ true → IsAtEnd (R.remaining reader.new)) }
+    ensures refused { IfErr result IsReadRefusal }
     ensures too_long { result ≡ Err Fault.TooLong → IfSome (R.remaining reader.old) (λ rest.
         MAX_LEN < length (bytes.old.items ++ rest)) }
 {

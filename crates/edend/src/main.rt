@@ -7,10 +7,19 @@ mod fault;
 mod input;
 mod lines;
 mod number;
+mod print;
+mod program;
+mod run;
 mod script;
+#[cfg(test)]
+mod tests;
 mod words;
 
 pub use fault::Fault;
+pub use run::{DEFAULT_LIMIT, run_world};
 
-fn main(_rt: HostRuntime) {
+use std::process::ExitCode;
+
+fn main(rt: HostRuntime) -> ExitCode {
+    program::run_program(&rt)
 }
