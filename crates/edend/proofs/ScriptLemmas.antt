@@ -36,7 +36,7 @@ IsSplit-at script rest line after number is some first others marker =
       marker_is = subst (λ (t : List ℕ). is_marker (before_first is_lf t) ≡ true) (sym whole) (subst (λ (l : List ℕ). is_marker l ≡ true) first marker);
       events_are = others ∙ ap (after_first is_lf) (sym whole);
       behind = sym is.behind ∙ ap lines_behind lines ∙ lines_behind-marker line (lines_of after) marker;
-      first_is = omega (arith, is.number_is, lens)
+      first_is = omega (arith, is.number_is, lens);
     }
 
 -- the first line of a rest is one more of the manifest
@@ -52,7 +52,7 @@ IsRest-more script rest line after number is some first others shorter marker =
       is_end = subst (λ (t : List ℕ). t ≡ drop (length script - length t) script) (sym left) (drop-end script (m + k));
       behind = sym (ap lines_behind lines ∙ lines_behind-other line (lines_of after) marker) ∙ is.behind;
       number_is = omega (arith, is.number_is, lens);
-      room = omega (arith, is.room, shorter)
+      room = omega (arith, is.room, shorter);
     }
 
 -- one more line says one more event

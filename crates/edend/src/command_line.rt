@@ -16,7 +16,9 @@ pub fn script_of<'a>(alloc: Global, words: &'a [String]) -> Result<&'a str, Erro
         .arg(script)?;
     let command = Command::new(alloc, "edend")
         .version("0.1.0")
-        .about("Graceful restart of a FUSE daemon, as EdenFS does it. Without a command: edend world -")
+        .about(
+            "Graceful restart of a FUSE daemon, as EdenFS does it. Without a command: edend world -",
+        )
         .subcommand(world)?;
     let matches = command.try_get_matches_from(words)?;
     let Some(world) = matches.subcommand_matches("world") else {

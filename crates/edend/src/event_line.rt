@@ -74,7 +74,10 @@ fn read_lookup(alloc: Global, words: &[u8]) -> Result<Option<Request>, NoMemory>
         return Ok(None);
     };
     match Name::parse(alloc, name) {
-        Ok(name) => Ok(Some(Request::Lookup { dir: Number(dir), name })),
+        Ok(name) => Ok(Some(Request::Lookup {
+            dir: Number(dir),
+            name,
+        })),
         Err(NameFault::NoMemory) => Err(NoMemory),
         Err(_) => Ok(None),
     }

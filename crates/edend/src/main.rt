@@ -17,7 +17,6 @@ mod words;
 
 pub use fault::Fault;
 pub use run::{DEFAULT_LIMIT, run_world};
-
 use std::process::ExitCode;
 
 fn main(rt: HostRuntime) -> ExitCode {

@@ -5,7 +5,12 @@ use std::io::{self, Write};
 use world::{Event, Forgot, Happened, Kept, Outcome, Served, World};
 
 /// Prints what came of an event, and the world where the event was to show it.
-pub fn print_event<W: Write>(out: &mut W, world: &World, event: &Event, outcome: &Outcome) -> io::Result<()> {
+pub fn print_event<W: Write>(
+    out: &mut W,
+    world: &World,
+    event: &Event,
+    outcome: &Outcome,
+) -> io::Result<()> {
     if let Event::Show = event {
         return print_world(out, world);
     }
@@ -80,7 +85,12 @@ fn print_world<W: Write>(out: &mut W, world: &World) -> io::Result<()> {
     }
 }
 
-fn print_served<W: Write>(out: &mut W, broker: &Broker, seat: Seat, served: &Served) -> io::Result<()> {
+fn print_served<W: Write>(
+    out: &mut W,
+    broker: &Broker,
+    seat: Seat,
+    served: &Served,
+) -> io::Result<()> {
     let generation = seat.generation;
     let daemon = seat.daemon.0;
     let next = served.map().next();
@@ -97,7 +107,10 @@ fn print_kept<W: Write>(out: &mut W, broker: &Broker, kept: &Kept) -> io::Result
     let number = kept.number.0;
     let held = broker.held(kept.number);
     let count = kept.count;
-    write!(out, "number {number} held {held} up 0 down 0 count {count} ")?;
+    write!(
+        out,
+        "number {number} held {held} up 0 down 0 count {count} "
+    )?;
     match &kept.place {
         Place::Linked { parent, name } => {
             let parent = parent.0;

@@ -35,7 +35,12 @@ pub fn run_world<R: Read, W: Write>(
 }
 
 /// Runs a script that was read.
-fn run_script<W: Write>(alloc: Global, script: &Script, limit: usize, writer: &mut W) -> Result<(), Fault>
+fn run_script<W: Write>(
+    alloc: Global,
+    script: &Script,
+    limit: usize,
+    writer: &mut W,
+) -> Result<(), Fault>
     ensures { IfErr result (λ fault. comes_first fault ≡ false) }
 {
     let mut world = World::new(alloc, &script.manifest, limit)?;

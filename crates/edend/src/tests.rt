@@ -1,6 +1,6 @@
 //! Scripts, and what the program prints for them.
-mod bounds;
 mod bad_scripts;
+mod bounds;
 mod rows;
 mod streams;
 
@@ -9,7 +9,8 @@ use std::alloc::Global;
 use std::test::Fail;
 
 /// A manifest of five files in two directories.
-pub const MANIFEST: &str = "commit 0123456789abcdef0123456789abcdef01234567\ndir src\nfile 0644 12 src/a\nfile 0755 0 src/b\nfile 0644 7 README\n";
+pub const MANIFEST: &str =
+    "commit 0123456789abcdef0123456789abcdef01234567\ndir src\nfile 0644 12 src/a\nfile 0755 0 src/b\nfile 0644 7 README\n";
 
 /// What a script prints, with the line of its fault where it has one.
 pub fn printed(alloc: Global, script: &[u8]) -> Result<Vec<u8>, Fail> {

@@ -53,6 +53,9 @@ fn takes_a_script_of_the_greatest_length_and_no_longer(rt: HostRuntime) -> Resul
     assert_eq!(rt; fault_of(rt.alloc(), longest.as_slice()), None);
     let longer = of_length(rt.alloc(), MAX_LEN + 1)?;
     assert_eq!(rt; longer.len(), MAX_LEN + 1);
-    assert_eq!(rt; fault_of(rt.alloc(), longer.as_slice()), Some(Fault::TooLong));
+    assert_eq!(rt;
+        fault_of(rt.alloc(), longer.as_slice()),
+        Some(Fault::TooLong)
+    );
     Ok(())
 }

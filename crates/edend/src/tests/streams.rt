@@ -34,9 +34,16 @@ impl Read for Stutter<'_> {
 #[test]
 fn reads_again_where_it_was_interrupted(rt: HostRuntime) -> Result<(), Fail> {
     let script = with_manifest(rt.alloc(), b"start\n".as_slice())?;
-    let mut reader = Stutter { rest: script.as_slice(), is_interrupted: true, reads: 0 };
+    let mut reader = Stutter {
+        rest: script.as_slice(),
+        is_interrupted: true,
+        reads: 0,
+    };
     let mut out = Vec::new(rt.alloc());
-    assert_eq!(rt; run_world(rt.alloc(), &mut reader, DEFAULT_LIMIT, &mut out), Ok(()));
+    assert_eq!(rt;
+        run_world(rt.alloc(), &mut reader, DEFAULT_LIMIT, &mut out),
+        Ok(())
+    );
     assert!(rt; out.as_slice() == b"daemon 1\n".as_slice());
     Ok(())
 }
@@ -65,7 +72,11 @@ impl Read for Endless {
 
 #[test]
 fn makes_no_read_once_a_script_is_too_long(rt: HostRuntime) {
-    let mut reader = Endless { is_interrupted: false, bytes: 0, reads: 0 };
+    let mut reader = Endless {
+        is_interrupted: false,
+        bytes: 0,
+        reads: 0,
+    };
     let mut out = Vec::new(rt.alloc());
     let ran = run_world(rt.alloc(), &mut reader, DEFAULT_LIMIT, &mut out);
     assert_eq!(rt; ran, Err(Fault::TooLong));
@@ -75,7 +86,11 @@ fn makes_no_read_once_a_script_is_too_long(rt: HostRuntime) {
 
 #[test]
 fn makes_so_many_reads_and_no_more(rt: HostRuntime) {
-    let mut reader = Endless { is_interrupted: true, bytes: 0, reads: 0 };
+    let mut reader = Endless {
+        is_interrupted: true,
+        bytes: 0,
+        reads: 0,
+    };
     let mut out = Vec::new(rt.alloc());
     let ran = run_world(rt.alloc(), &mut reader, DEFAULT_LIMIT, &mut out);
     assert_eq!(rt; ran, Err(Fault::CannotRead));
@@ -134,7 +149,11 @@ impl Write for Full {
 #[test]
 fn tells_a_writer_that_fails(rt: HostRuntime) -> Result<(), Fail> {
     let script = with_manifest(rt.alloc(), b"start\nmount 1\nshow\n".as_slice())?;
-    for (room, want) in [(0, Err(Fault::CannotWrite)), (20, Err(Fault::CannotWrite)), (100, Ok(()))] {
+    for (room, want) in [
+        (0, Err(Fault::CannotWrite)),
+        (20, Err(Fault::CannotWrite)),
+        (100, Ok(())),
+    ] {
         let mut reader = script.as_slice();
         let mut out = Full { room, writes: 0 };
         let ran = run_world(rt.alloc(), &mut reader, DEFAULT_LIMIT, &mut out);
@@ -151,8 +170,14 @@ fn writes_many_lines_at_once(rt: HostRuntime) -> Result<(), Fail> {
     }
     let script = with_manifest(rt.alloc(), events.as_slice())?;
     let mut reader = script.as_slice();
-    let mut out = Full { room: 1_000_000, writes: 0 };
-    assert_eq!(rt; run_world(rt.alloc(), &mut reader, DEFAULT_LIMIT, &mut out), Ok(()));
+    let mut out = Full {
+        room: 1_000_000,
+        writes: 0,
+    };
+    assert_eq!(rt;
+        run_world(rt.alloc(), &mut reader, DEFAULT_LIMIT, &mut out),
+        Ok(())
+    );
     assert_eq!(rt; out.writes, 1);
     Ok(())
 }

@@ -11,9 +11,10 @@ loop-rest-preserved c =
     let pushed : c.push.new.self.items ≡ c.loop-rest.events.items ++ c.in-Some.event ∷ [] = search rules in
     let says : event_of c.first_line.result.0.now ≡ Some c.in-Some.event = sym c.in_ok-event.ensures.event ∙ c.in-Some.is in
     let more = events_more c.loop-rest.events.items c.in-Some.event c.loop-rest.rest.now c.first_line.result.0.now c.first_line.result.1.now _ c.loop-rest.invariant.0 (omega arith) c.first_line.ensures.line c.first_line.ensures.rest says in
-    let longer : length c.push.new.self.items ≡ length c.loop-rest.events.items + 1 = ap length pushed ∙ length-append c.loop-rest.events.items (c.in-Some.event ∷ []) in
-    (subst (λ (events : List Event). map Some events ++ map event_of (lines_of c.first_line.result.1.now) ≡ map event_of (lines_of c.args.text.now)) (sym pushed) more,
-     omega (arith, longer, c.loop-rest.invariant.1, c.first_line.ensures.shorter))
+    let longer : length c.push.new.self.items ≡ length c.loop-rest.events.items + 1 = ap length pushed ∙ length-append c.loop-rest.events.items (c.in-Some.event ∷ []) in (
+      subst (λ (events : List Event). map Some events ++ map event_of (lines_of c.first_line.result.1.now) ≡ map event_of (lines_of c.args.text.now)) (sym pushed) more,
+      omega (arith, longer, c.loop-rest.invariant.1, c.first_line.ensures.shorter),
+    )
 
 pub returns-in-None-clause-refused : goal.returns-in-None-clause-refused
 returns-in-None-clause-refused c =
