@@ -1,0 +1,8 @@
+-- What one read of a script takes from its reader.
+use Rattle.std.specs.Prelude.{◌≡◌, ℕ, List, ◌++◌, ⊤, Option, Some, None}
+
+-- the bytes that were read and those that are left stay what they were together, where the reader's are known
+abbrev pub Reads : Option (List ℕ) → List ℕ → Option (List ℕ) → List ℕ → Type 0
+Reads None old left new = ⊤
+Reads (Some rest) old None new = ⊥
+Reads (Some rest) old (Some left) new = old ++ rest ≡ new ++ left

@@ -1,0 +1,7 @@
+-- The definitions that the contracts of this crate cite.
+pub mod EventLine
+pub mod Input
+pub mod Lines
+pub mod Number
+pub mod Refusal
+pub mod Words

@@ -1,0 +1,69 @@
+//! The program, over any system that has files, standard streams and words.
+use crate::command_line::script_of;
+use crate::{DEFAULT_LIMIT, Fault, run_world};
+use clap::Error;
+use clap::error::ErrorKind;
+use std::process::ExitCode;
+use std::rt::{Env, Files};
+use std::{env, fs, io};
+
+/// Does what the words of the command line ask for. The status is 0 where a script was run, 1 at a fault, which is
+/// printed, and 2 where the words were refused.
+pub fn run_program<R: Files + Input + Print + Eprint + Env + AllocGlobal>(rt: &R) -> ExitCode {
+    let words: Vec<String> = match words_of(rt) {
+        Ok(words) => words,
+        Err(error) => return refuse_words(rt, &error),
+    };
+    match script_of(rt.alloc(), words.as_slice()) {
+        Ok(path) => match run_script(rt, path) {
+            Ok(()) => ExitCode::SUCCESS,
+            Err(fault) => report(rt, fault),
+        },
+        Err(error) => refuse(rt, &error),
+    }
+}
+
+fn words_of<R: Env + AllocGlobal>(rt: &R) -> io::Result<Vec<String>> {
+    let words = env::args(rt)?.collect(rt.alloc())?;
+    Ok(words)
+}
+
+/// Runs the script of a file, or of standard input at `-`.
+fn run_script<R: Files + Input + Print + AllocGlobal>(rt: &R, path: &str) -> Result<(), Fault> {
+    let mut out = io::writer(rt);
+    if path == "-" {
+        return run_world(rt.alloc(), &mut rt.reader(), DEFAULT_LIMIT, &mut out);
+    }
+    match fs::open(rt, path) {
+        Ok(mut file) => run_world(rt.alloc(), &mut file, DEFAULT_LIMIT, &mut out),
+        Err(_) => Err(Fault::CannotRead),
+    }
+}
+
+/// Prints a fault on standard output, or nothing where that can't be written.
+fn report(rt: &impl Print, fault: Fault) -> ExitCode {
+    let _ = println!(rt; "fault: {fault}");
+    ExitCode::from(1)
+}
+
+/// Answers words that ask for no script: with what is wrong with them, or with the help or the version.
+fn refuse<R: Print + Eprint>(rt: &R, error: &Error) -> ExitCode {
+    if error.kind() == ErrorKind::OutOfMemory {
+        return report(rt, Fault::NoMemory);
+    }
+    let _ = error.print(rt);
+    if error.use_stderr() {
+        ExitCode::from(2)
+    } else {
+        ExitCode::SUCCESS
+    }
+}
+
+/// Answers words that could not be had, as they are no text.
+fn refuse_words<R: Print + Eprint>(rt: &R, error: &io::Error) -> ExitCode {
+    if error.kind() == io::ErrorKind::OutOfMemory {
+        return report(rt, Fault::NoMemory);
+    }
+    let _ = eprintln!(rt; "error: the command line is no text");
+    ExitCode::from(2)
+}

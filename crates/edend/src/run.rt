@@ -1,0 +1,66 @@
+//! A script, run.
+ghost use Rattle.std.specs.Prelude.{◌≡◌, true, false, IfErr, IfSome, OnOk};
+ghost use Rattle.std.specs.Io.KnownBytes.{Keeps};
+ghost use Rattle.edend.specs.Refusal.{IsGood, IsRunRefusal, comes_first};
+
+use crate::Fault;
+use crate::input::read_whole;
+use crate::print::print_event;
+use crate::script::Script;
+use std::alloc::Global;
+use std::io::{self, BufWriter, Read, Write};
+use world::{Event, World};
+
+/// How many nodes a daemon keeps loaded where the caller has no wish of its own.
+pub const DEFAULT_LIMIT: usize = 1024;
+
+/// Runs the script that a reader gives, and writes a line for each event that has one, in order. Nothing is run or
+/// written before the whole script is known to be good. An event that is refused is no fault: its line says so.
+/// `limit`, from 1 to 65,536, is how many nodes a daemon keeps loaded, which has no effect yet.
+pub fn run_world<R: Read, W: Write>(
+    alloc: Global,
+    reader: &mut R,
+    limit: usize,
+    writer: &mut W,
+) -> Result<(), Fault>
+    ensures good { OnOk result (IfSome (R.remaining reader.old) IsGood) }
+    ensures refused { IfErr result (λ fault.
+        IfSome (R.remaining reader.old) (λ script. IsRunRefusal script fault)) }
+    ensures unwritten { IfErr result (λ fault. comes_first fault ≡ true
+        → Keeps (W.contents writer.old) (W.contents writer.new)) }
+{
+    let bytes = read_whole(alloc, reader)?;
+    let script = Script::read(alloc, bytes.as_slice())?;
+    run_script(alloc, &script, limit, writer)
+}
+
+/// Runs a script that was read.
+fn run_script<W: Write>(
+    alloc: Global,
+    script: &Script,
+    limit: usize,
+    writer: &mut W,
+) -> Result<(), Fault>
+    ensures { IfErr result (λ fault. comes_first fault ≡ false) }
+{
+    let mut world = World::new(alloc, &script.manifest, limit)?;
+    let Ok(mut out) = BufWriter::with_capacity(alloc, BUFFER, writer) else {
+        return Err(Fault::NoMemory);
+    };
+    match play(&mut world, script.events.as_slice(), &mut out) {
+        Ok(()) => Ok(()),
+        Err(_) => Err(Fault::CannotWrite),
+    }
+}
+
+/// How many bytes are written at once, except for the last.
+const BUFFER: usize = 65_536;
+
+/// Lets all events happen in turn, and prints each.
+fn play<W: Write>(world: &mut World, events: &[Event], out: &mut W) -> io::Result<()> {
+    for event in events {
+        let outcome = world.step(event);
+        print_event(out, world, event, &outcome)?;
+    }
+    out.flush()
+}

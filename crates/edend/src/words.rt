@@ -1,0 +1,23 @@
+//! Bytes, parted.
+ghost use Rattle.std.specs.Prelude.{◌≡◌, ◌<◌, ◌==◌, IfSome, length, position};
+ghost use Rattle.std.specs.Option.{option_map};
+ghost use Rattle.edend.specs.Words.{cut};
+
+/// What stands before and after the first of this byte.
+pub fn cut(bytes: &[u8], byte: u8) -> Option<(&[u8], &[u8])>
+    ensures parts { option_map (λ p. (p.0.now, p.1.now)) result ≡ cut byte bytes.now }
+    ensures shorter { IfSome result (λ p. length p.1.now < length bytes.now) }
+{
+    match first_of(bytes, byte) {
+        Some(i) => Some((&bytes[..i], &bytes[i + 1..])),
+        None => None,
+    }
+}
+
+/// Where the first of this byte stands.
+fn first_of(bytes: &[u8], byte: u8) -> Option<usize>
+    ensures place { result ≡ position (λ b. b == byte) bytes.now }
+    ensures within { IfSome result (λ i. i < length bytes.now) }
+{
+    bytes.iter().position(|b| *b == byte)
+}
