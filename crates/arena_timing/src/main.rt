@@ -103,7 +103,11 @@ fn each(spent: Duration) -> u64 {
 /// Prints the nanoseconds of each round of calls, on all slots of the arena and on eight of them.
 fn measure(rt: &(impl CpuClock + Print), alloc: Global, capacity: usize) -> Result<()> {
     let (mut nodes, slots) = filled(alloc, capacity)?;
-    let few = if slots.len() > 8 { &slots[..8] } else { &slots[..] };
+    let few = if slots.len() > 8 {
+        &slots[..8]
+    } else {
+        &slots[..]
+    };
     let oldest = each(touch_oldest(rt, &mut nodes)?);
     let replaced = each(replace_oldest(rt, &mut nodes)?);
     let touched = each(touch_any(rt, &mut nodes, &slots)?);

@@ -12,17 +12,19 @@ place_where p (x ∷ xs) = if p x then Some 0 else option_map suc (place_where p
 
 found_here : {X : Type 0} (p : X → Bool) (x : X) (xs : List X) → p x ≡ true → IsFirstPlace p (x ∷ xs) 0
 found_here p x xs e = record {
-    bound = omega arith;
-    value = λ d. rw e refl;
-    change = λ f d. rw e refl;
-    removal = rw e refl }
+  bound = omega arith;
+  value = λ d. rw e refl;
+  change = λ f d. rw e refl;
+  removal = rw e refl;
+}
 
 found_behind : {X : Type 0} (p : X → Bool) (x : X) (xs : List X) (i : ℕ) → p x ≡ false → IsFirstPlace p xs i → IsFirstPlace p (x ∷ xs) (suc i)
 found_behind p x xs i e rest = record {
-    bound = let h : i < length xs = rest.bound in omega arith;
-    value = λ d. rw e (rest.value d);
-    change = λ f d. rw e (ap (λ ys. x ∷ ys) (rest.change f d));
-    removal = rw e (ap (λ ys. x ∷ ys) rest.removal) }
+  bound = let h : i < length xs = rest.bound in omega arith;
+  value = λ d. rw e (rest.value d);
+  change = λ f d. rw e (ap (λ ys. x ∷ ys) (rest.change f d));
+  removal = rw e (ap (λ ys. x ∷ ys) rest.removal);
+}
 
 found_in : {X : Type 0} (p : X → Bool) (x : X) (xs : List X) (i : ℕ) (b : Bool) (o : Option ℕ) → p x ≡ b →
     ((j : ℕ) → o ≡ Some j → IsFirstPlace p xs j) → cond b (Some 0) (option_map suc o) ≡ Some i → IsFirstPlace p (x ∷ xs) i
@@ -100,7 +102,7 @@ pub Each-changed_where : {X : Type 0} (p : X → Bool) (change : X → X) (P Q :
     ((x : X) → P x → Q x) → ((x : X) → first_where p xs ≡ Some x → P x → Q (change x)) → AllByRecursion Q (changed_where p change xs)
 Each-changed_where p change P Q [] each keeps made = tt
 Each-changed_where p change P Q (x ∷ xs) each keeps made = each_in p change P Q x xs (p x) refl each keeps made
-  (λ made'. Each-changed_where p change P Q xs each.1 keeps made')
+    (λ made'. Each-changed_where p change P Q xs each.1 keeps made')
 
 without_each : {X : Type 0} (P : X → Type 0) (x : X) (xs ys : List X) (b : Bool) → P x → AllByRecursion P xs → AllByRecursion P ys → AllByRecursion P (cond b xs (x ∷ ys))
 without_each P x xs ys true here each rest = each
