@@ -43,6 +43,7 @@ pub struct ManifestBacking<'a> {
 }
 
 impl<'a> ManifestBacking<'a> {
+    /// The backing that tells what this manifest says.
     pub fn of(manifest: &'a Manifest) -> ManifestBacking<'a>
         ensures { result.manifest.now ≡ manifest.now }
     {

@@ -31,6 +31,7 @@ impl Model for Directory {
 }
 
 impl Directory {
+    /// A directory with nothing in it.
     pub fn new(alloc: Global) -> Directory
         ensures { result ≡ empty }
     {
@@ -46,6 +47,7 @@ impl Directory {
         self.files.get(name).copied()
     }
 
+    /// Whether no name stands in it.
     pub fn is_empty(&self) -> bool
         ensures { IsTrue result ↔ (self.now ≡ empty) }
     {

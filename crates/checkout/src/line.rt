@@ -48,6 +48,7 @@ impl Line {
         }
     }
 
+    /// The same line, in memory of its own.
     pub fn copy(&self, alloc: Global) -> Result<Line, NoMemory>
         ensures copy { IfOk result (λ line. line ≡ self.now) }
     {

@@ -35,6 +35,7 @@ impl Model for Links {
 }
 
 impl Links {
+    /// No links.
     pub fn new(alloc: Global) -> Links
         ensures { result ≡ empty }
     {

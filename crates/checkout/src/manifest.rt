@@ -65,6 +65,7 @@ impl Manifest {
         self.lines.as_slice()
     }
 
+    /// The same manifest, in memory of its own. Its lines make a tree.
     pub fn copy(&self, alloc: Global) -> Result<Manifest, NoMemory>
         ensures copy { IfOk result (λ copy. copy ≡ self.now) }
         ensures is_manifest { IfOk result IsManifest }

@@ -40,6 +40,7 @@ impl Reading {
     /// Of a manifest, the first line apart.
     const MAX_LINES: usize = 65535;
 
+    /// Before the first line behind the commit.
     pub fn new(alloc: Global) -> Reading
         ensures { result ≡ [] }
     {
@@ -57,6 +58,7 @@ impl Reading {
         self.lines.len()
     }
 
+    /// The lines that were read.
     pub fn into_lines(self) -> Vec<Line>
         ensures lines { result.items ≡ self }
         ensures are_lines { AreLines result.items }

@@ -42,6 +42,7 @@ impl Tree {
         Ok(Tree { manifest, links })
     }
 
+    /// The name of the manifest's commit.
     pub fn commit(&self) -> [u8; 20]
         ensures commit { result ≡ self.now.manifest.commit }
         ensures is_tree { IsTree self.now }

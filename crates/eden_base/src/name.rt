@@ -61,6 +61,7 @@ impl Name {
         }
     }
 
+    /// The bytes as they were parsed: they need be no text.
     pub fn bytes(&self) -> &[u8]
         ensures bytes { result.now ≡ self.now }
         ensures is_name { IsNameText result.now }
@@ -68,6 +69,7 @@ impl Name {
         self.bytes.as_slice()
     }
 
+    /// The same name, in memory of its own.
     pub fn copy(&self, alloc: Global) -> Result<Name, NoMemory>
         ensures copy { IfOk result (λ name. name ≡ self.now) }
     {

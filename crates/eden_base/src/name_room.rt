@@ -13,6 +13,7 @@ pub struct NameRoom {
 }
 
 impl NameRoom {
+    /// Takes memory for the longest name.
     pub fn new(alloc: Global) -> Result<NameRoom, NoMemory> {
         match Vec::with_capacity(alloc, Name::MAX_LEN) {
             Ok(bytes) => Ok(NameRoom { bytes }),

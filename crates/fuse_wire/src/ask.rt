@@ -30,6 +30,7 @@ pub struct Ask {
 }
 
 impl Request {
+    /// The same request, in memory of its own.
     pub fn copy(&self, alloc: Global) -> Result<Request, NoMemory>
         ensures copy { IfOk result (λ copy. copy ≡ self.now) }
     {

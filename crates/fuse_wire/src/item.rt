@@ -58,6 +58,7 @@ impl Items {
         self.items.push(item);
     }
 
+    /// The items in their order.
     pub fn as_slice(&self) -> &[Item]
         ensures items { result.now ≡ self.now }
         ensures at_most { length result.now ≤ 256 }
@@ -65,6 +66,7 @@ impl Items {
         self.items.as_slice()
     }
 
+    /// How many there are: at most 256.
     pub fn len(&self) -> usize
         ensures len { result ≡ length self.now }
         ensures at_most { result ≤ 256 }
@@ -72,6 +74,7 @@ impl Items {
         self.items.len()
     }
 
+    /// Whether there are none.
     pub fn is_empty(&self) -> bool
         ensures { result ≡ (length self.now == 0) }
     {

@@ -18,6 +18,7 @@ pub(crate) enum Opcode {
 }
 
 impl Opcode {
+    /// The operation of a header's opcode.
     #[tactic(auto, unfolding(crate::specs::Opcode::opcode_of))]
     pub(crate) fn of(code: u32) -> Opcode
         ensures { result ≡ opcode_of code }
@@ -35,6 +36,7 @@ impl Opcode {
         }
     }
 
+    /// The opcode, as `linux/fuse.h` numbers it.
     pub(crate) fn code(self) -> u32
         ensures { result ≡ code self }
     {

@@ -12,6 +12,7 @@ pub(crate) struct Reader<'a> {
 }
 
 impl<'a> Reader<'a> {
+    /// A reader before the first field.
     pub(crate) fn new(bytes: &'a [u8]) -> Reader<'a>
         ensures bytes { result.bytes.now ≡ bytes.now }
         ensures at { result.at ≡ 0 }

@@ -17,6 +17,7 @@ pub(crate) enum Daemon {
 }
 
 impl Daemon {
+    /// Whether it has started and not yet mounted.
     pub(crate) fn is_waiting(&self) -> bool
         ensures { result ≡ is_waiting self.now }
     {
@@ -26,6 +27,7 @@ impl Daemon {
         }
     }
 
+    /// What it serves, if it does.
     pub(crate) fn served(&self) -> Option<&Served>
         ensures { option_copied result ≡ served_in self.now }
     {
