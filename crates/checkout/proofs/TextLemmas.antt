@@ -6,7 +6,8 @@ use Rattle.std.specs.Option.{option_map, option_and_then}
 use Rattle.std.specs.List.{position_or_len, list_all}
 use Rattle.std.proofs.lemmas.Bool.Decides.{nat_tests}
 use Rattle.eden_base.specs.declared.attr.Perm.{Perm}
-use Rattle.checkout.specs.Text.{cut, parts, in_first, front, last, decimal, is_octal, mode_of, perm_of}
+use Rattle.eden_base.specs.Text.{cut}
+use Rattle.checkout.specs.Text.{parts, in_first, front, last, decimal, is_octal, mode_of, perm_of}
 
 abbrev at : ℕ → List ℕ → ℕ
 at byte xs = position_or_len (λ b. b == byte) xs

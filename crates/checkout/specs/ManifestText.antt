@@ -14,7 +14,8 @@ use Rattle.checkout.specs.declared.fault.ManifestFaultKind.{ManifestFaultKind}
 use Rattle.checkout.specs.declared.fault.ManifestFaultKind.TheVariants.{NoCommit, BadLine, BadMode, BadSize, BadPath, NoParent, Twice, TooManyLines, NoMemory}
 use Rattle.checkout.specs.Manifest.{File, Line, Manifest}
 use Rattle.checkout.specs.Names.{is_name}
-use Rattle.checkout.specs.Text.{cut, after, parts, front, last, mode_of, size_of}
+use Rattle.eden_base.specs.Text.{cut}
+use Rattle.checkout.specs.Text.{after, parts, front, last, mode_of, size_of}
 use Rattle.checkout.specs.Tree.{Tree, tree_of, kind_of, child_of, file_at, root, dir_perm, is_dir}
 
 -- the lines that are ended by LF, and then what is not

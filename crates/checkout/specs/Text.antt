@@ -6,10 +6,6 @@ use Rattle.std.specs.Cmp.Lexicographic.{pointwise}
 use Rattle.std.proofs.Math.Nat.{min-le_right}
 use Rattle.eden_base.specs.declared.attr.Perm.{Perm}
 
--- what stands before and after the first of a byte
-abbrev pub cut : ℕ → List ℕ → Option (List ℕ × List ℕ)
-cut byte bytes = option_map (λ (i : ℕ). (take i bytes, drop (i + 1) bytes)) (position (λ b. b == byte) bytes)
-
 -- what follows a front, where the text has it
 abbrev pub after : List ℕ → List ℕ → Option (List ℕ)
 after front text = if pointwise nat_eq (take (length front) text) front then Some (drop (length front) text) else None

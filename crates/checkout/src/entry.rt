@@ -3,8 +3,8 @@ ghost use Rattle.std.specs.Prelude.{◌≡◌, ◌<◌, ◌^◌, IfErr, IfOk, So
 ghost use Rattle.checkout.specs.ManifestText.{dir_entry, entry_of, file_entry, entry_fault};
 
 use crate::ManifestFaultKind;
-use crate::field::{after, cut, mode_of, size_of};
-use eden_base::{Kind, Perm};
+use crate::field::{after, mode_of, size_of};
+use eden_base::{Kind, Perm, cut};
 
 /// A file's kind, permissions and size, and its path.
 #[derive(Drop)]

@@ -1,31 +1,11 @@
 //! The fields of a manifest's line.
-ghost use Rattle.std.specs.Prelude.{◌≡◌, ◌<◌, ◌+◌, ◌-◌, ◌^◌, ◌==◌, IfSome, IsTrue, length, nat_lt, position, if◌then◌else◌};
-ghost use Rattle.std.specs.Option.{SomeIff, option_copied, option_map};
-ghost use Rattle.std.specs.List.{list_all, list_any};
-ghost use Rattle.eden_base.specs.Name.{is_separator, is_dots};
-ghost use Rattle.checkout.specs.Text.{after, cut, parts, mode_of, size_of, is_octal, has_leading_zero, is_decimal, decimal};
+ghost use Rattle.std.specs.Prelude.{◌≡◌, ◌<◌, ◌+◌, ◌-◌, ◌^◌, IsTrue, length, nat_lt, if◌then◌else◌};
+ghost use Rattle.std.specs.Option.{SomeIff, option_copied};
+ghost use Rattle.std.specs.List.{list_all};
+ghost use Rattle.checkout.specs.Text.{after, parts, mode_of, size_of, is_octal, has_leading_zero, is_decimal, decimal};
 ghost use Rattle.checkout.specs.Names.{is_name};
 
-use eden_base::{Name, Perm};
-
-/// What stands before and after the first of this byte.
-pub fn cut(bytes: &[u8], byte: u8) -> Option<(&[u8], &[u8])>
-    ensures parts { option_map (λ p. (p.0.now, p.1.now)) result ≡ cut byte bytes.now }
-    ensures shorter { IfSome result (λ p. length p.1.now < length bytes.now) }
-{
-    match first_of(bytes, byte) {
-        Some(i) => Some((&bytes[..i], &bytes[i + 1..])),
-        None => None,
-    }
-}
-
-/// Where the first of this byte stands.
-fn first_of(bytes: &[u8], byte: u8) -> Option<usize>
-    ensures place { result ≡ position (λ b. b == byte) bytes.now }
-    ensures within { IfSome result (λ i. i < length bytes.now) }
-{
-    bytes.iter().position(|b| *b == byte)
-}
+use eden_base::{Name, Perm, cut};
 
 /// What follows a front, if the text has it.
 pub fn after<'a>(front: &[u8], text: &'a [u8]) -> Option<&'a [u8]>
@@ -38,37 +18,7 @@ pub fn after<'a>(front: &[u8], text: &'a [u8]) -> Option<&'a [u8]>
 pub fn is_name(bytes: &[u8]) -> bool
     ensures { result ≡ is_name bytes.now }
 {
-    if bytes.is_empty() {
-        return false;
-    }
-    if bytes.len() > Name::MAX_LEN {
-        return false;
-    }
-    if has_separator(bytes) {
-        return false;
-    }
-    if is_dots(bytes) {
-        return false;
-    }
-    true
-}
-
-/// Whether a slash or a NUL is among the bytes.
-fn has_separator(bytes: &[u8]) -> bool
-    ensures { result ≡ list_any is_separator bytes.now }
-{
-    bytes.iter().any(|byte| *byte == b'/' || *byte == 0)
-}
-
-/// Whether the bytes are `.` or `..`.
-fn is_dots(bytes: &[u8]) -> bool
-    ensures { result ≡ is_dots bytes.now }
-{
-    match bytes {
-        [b'.'] => true,
-        [b'.', b'.'] => true,
-        _ => false,
-    }
+    Name::fault(bytes).is_none()
 }
 
 /// Whether all that the slashes of a path part are names.

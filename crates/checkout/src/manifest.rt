@@ -3,10 +3,10 @@ ghost use Rattle.std.specs.Prelude.{◌≡◌, [], IfErr, IfOk, Ok};
 ghost use Rattle.checkout.specs.Manifest.{IsManifest};
 ghost use Rattle.checkout.specs.ManifestText.{commit_of, lines_of, manifest_of, read_on, with_commit, IsManifestRefusal, IsRefusal};
 
-use crate::field::{after, cut};
+use crate::field::after;
 use crate::reading::Reading;
 use crate::{Line, ManifestFault, ManifestFaultKind};
-use eden_base::NoMemory;
+use eden_base::{NoMemory, cut};
 use std::alloc::Global;
 use std::marker::Model;
 

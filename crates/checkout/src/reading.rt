@@ -7,11 +7,11 @@ ghost use Rattle.checkout.specs.Text.{front, last};
 ghost use Rattle.checkout.specs.Tree.{file_at, links_from, root};
 
 use crate::entry::Entry;
-use crate::field::{cut, is_path};
+use crate::field::is_path;
 use crate::line::kind_of;
 use crate::links::Links;
 use crate::{Line, ManifestFaultKind};
-use eden_base::{FileId, Kind, Name, NoMemory};
+use eden_base::{FileId, Kind, Name, NoMemory, cut};
 use std::alloc::Global;
 use std::marker::Model;
 

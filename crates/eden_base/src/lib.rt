@@ -8,6 +8,7 @@ mod name;
 mod name_room;
 mod number;
 mod place;
+mod text;
 
 pub use attr::{Attr, Kind, Perm};
 pub use errno::Errno;
@@ -16,6 +17,7 @@ pub use name::{Name, NameFault};
 pub use name_room::NameRoom;
 pub use number::{DaemonId, FileId, Number};
 pub use place::Place;
+pub use text::cut;
 
 #[cfg(test)]
 mod tests;

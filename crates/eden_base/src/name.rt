@@ -52,13 +52,32 @@ impl Name {
         ensures accepted { OnOk result (IsNameText bytes.now) }
         ensures refused { IfErr result (IsNameRefusal bytes.now) }
     {
-        if let Some(fault) = fault_of(bytes) {
+        if let Some(fault) = Name::fault(bytes) {
             return Err(fault);
         }
         match Vec::from_slice(alloc, bytes) {
             Ok(bytes) => Ok(Name { bytes }),
             Err(_refused) => Err(NameFault::NoMemory),
         }
+    }
+
+    /// The first fault of bytes as a name, want of memory apart: none where they are one.
+    pub fn fault(bytes: &[u8]) -> Option<NameFault>
+        ensures fault { result ≡ name_fault bytes.now }
+    {
+        if bytes.is_empty() {
+            return Some(NameFault::Empty);
+        }
+        if bytes.len() > Name::MAX_LEN {
+            return Some(NameFault::TooLong);
+        }
+        if has_separator(bytes) {
+            return Some(NameFault::BadByte);
+        }
+        if is_dots(bytes) {
+            return Some(NameFault::Dots);
+        }
+        None
     }
 
     /// The bytes as they were parsed: they need be no text.
@@ -95,25 +114,6 @@ impl Name {
     {
         self.bytes.as_slice() == other.bytes.as_slice()
     }
-}
-
-/// The first fault of bytes as a name, want of memory apart.
-fn fault_of(bytes: &[u8]) -> Option<NameFault>
-    ensures { result ≡ name_fault bytes.now }
-{
-    if bytes.is_empty() {
-        return Some(NameFault::Empty);
-    }
-    if bytes.len() > Name::MAX_LEN {
-        return Some(NameFault::TooLong);
-    }
-    if has_separator(bytes) {
-        return Some(NameFault::BadByte);
-    }
-    if is_dots(bytes) {
-        return Some(NameFault::Dots);
-    }
-    None
 }
 
 /// Whether a slash or a NUL is among the bytes.

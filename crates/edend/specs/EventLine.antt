@@ -7,7 +7,8 @@ use Rattle.world.specs.declared.event.Event.{Event}
 use Rattle.world.specs.declared.event.Event.TheVariants.{Start, Mount, Do, Show}
 use Rattle.eden_base.specs.Name.{name_fault}
 use Rattle.edend.specs.Number.{number_of}
-use Rattle.edend.specs.Words.{cut, is_word}
+use Rattle.eden_base.specs.Text.{cut}
+use Rattle.edend.specs.Words.{is_word}
 
 -- the look-up of a name in a directory
 abbrev pub lookup_in : List ℕ → ℕ → Option Request

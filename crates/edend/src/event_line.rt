@@ -3,9 +3,8 @@ ghost use Rattle.std.specs.Prelude.{◌≡◌, IfOk};
 ghost use Rattle.edend.specs.EventLine.{event_of, mount_of, do_of, request_of, lookup_of, forget_of};
 
 use crate::number::number;
-use crate::words::cut;
 use broker_core::{Item, Request};
-use eden_base::{DaemonId, Name, NameFault, NoMemory, Number};
+use eden_base::{DaemonId, Name, NameFault, NoMemory, Number, cut};
 use std::alloc::Global;
 use world::Event;
 

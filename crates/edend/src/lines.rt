@@ -3,7 +3,7 @@ ghost use Rattle.std.specs.Prelude.{◌≡◌, ◌<◌, length};
 ghost use Rattle.std.specs.List.{before_first, after_first};
 ghost use Rattle.edend.specs.Lines.{is_lf};
 
-use crate::words::cut;
+use eden_base::cut;
 
 /// The first line of a text, without its LF, and what comes after it.
 pub fn first_line(text: &[u8]) -> (&[u8], &[u8])

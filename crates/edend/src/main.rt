@@ -13,7 +13,6 @@ mod run;
 mod script;
 #[cfg(test)]
 mod tests;
-mod words;
 
 pub use fault::Fault;
 pub use run::{DEFAULT_LIMIT, run_world};

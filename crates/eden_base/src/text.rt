@@ -1,9 +1,9 @@
 //! Bytes, parted.
 ghost use Rattle.std.specs.Prelude.{◌≡◌, ◌<◌, ◌==◌, IfSome, length, position};
 ghost use Rattle.std.specs.Option.{option_map};
-ghost use Rattle.edend.specs.Words.{cut};
+ghost use Rattle.eden_base.specs.Text.{cut};
 
-/// What stands before and after the first of this byte.
+/// What stands before and after the first of this byte; nothing where there is none.
 pub fn cut(bytes: &[u8], byte: u8) -> Option<(&[u8], &[u8])>
     ensures parts { option_map (λ p. (p.0.now, p.1.now)) result ≡ cut byte bytes.now }
     ensures shorter { IfSome result (λ p. length p.1.now < length bytes.now) }
