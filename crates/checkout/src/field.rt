@@ -1,5 +1,5 @@
 //! The fields of a manifest's line.
-ghost use Rattle.std.specs.Prelude.{◌≡◌, ◌<◌, ◌+◌, ◌-◌, ◌^◌, IsTrue, length, nat_lt, if◌then◌else◌};
+ghost use Rattle.std.specs.Prelude.{◌≡◌, ◌<◌, ◌+◌, ◌-◌, ◌^◌, IfSome, IsTrue, length, nat_lt, if◌then◌else◌};
 ghost use Rattle.std.specs.Option.{SomeIff, option_copied};
 ghost use Rattle.std.specs.List.{list_all};
 ghost use Rattle.checkout.specs.Text.{after, parts, mode_of, size_of, is_octal, has_leading_zero, is_decimal, decimal};
