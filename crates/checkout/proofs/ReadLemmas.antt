@@ -5,7 +5,7 @@ use Rattle.checkout.specs.declared.fault.ManifestFaultKind.{ManifestFaultKind}
 use Rattle.checkout.specs.declared.fault.ManifestFaultKind.TheVariants.{NoCommit, BadLine, BadMode, BadSize, BadPath, NoParent, Twice, TooManyLines, NoMemory}
 use Rattle.checkout.specs.Manifest.{Line, Manifest}
 use Rattle.checkout.specs.Text.{parts}
-use Rattle.checkout.specs.ManifestText.{line_of_text, on_line, fault_at, lines_of, read_on, with_commit, after_commit, IsLineRefusal, IsRefusal}
+use Rattle.checkout.specs.ManifestText.{line_of_text, on_line, fault_at, lines_of, read_on, with_commit, after_commit, IsLineRefusal, IsRefusal, IsAmongLines}
 use Rattle.checkout.proofs.TextLemmas.{some_part}
 
 -- a line that is ended, and what comes after it
@@ -91,6 +91,22 @@ refusal-with_commit commit r n BadPath h = ap (with_commit commit) h
 refusal-with_commit commit r n NoParent h = ap (with_commit commit) h
 refusal-with_commit commit r n Twice h = ap (with_commit commit) h
 refusal-with_commit commit r n TooManyLines h = ap (with_commit commit) h
+
+-- a line behind the first, and before the last, may have any fault
+pub among_lines : (count line : ℕ) (kind : ManifestFaultKind) → 1 < line → line < count → IsAmongLines count line kind
+among_lines count line NoMemory low high = (low, high)
+among_lines count line NoCommit low high = (omega arith, omega arith)
+among_lines count line BadLine low high = (omega arith, omega arith)
+among_lines count line BadMode low high = (omega arith, omega arith)
+among_lines count line BadSize low high = (omega arith, omega arith)
+among_lines count line BadPath low high = (omega arith, omega arith)
+among_lines count line NoParent low high = (omega arith, omega arith)
+among_lines count line Twice low high = (omega arith, omega arith)
+among_lines count line TooManyLines low high = (omega arith, omega arith)
+
+-- a text has a first line
+pub first_line : (text : List ℕ) → (0 < 1) × (1 ≤ length (lines_of text))
+first_line text = let r = some_part 10 text in (omega arith, rw r.2 (omega arith))
 
 pub after_commit-some : (commit rest : List ℕ) → after_commit (Some commit) (lines_of rest) ≡ with_commit commit (read_on [] 2 (lines_of rest))
 after_commit-some commit rest = let r = some_part 10 rest in rw r.2 refl

@@ -1,6 +1,6 @@
 -- The text of a manifest, line by line. (This project's own format. A commit is named by the twenty bytes of a hash,
 -- as in Git and EdenFS.)
-use Rattle.std.specs.Prelude.{◌≡◌, ℕ, ◌+◌, ◌-◌, ◌<◌, Bool, not, nat_lt, List, [], ◌∷◌, ◌++◌, length, codes, Option, Some, None, is_none, is_some, Result, Ok, Err, IsOk, IfErr, unwrap_or, if◌then◌else◌}
+use Rattle.std.specs.Prelude.{◌≡◌, ℕ, ◌+◌, ◌-◌, ◌<◌, ◌≤◌, Bool, not, nat_lt, List, [], ◌∷◌, ◌++◌, length, codes, Option, Some, None, is_none, is_some, Result, Ok, Err, IsOk, IfErr, unwrap_or, if◌then◌else◌}
 use Rattle.std.specs.Option.{option_map, option_and_then, option_or}
 use Rattle.std.specs.Result.{result_ok}
 use Rattle.std.specs.List.{list_all}
@@ -155,3 +155,13 @@ IsRefusal said line fault = said ≡ Err (fault_at line fault)
 -- that of a manifest, at one of its lines
 abbrev pub IsManifestRefusal : List ℕ → ManifestFault → Type 0
 IsManifestRefusal text fault = IsRefusal (manifest_of text) fault.line fault.kind
+
+-- where a fault stands among so many lines, the last of which LF doesn't end: want of memory comes for lines that are
+-- ended, and not for the commit's
+abbrev pub IsAmongLines : ℕ → ℕ → ManifestFaultKind → Type 0
+IsAmongLines count line NoMemory = (1 < line) × (line < count)
+IsAmongLines count line fault = (0 < line) × (line ≤ count)
+
+-- a fault stands at one of the text's lines
+abbrev pub IsAtLine : List ℕ → ManifestFault → Type 0
+IsAtLine text fault = IsAmongLines (length (lines_of text)) fault.line fault.kind

@@ -7,6 +7,7 @@ ghost use Rattle.checkout.specs.Tree.{attr_of, tree_of};
 use crate::Manifest;
 use crate::line::attr_of;
 use eden_base::{Attr, FileId};
+use std::marker::Model;
 use thiserror::Error;
 
 /// The store gave no answer. It may give one when it is asked again.
@@ -42,29 +43,48 @@ pub struct ManifestBacking<'a> {
     manifest: &'a Manifest,
 }
 
+impl<'a> Model for ManifestBacking<'a> {
+    ghost use Rattle.checkout.specs.Manifest.{Manifest};
+    ghost use Rattle.checkout.specs.Codes.{manifest_code};
+
+    ghost Value = { Manifest };
+
+    ghost coded = { manifest_code };
+
+    ghost view = { λ a. a.manifest.now };
+}
+
 impl<'a> ManifestBacking<'a> {
     /// The backing that tells what this manifest says.
     pub fn of(manifest: &'a Manifest) -> ManifestBacking<'a>
-        ensures { result.manifest.now ≡ manifest.now }
+        ensures { result ≡ manifest.now }
     {
         ManifestBacking { manifest }
+    }
+
+    /// The attributes of a file that the manifest has.
+    fn attr_said(&self, file: FileId) -> Option<Attr>
+        ensures { result ≡ attr_of (tree_of self.now) file }
+    {
+        let manifest = self.manifest;
+        attr_of(manifest.lines(), file)
     }
 }
 
 impl Backing for ManifestBacking<'_> {
-    ghost content = { λ backing file. attr_of (tree_of backing.manifest.now) file };
+    ghost content = { λ backing file. attr_of (tree_of backing) file };
 
     ghost failed = { λ _. 0 };
 
     fn attr(&mut self, file: FileId) -> Result<Attr, BackingFault>
-        requires held { IsSome (attr_of (tree_of self.old.manifest.now) file) }
-        ensures attr { IfOk result (λ attr. attr_of (tree_of self.old.manifest.now) file ≡ Some attr) }
-        ensures same_content { (other : FileId) → attr_of (tree_of self.new.manifest.now) other ≡ attr_of (tree_of self.old.manifest.now) other }
+        requires held { IsSome (attr_of (tree_of self.old) file) }
+        ensures attr { IfOk result (λ attr. attr_of (tree_of self.old) file ≡ Some attr) }
+        ensures same_content { (other : FileId) → attr_of (tree_of self.new) other ≡ attr_of (tree_of self.old) other }
         ensures answered { OnOk result (◌≡◌ {A = ℕ} 0 0) }
         ensures failed { OnErr result (0 < 0) }
         ensures never_fails { IsOk result }
     {
-        match attr_of(self.manifest.lines(), file) {
+        match self.attr_said(file) {
             Some(attr) => Ok(attr),
             None => Err(BackingFault),
         }

@@ -15,7 +15,7 @@ pub fn after<'a>(front: &[u8], text: &'a [u8]) -> Option<&'a [u8]>
 }
 
 /// Whether the bytes are a name, as `Name::parse` has it.
-pub fn is_name(bytes: &[u8]) -> bool
+fn is_name(bytes: &[u8]) -> bool
     ensures { result ≡ is_name bytes.now }
 {
     Name::fault(bytes).is_none()
@@ -78,6 +78,7 @@ pub fn size_of(digits: &[u8]) -> Option<u64>
     value_of(digits)
 }
 
+/// Whether a zero stands before another digit.
 fn has_leading_zero(digits: &[u8]) -> bool
     ensures { result ≡ has_leading_zero digits.now }
 {
@@ -87,6 +88,7 @@ fn has_leading_zero(digits: &[u8]) -> bool
     }
 }
 
+/// Whether the bytes are decimal digits.
 fn is_decimal(digits: &[u8]) -> bool
     ensures { result ≡ list_all is_decimal digits.now }
 {
@@ -100,6 +102,7 @@ fn value_of(digits: &[u8]) -> Option<u64>
 {
     let mut value: u64 = 0;
     for digit in digits {
+        // a tenth of 2^63 - 1
         if value > 922337203685477580 {
             return None;
         }

@@ -1,7 +1,7 @@
 //! The list of what a commit contains.
-ghost use Rattle.std.specs.Prelude.{◌≡◌, [], IfErr, IfOk, Ok};
+ghost use Rattle.std.specs.Prelude.{◌≡◌, ◌+◌, [], IfErr, IfOk, Ok, length};
 ghost use Rattle.checkout.specs.Manifest.{IsManifest};
-ghost use Rattle.checkout.specs.ManifestText.{commit_of, lines_of, manifest_of, read_on, with_commit, IsManifestRefusal, IsRefusal};
+ghost use Rattle.checkout.specs.ManifestText.{commit_of, lines_of, manifest_of, read_on, with_commit, IsAmongLines, IsAtLine, IsManifestRefusal, IsRefusal};
 
 use crate::field::after;
 use crate::reading::Reading;
@@ -40,6 +40,7 @@ impl Manifest {
         ensures manifest { IfOk result (λ manifest. manifest_of bytes.now ≡ Ok manifest) }
         ensures is_manifest { IfOk result IsManifest }
         ensures refused { IfErr result (IsManifestRefusal bytes.now) }
+        ensures line { IfErr result (IsAtLine bytes.now) }
     {
         let (commit, rest) = match read_commit(bytes) {
             Ok(parts) => parts,
@@ -82,7 +83,9 @@ impl Manifest {
 /// The commit, and what comes after its line.
 fn read_commit(bytes: &[u8]) -> Result<([u8; 20], &[u8]), ManifestFaultKind>
     ensures commit { IfOk result (λ p. manifest_of bytes.now ≡ with_commit p.0 (read_on [] 2 (lines_of p.1.now))) }
+    ensures behind { IfOk result (λ p. length (lines_of bytes.now) ≡ length (lines_of p.1.now) + 1) }
     ensures refused { IfErr result (IsRefusal (manifest_of bytes.now) 1) }
+    ensures line { IfErr result (IsAmongLines (length (lines_of bytes.now)) 1) }
 {
     match cut(bytes, b'\n') {
         Some((line, rest)) => match commit_of(line) {
@@ -112,6 +115,7 @@ fn commit_of(line: &[u8]) -> Option<[u8; 20]>
 fn read_lines(alloc: Global, bytes: &[u8]) -> Result<Reading, ManifestFault>
     ensures lines { IfOk result (λ lines. read_on [] 2 (lines_of bytes.now) ≡ Ok lines) }
     ensures refused { IfErr result (λ fault. IsRefusal (read_on [] 2 (lines_of bytes.now)) fault.line fault.kind) }
+    ensures line { IfErr result (λ fault. IsAmongLines (length (lines_of bytes.now) + 1) fault.line fault.kind) }
 {
     let mut reading = Reading::new(alloc);
     let mut rest = bytes;
@@ -131,6 +135,7 @@ fn read_lines(alloc: Global, bytes: &[u8]) -> Result<Reading, ManifestFault>
     Ok(reading)
 }
 
+/// The lines, each in memory of its own.
 fn copy_lines(alloc: Global, lines: &[Line]) -> Result<Vec<Line>, NoMemory>
     ensures { IfOk result (λ copies. copies.items ≡ lines.now) }
 {

@@ -15,6 +15,7 @@ use eden_base::{FileId, Kind, Name, NoMemory, cut};
 use std::alloc::Global;
 use std::marker::Model;
 
+/// They keep an index of the places that are taken, so that no list is searched.
 #[derive(Drop)]
 pub struct Reading {
     lines: Vec<Line>,
