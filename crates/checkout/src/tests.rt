@@ -1,5 +1,5 @@
 //! What a small manifest says, and the first fault of lines that are none.
-use crate::{Backing, Line, Manifest, ManifestBacking, ManifestFault, ManifestFaultKind, Tree};
+use crate::{Backing, Manifest, ManifestBacking, ManifestFault, ManifestFaultKind, Tree};
 use eden_base::{FileId, Kind, Name};
 use std::alloc::{AllocError, Global};
 use std::process::Abort;
@@ -275,47 +275,44 @@ fn takes_names_of_255_bytes_and_deep_paths(rt: HostRuntime) -> Result<(), Fail> 
     Ok(())
 }
 
-/// The directory, name, kind, permissions and size of each line of `SMALL`.
-const SMALL_LINES: [(u64, &[u8], Kind, u16, u64); 4] = [
-    (1, b"src", Kind::Dir, 0o755, 0),
-    (2, b"a", Kind::File, 0o644, 12),
-    (2, b"b", Kind::File, 0o755, 0),
-    (1, b"README", Kind::File, 0o644, 7),
+/// Each line of `SMALL`: its place, directory, name, kind, permissions and size.
+const SMALL_LINES: [(usize, u64, &[u8], Kind, u16, u64); 4] = [
+    (0, 1, b"src", Kind::Dir, 0o755, 0),
+    (1, 2, b"a", Kind::File, 0o644, 12),
+    (2, 2, b"b", Kind::File, 0o755, 0),
+    (3, 1, b"README", Kind::File, 0o644, 7),
 ];
 
-/// That the line is this one of `SMALL`; takes no memory.
-fn is_line(rt: &impl Abort, line: &Line, wanted: (u64, &[u8], Kind, u16, u64)) {
-    assert_eq!(rt;
-        (line.dir.0, line.kind, line.perm.bits(), line.size),
-        (wanted.0, wanted.2, wanted.3, wanted.4)
-    );
-    assert_eq!(rt; line.name.bytes(), wanted.1);
-}
-
 /// That the manifest is what `SMALL` says; takes no memory.
-fn is_small(rt: &impl Abort, manifest: &Manifest) {
+fn is_small(rt: &impl Abort, manifest: &Manifest) -> Result<(), Fail> {
     let commit = manifest.commit();
     assert_eq!(rt; (commit[0], commit[7], commit[19]), (0x01, 0xef, 0x67));
     assert_eq!(rt; manifest.lines().len(), 4);
-    for (line, wanted) in manifest.lines().iter().zip(SMALL_LINES) {
-        is_line(rt, line, wanted);
+    for (place, dir, name, kind, perm, size) in SMALL_LINES {
+        let line = manifest.lines().get(place).ok_or("a line")?;
+        assert_eq!(rt;
+            (line.dir.0, line.kind, line.perm.bits(), line.size),
+            (dir, kind, perm, size)
+        );
+        assert_eq!(rt; line.name.bytes(), name);
     }
+    Ok(())
 }
 
 /// That the tree is that of `SMALL`; takes no memory.
-fn is_tree_of_small(rt: &impl Abort, tree: &Tree, manifest: &Manifest) {
+fn is_tree_of_small(rt: &impl Abort, tree: &Tree, manifest: &Manifest) -> Result<(), Fail> {
     assert_eq!(rt; tree.commit(), manifest.commit());
-    let mut id = 2;
-    for line in manifest.lines() {
-        assert_eq!(rt; tree.child(line.dir, &line.name), Some(FileId(id)));
-        assert_eq!(rt; tree.kind(FileId(id)), Some(line.kind));
-        id += 1;
+    for (place, file) in [(0, 2), (1, 3), (2, 4), (3, 5)] {
+        let line = manifest.lines().get(place).ok_or("a line")?;
+        assert_eq!(rt; tree.child(line.dir, &line.name), Some(FileId(file)));
+        assert_eq!(rt; tree.kind(FileId(file)), Some(line.kind));
     }
-    assert_eq!(rt; tree.kind(FileId(id)), None);
+    assert_eq!(rt; tree.kind(FileId(6)), None);
+    Ok(())
 }
 
-/// Passes also where one allocation is refused: `rt try --test --fail-alloc 1..` refuses each of `Manifest::read`,
-/// `Manifest::copy`, `Line::copy` and `Tree::of` in turn. It prints which call that was.
+/// Passes also where one allocation is refused: `rt try --test --fail-alloc N -- makes_each_call_again` prints which
+/// call that was.
 #[test]
 fn makes_each_call_again_after_memory_was_refused(rt: HostRuntime) -> Result<(), Fail> {
     let manifest = match Manifest::read(rt.alloc(), SMALL) {
@@ -327,7 +324,7 @@ fn makes_each_call_again_after_memory_was_refused(rt: HostRuntime) -> Result<(),
             Manifest::read(rt.alloc(), SMALL)?
         }
     };
-    is_small(&rt, &manifest);
+    is_small(&rt, &manifest)?;
     let copy = match manifest.copy(rt.alloc()) {
         Ok(copy) => copy,
         Err(fault) => {
@@ -335,15 +332,20 @@ fn makes_each_call_again_after_memory_was_refused(rt: HostRuntime) -> Result<(),
             manifest.copy(rt.alloc())?
         }
     };
-    is_small(&rt, &copy);
-    let line = match manifest.lines()[3].copy(rt.alloc()) {
+    is_small(&rt, &copy)?;
+    let last = manifest.lines().get(3).ok_or("the last line")?;
+    let line = match last.copy(rt.alloc()) {
         Ok(line) => line,
         Err(fault) => {
             println!(rt; "Line::copy: {fault}")?;
-            manifest.lines()[3].copy(rt.alloc())?
+            last.copy(rt.alloc())?
         }
     };
-    is_line(&rt, &line, SMALL_LINES[3]);
+    assert_eq!(rt;
+        (line.dir, line.kind, line.size),
+        (FileId::ROOT, Kind::File, 7)
+    );
+    assert_eq!(rt; line.name.bytes(), b"README".as_slice());
     let tree = match Tree::of(rt.alloc(), &manifest) {
         Ok(tree) => tree,
         Err(fault) => {
@@ -351,7 +353,5 @@ fn makes_each_call_again_after_memory_was_refused(rt: HostRuntime) -> Result<(),
             Tree::of(rt.alloc(), &manifest)?
         }
     };
-    is_tree_of_small(&rt, &tree, &manifest);
-    is_small(&rt, &manifest);
-    Ok(())
+    is_tree_of_small(&rt, &tree, &manifest)
 }
