@@ -311,47 +311,32 @@ fn is_tree_of_small(rt: &impl Abort, tree: &Tree, manifest: &Manifest) -> Result
     Ok(())
 }
 
-/// Passes also where one allocation is refused: `rt try --test --fail-alloc N -- makes_each_call_again` prints which
-/// call that was.
+/// What `SMALL` says, read again where memory was refused.
+fn read_small(rt: &impl Abort, alloc: Global) -> Result<Manifest, Fail> {
+    match Manifest::read(alloc, SMALL) {
+        Ok(manifest) => Ok(manifest),
+        Err(fault) => {
+            assert_eq!(rt; fault.kind, ManifestFaultKind::NoMemory);
+            Ok(Manifest::read(alloc, SMALL)?)
+        }
+    }
+}
+
+/// Passes also where one allocation is refused: `rt try --test --fail-alloc N -- makes_each_call_again`.
 #[test]
 fn makes_each_call_again_after_memory_was_refused(rt: HostRuntime) -> Result<(), Fail> {
-    let manifest = match Manifest::read(rt.alloc(), SMALL) {
-        Ok(manifest) => manifest,
-        Err(fault) => {
-            println!(rt; "Manifest::read: {fault}")?;
-            assert_eq!(rt; fault.kind, ManifestFaultKind::NoMemory);
-            assert!(rt; fault.line >= 2 && fault.line <= 5);
-            Manifest::read(rt.alloc(), SMALL)?
-        }
-    };
+    let alloc = rt.alloc();
+    let manifest = read_small(&rt, alloc)?;
     is_small(&rt, &manifest)?;
-    let copy = match manifest.copy(rt.alloc()) {
-        Ok(copy) => copy,
-        Err(fault) => {
-            println!(rt; "Manifest::copy: {fault}")?;
-            manifest.copy(rt.alloc())?
-        }
-    };
+    let copy = manifest.copy(alloc).or_else(|_| manifest.copy(alloc))?;
     is_small(&rt, &copy)?;
     let last = manifest.lines().get(3).ok_or("the last line")?;
-    let line = match last.copy(rt.alloc()) {
-        Ok(line) => line,
-        Err(fault) => {
-            println!(rt; "Line::copy: {fault}")?;
-            last.copy(rt.alloc())?
-        }
-    };
+    let line = last.copy(alloc).or_else(|_| last.copy(alloc))?;
     assert_eq!(rt;
         (line.dir, line.kind, line.size),
         (FileId::ROOT, Kind::File, 7)
     );
     assert_eq!(rt; line.name.bytes(), b"README".as_slice());
-    let tree = match Tree::of(rt.alloc(), &manifest) {
-        Ok(tree) => tree,
-        Err(fault) => {
-            println!(rt; "Tree::of: {fault}")?;
-            Tree::of(rt.alloc(), &manifest)?
-        }
-    };
+    let tree = Tree::of(alloc, &manifest).or_else(|_| Tree::of(alloc, &manifest))?;
     is_tree_of_small(&rt, &tree, &manifest)
 }
