@@ -92,7 +92,7 @@ impl Name {
     pub fn copy(&self, alloc: Global) -> Result<Name, NoMemory>
         ensures copy { IfOk result (λ name. name ≡ self.now) }
     {
-        match Vec::from_slice(alloc, self.bytes.as_slice()) {
+        match Vec::from_slice(alloc, self.bytes()) {
             Ok(bytes) => Ok(Name { bytes }),
             Err(_refused) => Err(NoMemory),
         }
@@ -103,7 +103,7 @@ impl Name {
         ensures copy { result ≡ self.now }
     {
         let NameRoom { mut bytes } = room;
-        bytes.extend_from_slice(self.bytes.as_slice()).unwrap();
+        bytes.extend_from_slice(self.bytes()).unwrap();
         Name { bytes }
     }
 
@@ -112,7 +112,7 @@ impl Name {
         ensures same { IsTrue result ↔ (self.now ≡ other.now) }
         ensures value { result ≡ pointwise nat_eq self.now other.now }
     {
-        self.bytes.as_slice() == other.bytes.as_slice()
+        self.bytes() == other.bytes()
     }
 }
 
@@ -140,7 +140,7 @@ impl PartialEq for Name {
     ghost laws = { partial_equiv_from_equiv nat_list_eq_equiv };
 
     fn eq(&self, other: &Name) -> bool {
-        self.bytes.as_slice() == other.bytes.as_slice()
+        self.is(other)
     }
 }
 
@@ -168,6 +168,6 @@ impl Ord for Name {
     ghost matches_eq = { λ x y. texts_ties x y };
 
     fn cmp(&self, other: &Name) -> Ordering {
-        self.bytes.as_slice().cmp(other.bytes.as_slice())
+        self.bytes().cmp(other.bytes())
     }
 }

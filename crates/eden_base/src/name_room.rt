@@ -1,20 +1,32 @@
 //! Memory for one name, taken before it is known which.
-ghost use Rattle.std.specs.Prelude.{◌≡◌, ◌≤◌, vec_len, vec_capacity};
+ghost use Rattle.std.specs.Prelude.{◌≤◌, IfOk};
 
 use crate::{Name, NoMemory};
 use std::alloc::Global;
+use std::marker::Model;
 
-/// Room for any one name. `Name::copy_to` uses it up, and so has no want of memory to tell.
+/// Room for any one name, seen as how many bytes it takes. `Name::copy_to` uses it up, and so has no want of memory to
+/// tell.
 #[derive(Drop)]
 pub struct NameRoom {
     pub(crate) bytes: Vec<u8>,
-    ghost empty: { vec_len bytes ≡ 0 },
-    ghost wide: { 255 ≤ vec_capacity bytes },
+}
+
+impl Model for NameRoom {
+    ghost use Rattle.std.specs.Prelude.{◌≡◌, ℕ, ◌≤◌, vec_len, vec_capacity};
+
+    ghost Value = { ℕ };
+
+    ghost view = { λ room. vec_capacity room.bytes };
+
+    ghost invariant = { λ room. (vec_len room.bytes ≡ 0) × (255 ≤ vec_capacity room.bytes) };
 }
 
 impl NameRoom {
     /// Takes memory for the longest name.
-    pub fn new(alloc: Global) -> Result<NameRoom, NoMemory> {
+    pub fn new(alloc: Global) -> Result<NameRoom, NoMemory>
+        ensures for_any_name { IfOk result (λ room. 255 ≤ room) }
+    {
         match Vec::with_capacity(alloc, Name::MAX_LEN) {
             Ok(bytes) => Ok(NameRoom { bytes }),
             Err(_refused) => Err(NoMemory),

@@ -1,7 +1,33 @@
-//! Names of all kinds, limits, and that calls succeed.
+//! Names of all kinds, limits, and that calls succeed: where one allocation is refused, those that take memory tell so,
+//! and succeed when they are made once more. So every test passes under `rt try --test --fail-alloc N`, for each N.
 use super::*;
 use std::alloc::Global;
 use std::test::Fail;
+
+/// `Name::parse`, and once more where memory was refused.
+fn parse(alloc: Global, bytes: &[u8]) -> Result<Name, NameFault> {
+    match Name::parse(alloc, bytes) {
+        Ok(name) => Ok(name),
+        Err(NameFault::NoMemory) => Name::parse(alloc, bytes),
+        Err(fault) => Err(fault),
+    }
+}
+
+/// `Name::copy`, and once more where memory was refused.
+fn copy(alloc: Global, name: &Name) -> Result<Name, NoMemory> {
+    match name.copy(alloc) {
+        Ok(copy) => Ok(copy),
+        Err(NoMemory) => name.copy(alloc),
+    }
+}
+
+/// `NameRoom::new`, and once more where memory was refused.
+fn room(alloc: Global) -> Result<NameRoom, NoMemory> {
+    match NameRoom::new(alloc) {
+        Ok(room) => Ok(room),
+        Err(NoMemory) => NameRoom::new(alloc),
+    }
+}
 
 /// The fault of bytes that are no name.
 fn fault_of(alloc: Global, bytes: &[u8]) -> Option<NameFault> {
@@ -32,10 +58,10 @@ fn copies_a_name(rt: HostRuntime) -> Result<(), Fail> {
     let alloc = rt.alloc();
     let longest = [b'n'; 255];
     for bytes in [b"...".as_slice(), longest.as_slice()] {
-        let name = Name::parse(alloc, bytes)?;
+        let name = parse(alloc, bytes)?;
         assert_eq!(rt; name.bytes(), bytes);
-        assert!(rt; name.copy(alloc)?.is(&name));
-        assert!(rt; name.copy_to(NameRoom::new(alloc)?) == name);
+        assert!(rt; copy(alloc, &name)?.is(&name));
+        assert!(rt; name.copy_to(room(alloc)?) == name);
     }
     Ok(())
 }
@@ -43,8 +69,8 @@ fn copies_a_name(rt: HostRuntime) -> Result<(), Fail> {
 #[test]
 fn orders_names_by_bytes(rt: HostRuntime) -> Result<(), Fail> {
     let alloc = rt.alloc();
-    let upper = Name::parse(alloc, b"README")?;
-    let lower = Name::parse(alloc, b"src")?;
+    let upper = parse(alloc, b"README")?;
+    let lower = parse(alloc, b"src")?;
     assert!(rt; upper < lower);
     assert!(rt; upper.cmp(&lower) == std::cmp::Ordering::Less);
     Ok(())

@@ -1,16 +1,14 @@
 -- How long the parts of a message are.
 use Rattle.std.proofs.Common.{◌≡◌, ℕ, ◌+◌, ◌*◌, ◌≤◌, ◌<◌, Bool, true, false, cond, ltb, List, [], ◌∷◌, ◌++◌, length, Option, Some, None, refl, sym, ap, ◌∙◌, length-append, arith}
 use Rattle.std.specs.List.{flat_map}
-use Rattle.std.proofs.lemmas.Bool.{ltb-false}
 use Rattle.std.proofs.lemmas.Bool.Decides.{nat_tests}
 use Rattle.std.proofs.lemmas.List.{length-replicate}
 use Rattle.std.proofs.lemmas.List.Concat.{flat_map-cons}
-use Rattle.eden_base.specs.declared.name.NameFault.{NameFault}
-use Rattle.eden_base.specs.Name.{IsNameText, name_fault}
+use Rattle.eden_base.specs.Name.{IsNameText}
 use Rattle.fuse_wire.specs.declared.item.Item.{Item}
 use Rattle.fuse_wire.specs.Field.{u32_bytes, u64_bytes}
 use Rattle.fuse_wire.specs.ReplyText.{reply_header}
-use Rattle.fuse_wire.specs.RequestText.{zeros, line, name_text}
+use Rattle.fuse_wire.specs.RequestText.{zeros, line}
 
 pub length-u32_bytes : (n : ℕ) → length (u32_bytes n) ≡ 4
 unfolding u32_bytes

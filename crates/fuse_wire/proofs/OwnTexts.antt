@@ -1,16 +1,13 @@
 -- What is written is a text.
-use Rattle.std.proofs.Common.{◌≡◌, ℕ, ◌+◌, ◌%◌, ◌^◌, ◌<◌, ◌≤◌, List, [], ◌∷◌, ◌++◌, length, Result, Ok, refl, sym, ap, subst, ◌∙◌, arith}
+use Rattle.std.proofs.Common.{◌≡◌, ℕ, ◌+◌, ◌≤◌, List, length, Ok, refl, arith}
 use Rattle.eden_base.specs.declared.attr.Perm.{Perm}
-use Rattle.eden_base.specs.declared.number.Number.{Number}
 use Rattle.eden_base.specs.Name.{IsNameText}
 use Rattle.fuse_wire.specs.declared.ask.Ask.{Ask}
 use Rattle.fuse_wire.specs.declared.ask.Request.{Request}
 use Rattle.fuse_wire.specs.declared.ask.Request.TheVariants.{Lookup, Getattr, Create, Mkdir, Unlink, Rmdir, Forget, BatchForget, Other}
 use Rattle.fuse_wire.specs.declared.item.Item.{Item}
-use Rattle.fuse_wire.specs.Field.{u32_bytes, u64_bytes}
-use Rattle.fuse_wire.specs.Opcode.{code}
 use Rattle.fuse_wire.specs.Reading.{request_of}
-use Rattle.fuse_wire.specs.RequestText.{zeros, opcode, nodeid, name_text, create_body, mkdir_body, batch_body, body, IsBody, IsNodeid, IsCreateBody, IsMkdirBody, IsBatchBody, IsRequestText, request_text, FitsBody, FitsAsk}
+use Rattle.fuse_wire.specs.RequestText.{zeros, nodeid, create_body, mkdir_body, batch_body, body, IsBody, IsNodeid, IsCreateBody, IsMkdirBody, IsBatchBody, IsRequestText, request_text, FitsAsk}
 use Rattle.fuse_wire.proofs.Lengths.{length-zeros}
 use Rattle.fuse_wire.proofs.Requests.{request_again}
 

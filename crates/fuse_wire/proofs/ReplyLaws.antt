@@ -1,5 +1,5 @@
 -- A reply that was written is read again as itself.
-use Rattle.std.proofs.Common.{◌≡◌, ℕ, ◌+◌, ◌-◌, ◌%◌, ◌^◌, ◌<◌, ◌≤◌, Bool, true, false, cond, List, [], ◌∷◌, ◌++◌, length, drop, Option, Some, None, Result, Ok, Err, refl, sym, ap, subst, ◌∙◌, ◌⊎◌, inl, inr, append_assoc, length-append, arith}
+use Rattle.std.proofs.Common.{◌≡◌, ℕ, ◌+◌, ◌%◌, ◌^◌, ◌<◌, ◌≤◌, List, [], ◌++◌, length, drop, Some, refl, sym, ap, subst, ◌∙◌, append_assoc, length-append, arith}
 use Rattle.std.proofs.Math.Bridge.{le_prop}
 use Rattle.std.proofs.lemmas.Bool.Decides.{nat_tests}
 use Rattle.std.proofs.lemmas.List.{append-nil, drop_at, drop-drop}
@@ -15,8 +15,8 @@ use Rattle.fuse_wire.specs.declared.reply.Answer.TheVariants.{Entry, Opened, Att
 use Rattle.fuse_wire.specs.declared.reply.Reply.{Reply}
 use Rattle.fuse_wire.specs.Field.{u32_bytes, u64_bytes, u32_at, u64_at}
 use Rattle.fuse_wire.specs.Mode.{perm_of, type_bits}
-use Rattle.fuse_wire.specs.ReplyReading.{errno_of, kind_of, number_at, attr_at, success_at, failure_of, answer_at}
-use Rattle.fuse_wire.specs.ReplyText.{errno_number, error_word, mode, attributes, entry, payload, reply_header, reply_text, FitsAttr, FitsAnswer, FitsReply}
+use Rattle.fuse_wire.specs.ReplyReading.{kind_of, number_at, attr_at, answer_at}
+use Rattle.fuse_wire.specs.ReplyText.{error_word, mode, attributes, entry, payload, reply_header, reply_text, FitsAttr, FitsAnswer, FitsReply}
 use Rattle.fuse_wire.specs.RequestText.{zeros}
 use Rattle.fuse_wire.proofs.Fields.{u32_again, u64_again}
 use Rattle.fuse_wire.proofs.Lengths.{lengths, length-u32_bytes, length-u64_bytes, length-zeros, length-reply_header}

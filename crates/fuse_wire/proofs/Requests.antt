@@ -1,10 +1,9 @@
 -- Whole requests: what is read is a text of what is told, and what is a text is read.
-use Rattle.std.proofs.Common.{◌≡◌, ℕ, ◌+◌, ◌*◌, ◌^◌, ◌<◌, ◌≤◌, Bool, true, false, cond, eqb, ltb, List, [], ◌∷◌, ◌++◌, length, take, drop, Option, Some, None, Result, Ok, Err, refl, sym, ap, subst, ◌∙◌, append_assoc, length-append, length-take, length-drop, arith}
-use Rattle.std.specs.Prelude.{IfOk, IsOkAnd}
-use Rattle.std.specs.List.{AllByRecursion}
+use Rattle.std.proofs.Common.{◌≡◌, ℕ, ◌+◌, ◌^◌, ◌<◌, ◌≤◌, true, false, cond, eqb, ltb, List, [], ◌∷◌, ◌++◌, length, take, drop, Result, Ok, Err, refl, sym, ap, subst, ◌∙◌, append_assoc, length-append, length-take, length-drop, arith}
+use Rattle.std.specs.Prelude.{IfOk}
 use Rattle.std.proofs.lemmas.Bool.{ltb-false, le-ltb, eqb-true}
 use Rattle.std.proofs.lemmas.Bool.Decides.{nat_tests}
-use Rattle.std.proofs.lemmas.List.{append-nil, take-append-drop, drop-drop}
+use Rattle.std.proofs.lemmas.List.{drop-drop}
 use Rattle.eden_base.specs.declared.attr.Perm.{Perm}
 use Rattle.eden_base.specs.declared.number.Number.{Number}
 use Rattle.eden_base.specs.Name.{IsNameText}
@@ -14,15 +13,14 @@ use Rattle.fuse_wire.specs.declared.ask.Request.TheVariants as requests
 use Rattle.fuse_wire.specs.declared.fault.WireFault.{WireFault}
 use Rattle.fuse_wire.specs.declared.fault.WireFault.TheVariants.{Short, BadLength, BadBody}
 use Rattle.fuse_wire.specs.declared.header.Header.{Header}
-use Rattle.fuse_wire.specs.declared.item.Item.{Item}
 use Rattle.fuse_wire.specs.declared.opcode.Opcode.{Opcode}
 use Rattle.fuse_wire.specs.declared.opcode.Opcode.TheVariants.{Lookup, Forget, Getattr, Mkdir, Unlink, Rmdir, Create, BatchForget, Other}
 use Rattle.fuse_wire.specs.Field.{u32_bytes, u64_bytes, u32_at, u64_at}
 use Rattle.fuse_wire.specs.Opcode.{code, opcode_of}
 use Rattle.fuse_wire.specs.Reading.{◌>>=◌, Gives, AsksByName, body_of, fields_of, header_of, name_of, made_of, batch_of, forget_of, what_of, request_of}
 use Rattle.fuse_wire.specs.RequestText.{opcode, nodeid, header, IsBody, IsNodeid, IsRequestText, IsSendable, FitsBody, FitsAsk}
-use Rattle.fuse_wire.proofs.Bodies.{bind_ok, guard_ok, test_ok, done, ok_is, yes_eq, parted, pair, name_found, name_again, made_found, made_again, create_found, create_again, mkdir_found, mkdir_again, forget_found, forget_again, batch_found, batch_again}
-use Rattle.fuse_wire.proofs.Fields.{AreBytes, AreBytes-drop, u32_again, u64_again, u32_below, u64_below, u32_front, u64_front}
+use Rattle.fuse_wire.proofs.Bodies.{bind_ok, guard_ok, test_ok, ok_is, yes_eq, parted, name_found, name_again, made_found, made_again, create_found, create_again, mkdir_found, mkdir_again, forget_found, forget_again, batch_found, batch_again}
+use Rattle.fuse_wire.proofs.Fields.{AreBytes, AreBytes-drop, u32_again, u64_again, u32_below, u32_front, u64_front}
 use Rattle.fuse_wire.proofs.Lengths.{length-u32_bytes, length-u64_bytes}
 use Rattle.fuse_wire.proofs.ReplyLaws.{behind}
 

@@ -1,5 +1,5 @@
 -- What a refused request is answered.
-use Rattle.std.specs.Prelude.{◌≡◌, ℕ, Bool, true, false, nat_lt, List, length, Option, Some, None, if◌then◌else◌}
+use Rattle.std.specs.Prelude.{ℕ, Bool, true, false, nat_lt, List, length, Option, Some, None, if◌then◌else◌}
 use Rattle.eden_base.specs.declared.errno.Errno.{Errno}
 use Rattle.eden_base.specs.declared.errno.Errno.TheVariants.{ENOMEM, EINVAL, ENAMETOOLONG}
 use Rattle.eden_base.specs.declared.name.NameFault.TheVariants.{TooLong}

@@ -1,5 +1,5 @@
 -- The mode of a file (inode(7)): the permissions are its low twelve bits, and the bits above say what the file is.
-use Rattle.std.specs.Prelude.{◌≤◌, ℕ, ◌%◌, ◌+◌}
+use Rattle.std.specs.Prelude.{◌≤◌, ℕ, ◌%◌}
 use Rattle.std.proofs.Common.{arith}
 use Rattle.eden_base.specs.declared.attr.Kind.{Kind}
 use Rattle.eden_base.specs.declared.attr.Kind.TheVariants.{File, Dir}

@@ -1,5 +1,5 @@
 -- How a reply is read: the fields that vary, at the places that the length of the whole tells.
-use Rattle.std.specs.Prelude.{◌≡◌, ◌≢◌, ◌<◌, ◌≤◌, ℕ, ◌-◌, ◌==◌, nat_lt, List, length, drop, Option, Some, None, if◌then◌else◌}
+use Rattle.std.specs.Prelude.{ℕ, ◌-◌, ◌==◌, nat_lt, List, length, drop, Option, Some, None, if◌then◌else◌}
 use Rattle.eden_base.specs.declared.attr.Attr.{Attr}
 use Rattle.eden_base.specs.declared.attr.Kind.{Kind}
 use Rattle.eden_base.specs.declared.attr.Kind.TheVariants.{File, Dir}
@@ -7,7 +7,7 @@ use Rattle.eden_base.specs.declared.errno.Errno.{Errno}
 use Rattle.eden_base.specs.declared.errno.Errno.TheVariants.{ENOENT, EIO, ENOMEM, EEXIST, ENOTDIR, EISDIR, EINVAL, ENOSPC, ENAMETOOLONG, ENOSYS, ENOTEMPTY, EOVERFLOW, ESTALE}
 use Rattle.eden_base.specs.declared.number.Number.{Number}
 use Rattle.fuse_wire.specs.declared.fault.WireFault.{WireFault}
-use Rattle.fuse_wire.specs.declared.fault.WireFault.TheVariants.{Short, BadLength, BadBody, BadCount, BadName, NoMemory}
+use Rattle.fuse_wire.specs.declared.fault.WireFault.TheVariants.{Short, BadLength, BadBody}
 use Rattle.fuse_wire.specs.declared.reply.Answer.{Answer}
 use Rattle.fuse_wire.specs.declared.reply.Answer.TheVariants.{Entry, Opened, Attrs, Done, Error}
 use Rattle.fuse_wire.specs.Field.{u32_at, u64_at}

@@ -21,7 +21,7 @@ impl Default for Item {
     }
 }
 
-/// The lines of a batch, at most 256 (this project's own limit), in order. They lie in the value itself.
+/// The lines of a batch, at most 256, in order. They lie in the value itself.
 #[derive(Drop)]
 pub struct Items {
     items: ArrayVec<Item, 256>,
@@ -39,6 +39,7 @@ impl Model for Items {
 }
 
 impl Items {
+    /// This project's own limit.
     pub const MAX_LEN: usize = 256;
 
     /// A batch of nothing.
@@ -66,7 +67,7 @@ impl Items {
         self.items.as_slice()
     }
 
-    /// How many there are: at most 256.
+    /// How many there are.
     pub fn len(&self) -> usize
         ensures len { result ≡ length self.now }
         ensures at_most { result ≤ 256 }

@@ -1,13 +1,15 @@
-//! How long the parts of a body are, in bytes.
+//! How long the parts of a message are, in bytes, and where they stand.
 
 /// CREATE: flags, mode, umask and one more word (`struct fuse_create_in`).
 pub(crate) const CREATE_FIXED: usize = 16;
 
+/// Where in it the mode is.
 pub(crate) const CREATE_MODE: usize = 4;
 
 /// MKDIR: mode and umask (`struct fuse_mkdir_in`).
 pub(crate) const MKDIR_FIXED: usize = 8;
 
+/// Where in it the mode is.
 pub(crate) const MKDIR_MODE: usize = 0;
 
 /// GETATTR: flags, a padding and a handle (`struct fuse_getattr_in`).
@@ -19,6 +21,7 @@ pub(crate) const FORGET_LEN: usize = 8;
 /// BATCH_FORGET: how many lines, and a padding.
 pub(crate) const BATCH_FIXED: usize = 8;
 
+/// A line of it: a nodeid and a count (`struct fuse_forget_one`).
 pub(crate) const LINE_LEN: usize = 16;
 
 /// `struct fuse_out_header`: length, error, unique.
@@ -47,6 +50,24 @@ pub(crate) const OWNERS_LEN: usize = 12;
 
 /// In it, flags.
 pub(crate) const FLAGS_LEN: usize = 4;
+
+/// A whole reply without a body.
+pub(crate) const DONE_REPLY_LEN: usize = REPLY_HEADER_LEN;
+
+/// A whole reply with attributes alone.
+pub(crate) const ATTRS_REPLY_LEN: usize = REPLY_HEADER_LEN + ATTR_VALID_LEN + ATTRIBUTES_LEN;
+
+/// Where in it the attributes are.
+pub(crate) const ATTRS_REPLY_ATTRIBUTES: usize = REPLY_HEADER_LEN + ATTR_VALID_LEN;
+
+/// A whole reply with an entry.
+pub(crate) const ENTRY_REPLY_LEN: usize = REPLY_HEADER_LEN + ENTRY_LEN;
+
+/// A whole reply with an entry and an open file.
+pub(crate) const OPENED_REPLY_LEN: usize = REPLY_HEADER_LEN + ENTRY_LEN + OPEN_LEN;
+
+/// Where in both the attributes are.
+pub(crate) const ENTRY_REPLY_ATTRIBUTES: usize = REPLY_HEADER_LEN + ENTRY_LEN - ATTRIBUTES_LEN;
 
 /// What a daemon tells as `blksize`.
 pub(crate) const BLOCK_SIZE: u32 = 4096;

@@ -11,6 +11,9 @@ const PERM_BITS: u32 = 0o7777;
 /// `S_IFREG`.
 const REGULAR: u32 = 0o100000;
 
+/// `S_IFDIR`.
+const DIRECTORY: u32 = 0o040000;
+
 /// The permissions of a mode. The bits above say what the file is.
 pub(crate) fn perm_of(mode: u32) -> Perm
     ensures { result ≡ perm_of mode }
@@ -18,13 +21,13 @@ pub(crate) fn perm_of(mode: u32) -> Perm
     Perm::of((mode & PERM_BITS) as u16).unwrap()
 }
 
-/// The bits of a mode that say what the file is (`S_IFREG` and `S_IFDIR`).
+/// The bits of a mode that say what the file is.
 pub(crate) fn type_bits(kind: Kind) -> u32
     ensures { result ≡ type_bits kind }
 {
     match kind {
         Kind::File => REGULAR,
-        Kind::Dir => 0o040000,
+        Kind::Dir => DIRECTORY,
     }
 }
 

@@ -55,6 +55,35 @@ fn read_made(
     Ok((name, mode::perm_of(mode)))
 }
 
+/// A file to be made (`struct fuse_create_in`, and its name).
+#[tactic(auto, unfolding(crate::specs::Reading::what_of))]
+fn read_create(alloc: Global, dir: Number, body: &[u8]) -> Result<Request, WireFault>
+    ensures { Gives HasName result (what_of Opcode.Create dir body.now) }
+{
+    let (name, perm) = read_made(alloc, CREATE_FIXED, CREATE_MODE, body)?;
+    Ok(Request::Create { dir, name, perm })
+}
+
+/// A directory to be made (`struct fuse_mkdir_in`, and its name).
+#[tactic(auto, unfolding(crate::specs::Reading::what_of))]
+fn read_mkdir(alloc: Global, dir: Number, body: &[u8]) -> Result<Request, WireFault>
+    ensures { Gives HasName result (what_of Opcode.Mkdir dir body.now) }
+{
+    let (name, perm) = read_made(alloc, MKDIR_FIXED, MKDIR_MODE, body)?;
+    Ok(Request::Mkdir { dir, name, perm })
+}
+
+/// A question for attributes (`struct fuse_getattr_in`), of which the length alone is looked at.
+#[tactic(auto, unfolding(crate::specs::Reading::what_of))]
+fn read_getattr(node: Number, body: &[u8]) -> Result<Request, WireFault>
+    ensures { Gives HasName result (what_of Opcode.Getattr node body.now) }
+{
+    if body.len() != GETATTR_LEN {
+        return Err(WireFault::BadBody);
+    }
+    Ok(Request::Getattr { node })
+}
+
 /// The line of a FORGET (`struct fuse_forget_in`).
 #[tactic(auto, unfolding(crate::specs::Reading::forget_of))]
 fn read_forget(node: Number, body: &[u8]) -> Result<Item, WireFault>
@@ -120,28 +149,9 @@ fn read_what(alloc: Global, header: Header, body: &[u8]) -> Result<Request, Wire
             let name = read_name(alloc, body)?;
             Ok(Request::Rmdir { dir: node, name })
         }
-        Opcode::Create => {
-            let (name, perm) = read_made(alloc, CREATE_FIXED, CREATE_MODE, body)?;
-            Ok(Request::Create {
-                dir: node,
-                name,
-                perm,
-            })
-        }
-        Opcode::Mkdir => {
-            let (name, perm) = read_made(alloc, MKDIR_FIXED, MKDIR_MODE, body)?;
-            Ok(Request::Mkdir {
-                dir: node,
-                name,
-                perm,
-            })
-        }
-        Opcode::Getattr => {
-            if body.len() != GETATTR_LEN {
-                return Err(WireFault::BadBody);
-            }
-            Ok(Request::Getattr { node })
-        }
+        Opcode::Create => read_create(alloc, node, body),
+        Opcode::Mkdir => read_mkdir(alloc, node, body),
+        Opcode::Getattr => read_getattr(node, body),
         Opcode::Forget => {
             let item = read_forget(node, body)?;
             Ok(Request::Forget(item))
@@ -167,6 +177,7 @@ pub fn read_request(alloc: Global, bytes: &[u8]) -> Result<Ask, WireFault>
     read_ask(alloc, bytes)
 }
 
+/// The header first, then the body.
 #[tactic(auto, unfolding(crate::specs::Reading::request_of))]
 fn read_ask(alloc: Global, bytes: &[u8]) -> Result<Ask, WireFault>
     ensures { Gives AsksByName result (request_of bytes.now) }
@@ -192,6 +203,7 @@ pub fn read_items(bytes: &[u8]) -> Result<Items, WireFault>
     read_lines_of(bytes)
 }
 
+/// The header first, then the lines of its body.
 #[tactic(auto, unfolding(crate::specs::Reading::items_of, crate::specs::Reading::lines_of))]
 fn read_lines_of(bytes: &[u8]) -> Result<Items, WireFault>
     ensures { result ≡ items_of bytes.now }

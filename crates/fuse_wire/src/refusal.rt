@@ -32,6 +32,7 @@ fn is_forget(opcode: Opcode) -> bool
     matches!(opcode, Opcode::Forget | Opcode::BatchForget)
 }
 
+/// What the program that asked is told.
 fn errno_of_fault(fault: &WireFault) -> Errno
     ensures { result ≡ errno_of_fault fault.now }
 {

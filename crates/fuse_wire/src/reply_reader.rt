@@ -5,7 +5,10 @@ ghost use Rattle.fuse_wire.specs.ReplyText.{reply_text, FitsReply};
 ghost use Rattle.fuse_wire.specs.ReplyReading.{answer_at, number_at, attr_at, IsReplyFault};
 
 use crate::errno::errno_of;
-use crate::layout::{BLOCKS_AND_TIMES_LEN, REPLY_HEADER_LEN};
+use crate::layout::{
+    ATTRS_REPLY_ATTRIBUTES, ATTRS_REPLY_LEN, BLOCKS_AND_TIMES_LEN, DONE_REPLY_LEN,
+    ENTRY_REPLY_ATTRIBUTES, ENTRY_REPLY_LEN, OPENED_REPLY_LEN, REPLY_HEADER_LEN,
+};
 use crate::reader::Reader;
 use crate::{Answer, Reply, WireFault, mode, write_reply};
 use eden_base::{Attr, Number};
@@ -47,24 +50,12 @@ fn is_text_of(bytes: &[u8], reply: &Reply) -> bool
     are_same(&text[..len], bytes)
 }
 
+/// Whether the two are the same, byte for byte.
 fn are_same(left: &[u8], right: &[u8]) -> bool
     ensures { IsTrue result ↔ (left.now ≡ right.now) }
 {
     left == right
 }
-
-/// Lengths of whole replies, and where their attributes are.
-const DONE_LEN: usize = 16;
-
-const ATTRS_LEN: usize = 120;
-
-const ATTRS_AT: usize = 32;
-
-const ENTRY_REPLY_LEN: usize = 144;
-
-const OPENED_LEN: usize = 160;
-
-const ENTRY_ATTRIBUTES_AT: usize = 56;
 
 /// The one answer whose text the bytes can be, by their length and the fields that vary.
 #[tactic(auto, unfolding(crate::specs::ReplyReading::answer_at))]
@@ -78,17 +69,17 @@ fn answer_of(error: u32, bytes: &[u8]) -> Option<Answer>
         };
     }
     match bytes.len() {
-        DONE_LEN => Some(Answer::Done),
-        ATTRS_LEN => {
-            let (number, attr) = attributes_at(bytes, ATTRS_AT);
+        DONE_REPLY_LEN => Some(Answer::Done),
+        ATTRS_REPLY_LEN => {
+            let (number, attr) = attributes_at(bytes, ATTRS_REPLY_ATTRIBUTES);
             Some(Answer::Attrs { number, attr })
         }
         ENTRY_REPLY_LEN => {
-            let (number, attr) = attributes_at(bytes, ENTRY_ATTRIBUTES_AT);
+            let (number, attr) = attributes_at(bytes, ENTRY_REPLY_ATTRIBUTES);
             Some(Answer::Entry { number, attr })
         }
-        OPENED_LEN => {
-            let (number, attr) = attributes_at(bytes, ENTRY_ATTRIBUTES_AT);
+        OPENED_REPLY_LEN => {
+            let (number, attr) = attributes_at(bytes, ENTRY_REPLY_ATTRIBUTES);
             Some(Answer::Opened { number, attr })
         }
         _ => None,

@@ -105,6 +105,7 @@ fn put_attributes(out: &mut [u8; 160], at: usize, number: Number, attr: &Attr) -
     put_zeros(out, at, FLAGS_LEN)
 }
 
+/// A field of four bytes.
 #[tactic(auto, unfolding(crate::specs::Field::u32_bytes))]
 fn put_u32(out: &mut [u8; 160], at: usize, value: u32) -> usize
     requires { at + 4 ≤ 160 }
@@ -115,6 +116,7 @@ fn put_u32(out: &mut [u8; 160], at: usize, value: u32) -> usize
     at + 4
 }
 
+/// A field of eight bytes.
 #[tactic(auto, unfolding(crate::specs::Field::u64_bytes))]
 fn put_u64(out: &mut [u8; 160], at: usize, value: u64) -> usize
     requires { at + 8 ≤ 160 }
@@ -125,6 +127,7 @@ fn put_u64(out: &mut [u8; 160], at: usize, value: u64) -> usize
     at + 8
 }
 
+/// Fields that are always 0.
 #[tactic(auto, unfolding(crate::specs::RequestText::zeros))]
 fn put_zeros(out: &mut [u8; 160], at: usize, count: usize) -> usize
     requires { at + count ≤ 160 }

@@ -52,6 +52,7 @@ fn put_header(
     Ok(())
 }
 
+/// The opcode that a request goes by.
 fn opcode_of(request: &Request) -> Opcode
     ensures { result ≡ opcode request.now }
 {
@@ -123,6 +124,7 @@ fn name_len(name: &Name) -> usize
     name.bytes().len() + 1
 }
 
+/// A field of four bytes.
 #[tactic(auto, unfolding(crate::specs::Field::u32_bytes))]
 fn put_u32(out: &mut Vec<u8>, value: u32) -> Result<(), NoMemory>
     ensures { OnOk result (out.new.items ≡ out.old.items ++ u32_bytes value) }
@@ -133,6 +135,7 @@ fn put_u32(out: &mut Vec<u8>, value: u32) -> Result<(), NoMemory>
     Ok(())
 }
 
+/// A field of eight bytes.
 #[tactic(auto, unfolding(crate::specs::Field::u64_bytes))]
 fn put_u64(out: &mut Vec<u8>, value: u64) -> Result<(), NoMemory>
     ensures { OnOk result (out.new.items ≡ out.old.items ++ u64_bytes value) }
@@ -143,6 +146,7 @@ fn put_u64(out: &mut Vec<u8>, value: u64) -> Result<(), NoMemory>
     Ok(())
 }
 
+/// Four bytes that no reader looks at.
 #[tactic(auto, unfolding(crate::specs::RequestText::zeros))]
 fn put_4_zeros(out: &mut Vec<u8>) -> Result<(), NoMemory>
     ensures { OnOk result (out.new.items ≡ out.old.items ++ zeros 4) }
@@ -151,6 +155,7 @@ fn put_4_zeros(out: &mut Vec<u8>) -> Result<(), NoMemory>
     Ok(())
 }
 
+/// Eight bytes that no reader looks at.
 #[tactic(auto, unfolding(crate::specs::RequestText::zeros))]
 fn put_8_zeros(out: &mut Vec<u8>) -> Result<(), NoMemory>
     ensures { OnOk result (out.new.items ≡ out.old.items ++ zeros 8) }
@@ -159,6 +164,7 @@ fn put_8_zeros(out: &mut Vec<u8>) -> Result<(), NoMemory>
     Ok(())
 }
 
+/// Sixteen bytes that no reader looks at.
 #[tactic(auto, unfolding(crate::specs::RequestText::zeros))]
 fn put_16_zeros(out: &mut Vec<u8>) -> Result<(), NoMemory>
     ensures { OnOk result (out.new.items ≡ out.old.items ++ zeros 16) }
@@ -167,6 +173,7 @@ fn put_16_zeros(out: &mut Vec<u8>) -> Result<(), NoMemory>
     Ok(())
 }
 
+/// A name, and NUL.
 fn put_name(out: &mut Vec<u8>, name: &Name) -> Result<(), NoMemory>
     ensures { OnOk result (out.new.items ≡ out.old.items ++ name_text name.now) }
 {
@@ -175,6 +182,7 @@ fn put_name(out: &mut Vec<u8>, name: &Name) -> Result<(), NoMemory>
     Ok(())
 }
 
+/// The lines of a batch, in their order.
 fn put_lines(out: &mut Vec<u8>, items: &[Item]) -> Result<(), NoMemory>
     ensures lines { OnOk result (out.new.items ≡ out.old.items ++ flat_map line items.now) }
     ensures fits { OnOk result (All FitsItem items.now) }
@@ -185,6 +193,7 @@ fn put_lines(out: &mut Vec<u8>, items: &[Item]) -> Result<(), NoMemory>
     Ok(())
 }
 
+/// A line of a batch (`struct fuse_forget_one`).
 fn put_line(out: &mut Vec<u8>, item: Item) -> Result<(), NoMemory>
     ensures line { OnOk result (out.new.items ≡ out.old.items ++ line item) }
     ensures fits { FitsItem item }

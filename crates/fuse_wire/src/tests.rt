@@ -1,7 +1,11 @@
-//! Vectors from outside, limits, and that calls succeed.
+//! Vectors from outside, limits, and that calls succeed: where one allocation is refused, those that take memory tell
+//! so, and succeed when they are made once more. So every test passes under `rt try --test --fail-alloc N`, for each N.
+ghost use Rattle.std.specs.Prelude.{◌≡◌, IfOk};
+ghost use Rattle.fuse_wire.specs.RequestText.{IsSendable};
+
 use super::*;
 use crate::vectors::*;
-use eden_base::{Attr, Errno, Kind, NameFault, NameRoom, Number, Perm};
+use eden_base::{Attr, Errno, Kind, NameFault, NameRoom, NoMemory, Number, Perm};
 use std::alloc::Global;
 use std::test::Fail;
 
@@ -12,41 +16,138 @@ const FILE: Attr = Attr {
     nlink: 1,
 };
 
-/// Whether reading the bytes and writing what was read gives those.
-fn writes_as(alloc: Global, bytes: &[u8], written: &[u8]) -> bool {
-    let Ok(ask) = read_request(alloc, bytes) else {
-        return false;
-    };
-    match write_request(alloc, &ask) {
-        Ok(again) => again.as_slice() == written,
-        Err(_) => false,
+/// `read_request`, and once more where memory was refused.
+fn read(alloc: Global, bytes: &[u8]) -> Result<Ask, WireFault>
+    ensures sendable { IfOk result (λ ask. IsSendable ask.what) }
+{
+    match read_request(alloc, bytes) {
+        Ok(ask) => Ok(ask),
+        Err(WireFault::NoMemory) => read_request(alloc, bytes),
+        Err(fault) => Err(fault),
     }
 }
 
+/// `write_request`, and once more where memory was refused.
+fn write(alloc: Global, ask: &Ask) -> Result<Vec<u8>, NoMemory>
+    requires { IsSendable ask.now.what }
+{
+    match write_request(alloc, ask) {
+        Ok(bytes) => Ok(bytes),
+        Err(NoMemory) => write_request(alloc, ask),
+    }
+}
+
+/// `Request::copy`, and once more where memory was refused.
+fn copy(alloc: Global, request: &Request) -> Result<Request, NoMemory>
+    ensures copy { IfOk result (λ copy. copy ≡ request.now) }
+{
+    match request.copy(alloc) {
+        Ok(copy) => Ok(copy),
+        Err(NoMemory) => request.copy(alloc),
+    }
+}
+
+/// `NameRoom::new`, and once more where memory was refused.
+fn room(alloc: Global) -> Result<NameRoom, NoMemory> {
+    match NameRoom::new(alloc) {
+        Ok(room) => Ok(room),
+        Err(NoMemory) => NameRoom::new(alloc),
+    }
+}
+
+/// Whether the request of the bytes is written as these, and so is each copy of it.
+fn is_kept(alloc: Global, bytes: &[u8], written: &[u8]) -> Result<bool, Fail> {
+    let ask = read(alloc, bytes)?;
+    let unique = ask.unique;
+    let own = write(alloc, &ask)?;
+    let first = Ask {
+        unique,
+        what: copy(alloc, &ask.what)?,
+    };
+    let of_first = write(alloc, &first)?;
+    let second = Ask {
+        unique,
+        what: ask.what.copy_to(room(alloc)?, room(alloc)?),
+    };
+    let of_second = write(alloc, &second)?;
+    Ok(
+        own.as_slice() == written
+            && of_first.as_slice() == written
+            && of_second.as_slice() == written,
+    )
+}
+
 #[test]
-fn reads_each_opcode_and_writes_it(rt: HostRuntime) {
+fn keeps_a_lookup(rt: HostRuntime) -> Result<(), Fail> {
+    assert!(rt; is_kept(rt.alloc(), &LOOKUP, &LOOKUP)?);
+    Ok(())
+}
+
+#[test]
+fn keeps_a_forget(rt: HostRuntime) -> Result<(), Fail> {
+    assert!(rt; is_kept(rt.alloc(), &FORGET, &FORGET)?);
+    Ok(())
+}
+
+#[test]
+fn keeps_a_getattr(rt: HostRuntime) -> Result<(), Fail> {
+    assert!(rt; is_kept(rt.alloc(), &GETATTR, &GETATTR)?);
+    Ok(())
+}
+
+#[test]
+fn keeps_a_mkdir(rt: HostRuntime) -> Result<(), Fail> {
+    assert!(rt; is_kept(rt.alloc(), &MKDIR, &MKDIR)?);
+    Ok(())
+}
+
+#[test]
+fn keeps_an_unlink(rt: HostRuntime) -> Result<(), Fail> {
+    assert!(rt; is_kept(rt.alloc(), &UNLINK, &UNLINK)?);
+    Ok(())
+}
+
+#[test]
+fn keeps_a_rmdir(rt: HostRuntime) -> Result<(), Fail> {
+    assert!(rt; is_kept(rt.alloc(), &RMDIR, &RMDIR)?);
+    Ok(())
+}
+
+#[test]
+fn keeps_a_create(rt: HostRuntime) -> Result<(), Fail> {
+    assert!(rt; is_kept(rt.alloc(), &CREATE, &CREATE)?);
+    Ok(())
+}
+
+#[test]
+fn keeps_a_batch(rt: HostRuntime) -> Result<(), Fail> {
+    assert!(rt; is_kept(rt.alloc(), &BATCH_FORGET, &BATCH_FORGET)?);
+    Ok(())
+}
+
+#[test]
+fn keeps_an_open(rt: HostRuntime) -> Result<(), Fail> {
+    assert!(rt; is_kept(rt.alloc(), &OPEN, &OPEN)?);
+    Ok(())
+}
+
+#[test]
+fn ignores_what_only_the_kernel_fills_in(rt: HostRuntime) -> Result<(), Fail> {
     let alloc = rt.alloc();
     for (bytes, written) in [
-        (LOOKUP.as_slice(), LOOKUP.as_slice()),
-        (FORGET.as_slice(), FORGET.as_slice()),
-        (GETATTR.as_slice(), GETATTR.as_slice()),
         (GETATTR_OF_KERNEL.as_slice(), GETATTR.as_slice()),
-        (MKDIR.as_slice(), MKDIR.as_slice()),
         (MKDIR_OF_KERNEL.as_slice(), MKDIR.as_slice()),
-        (UNLINK.as_slice(), UNLINK.as_slice()),
-        (RMDIR.as_slice(), RMDIR.as_slice()),
-        (CREATE.as_slice(), CREATE.as_slice()),
         (CREATE_OF_KERNEL.as_slice(), CREATE.as_slice()),
-        (BATCH_FORGET.as_slice(), BATCH_FORGET.as_slice()),
-        (OPEN.as_slice(), OPEN.as_slice()),
     ] {
-        assert!(rt; writes_as(alloc, bytes, written));
+        let ask = read(alloc, bytes)?;
+        assert_eq!(rt; write(alloc, &ask)?.as_slice(), written);
     }
+    Ok(())
 }
 
 #[test]
 fn reads_a_lookup(rt: HostRuntime) -> Result<(), Fail> {
-    let ask = read_request(rt.alloc(), &LOOKUP)?;
+    let ask = read(rt.alloc(), &LOOKUP)?;
     assert_eq!(rt; ask.unique, 3);
     if let Request::Lookup { dir, name } = &ask.what {
         assert_eq!(rt; dir.0, 1);
@@ -58,7 +159,7 @@ fn reads_a_lookup(rt: HostRuntime) -> Result<(), Fail> {
 
 #[test]
 fn reads_a_create(rt: HostRuntime) -> Result<(), Fail> {
-    let ask = read_request(rt.alloc(), &CREATE_OF_KERNEL)?;
+    let ask = read(rt.alloc(), &CREATE_OF_KERNEL)?;
     assert_eq!(rt; ask.unique, 8);
     if let Request::Create { dir, name, perm } = &ask.what {
         assert_eq!(rt; dir.0, 1);
@@ -93,28 +194,6 @@ fn reads_the_lines_of_forgets(rt: HostRuntime) -> Result<(), Fail> {
     ];
     assert_eq!(rt; two.as_slice(), lines.as_slice());
     assert!(rt; matches!(read_items(&LOOKUP), Err(WireFault::BadBody)));
-    Ok(())
-}
-
-#[test]
-fn copies_a_request(rt: HostRuntime) -> Result<(), Fail> {
-    let alloc = rt.alloc();
-    let ask = read_request(alloc, &LOOKUP)?;
-    let copy = Ask {
-        unique: ask.unique,
-        what: ask.what.copy(alloc)?,
-    };
-    assert_eq!(rt; write_request(alloc, &copy)?.as_slice(), LOOKUP.as_slice());
-    let second = Ask {
-        unique: ask.unique,
-        what: ask
-            .what
-            .copy_to(NameRoom::new(alloc)?, NameRoom::new(alloc)?),
-    };
-    assert_eq!(rt;
-        write_request(alloc, &second)?.as_slice(),
-        LOOKUP.as_slice()
-    );
     Ok(())
 }
 
@@ -265,8 +344,12 @@ fn refuses_broken_headers_and_bodies(rt: HostRuntime) {
 
 /// A request of this opcode whose body is as long and of one byte, ended by NUL where it is a name's.
 fn filled(alloc: Global, opcode: u8, body_len: u16, count: u16, byte: u8) -> Result<Vec<u8>, Fail> {
-    let mut bytes = Vec::new(alloc);
-    bytes.extend_from_slice(&(40 + u32::from(body_len)).to_le_bytes())?;
+    let len = 40 + u32::from(body_len);
+    let mut bytes = Vec::with_capacity(alloc, len as usize).or_else(|_| Vec::with_capacity(
+        alloc,
+        len as usize,
+    ))?;
+    bytes.extend_from_slice(&len.to_le_bytes())?;
     bytes.extend_from_slice(&[opcode, 0, 0, 0, 7])?;
     for _ in 0..31 {
         bytes.push(0)?;
@@ -289,7 +372,7 @@ fn reads_a_name_of_255_bytes_and_no_longer_one(rt: HostRuntime) -> Result<(), Fa
     let alloc = rt.alloc();
     let longest = filled(alloc, 1, 256, 0, b'n')?;
     assert_eq!(rt; longest.len(), 296);
-    assert!(rt; read_request(alloc, longest.as_slice()).is_ok());
+    assert!(rt; read(alloc, longest.as_slice()).is_ok());
     let longer = filled(alloc, 1, 257, 0, b'n')?;
     let fault = match read_request(alloc, longer.as_slice()) {
         Err(fault) => fault,
@@ -313,7 +396,7 @@ fn reads_256_lines_and_no_more(rt: HostRuntime) -> Result<(), Fail> {
     let full = filled(alloc, 42, 4104, 256, 0)?;
     assert_eq!(rt; full.len(), 4144);
     assert_eq!(rt; read_items(full.as_slice())?.len(), 256);
-    assert!(rt; read_request(alloc, full.as_slice()).is_ok());
+    assert!(rt; read(alloc, full.as_slice()).is_ok());
     let over = filled(alloc, 42, 4120, 257, 0)?;
     assert!(rt; matches!(read_items(over.as_slice()), Err(WireFault::BadCount)));
     assert!(rt;

@@ -1,5 +1,4 @@
-use Rattle.std.proofs.Common.{◌≡◌, ◌-◌, ◌*◌, ◌++◌, length, drop}
-use Rattle.fuse_wire.specs.Reading.{items_at}
+use Rattle.std.proofs.Common.{◌≡◌, ◌*◌}
 use Rattle.fuse_wire.proofs.Lines.{AreRead}
 use Rattle.fuse_wire.proofs.reading.read_lines.Given as goal
 

@@ -1,8 +1,8 @@
-use Rattle.std.proofs.Common.{◌≡◌, ℕ, drop, Option, Some, None, Result, Ok, IsTrue, sym, ap, subst, ◌∙◌, arith}
+use Rattle.std.proofs.Common.{◌≡◌, ℕ, drop, Some, Result, Ok, IsTrue, sym, ap, subst, ◌∙◌, arith}
 use Rattle.fuse_wire.specs.declared.fault.WireFault.{WireFault}
 use Rattle.fuse_wire.specs.declared.reply.Answer.{Answer}
 use Rattle.fuse_wire.specs.declared.reply.Reply.{Reply}
-use Rattle.fuse_wire.specs.Field.{u32_at, u64_at}
+use Rattle.fuse_wire.specs.Field.{u32_at}
 use Rattle.fuse_wire.specs.ReplyReading.{answer_at}
 use Rattle.fuse_wire.specs.ReplyText.{reply_text}
 use Rattle.fuse_wire.proofs.ReplyLaws.{reply_again, same_reply}

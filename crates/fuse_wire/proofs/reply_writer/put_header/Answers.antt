@@ -1,4 +1,4 @@
-use Rattle.std.proofs.Common.{◌≡◌, ◌+◌, ◌++◌, length-append, arith}
+use Rattle.std.proofs.Common.{◌++◌, length-append, arith}
 use Rattle.fuse_wire.specs.Field.{u32_bytes, u64_bytes}
 use Rattle.fuse_wire.proofs.Lengths.{length-u32_bytes}
 use Rattle.fuse_wire.proofs.Written.{Writes-then}

@@ -1,6 +1,5 @@
-use Rattle.std.proofs.Common.{◌≡◌, ◌+◌, ◌++◌, length, length-append, arith}
-use Rattle.fuse_wire.specs.Field.{u32_bytes, u64_bytes}
-use Rattle.fuse_wire.specs.ReplyText.{payload, error_word, reply_header, reply_text}
+use Rattle.std.proofs.Common.{◌+◌, ◌++◌, length-append, arith}
+use Rattle.fuse_wire.specs.ReplyText.{payload, error_word, reply_header}
 use Rattle.fuse_wire.proofs.Lengths.{length-reply_header}
 use Rattle.fuse_wire.proofs.Written.{Writes-then, from_front}
 use Rattle.fuse_wire.proofs.reply_writer.write_reply.Goals as goal

@@ -1,7 +1,7 @@
-use Rattle.std.proofs.Common.{◌≡◌, ◌≤◌, List, ◌++◌, ℕ, length, Ok, refl, sym, ap, subst, ◌∙◌, arith}
+use Rattle.std.proofs.Common.{◌≡◌, ◌≤◌, List, ◌++◌, ℕ, length, sym, ap, subst, ◌∙◌, arith}
 use Rattle.fuse_wire.specs.Opcode.{code}
 use Rattle.fuse_wire.specs.Reading.{request_of}
-use Rattle.fuse_wire.specs.RequestText.{opcode, nodeid, body, request_text, IsBody, IsRequestText, FitsAsk}
+use Rattle.fuse_wire.specs.RequestText.{opcode, body, request_text, IsRequestText, FitsAsk}
 use Rattle.fuse_wire.proofs.OwnTexts.{own_text, own_text_again}
 use Rattle.fuse_wire.proofs.request_writer.write_request.Goals as goal
 
