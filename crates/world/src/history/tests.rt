@@ -55,6 +55,10 @@ fn refused(refusal: Refusal) -> Option<Happened> {
     Some(Happened::Refused(refusal))
 }
 
+fn first_of(outcome: &Outcome) -> Option<Happened> {
+    outcome.happened().first().copied()
+}
+
 #[test]
 fn gives_a_new_number_once_the_kernel_forgot_the_old_one(rt: HostRuntime) -> Result<(), Fail> {
     let manifest = Manifest::read(rt.alloc(), TEXT)?;
@@ -213,14 +217,23 @@ fn goes_on_after_memory_was_refused(rt: HostRuntime) -> Result<(), Fail> {
         Ok(ask) => ask,
         Err(_refused) => look_up(rt.alloc(), 1, b"src")?,
     };
-    for event in [&Event::Start, &Event::Mount(DaemonId(1)), &ask] {
-        let mut outcome = world.step(event);
-        let happened = outcome.happened().first().copied();
-        if happened == refused(Refusal::NoMemory) || happened == error(1, Errno::ENOMEM) {
-            outcome = world.step(event);
+    let events = [&Event::Start, &Event::Mount(DaemonId(1)), &ask];
+    let expected = [
+        Some(Happened::Started(DaemonId(1))),
+        Some(Happened::Mounted(1)),
+        entry(1, 2, DIRECTORY),
+    ];
+    for (event, expected) in events.iter().zip(expected.iter()) {
+        let mut happened = first_of(&world.step(*event));
+        if happened == refused(Refusal::NoMemory) {
+            happened = first_of(&world.step(*event));
         }
-        let happened = outcome.happened().first().copied();
-        assert!(rt; happened != refused(Refusal::NoMemory), "{happened:?}");
+        if happened == error(1, Errno::ENOMEM) {
+            assert_eq!(rt; world.broker().held(Number(2)), 0);
+            assert_eq!(rt; first_of(&world.step(*event)), entry(2, 2, DIRECTORY));
+        } else {
+            assert_eq!(rt; happened, *expected);
+        }
     }
     assert_eq!(rt; world.broker().held(Number(2)), 1);
     let served = world.served(DaemonId(1)).ok_or("daemon 1 serves")?;
