@@ -160,6 +160,11 @@ found_in_place w m dir name above file answer later owes f found named None at g
     room : m.next < end_of_numbers
     room = grind (arith, nat_tests)
 
+    -- the next number is left
+    left : HasNoNumber w file → ⊥
+    left none = let low : 2 ≤ m.next = numbers-bound m.entries 2 m.next f.knows.fits.numbers in
+        let r = (f.knows.numbers m.next).0 (none.none_left m.next low room) in omega (arith, r.1)
+
     answer_in : (a : Answer) → GivesEntry (served_over w.tree m) dir name file None a later → Looked w dir name a later
     answer_in (Entry number attr) (number_eq, attr_eq, later_eq) =
         let same : number ≡ record { 0 = m.next } = number_eq ∙ number_is in
@@ -177,7 +182,7 @@ found_in_place w m dir name above file answer later owes f found named None at g
               (subst (λ (j : Number). Knows w.tree ((j.0, file) ∷ w.names) (j.0 ∷ w.held) now) (sym same)
               (subst (λ (x : MapState). Knows w.tree ((m.next, file) ∷ w.names) (m.next ∷ w.held) x) (sym given_is) (added-knows w.tree w.names w.held m dir name above file f at room)));
         }
-    answer_in (Error ENOMEM) (absent, later_eq) = refused w m dir name (Error ENOMEM) later ENOMEM f.knows refl later_eq (found_answer (Error ENOMEM) not_full)
+    answer_in (Error ENOMEM) (absent, later_eq) = refused w m dir name (Error ENOMEM) later ENOMEM f.knows refl later_eq (found_answer (Error ENOMEM) (record { not_greatest = not_full; some_left = left }))
     answer_in (Error e') h = absurd h
 
 pub looked : (w : World) (m : MapState) (dir : Number) (name : List ℕ) (answer : Answer) (later : ServedState) → ((n : ℕ) → owed w n ≡ times n w.held) → Knows w.tree w.names w.held m →

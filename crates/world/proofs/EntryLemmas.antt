@@ -6,7 +6,7 @@ use Rattle.std.specs.List.{list_any}
 use Rattle.std.proofs.lemmas.Bool.Decides.{nat_tests}
 use Rattle.eden_base.specs.declared.number.Number.{Number}
 use Rattle.eden_base.specs.First.{first_where, changed_where, without_where}
-use Rattle.eden_base.proofs.FirstLemmas.{first_where-append}
+use Rattle.eden_base.proofs.FirstLemmas.{first_where-append, first_where-changed_same, first_where-changed_other, first_where-without_other}
 use Rattle.world.specs.InodeMap.{has_number, entry_of, count_of, is_kid_of}
 use Rattle.world.specs.Served.{AreNumbers}
 use Rattle.world.specs.declared.inode_map.Kept.{Kept}
@@ -38,37 +38,20 @@ entry_of-number (y ∷ es) n x h = number_in y es n x (y.number.0 == n) refl h (
 -- the entry that was changed, where the change keeps its number
 pub changed-same : (es : List Kept) (n : ℕ) (change : Kept → Kept) → ((x : Kept) → (change x).number ≡ x.number) →
     entry_of (changed_where (has_number n) change es) n ≡ option_map change (entry_of es n)
-changed-same [] n change keeps = refl
-changed-same (x ∷ es) n change keeps = same_in x es n change keeps (x.number.0 == n) refl (changed-same es n change keeps) where
-  same_in : (x : Kept) (es : List Kept) (n : ℕ) (change : Kept → Kept) → ((y : Kept) → (change y).number ≡ y.number) → (b : Bool) → (x.number.0 == n) ≡ b →
-      entry_of (changed_where (has_number n) change es) n ≡ option_map change (entry_of es n) →
-      entry_of (cond b (change x ∷ es) (x ∷ changed_where (has_number n) change es)) n ≡ option_map change (cond b (Some x) (entry_of es n))
-  same_in x es n change keeps true e rest = let here : ((change x).number.0 == n) ≡ true = ap (λ (k : Number). k.0 == n) (keeps x) ∙ e in rw here refl
-  same_in x es n change keeps false e rest = rw e rest
+changed-same es n change keeps = first_where-changed_same (has_number n) change es (λ x. ap (λ (k : Number). k.0 == n) (keeps x))
+
+-- an entry has one number
+apart : (n m : ℕ) → (m ≡ n → ⊥) → (x : Kept) → has_number n x ≡ true → has_number m x ≡ false
+apart n m d x e = eq-false x.number.0 m (λ f. d (sym f ∙ true-eq x.number.0 n e))
 
 -- each other entry stays
 pub changed-other : (es : List Kept) (n m : ℕ) (change : Kept → Kept) → ((x : Kept) → (change x).number ≡ x.number) → (m ≡ n → ⊥) →
     entry_of (changed_where (has_number n) change es) m ≡ entry_of es m
-changed-other [] n m change keeps d = refl
-changed-other (x ∷ es) n m change keeps d = other_in x es n m change keeps d (x.number.0 == n) (x.number.0 == m) refl refl (changed-other es n m change keeps d) where
-  other_in : (x : Kept) (es : List Kept) (n m : ℕ) (change : Kept → Kept) → ((y : Kept) → (change y).number ≡ y.number) → (m ≡ n → ⊥) → (b c : Bool) → (x.number.0 == n) ≡ b → (x.number.0 == m) ≡ c →
-      entry_of (changed_where (has_number n) change es) m ≡ entry_of es m →
-      entry_of (cond b (change x ∷ es) (x ∷ changed_where (has_number n) change es)) m ≡ cond c (Some x) (entry_of es m)
-  other_in x es n m change keeps d true true e f rest = absurd (d (sym (true-eq x.number.0 m f) ∙ true-eq x.number.0 n e))
-  other_in x es n m change keeps d true false e f rest = let here : ((change x).number.0 == m) ≡ false = ap (λ (k : Number). k.0 == m) (keeps x) ∙ f in rw here refl
-  other_in x es n m change keeps d false true e f rest = rw f refl
-  other_in x es n m change keeps d false false e f rest = rw f rest
+changed-other es n m change keeps d = first_where-changed_other (has_number n) (has_number m) change es (λ x. ap (λ (k : Number). k.0 == m) (keeps x)) (apart n m d)
 
 -- an entry that was taken out leaves each other one
 pub without-other : (es : List Kept) (n m : ℕ) → (m ≡ n → ⊥) → entry_of (without_where (has_number n) es) m ≡ entry_of es m
-without-other [] n m d = refl
-without-other (x ∷ es) n m d = other_in x es n m d (x.number.0 == n) (x.number.0 == m) refl refl (without-other es n m d) where
-  other_in : (x : Kept) (es : List Kept) (n m : ℕ) → (m ≡ n → ⊥) → (b c : Bool) → (x.number.0 == n) ≡ b → (x.number.0 == m) ≡ c →
-      entry_of (without_where (has_number n) es) m ≡ entry_of es m → entry_of (cond b es (x ∷ without_where (has_number n) es)) m ≡ cond c (Some x) (entry_of es m)
-  other_in x es n m d true true e f rest = absurd (d (sym (true-eq x.number.0 m f) ∙ true-eq x.number.0 n e))
-  other_in x es n m d true false e f rest = refl
-  other_in x es n m d false true e f rest = rw f refl
-  other_in x es n m d false false e f rest = rw f rest
+without-other es n m d = first_where-without_other (has_number n) (has_number m) es (apart n m d)
 
 -- numbers from a greater one on
 numbers-higher : (es : List Kept) (low high next : ℕ) → low ≤ high → AreNumbers high next es → AreNumbers low next es

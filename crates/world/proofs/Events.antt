@@ -94,6 +94,7 @@ start_match w old mm = record {
     no_asks = mm.agrees.no_asks;
     no_items = mm.agrees.no_items;
     no_replies = mm.agrees.no_replies;
+    holder_serves = λ seat is. let h = mm.agrees.holder_serves seat is in (h.0, record { has_seat = (h.1).has_seat; serves = serves_still old seat.daemon h.0 (h.1).serves });
     tree = λ seat served is. mm.agrees.tree seat served (before seat served is);
   };
   counts = λ seat served is. mm.counts seat served (before seat served is);
@@ -101,7 +102,6 @@ start_match w old mm = record {
   one_daemon = mm.one_daemon;
   manifest_is_tree = mm.manifest_is_tree;
   tree_is_tree = mm.tree_is_tree;
-  holder_serves = λ seat is. let h = mm.holder_serves seat is in (h.0, record { has_seat = (h.1).has_seat; serves = serves_still old seat.daemon h.0 (h.1).serves });
   seat_is_last = mm.seat_is_last;
   empty_without_seat = mm.empty_without_seat;
   held_once = mm.held_once;

@@ -90,6 +90,8 @@ books-match w state seat m books serves knows = record {
     no_asks = books.no_asks;
     no_items = books.no_items;
     no_replies = books.no_replies;
+    holder_serves = λ s is. let same = seat_apart state seat s books.broker_seat is in
+        (served_over w.tree m, subst (λ (x : Seat). IsSeated state x (served_over w.tree m)) same (record { has_seat = books.broker_seat; serves = serves }));
     tree = λ s served is. ap (λ (x : ServedState). x.tree) (only s served is);
   };
   counts = λ s served is n d. ap (λ (x : ServedState). count_of x.map.entries n) (only s served is) ∙ knows.counts n d ∙ sym (quiet_owed w books.no_items books.no_replies n);
@@ -102,8 +104,6 @@ books-match w state seat m books serves knows = record {
   one_daemon = books.one_daemon;
   manifest_is_tree = books.manifest_is_tree;
   tree_is_tree = knows.is_tree;
-  holder_serves = λ s is. let same = seat_apart state seat s books.broker_seat is in
-      (served_over w.tree m, subst (λ (x : Seat). IsSeated state x (served_over w.tree m)) same (record { has_seat = books.broker_seat; serves = serves }));
   seat_is_last = λ s is. let same = seat_apart state seat s books.broker_seat is in subst (λ (x : Seat). x.generation ≡ state.broker.last) same books.generation;
   empty_without_seat = λ none. absurd (let s : Some seat ≡ None = sym books.broker_seat ∙ none in let x : ⊥ = cc in x);
   held_once = books.once;

@@ -22,13 +22,12 @@ after_all-append w (m ∷ ms) ns = after_all-append (after w m) ms ns
 -- before anything happened
 pub first-matches : (manifest : Manifest) (limit : ℕ) → IsTree (tree_of manifest) → Matches (first_world manifest) (started manifest limit)
 first-matches manifest limit is = record {
-  agrees = record { manifest = refl; seat = refl; last = refl; held = λ n. refl; no_asks = refl; no_items = refl; no_replies = refl; tree = λ seat served s. absurd (nobody seat s.has_seat) };
+  agrees = record { manifest = refl; seat = refl; last = refl; held = λ n. refl; no_asks = refl; no_items = refl; no_replies = refl; holder_serves = λ seat s. absurd (nobody seat s); tree = λ seat served s. absurd (nobody seat s.has_seat) };
   counts = λ seat served s n d. absurd (nobody seat s.has_seat);
   names = λ seat served s. absurd (nobody seat s.has_seat);
   one_daemon = λ one other a b e. absurd (nothing one a);
   manifest_is_tree = is;
   tree_is_tree = is;
-  holder_serves = λ seat s. absurd (nobody seat s);
   seat_is_last = λ seat s. absurd (nobody seat s);
   empty_without_seat = λ e. (refl, refl);
   held_once = tt;

@@ -38,7 +38,7 @@ abbrev pub all_moves : World → List Event → List (List Happened) → List Mo
 all_moves world (event ∷ events) (outcome ∷ outcomes) = moves_of world event outcome ++ all_moves (after_all world (moves_of world event outcome)) events outcomes
 all_moves world events outcomes = []
 
--- the broker holds what the world does, nothing is under way, and the seated daemon has the world's tree
+-- the broker holds what the world does, nothing is under way, and whoever has the seat serves the world's tree
 pub record Agrees (world : World) (state : State) : Type 0 where
   pub manifest : world.manifest ≡ state.manifest
   pub seat : world.seat ≡ state.broker.seat
@@ -47,6 +47,7 @@ pub record Agrees (world : World) (state : State) : Type 0 where
   pub no_asks : world.asks ≡ []
   pub no_items : world.items ≡ []
   pub no_replies : world.replies ≡ []
+  pub holder_serves : (seat : Seat) → state.broker.seat ≡ Some seat → (served : ServedState) × IsSeated state seat served
   pub tree : (seat : Seat) (served : ServedState) → IsSeated state seat served → served.tree ≡ world.tree
 
 -- for the seated daemon, each count is what is owed
@@ -60,6 +61,7 @@ pub record NamesAreFirst (world : World) (served : ServedState) : Type 0 where
   pub sound : IsSound served
   pub numbers : (n : ℕ) → IsSome (file_named world.names n) ↔ ((1 ≤ n) × (n < served.map.next))
 
+-- for the seated daemon, its numbers name what they were first given out for
 abbrev pub NumbersNameTheirFirstFile : World → State → Type 0
 NumbersNameTheirFirstFile world state = (seat : Seat) (served : ServedState) → IsSeated state seat served → NamesAreFirst world served
 
@@ -67,6 +69,7 @@ NumbersNameTheirFirstFile world state = (seat : Seat) (served : ServedState) →
 abbrev pub OneDaemonForEachGeneration : World → Type 0
 OneDaemonForEachGeneration world = (one other : Seat) → Contains world.answered one → Contains world.answered other → one.generation ≡ other.generation → one ≡ other
 
+-- no number stands twice in the broker's list
 abbrev pub IsOnce : List Held → Type 0
 IsOnce [] = Unit {0}
 IsOnce (h ∷ held) = (first_where (has_number h.number.0) held ≡ None) × IsOnce held
@@ -85,8 +88,6 @@ pub record Matches (world : World) (state : State) : Type 0 where
   pub one_daemon : OneDaemonForEachGeneration world
   pub manifest_is_tree : IsTree (tree_of state.manifest)
   pub tree_is_tree : IsTree world.tree
-  -- whoever has the seat serves
-  pub holder_serves : (seat : Seat) → state.broker.seat ≡ Some seat → (served : ServedState) × IsSeated state seat served
   pub seat_is_last : (seat : Seat) → state.broker.seat ≡ Some seat → seat.generation ≡ state.broker.last
   pub empty_without_seat : state.broker.seat ≡ None → (world.held ≡ []) × (world.names ≡ (1, root) ∷ [])
   -- a number stands once in the broker's list
@@ -98,6 +99,11 @@ pub record Matches (world : World) (state : State) : Type 0 where
 -- the world after the moves of events, from before anything happened
 abbrev pub world_after : Manifest → List Event → List (List Happened) → World
 world_after manifest events outcomes = after_all (first_world manifest) (all_moves (first_world manifest) events outcomes)
+
+-- the events' moves are a run from before anything happened, and the world after it agrees with the state at the end
+pub record IsRunOfMoves (manifest : Manifest) (events : List Event) (outcomes : List (List Happened)) (end : State) : Type 0 where
+  pub run : IsRun (first_world manifest) (all_moves (first_world manifest) events outcomes)
+  pub agrees : Agrees (world_after manifest events outcomes) end
 
 -- what one event does: its moves may happen in the world, the state matches the world after them, and no forget was bad
 pub record MovesOn (w : World) (event : Event) (outcome : List Happened) (new : State) : Type 0 where

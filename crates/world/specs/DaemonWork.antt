@@ -28,10 +28,12 @@ Applies old (Lookup dir name) (Some answer) new = LooksUp old dir name answer ne
 Applies old (Forget item) None new = new ≡ record old { map = forgotten old.map item.node.0 item.k }
 Applies old request answer new = ⊥
 
+-- a daemon started and has not mounted
 abbrev pub is_waiting : Daemon → Bool
 is_waiting Waiting = true
 is_waiting (Serving served) = false
 
+-- a daemon mounted
 abbrev pub IsServing : Daemon → Type 0
 IsServing Waiting = ⊥
 IsServing (Serving served) = Unit {0}

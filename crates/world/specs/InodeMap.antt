@@ -30,6 +30,7 @@ greatest_count = 2 ^ 32 - 1
 abbrev pub end_of_numbers : ℕ
 end_of_numbers = 2 ^ 63 - 1
 
+-- the entry is of this number
 abbrev pub has_number : ℕ → Kept → Bool
 has_number n kept = kept.number.0 == n
 
@@ -46,6 +47,7 @@ abbrev pub is_place : ℕ → List ℕ → Place → Bool
 is_place parent name (Linked dir linked) = dir.0 == parent && pointwise nat_eq linked name
 is_place parent name (Unlinked file) = false
 
+-- the entry stands under a name in a directory
 abbrev pub stands_at : ℕ → List ℕ → Kept → Bool
 stands_at parent name kept = is_place parent name kept.place
 
@@ -58,10 +60,11 @@ abbrev pub is_in : ℕ → Place → Bool
 is_in parent (Linked dir linked) = dir.0 == parent
 is_in parent (Unlinked file) = false
 
+-- the entry stands in the directory of this number
 abbrev pub is_kid_of : ℕ → Kept → Bool
 is_kid_of parent kept = is_in parent kept.place
 
--- a number is of use while the kernel holds it, or holds or knows the way to a file through it
+-- a number is of use while the kernel holds it, or an entry stands in its directory
 abbrev pub is_of_use : List Kept → Kept → Bool
 is_of_use entries kept = nat_lt 0 kept.count || list_any (is_kid_of kept.number.0) entries
 
@@ -85,6 +88,7 @@ pruned (suc steps) None entries = entries
 pruned (suc steps) (Some n) entries =
     if is_useless entries n then pruned steps (dir_above entries n) (without_where (has_number n) entries) else entries
 
+-- by the entry of the place, if it has one: it may not be counted more often, or no number is left
 abbrev pub give_fault_at : MapState → Option Kept → Option GiveFault
 give_fault_at map (Some kept) = if nat_le greatest_count kept.count then Some TooMany else None
 give_fault_at map None = if nat_le end_of_numbers map.next then Some NoNumber else None

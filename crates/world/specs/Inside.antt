@@ -5,6 +5,7 @@ use Rattle.world.specs.Served.{ServedState}
 use Rattle.world.specs.DaemonWork.{HolderServes}
 use Rattle.world.specs.declared.world.World.TheInside.{Inside}
 
+-- whoever has the seat serves, and there are no more daemons than may be
 pub record IsConsistent (w : Inside) : Type 0 where
   pub holder_serves : (seat : Seat) → w.broker.seat ≡ Some seat → HolderServes w.daemons.items seat
   -- a seat that was taken is never left

@@ -19,6 +19,7 @@ use Rattle.world.specs.declared.inode_map.Kept.{Kept}
 use Rattle.world.specs.declared.inode_map.GiveFault.{GiveFault}
 use Rattle.world.specs.declared.inode_map.GiveFault.TheVariants.{NoNumber, TooMany, NoMemory}
 
+-- the numbers that a daemon gave, and the tree of its checkout
 pub record ServedState : Type 0 where
   pub map : MapState
   pub tree : Tree
@@ -52,6 +53,7 @@ GivesEntry old parent name file None (Entry number attr) new =
 GivesEntry old parent name file None (Error ENOMEM) new = (entry_at old.map.entries parent.0 name ≡ None) × (new ≡ old)
 GivesEntry old parent name file None (Error errno) new = ⊥
 
+-- an error is told as it is; for a file its number is given
 abbrev pub LooksFound : ServedState → Number → List ℕ → Result FileId Errno → Answer → ServedState → Type 0
 LooksFound old parent name (Err errno) answer new = (answer ≡ Error errno) × (new ≡ old)
 LooksFound old parent name (Ok file) answer new = GivesEntry old parent name file (give_fault old.map parent.0 name) answer new

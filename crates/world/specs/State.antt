@@ -48,10 +48,12 @@ daemon_of state daemon = if daemon.0 == 0 then None else slice_get state.daemons
 abbrev pub with_daemon : State → DaemonId → Daemon → State
 with_daemon state daemon now = record state { daemons = slice_set state.daemons (daemon.0 - 1) now }
 
+-- the broker's faults keep their names
 abbrev pub refusal_of_mount : MountFault → Refusal
 refusal_of_mount mount.Seated = refusal.Seated
 refusal_of_mount mount.LastGeneration = refusal.LastGeneration
 
+-- so do those of a request
 abbrev pub refusal_of_issue : IssueFault → Refusal
 refusal_of_issue issue.NotMounted = refusal.NotMounted
 refusal_of_issue issue.NotHeld = refusal.NotHeld

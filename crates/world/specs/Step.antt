@@ -78,6 +78,7 @@ abbrev pub StepBy : State → Event → Option Refusal → List Happened → Sta
 StepBy old event (Some refusal) outcome new = Refuses old refusal outcome new
 StepBy old event None outcome new = Makes old event outcome new ⊎ (TakesMemory event × Refuses old NoMemory outcome new)
 
+-- one event, with its outcome
 abbrev pub Step : State → Event → List Happened → State → Type 0
 Step old event outcome new = StepBy old event (fault old event) outcome new
 

@@ -75,6 +75,7 @@ abbrev pub gives : ℕ → Answer → Bool
 gives n (Entry number attr) = number.0 == n
 gives n (Error errno) = false
 
+-- the reply gives this number out
 abbrev pub carries : ℕ → Reply → Bool
 carries n reply = gives n reply.answer
 
@@ -113,21 +114,28 @@ pub record HasNoNumber (world : World) (file : FileId) : Type 0 where
   pub no_number : (m : ℕ) → IsNumberOf world file m → ⊥
   pub none_left : (n : ℕ) → 2 ≤ n → n < end_of_numbers → IsSome (file_named world.names n)
 
+-- nothing stands against giving out a number of the file: ENOSPC and EOVERFLOW come before the errors that leave this open
+pub record MayBeGiven (world : World) (file : FileId) : Type 0 where
+  pub not_greatest : (n : ℕ) → IsAtGreatest world file n → ⊥
+  pub some_left : HasNoNumber world file → ⊥
+
 -- the number of an ask
 abbrev pub node_of : Request → ℕ
 node_of (Lookup dir name) = dir.0
 node_of (Forget item) = item.node.0
 
--- the answers for a file that was found, and where each may come; another error never does
+-- The answers for a file that was found, and where each may come; another error never does. Want of memory and a backing
+-- that fails are no part of the world, so ENOMEM may come wherever no error before it does, and EIO for the manifest's regular files.
 abbrev pub MayAnswerFile : World → FileId → Answer → Type 0
 MayAnswerFile world file (Entry number attr) =
     (attr_of world.tree file ≡ Some attr) × ((n : ℕ) → IsAtGreatest world file n → ⊥) × (IsNumberOf world file number.0 ⊎ IsFree world file number.0)
 MayAnswerFile world file (Error ENOSPC) = HasNoNumber world file
 MayAnswerFile world file (Error EOVERFLOW) = (n : ℕ) × IsAtGreatest world file n
-MayAnswerFile world file (Error EIO) = (kind_of world.tree file ≡ Some File) × (file.0 < length world.manifest.lines + 2) × ((n : ℕ) → IsAtGreatest world file n → ⊥)
-MayAnswerFile world file (Error ENOMEM) = (n : ℕ) → IsAtGreatest world file n → ⊥
+MayAnswerFile world file (Error EIO) = (kind_of world.tree file ≡ Some File) × (file.0 < length world.manifest.lines + 2) × MayBeGiven world file
+MayAnswerFile world file (Error ENOMEM) = MayBeGiven world file
 MayAnswerFile world file (Error errno) = ⊥
 
+-- an error that comes before, or as of the file
 abbrev pub MayAnswerFound : World → Result FileId Errno → Answer → Type 0
 MayAnswerFound world (Ok file) answer = MayAnswerFile world file answer
 MayAnswerFound world (Err errno) answer = answer ≡ Error errno
@@ -174,6 +182,7 @@ abbrev pub named_file : List (ℕ × FileId) → Result FileId Errno → Answer 
 named_file names (Ok file) (Entry number attr) = if is_some (file_named names number.0) then names else (number.0, file) ∷ names
 named_file names found answer = names
 
+-- the names after an answer
 abbrev pub named_after : World → Request → Answer → List (ℕ × FileId)
 named_after world (Lookup dir name) answer = named_file world.names (found_in world.tree (file_named world.names dir.0) name) answer
 named_after world (Forget item) answer = world.names
@@ -192,6 +201,7 @@ abbrev pub held_after : List ℕ → Answer → List ℕ
 held_after held (Entry number attr) = number.0 ∷ held
 held_after held (Error errno) = held
 
+-- a reply reaches the kernel
 abbrev pub delivered : World → ℕ → Option Reply → World
 delivered world i (Some reply) = record world { held = held_after world.held reply.answer; replies = remove world.replies i }
 delivered world i None = world
@@ -218,6 +228,7 @@ abbrev pub IsRun : World → List Move → Type 0
 IsRun world [] = Unit {0}
 IsRun world (move ∷ moves) = IsLegal world move × IsRun (after world move) moves
 
+-- the world after a list of moves
 abbrev pub after_all : World → List Move → World
 after_all world [] = world
 after_all world (move ∷ moves) = after_all (after world move) moves

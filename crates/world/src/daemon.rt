@@ -37,7 +37,7 @@ impl Daemon {
         }
     }
 
-    /// Answers a look-up.
+    /// Answers a look-up, from the numbers and the tree that it serves.
     pub(crate) fn look_up(&mut self, alloc: Global, dir: Number, name: &Name) -> Answer
         requires serves { IsServing self.old }
         ensures answer { DaemonLooks self.old dir name.now result self.new }

@@ -37,6 +37,7 @@ pub(crate) fn place_at(entries: &[Kept], parent: Number, name: &Name) -> Option<
     None
 }
 
+/// Whether the place is this name in this directory.
 fn is_place(place: &Place, parent: Number, name: &Name) -> bool
     ensures { result ≡ is_place parent.0 name.now place.now }
 {
@@ -49,6 +50,7 @@ fn is_place(place: &Place, parent: Number, name: &Name) -> bool
     }
 }
 
+/// Whether the place is some name in this directory.
 fn is_in(place: &Place, parent: Number) -> bool
     ensures { result ≡ is_in parent.0 place.now }
 {

@@ -3,8 +3,7 @@ ghost use Rattle.std.specs.Prelude.{IfOk};
 ghost use Rattle.world.specs.State.{started};
 ghost use Rattle.std.specs.List.{AllByRecursion};
 ghost use Rattle.world.specs.Step.{Steps};
-ghost use Rattle.world.specs.World.{IsRun, first_world};
-ghost use Rattle.world.specs.Agreement.{all_moves, world_after, Agrees, CountsAreOwed, NumbersNameTheirFirstFile, OneDaemonForEachGeneration, IsGoodForget};
+ghost use Rattle.world.specs.Agreement.{world_after, IsRunOfMoves, CountsAreOwed, NumbersNameTheirFirstFile, OneDaemonForEachGeneration, IsGoodForget};
 
 use crate::event::Event;
 use crate::outcome::Outcome;
@@ -25,10 +24,9 @@ pub fn run(
     ensures steps { IfOk result (λ r. Steps (started manifest.now limit) events.now r.1.items r.0) }
 
     // What the events made is a run of moves, and the world after it agrees with the state.
-    ensures moves { IfOk result (λ r.
-        IsRun (first_world manifest.now) (all_moves (first_world manifest.now) events.now r.1.items)) }
-    ensures agrees { IfOk result (λ r. Agrees (world_after manifest.now events.now r.1.items) r.0) }
+    ensures events_are_a_run_of_moves { IfOk result (λ r. IsRunOfMoves manifest.now events.now r.1.items r.0) }
 
+    // The seated daemon's counts and numbers are the world's, and each generation was answered by one daemon.
     ensures counts_are_what_is_owed { IfOk result (λ r.
         CountsAreOwed (world_after manifest.now events.now r.1.items) r.0) }
     ensures numbers_name_their_first_file { IfOk result (λ r.

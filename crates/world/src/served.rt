@@ -131,3 +131,6 @@ fn errno_of(fault: GiveFault) -> Errno
         GiveFault::NoMemory => Errno::ENOMEM,
     }
 }
+
+#[cfg(test)]
+mod tests;

@@ -99,6 +99,7 @@ impl World {
         self.decide(event)
     }
 
+    /// Each event by its own call.
     fn decide(&mut self, event: &Event) -> Outcome
         ensures { Step self.old event.now result self.new }
     {
@@ -110,6 +111,7 @@ impl World {
         }
     }
 
+    /// Starts a daemon, unless there are as many as there may be.
     fn start(&mut self) -> Outcome
         ensures step { Step self.old Event.Start result self.new }
     {
@@ -124,6 +126,7 @@ impl World {
         Outcome::of(Happened::Started(daemon))
     }
 
+    /// Gives a waiting daemon the seat. What it serves is made before the seat is taken.
     fn mount(&mut self, daemon: DaemonId) -> Outcome
         ensures step { Step self.old (Event.Mount daemon) result self.new }
     {
@@ -153,6 +156,7 @@ impl World {
         }
     }
 
+    /// Issues the kernel's request, and lets the seated daemon work it off.
     fn carry_out(&mut self, request: &Request) -> Outcome
         ensures step { Step self.old (Event.Do request.now) result self.new }
     {
@@ -165,6 +169,7 @@ impl World {
         }
     }
 
+    /// The copy of the name and the room for a number come first: what is refused there changes nothing.
     fn look_up(&mut self, dir: Number, name: &Name) -> Outcome
         requires accepted { issue_fault self.old.broker (Request.Lookup dir name.now) ≡ None }
         ensures step { Step self.old (Event.Do (Request.Lookup dir name.now)) result self.new }
@@ -187,6 +192,7 @@ impl World {
         Outcome::of(Happened::Answered(reply))
     }
 
+    /// It takes no memory.
     fn forget(&mut self, item: Item) -> Outcome
         requires accepted { issue_fault self.old.broker (Request.Forget item) ≡ None }
         ensures step { Step self.old (Event.Do (Request.Forget item)) result self.new }

@@ -2,7 +2,7 @@
 use super::*;
 use crate::{Forgot, Happened, Refusal};
 use broker_core::{Answer, Item, Reply, Request, Seat};
-use eden_base::{Attr, DaemonId, Errno, FileId, Kind, Name, NameFault, Number, Perm};
+use eden_base::{Attr, DaemonId, Errno, FileId, Kind, Name, Number, Perm};
 use std::test::Fail;
 
 const TEXT: &[u8] =
@@ -15,12 +15,15 @@ const DIRECTORY: Attr = Attr {
     nlink: 2,
 };
 
-fn look_up(alloc: Global, dir: u64, name: &[u8]) -> Result<Event, NameFault> {
-    let name = Name::parse(alloc, name)?;
-    Ok(Event::Do(Request::Lookup {
-        dir: Number(dir),
-        name,
-    }))
+/// Where the name wants memory, nothing is asked.
+fn look_up(alloc: Global, dir: u64, name: &[u8]) -> Event {
+    match Name::parse(alloc, name) {
+        Ok(name) => Event::Do(Request::Lookup {
+            dir: Number(dir),
+            name,
+        }),
+        Err(_refused) => Event::Show,
+    }
 }
 
 fn forget(node: u64, k: u64) -> Event {
@@ -32,6 +35,13 @@ fn item(node: u64, k: u64) -> Item {
         node: Number(node),
         k,
     }
+}
+
+fn forgot(node: u64, k: u64, forgot: Forgot) -> Option<Happened> {
+    Some(Happened::Forgot {
+        item: item(node, k),
+        forgot,
+    })
 }
 
 fn entry(unique: u64, number: u64, attr: Attr) -> Option<Happened> {
@@ -55,19 +65,77 @@ fn refused(refusal: Refusal) -> Option<Happened> {
     Some(Happened::Refused(refusal))
 }
 
+fn first_of(outcome: &Outcome) -> Option<Happened> {
+    outcome.happened().first().copied()
+}
+
+/// Whether each event had its outcome: one thing that happened, or nothing.
+fn are(outcomes: &[Outcome], expected: &[Option<Happened>]) -> bool {
+    if outcomes.len() != expected.len() {
+        return false;
+    }
+    for (outcome, expected) in outcomes.iter().zip(expected.iter()) {
+        if outcome.happened().len() > 1 || first_of(outcome) != *expected {
+            return false;
+        }
+    }
+    true
+}
+
+/// The world after events that had these outcomes, where memory was ample.
+fn after(alloc: Global, events: &[Event], expected: &[Option<Happened>]) -> Option<World> {
+    let manifest = match Manifest::read(alloc, TEXT) {
+        Ok(manifest) => manifest,
+        Err(_refused) => return None,
+    };
+    match run(alloc, &manifest, 8, events) {
+        Ok((world, outcomes)) => {
+            if are(&outcomes, expected) {
+                return Some(world);
+            }
+            None
+        }
+        Err(NoMemory) => None,
+    }
+}
+
+/// Whether daemon 1 keeps this number of `src` alone, the kernel holds it once, and that one is given next.
+fn keeps_alone(world: &World, number: u64, next: u64) -> bool {
+    let served = match world.served(DaemonId(1)) {
+        Some(served) => served,
+        None => return false,
+    };
+    if served.map().kept().len() != 1 || served.map().bad_items() != 0 {
+        return false;
+    }
+    if served.map().count(Number(number)) != 1 || world.broker().held(Number(number)) != 1 {
+        return false;
+    }
+    if served.locate(Number(number)) != Some(FileId(2)) {
+        return false;
+    }
+    served.map().next() == next
+}
+
+/// What an event did, or, where it wanted memory, what it did when it came again.
+fn made(world: &mut World, event: &Event) -> Option<Happened> {
+    let happened = first_of(&world.step(event));
+    if happened == refused(Refusal::NoMemory) || happened == error(1, Errno::ENOMEM) {
+        return first_of(&world.step(event));
+    }
+    happened
+}
+
 #[test]
 fn gives_a_new_number_once_the_kernel_forgot_the_old_one(rt: HostRuntime) -> Result<(), Fail> {
-    let manifest = Manifest::read(rt.alloc(), TEXT)?;
     let events = [
         Event::Start,
         Event::Mount(DaemonId(1)),
-        look_up(rt.alloc(), 1, b"src")?,
-        look_up(rt.alloc(), 1, b"src")?,
+        look_up(rt.alloc(), 1, b"src"),
+        look_up(rt.alloc(), 1, b"src"),
         Event::Show,
         forget(2, 2),
-        Event::Show,
-        look_up(rt.alloc(), 1, b"src")?,
-        Event::Show,
+        look_up(rt.alloc(), 1, b"src"),
     ];
     let expected = [
         Some(Happened::Started(DaemonId(1))),
@@ -75,43 +143,21 @@ fn gives_a_new_number_once_the_kernel_forgot_the_old_one(rt: HostRuntime) -> Res
         entry(1, 2, DIRECTORY),
         entry(2, 2, DIRECTORY),
         None,
-        Some(Happened::Forgot {
-            item: item(2, 2),
-            forgot: Forgot::Dropped,
-        }),
-        None,
+        forgot(2, 2, Forgot::Dropped),
         entry(3, 3, DIRECTORY),
-        None,
     ];
-    let (world, outcomes) = run(rt.alloc(), &manifest, 8, &events)?;
-    assert_eq!(rt; outcomes.len(), expected.len());
-    for (outcome, expected) in outcomes.iter().zip(expected.iter()) {
-        assert_eq!(rt; outcome.happened().first().copied(), *expected);
-        assert!(rt; outcome.happened().len() <= 1);
-    }
+    let world = after(rt.alloc(), &events, &expected).ok_or("other outcomes")?;
+    assert!(rt; keeps_alone(&world, 3, 4));
     let seat = Seat {
         generation: 1,
         daemon: DaemonId(1),
     };
-    assert_eq!(rt; world.broker().seat(), Some(seat));
-    assert_eq!(rt; world.broker().held(Number(2)), 0);
-    assert_eq!(rt; world.broker().held(Number(3)), 1);
-    let served = world.served(DaemonId(1)).ok_or("daemon 1 serves")?;
-    assert_eq!(rt; served.map().next(), 4);
-    assert_eq!(rt; served.map().bad_items(), 0);
-    assert_eq!(rt; served.locate(Number(2)), None);
-    assert_eq!(rt; served.locate(Number(3)), Some(FileId(2)));
-    assert_eq!(rt; served.map().kept().len(), 1);
-    for kept in served.map().kept() {
-        assert_eq!(rt; kept.number, Number(3));
-        assert_eq!(rt; kept.count, 1);
-    }
+    assert!(rt; world.broker().seat() == Some(seat));
     Ok(())
 }
 
 #[test]
 fn keeps_a_directory_until_what_it_holds_is_forgotten(rt: HostRuntime) -> Result<(), Fail> {
-    let manifest = Manifest::read(rt.alloc(), TEXT)?;
     let file = Attr {
         kind: Kind::File,
         perm: Perm::of(0o644).ok_or("a mode")?,
@@ -121,55 +167,43 @@ fn keeps_a_directory_until_what_it_holds_is_forgotten(rt: HostRuntime) -> Result
     let events = [
         Event::Start,
         Event::Mount(DaemonId(1)),
-        look_up(rt.alloc(), 1, b"src")?,
-        look_up(rt.alloc(), 2, b"a")?,
+        look_up(rt.alloc(), 1, b"src"),
+        look_up(rt.alloc(), 2, b"a"),
         forget(2, 1),
-        look_up(rt.alloc(), 3, b"x")?,
-        look_up(rt.alloc(), 1, b"missing")?,
+        look_up(rt.alloc(), 3, b"x"),
+        look_up(rt.alloc(), 1, b"missing"),
         forget(3, 1),
-        look_up(rt.alloc(), 1, b"src")?,
+        look_up(rt.alloc(), 1, b"src"),
     ];
     let expected = [
         Some(Happened::Started(DaemonId(1))),
         Some(Happened::Mounted(1)),
         entry(1, 2, DIRECTORY),
         entry(2, 3, file),
-        Some(Happened::Forgot {
-            item: item(2, 1),
-            forgot: Forgot::Lowered,
-        }),
+        forgot(2, 1, Forgot::Lowered),
         error(3, Errno::ENOTDIR),
         error(4, Errno::ENOENT),
-        Some(Happened::Forgot {
-            item: item(3, 1),
-            forgot: Forgot::Dropped,
-        }),
+        forgot(3, 1, Forgot::Dropped),
         entry(5, 4, DIRECTORY),
     ];
-    let (world, outcomes) = run(rt.alloc(), &manifest, 8, &events)?;
-    assert_eq!(rt; outcomes.len(), expected.len());
-    for (outcome, expected) in outcomes.iter().zip(expected.iter()) {
-        assert_eq!(rt; outcome.happened().first().copied(), *expected);
-    }
-    let served = world.served(DaemonId(1)).ok_or("daemon 1 serves")?;
-    assert_eq!(rt; served.map().kept().len(), 1);
+    let world = after(rt.alloc(), &events, &expected).ok_or("other outcomes")?;
+    assert!(rt; keeps_alone(&world, 4, 5));
     Ok(())
 }
 
 #[test]
 fn refuses_events_for_the_first_cause(rt: HostRuntime) -> Result<(), Fail> {
-    let manifest = Manifest::read(rt.alloc(), TEXT)?;
     let events = [
         Event::Mount(DaemonId(1)),
         Event::Mount(DaemonId(0)),
-        look_up(rt.alloc(), 1, b"src")?,
+        look_up(rt.alloc(), 1, b"src"),
         forget(1, 0),
         Event::Start,
         Event::Start,
         Event::Mount(DaemonId(2)),
         Event::Mount(DaemonId(1)),
         Event::Mount(DaemonId(2)),
-        look_up(rt.alloc(), 2, b"a")?,
+        look_up(rt.alloc(), 2, b"a"),
         forget(1, 1),
         forget(2, 1),
     ];
@@ -187,13 +221,8 @@ fn refuses_events_for_the_first_cause(rt: HostRuntime) -> Result<(), Fail> {
         refused(Refusal::BadForget),
         refused(Refusal::BadForget),
     ];
-    let (world, outcomes) = run(rt.alloc(), &manifest, 8, &events)?;
-    assert_eq!(rt; outcomes.len(), expected.len());
-    for (outcome, expected) in outcomes.iter().zip(expected.iter()) {
-        assert_eq!(rt; outcome.happened().first().copied(), *expected);
-    }
-    assert!(rt; world.served(DaemonId(1)).is_none());
-    assert!(rt; world.served(DaemonId(3)).is_none());
+    let world = after(rt.alloc(), &events, &expected).ok_or("other outcomes")?;
+    assert!(rt; world.served(DaemonId(1)).is_none() && world.served(DaemonId(3)).is_none());
     Ok(())
 }
 
@@ -210,21 +239,15 @@ fn goes_on_after_memory_was_refused(rt: HostRuntime) -> Result<(), Fail> {
         Err(NoMemory) => World::new(rt.alloc(), &manifest, 8)?,
     };
     let ask = match look_up(rt.alloc(), 1, b"src") {
-        Ok(ask) => ask,
-        Err(_refused) => look_up(rt.alloc(), 1, b"src")?,
+        Event::Show => look_up(rt.alloc(), 1, b"src"),
+        ask => ask,
     };
-    for event in [&Event::Start, &Event::Mount(DaemonId(1)), &ask] {
-        let mut outcome = world.step(event);
-        let happened = outcome.happened().first().copied();
-        if happened == refused(Refusal::NoMemory) || happened == error(1, Errno::ENOMEM) {
-            outcome = world.step(event);
-        }
-        let happened = outcome.happened().first().copied();
-        assert!(rt; happened != refused(Refusal::NoMemory), "{happened:?}");
-    }
-    assert_eq!(rt; world.broker().held(Number(2)), 1);
-    let served = world.served(DaemonId(1)).ok_or("daemon 1 serves")?;
-    assert_eq!(rt; served.map().next(), 3);
-    assert_eq!(rt; served.map().count(Number(2)), 1);
+    let started = made(&mut world, &Event::Start);
+    assert!(rt; started == Some(Happened::Started(DaemonId(1))));
+    let mounted = made(&mut world, &Event::Mount(DaemonId(1)));
+    assert!(rt; mounted == Some(Happened::Mounted(1)));
+    let asked = made(&mut world, &ask);
+    assert!(rt; asked == entry(1, 2, DIRECTORY) || asked == entry(2, 2, DIRECTORY));
+    assert!(rt; keeps_alone(&world, 2, 3));
     Ok(())
 }

@@ -6,11 +6,8 @@ use Rattle.world.proofs.history.run.Goals as goal
 whole : (c : goal.In_ok-outcomes) → Ran (first_world c.args.manifest.now) c.args.events.now c.in_ok-outcomes.outcomes.items c.outcomes_of.new.world
 whole c = steps-matched (first_world c.args.manifest.now) c.in_ok-world.world c.args.events.now c.in_ok-outcomes.outcomes.items c.outcomes_of.new.world c.in_ok-world.ensures.matches c.in_ok-outcomes.ensures.steps
 
-pub returns-clause-moves : goal.returns-clause-moves
-returns-clause-moves c = (whole c).run
-
-pub returns-clause-agrees : goal.returns-clause-agrees
-returns-clause-agrees c = (whole c).matches.agrees
+pub returns-clause-events_are_a_run_of_moves : goal.returns-clause-events_are_a_run_of_moves
+returns-clause-events_are_a_run_of_moves c = record { run = (whole c).run; agrees = (whole c).matches.agrees }
 
 pub returns-clause-counts_are_what_is_owed : goal.returns-clause-counts_are_what_is_owed
 returns-clause-counts_are_what_is_owed c = (whole c).matches.counts
