@@ -3,5 +3,7 @@ pub mod EventLine
 pub mod Input
 pub mod Lines
 pub mod Number
+pub mod Printed
 pub mod Refusal
+pub mod Script
 pub mod Words

@@ -5,6 +5,7 @@ use Rattle.world.specs.declared.event.Event.{Event}
 use Rattle.edend.specs.EventLine.{event_of}
 use Rattle.edend.specs.Words.{is_word}
 
+-- the byte that ends a line
 abbrev pub is_lf : ℕ → Bool
 is_lf byte = byte == 10
 

@@ -1,12 +1,13 @@
 -- Why a script is refused: the first of no line `--`, a bad manifest, and a bad line behind it.
-use Rattle.std.specs.Prelude.{◌≡◌, ℕ, ◌+◌, ◌<◌, Bool, true, false, List, length, ⊤, Some, None, IsSome, option_map}
-use Rattle.world.specs.declared.event.Event.{Event}
+use Rattle.std.specs.Prelude.{◌≡◌, ℕ, ◌+◌, ◌<◌, Bool, true, false, List, length, ⊤, Some, None, Ok, Err, option_map}
+use Rattle.checkout.specs.Manifest.{Manifest}
 use Rattle.checkout.specs.declared.fault.ManifestFault.{ManifestFault}
 use Rattle.checkout.specs.declared.fault.ManifestFaultKind.{ManifestFaultKind}
 use Rattle.checkout.specs.declared.fault.ManifestFaultKind.TheVariants as kind
 use Rattle.edend.specs.declared.fault.Fault.{Fault}
 use Rattle.edend.specs.declared.fault.Fault.TheVariants.{CannotRead, TooLong, NoEvents, BadManifest, BadLine, NoMemory, CannotWrite}
-use Rattle.edend.specs.Lines.{lines_of, lines_behind, first_bad, IsBadLine, SaysEvents}
+use Rattle.edend.specs.Lines.{lines_of, lines_behind, first_bad, IsBadLine}
+use Rattle.edend.specs.Script.{SaysManifest, IsGood}
 
 -- the fault of a manifest's, by its kind
 abbrev pub fault_by_kind : ManifestFault → ManifestFaultKind → Fault
@@ -23,11 +24,15 @@ IsEventsRefusal lines first (BadLine line) = option_map (λ i. first + i) (first
 IsEventsRefusal lines first NoMemory = ⊤
 IsEventsRefusal lines first _ = ⊥
 
+-- the text before the first marker is a manifest
+abbrev pub HasManifest : List ℕ → Type 0
+HasManifest script = (manifest : Manifest) × SaysManifest script (Ok manifest)
+
 -- why a script was not read
 abbrev pub IsScriptRefusal : List ℕ → Fault → Type 0
 IsScriptRefusal script NoEvents = lines_behind (lines_of script) ≡ None
-IsScriptRefusal script (BadManifest fault) = IsSome (lines_behind (lines_of script))
-IsScriptRefusal script (BadLine line) = IsBadLine script line
+IsScriptRefusal script (BadManifest fault) = SaysManifest script (Err fault)
+IsScriptRefusal script (BadLine line) = HasManifest script × IsBadLine script line
 IsScriptRefusal script NoMemory = ⊤
 IsScriptRefusal script _ = ⊥
 
@@ -43,10 +48,6 @@ abbrev pub comes_first : Fault → Bool
 comes_first NoMemory = false
 comes_first CannotWrite = false
 comes_first _ = true
-
--- the script may be run
-abbrev pub IsGood : List ℕ → Type 0
-IsGood script = (events : List Event) × SaysEvents script events
 
 -- why a script was not run to its end
 abbrev pub IsRunRefusal : List ℕ → Fault → Type 0

@@ -6,6 +6,7 @@ mod event_line;
 mod fault;
 mod input;
 mod lines;
+mod names;
 mod number;
 mod print;
 mod program;

@@ -1,8 +1,13 @@
 //! The lines that a script's events print.
+ghost use Rattle.std.specs.Prelude.{OnOk};
+ghost use Rattle.std.specs.Io.KnownBytes.{Appends};
+ghost use Rattle.edend.specs.Printed.{printed, line, line_of, answer_line, entry_line, world_lines, served_lines, kept_lines, kept_line, place_line};
+
+use crate::names::{errno_name, forgot_name, kind_name, refusal_name};
 use broker_core::{Answer, Broker, Reply, Seat};
-use eden_base::{Attr, Kind, Place};
+use eden_base::{Attr, Number, Place};
 use std::io::{self, Write};
-use world::{Event, Forgot, Happened, Kept, Outcome, Served, World};
+use world::{Event, Happened, Kept, Outcome, Served, World};
 
 /// Prints what came of an event, and the world where the event was to show it.
 pub fn print_event<W: Write>(
@@ -10,7 +15,10 @@ pub fn print_event<W: Write>(
     world: &World,
     event: &Event,
     outcome: &Outcome,
-) -> io::Result<()> {
+) -> io::Result<()>
+    ensures printed { OnOk result (Appends (W.contents out.old) (W.contents out.new)
+        (printed world.now event.now outcome.now)) }
+{
     if let Event::Show = event {
         return print_world(out, world);
     }
@@ -20,7 +28,9 @@ pub fn print_event<W: Write>(
     }
 }
 
-fn print_happened<W: Write>(out: &mut W, happened: &Happened) -> io::Result<()> {
+fn print_happened<W: Write>(out: &mut W, happened: &Happened) -> io::Result<()>
+    ensures { OnOk result (Appends (W.contents out.old) (W.contents out.new) (line_of happened.now)) }
+{
     match happened {
         Happened::Started(daemon) => {
             let number = daemon.0;
@@ -32,49 +42,45 @@ fn print_happened<W: Write>(out: &mut W, happened: &Happened) -> io::Result<()> 
             let name = forgot_name(*forgot);
             writeln!(out, "forgot {name}")
         }
-        Happened::Refused(refusal) => writeln!(out, "refused {refusal}"),
+        Happened::Refused(refusal) => {
+            let name = refusal_name(*refusal);
+            writeln!(out, "refused {name}")
+        }
     }
 }
 
-/// `answer U error ERRNO`, or `answer U entry N KIND PERM SIZE NLINK`.
-fn print_reply<W: Write>(out: &mut W, reply: &Reply) -> io::Result<()> {
+fn print_reply<W: Write>(out: &mut W, reply: &Reply) -> io::Result<()>
+    ensures { OnOk result (Appends (W.contents out.old) (W.contents out.new)
+        (answer_line reply.now.unique reply.now.answer)) }
+{
     let unique = reply.unique;
     match &reply.answer {
-        Answer::Entry { number, attr } => {
-            let number = number.0;
-            write!(out, "answer {unique} entry {number} ")?;
-            print_attr(out, attr)
+        Answer::Entry { number, attr } => print_entry(out, unique, *number, attr),
+        Answer::Error(errno) => {
+            let name = errno_name(*errno);
+            writeln!(out, "answer {unique} error {name}")
         }
-        Answer::Error(errno) => writeln!(out, "answer {unique} error {errno}"),
     }
 }
 
-fn print_attr<W: Write>(out: &mut W, attr: &Attr) -> io::Result<()> {
+fn print_entry<W: Write>(out: &mut W, unique: u64, number: Number, attr: &Attr) -> io::Result<()>
+    ensures { OnOk result (Appends (W.contents out.old) (W.contents out.new)
+        (entry_line unique number attr.now)) }
+{
+    let number = number.0;
     let kind = kind_name(attr.kind);
     let perm = attr.perm.bits();
     let size = attr.size;
     let nlink = attr.nlink;
-    writeln!(out, "{kind} {perm:04o} {size} {nlink}")
+    writeln!(
+        out,
+        "answer {unique} entry {number} {kind} {perm:04o} {size} {nlink}"
+    )
 }
 
-fn kind_name(kind: Kind) -> &'static str {
-    match kind {
-        Kind::File => "file",
-        Kind::Dir => "dir",
-    }
-}
-
-fn forgot_name(forgot: Forgot) -> &'static str {
-    match forgot {
-        Forgot::Lowered => "Lowered",
-        Forgot::Dropped => "Dropped",
-        Forgot::Bad => "Bad",
-        Forgot::Root => "Root",
-    }
-}
-
-/// `seat G D next X` and a line for each number that the seated daemon keeps, or `seat none`.
-fn print_world<W: Write>(out: &mut W, world: &World) -> io::Result<()> {
+fn print_world<W: Write>(out: &mut W, world: &World) -> io::Result<()>
+    ensures { OnOk result (Appends (W.contents out.old) (W.contents out.new) (world_lines world.now)) }
+{
     let broker = world.broker();
     let Some(seat) = broker.seat() else {
         return writeln!(out, "seat none");
@@ -90,20 +96,32 @@ fn print_served<W: Write>(
     broker: &Broker,
     seat: Seat,
     served: &Served,
-) -> io::Result<()> {
+) -> io::Result<()>
+    ensures { OnOk result (Appends (W.contents out.old) (W.contents out.new)
+        (served_lines broker.now seat served.now)) }
+{
     let generation = seat.generation;
     let daemon = seat.daemon.0;
     let next = served.map().next();
     writeln!(out, "seat {generation} {daemon} next {next}")?;
-    for kept in served.map().kept() {
+    print_all_kept(out, broker, served.map().kept())
+}
+
+fn print_all_kept<W: Write>(out: &mut W, broker: &Broker, entries: &[Kept]) -> io::Result<()>
+    ensures { OnOk result (Appends (W.contents out.old) (W.contents out.new)
+        (kept_lines broker.now entries.now)) }
+{
+    for kept in entries {
         print_kept(out, broker, kept)?;
     }
     Ok(())
 }
 
-/// `number N held H up 0 down 0 count C at PARENT NAME`, or `unlinked FILE` at its end. A name is written byte for
-/// byte. Nothing is under way between events, so `up` and `down` are 0.
-fn print_kept<W: Write>(out: &mut W, broker: &Broker, kept: &Kept) -> io::Result<()> {
+/// Nothing is under way between events, so `up` and `down` are 0.
+fn print_kept<W: Write>(out: &mut W, broker: &Broker, kept: &Kept) -> io::Result<()>
+    ensures { OnOk result (Appends (W.contents out.old) (W.contents out.new)
+        (kept_line broker.now kept.now)) }
+{
     let number = kept.number.0;
     let held = broker.held(kept.number);
     let count = kept.count;
@@ -111,7 +129,14 @@ fn print_kept<W: Write>(out: &mut W, broker: &Broker, kept: &Kept) -> io::Result
         out,
         "number {number} held {held} up 0 down 0 count {count} "
     )?;
-    match &kept.place {
+    print_place(out, &kept.place)
+}
+
+/// A name is written byte for byte.
+fn print_place<W: Write>(out: &mut W, place: &Place) -> io::Result<()>
+    ensures { OnOk result (Appends (W.contents out.old) (W.contents out.new) (place_line place.now)) }
+{
+    match place {
         Place::Linked { parent, name } => {
             let parent = parent.0;
             write!(out, "at {parent} ")?;

@@ -1,7 +1,8 @@
 //! A script, run.
 ghost use Rattle.std.specs.Prelude.{◌≡◌, true, false, IfErr, IfSome, OnOk};
 ghost use Rattle.std.specs.Io.KnownBytes.{Keeps};
-ghost use Rattle.edend.specs.Refusal.{IsGood, IsRunRefusal, comes_first};
+ghost use Rattle.edend.specs.Refusal.{IsRunRefusal, comes_first};
+ghost use Rattle.edend.specs.Script.{IsGood, RunsEvents};
 
 use crate::Fault;
 use crate::input::read_whole;
@@ -57,7 +58,9 @@ fn run_script<W: Write>(
 const BUFFER: usize = 65_536;
 
 /// Lets all events happen in turn, and prints each.
-fn play<W: Write>(world: &mut World, events: &[Event], out: &mut W) -> io::Result<()> {
+fn play<W: Write>(world: &mut World, events: &[Event], out: &mut W) -> io::Result<()>
+    ensures { OnOk result (RunsEvents world.old events.now (W.contents out.old) (W.contents out.new)) }
+{
     for event in events {
         let outcome = world.step(event);
         print_event(out, world, event, &outcome)?;

@@ -1,8 +1,9 @@
 //! A script: a manifest, a line `--`, and lines that say what happens.
-ghost use Rattle.std.specs.Prelude.{◌≡◌, ◌+◌, ◌≤◌, ◌<◌, ◌^◌, length, map, Some, None, IfOk, IfErr, IfSome, MatchOption};
+ghost use Rattle.std.specs.Prelude.{◌≡◌, ◌+◌, ◌≤◌, ◌<◌, ◌^◌, length, map, Some, None, IfOk, IfErr, IfSome, MatchOption, Ok};
 ghost use Rattle.edend.specs.EventLine.{event_of};
 ghost use Rattle.edend.specs.Lines.{lines_of, lines_behind, IsSplit, SaysEvents};
 ghost use Rattle.edend.specs.Refusal.{IsScriptRefusal, IsEventsRefusal};
+ghost use Rattle.edend.specs.Script.{SaysManifest};
 
 use crate::Fault;
 use crate::event_line::read_event;
@@ -22,6 +23,7 @@ pub struct Script {
 impl Script {
     /// The script that bytes write.
     pub fn read(alloc: Global, bytes: &[u8]) -> Result<Script, Fault>
+        ensures manifest { IfOk result (λ script. SaysManifest bytes.now (Ok script.manifest)) }
         ensures events { IfOk result (λ script. SaysEvents bytes.now script.events.items) }
         ensures refused { IfErr result (IsScriptRefusal bytes.now) }
     {

@@ -1,38 +1,63 @@
 //! Scripts, and what the program prints for them.
-mod bad_scripts;
+mod bad_lines;
 mod bounds;
 mod rows;
 mod streams;
 
-use crate::{DEFAULT_LIMIT, Fault, run_world};
+use crate::{DEFAULT_LIMIT, run_world};
 use std::alloc::Global;
-use std::test::Fail;
+use std::io::{self, Read, Write};
 
-/// A manifest of five files in two directories.
-pub const MANIFEST: &str =
-    "commit 0123456789abcdef0123456789abcdef01234567\ndir src\nfile 0644 12 src/a\nfile 0755 0 src/b\nfile 0644 7 README\n";
+/// A manifest of five files in two directories, and the line behind it.
+const MANIFEST: &[u8] =
+    b"commit 0123456789abcdef0123456789abcdef01234567\ndir src\nfile 0644 12 src/a\nfile 0755 0 src/b\nfile 0644 7 README\n--\n";
 
-/// What a script prints, with the line of its fault where it has one.
-pub fn printed(alloc: Global, script: &[u8]) -> Result<Vec<u8>, Fail> {
-    let mut reader = script;
-    let mut out = Vec::new(alloc);
-    if let Err(fault) = run_world(alloc, &mut reader, DEFAULT_LIMIT, &mut out) {
-        out.extend_from_slice(format!(in alloc; "fault: {fault}\n")?.as_bytes())?;
+/// A reader of one text and then another.
+#[derive(Drop)]
+struct Joined<'a> {
+    first: &'a [u8],
+    second: &'a [u8],
+}
+
+impl Read for Joined<'_> {
+    fn read(&mut self, buf: &mut [u8]) -> io::Result<usize> {
+        if self.first.is_empty() {
+            return self.second.read(buf);
+        }
+        self.first.read(buf)
     }
-    Ok(out)
 }
 
-/// The manifest, the line `--`, and these lines.
-pub fn with_manifest(alloc: Global, events: &[u8]) -> Result<Vec<u8>, Fail> {
-    let mut script = Vec::from_slice(alloc, MANIFEST.as_bytes())?;
-    script.extend_from_slice(b"--\n".as_slice())?;
-    script.extend_from_slice(events)?;
-    Ok(script)
+/// A writer that is to be given just these bytes.
+#[derive(Drop)]
+struct Expected<'a> {
+    rest: &'a [u8],
+    is_other: bool,
 }
 
-/// The fault of a script, if it has one.
-pub fn fault_of(alloc: Global, script: &[u8]) -> Option<Fault> {
-    let mut reader = script;
-    let mut out = Vec::new(alloc);
-    run_world(alloc, &mut reader, DEFAULT_LIMIT, &mut out).err()
+impl Write for Expected<'_> {
+    fn write(&mut self, buf: &[u8]) -> io::Result<usize> {
+        match self.rest.strip_prefix(buf) {
+            Some(rest) => self.rest = rest,
+            None => self.is_other = true,
+        }
+        Ok(buf.len())
+    }
+
+    fn flush(&mut self) -> io::Result<()> {
+        Ok(())
+    }
+}
+
+/// Whether the script of two parts prints just these lines, that of its fault with them.
+fn prints(alloc: Global, first: &[u8], second: &[u8], lines: &[u8]) -> bool {
+    let mut reader = Joined { first, second };
+    let mut out = Expected {
+        rest: lines,
+        is_other: false,
+    };
+    if let Err(fault) = run_world(alloc, &mut reader, DEFAULT_LIMIT, &mut out) {
+        let _ = writeln!(out, "fault: {fault}");
+    }
+    out.rest.is_empty() && !out.is_other
 }

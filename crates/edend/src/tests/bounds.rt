@@ -1,61 +1,63 @@
 //! Scripts at the bounds of their length and of their manifest's.
-use super::{fault_of, printed};
-use crate::Fault;
+use super::prints;
 use crate::input::MAX_LEN;
-use std::alloc::Global;
-use std::test::Fail;
+use std::alloc::{AllocError, Global};
 
-const HEAD: &str = "commit 0123456789abcdef0123456789abcdef01234567\n";
+const HEAD: &[u8] = b"commit 0123456789abcdef0123456789abcdef01234567\n";
 
-/// A script whose manifest has so many lines, the commit's with them.
-fn with_lines(alloc: Global, lines: u32) -> Result<Vec<u8>, Fail> {
-    let mut script = Vec::from_slice(alloc, HEAD.as_bytes())?;
+/// A manifest of so many lines, the commit's with them.
+fn manifest_of(alloc: Global, lines: usize) -> Result<Vec<u8>, AllocError> {
+    let mut text = Vec::from_slice(alloc, HEAD)?;
     for number in 1..lines {
-        script.extend_from_slice(format!(in alloc; "dir {number:x}\n")?.as_bytes())?;
+        let name = [
+            b'a' + (number / 65_536 % 16) as u8,
+            b'a' + (number / 4_096 % 16) as u8,
+            b'a' + (number / 256 % 16) as u8,
+            b'a' + (number / 16 % 16) as u8,
+            b'a' + (number % 16) as u8,
+        ];
+        text.extend_from_slice(b"dir ".as_slice())?;
+        text.extend_from_slice(&name)?;
+        text.push(b'\n')?;
     }
-    script.extend_from_slice(b"--\nstart\n".as_slice())?;
-    Ok(script)
+    Ok(text)
+}
+
+/// A line `--`, and so many lines that show the world.
+fn shows(alloc: Global, lines: usize) -> Result<Vec<u8>, AllocError> {
+    let mut text = Vec::from_slice(alloc, b"--\n".as_slice())?;
+    for _ in 0..lines {
+        text.extend_from_slice(b"show\n".as_slice())?;
+    }
+    Ok(text)
 }
 
 #[test]
-fn takes_65536_lines_of_a_manifest_and_no_more(rt: HostRuntime) -> Result<(), Fail> {
-    let most = with_lines(rt.alloc(), 65_536)?;
-    let out = printed(rt.alloc(), most.as_slice())?;
-    assert!(rt; out.as_slice() == b"daemon 1\n".as_slice());
-    let more = with_lines(rt.alloc(), 65_537)?;
-    let out = printed(rt.alloc(), more.as_slice())?;
-    assert!(rt; out.as_slice() == b"fault: line 65537: TooManyLines\n".as_slice());
+fn takes_65536_lines_of_a_manifest_and_no_more(rt: HostRuntime) -> Result<(), AllocError> {
+    let most = manifest_of(rt.alloc(), 65_536)?;
+    assert!(rt; prints(rt.alloc(), most.as_slice(), b"--\nstart\n", b"daemon 1\n"));
+    let more = manifest_of(rt.alloc(), 65_537)?;
+    assert!(rt;
+        prints(
+            rt.alloc(),
+            more.as_slice(),
+            b"--\nstart\n",
+            b"fault: line 65537: TooManyLines\n"
+        )
+    );
     Ok(())
 }
 
-/// A script of this length: a manifest, a marker, and lines that start daemons, of which the last is as long as need be.
-fn of_length(alloc: Global, len: usize) -> Result<Vec<u8>, Fail> {
-    let mut script = Vec::from_slice(alloc, HEAD.as_bytes())?;
-    script.extend_from_slice(b"--\nstart\nmount 1\n".as_slice())?;
-    let line = b"do lookup 1 aaaaaaaaaaaaaaaaaaaaaaaaaaaaaaaaaaaaaaaaaaaaaaaaaaa\n";
-    for _ in 0..len {
-        if script.len() > len || len - script.len() < 128 {
-            break;
-        }
-        script.extend_from_slice(line.as_slice())?;
-    }
-    script.extend_from_slice(b"do lookup 1 ".as_slice())?;
-    for _ in script.len()..len {
-        script.push(b'b')?;
-    }
-    Ok(script)
-}
-
 #[test]
-fn takes_a_script_of_the_greatest_length_and_no_longer(rt: HostRuntime) -> Result<(), Fail> {
-    let longest = of_length(rt.alloc(), MAX_LEN)?;
-    assert_eq!(rt; longest.len(), MAX_LEN);
-    assert_eq!(rt; fault_of(rt.alloc(), longest.as_slice()), None);
-    let longer = of_length(rt.alloc(), MAX_LEN + 1)?;
-    assert_eq!(rt; longer.len(), MAX_LEN + 1);
-    assert_eq!(rt;
-        fault_of(rt.alloc(), longer.as_slice()),
-        Some(Fault::TooLong)
-    );
+fn takes_1048576_bytes_and_no_more(rt: HostRuntime) -> Result<(), AllocError> {
+    let longest = shows(rt.alloc(), 209_705)?;
+    assert_eq!(rt; longest.len().saturating_add(HEAD.len()), MAX_LEN);
+    let mut lines = Vec::new(rt.alloc());
+    for _ in 0..209_705 {
+        lines.extend_from_slice(b"seat none\n".as_slice())?;
+    }
+    assert!(rt; prints(rt.alloc(), HEAD, longest.as_slice(), lines.as_slice()));
+    let longer = shows(rt.alloc(), 209_706)?;
+    assert!(rt; prints(rt.alloc(), HEAD, longer.as_slice(), b"fault: too long\n"));
     Ok(())
 }

@@ -1,78 +1,124 @@
 //! Worked scripts, each with all that it prints.
-use super::{MANIFEST, printed, with_manifest};
-use std::test::Fail;
+use super::{MANIFEST, prints};
 
-/// The events behind the manifest, and the printed lines.
-const ROWS: [(&str, &str); 3] = [
+/// The start of a script, its rest, and the printed lines.
+const ROWS: [(&[u8], &[u8], &[u8]); 24] = [
     (
-        "start\nmount 1\nshow\n",
-        "daemon 1\nmounted 1\nseat 1 1 next 2\n",
+        MANIFEST,
+        b"start\nmount 1\nshow\n",
+        b"daemon 1\nmounted 1\nseat 1 1 next 2\n",
     ),
     (
-        "start\nmount 1\ndo lookup 1 src\ndo lookup 1 src\nshow\ndo forget 2 2\nshow\ndo lookup 1 src\nshow\n",
-        "daemon 1\nmounted 1\nanswer 1 entry 2 dir 0755 0 2\nanswer 2 entry 2 dir 0755 0 2\nseat 1 1 next 3\nnumber 2 held 2 up 0 down 0 count 2 at 1 src\nforgot Dropped\nseat 1 1 next 3\nanswer 3 entry 3 dir 0755 0 2\nseat 1 1 next 4\nnumber 3 held 1 up 0 down 0 count 1 at 1 src\n",
+        MANIFEST,
+        b"start\nmount 1\ndo lookup 1 src\ndo lookup 1 src\nshow\ndo forget 2 2\nshow\ndo lookup 1 src\nshow\n",
+        b"daemon 1\nmounted 1\nanswer 1 entry 2 dir 0755 0 2\nanswer 2 entry 2 dir 0755 0 2\nseat 1 1 next 3\nnumber 2 held 2 up 0 down 0 count 2 at 1 src\nforgot Dropped\nseat 1 1 next 3\nanswer 3 entry 3 dir 0755 0 2\nseat 1 1 next 4\nnumber 3 held 1 up 0 down 0 count 1 at 1 src\n",
+    ),
+    // The last line may lack its LF.
+    (
+        MANIFEST,
+        b"start\nmount 1\nshow",
+        b"daemon 1\nmounted 1\nseat 1 1 next 2\n",
+    ),
+    // Refusals and errors.
+    (
+        MANIFEST,
+        b"show\nmount 1\ndo lookup 1 src\nstart\nmount 2\ndo forget 2 1\nmount 1\nmount 1\nstart\nmount 2\ndo lookup 1 nope\ndo lookup 1 README\ndo lookup 2 x\ndo lookup 9 x\ndo forget 1 1\ndo forget 2 2\ndo forget 2 0\ndo lookup 1 README\ndo forget 2 1\ndo forget 2 1\nshow\n",
+        b"seat none\nrefused NoDaemon\nrefused NotMounted\ndaemon 1\nrefused NoDaemon\nrefused NotMounted\nmounted 1\nrefused WrongPhase\ndaemon 2\nrefused Seated\nanswer 1 error ENOENT\nanswer 2 entry 2 file 0644 7 1\nanswer 3 error ENOTDIR\nrefused NotHeld\nrefused BadForget\nrefused BadForget\nrefused BadForget\nanswer 4 entry 2 file 0644 7 1\nforgot Lowered\nforgot Dropped\nseat 1 1 next 3\n",
+    ),
+    // Zeros in front, and names to the end of the line.
+    (
+        MANIFEST,
+        b"start\nmount 0000000000000000000000000000000000000001\ndo lookup 1  src\ndo lookup 1 src \ndo lookup 1 src\r\ndo lookup 01 README\ndo forget 2 18446744073709551615\nshow",
+        b"daemon 1\nmounted 1\nanswer 1 error ENOENT\nanswer 2 error ENOENT\nanswer 3 error ENOENT\nanswer 4 entry 2 file 0644 7 1\nrefused BadForget\nseat 1 1 next 3\nnumber 2 held 1 up 0 down 0 count 1 at 1 README\n",
+    ),
+    // Names are bytes.
+    (
+        b"commit 0123456789abcdef0123456789abcdef01234567\ndir \xff\xc3\nfile 4755 18 \xff\xc3/\xe9 -- \n--\n",
+        b"start\nmount 1\ndo lookup 1 \xff\xc3\ndo lookup 2 \xe9 -- \nshow\n",
+        b"daemon 1\nmounted 1\nanswer 1 entry 2 dir 0755 0 2\nanswer 2 entry 3 file 4755 18 1\nseat 1 1 next 4\nnumber 2 held 1 up 0 down 0 count 1 at 1 \xff\xc3\nnumber 3 held 1 up 0 down 0 count 1 at 2 \xe9 -- \n",
+    ),
+    // The first bad line is told, and nothing is run.
+    (
+        MANIFEST,
+        b"start\nmount 1\nfoo\nbar\n",
+        b"fault: line 9: bad line\n",
+    ),
+    // The manifest ends at the first line that is just `--`.
+    (
+        b"commit 0123456789abcdef0123456789abcdef01234567\n",
+        b"--",
+        b"",
     ),
     (
-        "start\nmount 1\nshow",
-        "daemon 1\nmounted 1\nseat 1 1 next 2\n",
+        b"commit 0123456789abcdef0123456789abcdef01234567\n",
+        b"--\r\nstart\n",
+        b"fault: no events\n",
     ),
+    (b"", b"", b"fault: no events\n"),
+    (b"foo", b"", b"fault: no events\n"),
+    (b"", b"--\nstart\n", b"fault: line 1: NoCommit\n"),
+    (
+        b"commit 0123456789abcdef0123456789abcdef01234567\r\n",
+        b"--\nstart\n",
+        b"fault: line 1: NoCommit\n",
+    ),
+    (
+        b"commit 0123456789abcdef0123456789abcdef01234567\n\n",
+        b"--\nstart\n",
+        b"fault: line 2: BadLine\n",
+    ),
+    (
+        b"commit 0123456789abcdef0123456789abcdef01234567\ndir a\n",
+        b"link a b\n--\nstart\n",
+        b"fault: line 3: BadLine\n",
+    ),
+    (
+        b"commit 0123456789abcdef0123456789abcdef01234567\n",
+        b"file 644 1 z\n--\nstart\n",
+        b"fault: line 2: BadMode\n",
+    ),
+    (
+        b"commit 0123456789abcdef0123456789abcdef01234567\n",
+        b"file 0644 01 z\n--\nstart\n",
+        b"fault: line 2: BadSize\n",
+    ),
+    (
+        b"commit 0123456789abcdef0123456789abcdef01234567\n",
+        b"file 0644 9223372036854775808 z\n--\nstart\n",
+        b"fault: line 2: BadSize\n",
+    ),
+    (
+        b"commit 0123456789abcdef0123456789abcdef01234567\n",
+        b"dir src/\n--\nstart\n",
+        b"fault: line 2: BadPath\n",
+    ),
+    (
+        b"commit 0123456789abcdef0123456789abcdef01234567\n",
+        b"file 0644 1 x/y\n--\nstart\n",
+        b"fault: line 2: NoParent\n",
+    ),
+    (
+        b"commit 0123456789abcdef0123456789abcdef01234567\ndir src\n",
+        b"dir src\n--\nstart\n",
+        b"fault: line 3: Twice\n",
+    ),
+    // The manifest's fault comes before a bad line.
+    (
+        b"commit 0123456789abcdef0123456789abcdef01234567\ndir src\n",
+        b"dir src\n--\nfoo\n",
+        b"fault: line 3: Twice\n",
+    ),
+    // No line `--` comes before a fault of the manifest.
+    (b"dir src/\n", b"start\n", b"fault: no events\n"),
+    // A second line `--` is a bad line.
+    (MANIFEST, b"start\n--\n", b"fault: line 8: bad line\n"),
 ];
 
 #[test]
-fn prints_what_each_event_did(rt: HostRuntime) -> Result<(), Fail> {
-    for (events, lines) in ROWS {
-        let script = with_manifest(rt.alloc(), events.as_bytes())?;
-        let out = printed(rt.alloc(), script.as_slice())?;
-        assert!(rt; out.as_slice() == lines.as_bytes(), "at {events}");
+fn prints_what_each_event_did_or_a_fault(rt: HostRuntime) {
+    let mut place = 0u32;
+    for (first, second, lines) in ROWS {
+        assert!(rt; prints(rt.alloc(), first, second, lines), "at {place}");
+        place = place.saturating_add(1);
     }
-    Ok(())
-}
-
-/// Whole scripts, and the one line that they print: their fault.
-const FAULTS: [(&str, &str, &str); 9] = [
-    ("dir src/\n", "--\nstart\n", "fault: line 6: BadPath\n"),
-    ("file 644 1 z\n", "--\nstart\n", "fault: line 6: BadMode\n"),
-    (
-        "file 0644 1 x/y\n",
-        "--\nstart\n",
-        "fault: line 6: NoParent\n",
-    ),
-    ("dir src\n", "--\nstart\n", "fault: line 6: Twice\n"),
-    ("dir src\n", "--\nfoo\n", "fault: line 6: Twice\n"),
-    (
-        "file 0644 01 z\n",
-        "--\nstart\n",
-        "fault: line 6: BadSize\n",
-    ),
-    ("link a b\n", "--\nstart\n", "fault: line 6: BadLine\n"),
-    ("", "--\nstart\nmount 1\nfoo\n", "fault: line 9: bad line\n"),
-    ("", "", "fault: no events\n"),
-];
-
-#[test]
-fn tells_a_fault_and_runs_nothing(rt: HostRuntime) -> Result<(), Fail> {
-    for (more, events, line) in FAULTS {
-        let mut script = Vec::from_slice(rt.alloc(), MANIFEST.as_bytes())?;
-        script.extend_from_slice(more.as_bytes())?;
-        script.extend_from_slice(events.as_bytes())?;
-        let out = printed(rt.alloc(), script.as_slice())?;
-        assert!(rt; out.as_slice() == line.as_bytes(), "at {line}");
-    }
-    let empty = printed(rt.alloc(), b"".as_slice())?;
-    assert!(rt; empty.as_slice() == b"fault: no events\n".as_slice());
-    let no_commit = printed(rt.alloc(), b"--\nstart\n".as_slice())?;
-    assert!(rt; no_commit.as_slice() == b"fault: line 1: NoCommit\n".as_slice());
-    Ok(())
-}
-
-#[test]
-fn prints_refusals_and_errors(rt: HostRuntime) -> Result<(), Fail> {
-    let events =
-        b"show\nmount 1\ndo lookup 1 src\nstart\nmount 2\ndo forget 2 1\nmount 1\nmount 1\nstart\nmount 2\ndo lookup 1 nope\ndo lookup 1 README\ndo lookup 2 x\ndo lookup 9 x\ndo forget 1 1\ndo forget 2 2\ndo forget 2 0\ndo lookup 1 README\ndo forget 2 1\ndo forget 2 1\nshow\n";
-    let lines =
-        b"seat none\nrefused NoDaemon\nrefused NotMounted\ndaemon 1\nrefused NoDaemon\nrefused NotMounted\nmounted 1\nrefused WrongPhase\ndaemon 2\nrefused Seated\nanswer 1 error ENOENT\nanswer 2 entry 2 file 0644 7 1\nanswer 3 error ENOTDIR\nrefused NotHeld\nrefused BadForget\nrefused BadForget\nrefused BadForget\nanswer 4 entry 2 file 0644 7 1\nforgot Lowered\nforgot Dropped\nseat 1 1 next 3\n";
-    let script = with_manifest(rt.alloc(), events.as_slice())?;
-    let out = printed(rt.alloc(), script.as_slice())?;
-    assert!(rt; out.as_slice() == lines.as_slice());
-    Ok(())
 }

@@ -1,125 +1,80 @@
 //! Readers and writers that fail, stutter and count.
-use super::{MANIFEST, with_manifest};
-use crate::input::{MAX_LEN, MAX_READS};
+ghost use Rattle.std.specs.Prelude.{IfOk};
+ghost use Rattle.std.specs.Counts.{IsPrefixLen};
+
+use super::MANIFEST;
+use crate::input::MAX_READS;
 use crate::{DEFAULT_LIMIT, Fault, run_world};
 use std::io::{self, ErrorKind, Read, Write};
-use std::test::Fail;
 
-/// A reader of few bytes at a time, which counts its reads.
+/// What a reader does once its text is read.
+#[derive(Clone, Copy)]
+enum AfterText {
+    Ends,
+    Fails,
+    GivesLf,
+    IsInterrupted,
+}
+
+/// A reader of a text, one byte at a time and each second time interrupted, which counts its reads.
 #[derive(Drop)]
 struct Stutter<'a> {
     rest: &'a [u8],
-    /// Every second read is interrupted.
-    is_interrupted: bool,
-    reads: u64,
+    after: AfterText,
+    reads: usize,
 }
 
 impl Read for Stutter<'_> {
     fn read(&mut self, buf: &mut [u8]) -> io::Result<usize> {
         self.reads = self.reads.saturating_add(1);
-        if self.is_interrupted && self.reads % 2 == 1 {
-            return Err(io::Error::from(ErrorKind::Interrupted));
-        }
         match self.rest.split_first() {
+            Some(_) if self.reads % 2 == 0 => Err(io::Error::from(ErrorKind::Interrupted)),
             Some((byte, rest)) if !buf.is_empty() => {
                 buf[0] = *byte;
                 self.rest = rest;
                 Ok(1)
             }
-            _ => Ok(0),
+            _ => after_text(self.after, buf),
         }
     }
 }
 
-#[test]
-fn reads_again_where_it_was_interrupted(rt: HostRuntime) -> Result<(), Fail> {
-    let script = with_manifest(rt.alloc(), b"start\n".as_slice())?;
-    let mut reader = Stutter {
-        rest: script.as_slice(),
-        is_interrupted: true,
-        reads: 0,
-    };
-    let mut out = Vec::new(rt.alloc());
-    assert_eq!(rt;
-        run_world(rt.alloc(), &mut reader, DEFAULT_LIMIT, &mut out),
-        Ok(())
-    );
-    assert!(rt; out.as_slice() == b"daemon 1\n".as_slice());
-    Ok(())
-}
-
-/// A reader that gives the same byte without end, or is interrupted without end.
-#[derive(Drop)]
-struct Endless {
-    is_interrupted: bool,
-    bytes: usize,
-    reads: usize,
-}
-
-impl Read for Endless {
-    fn read(&mut self, buf: &mut [u8]) -> io::Result<usize> {
-        self.reads = self.reads.saturating_add(1);
-        if self.is_interrupted {
-            return Err(io::Error::from(ErrorKind::Interrupted));
+fn after_text(after: AfterText, buf: &mut [u8]) -> io::Result<usize>
+    ensures { IfOk result (λ n. IsPrefixLen n buf.new) }
+{
+    match after {
+        AfterText::Ends => Ok(0),
+        AfterText::Fails => Err(io::Error::from(ErrorKind::Other)),
+        AfterText::IsInterrupted => Err(io::Error::from(ErrorKind::Interrupted)),
+        AfterText::GivesLf => {
+            buf.fill(b'\n');
+            Ok(buf.len())
         }
-        for byte in buf.iter_mut() {
-            *byte = b'\n';
-        }
-        self.bytes = self.bytes.saturating_add(buf.len());
-        Ok(buf.len())
     }
 }
 
-#[test]
-fn makes_no_read_once_a_script_is_too_long(rt: HostRuntime) {
-    let mut reader = Endless {
-        is_interrupted: false,
-        bytes: 0,
-        reads: 0,
-    };
-    let mut out = Vec::new(rt.alloc());
-    let ran = run_world(rt.alloc(), &mut reader, DEFAULT_LIMIT, &mut out);
-    assert_eq!(rt; ran, Err(Fault::TooLong));
-    let last = reader.bytes / reader.reads.max(1);
-    assert!(rt; reader.bytes > MAX_LEN && reader.bytes.saturating_sub(last) <= MAX_LEN);
-}
+/// What follows the text, what comes of it, and after how many reads. Those of the text are 229; then come 64 of
+/// 16,384 bytes, as many as may be, or one.
+const ENDS: [(AfterText, Result<(), Fault>, usize); 4] = [
+    (AfterText::Ends, Ok(()), 230),
+    (AfterText::Fails, Err(Fault::CannotRead), 230),
+    (AfterText::GivesLf, Err(Fault::TooLong), 293),
+    (AfterText::IsInterrupted, Err(Fault::CannotRead), MAX_READS),
+];
 
 #[test]
-fn makes_so_many_reads_and_no_more(rt: HostRuntime) {
-    let mut reader = Endless {
-        is_interrupted: true,
-        bytes: 0,
-        reads: 0,
-    };
-    let mut out = Vec::new(rt.alloc());
-    let ran = run_world(rt.alloc(), &mut reader, DEFAULT_LIMIT, &mut out);
-    assert_eq!(rt; ran, Err(Fault::CannotRead));
-    assert_eq!(rt; reader.reads, MAX_READS);
-}
-
-/// A reader that fails, after a whole script.
-#[derive(Drop)]
-struct Broken<'a> {
-    rest: &'a [u8],
-}
-
-impl Read for Broken<'_> {
-    fn read(&mut self, buf: &mut [u8]) -> io::Result<usize> {
-        if self.rest.is_empty() {
-            return Err(io::Error::from(ErrorKind::Other));
-        }
-        self.rest.read(buf)
-    }
-}
-
-#[test]
-fn tells_a_reader_that_fails_before_all_else(rt: HostRuntime) {
-    for script in [MANIFEST.as_bytes(), b"foo".as_slice()] {
-        let mut reader = Broken { rest: script };
-        let mut out = Vec::new(rt.alloc());
+fn reads_to_the_end_and_no_further(rt: HostRuntime) {
+    for (after, want, reads) in ENDS {
+        let mut reader = Stutter {
+            rest: MANIFEST,
+            after,
+            reads: 0,
+        };
+        let mut out = Full { room: 0, writes: 0 };
         let ran = run_world(rt.alloc(), &mut reader, DEFAULT_LIMIT, &mut out);
-        assert_eq!(rt; ran, Err(Fault::CannotRead));
-        assert!(rt; out.is_empty());
+        assert_eq!(rt; ran, want);
+        assert_eq!(rt; reader.reads, reads);
+        assert_eq!(rt; out.writes, 0);
     }
 }
 
@@ -146,38 +101,21 @@ impl Write for Full {
     }
 }
 
+/// A script of three printed lines, of 35 bytes.
+const THREE_LINES: &[u8] =
+    b"commit 0123456789abcdef0123456789abcdef01234567\n--\nstart\nmount 1\nshow\n";
+
 #[test]
-fn tells_a_writer_that_fails(rt: HostRuntime) -> Result<(), Fail> {
-    let script = with_manifest(rt.alloc(), b"start\nmount 1\nshow\n".as_slice())?;
-    for (room, want) in [
-        (0, Err(Fault::CannotWrite)),
-        (20, Err(Fault::CannotWrite)),
-        (100, Ok(())),
+fn writes_all_lines_at_once_or_tells_that_it_cannot(rt: HostRuntime) {
+    for (room, want, writes) in [
+        (0, Err(Fault::CannotWrite), 2),
+        (34, Err(Fault::CannotWrite), 3),
+        (35, Ok(()), 1),
     ] {
-        let mut reader = script.as_slice();
+        let mut reader = THREE_LINES;
         let mut out = Full { room, writes: 0 };
         let ran = run_world(rt.alloc(), &mut reader, DEFAULT_LIMIT, &mut out);
         assert_eq!(rt; ran, want, "at {room}");
+        assert_eq!(rt; out.writes, writes, "at {room}");
     }
-    Ok(())
-}
-
-#[test]
-fn writes_many_lines_at_once(rt: HostRuntime) -> Result<(), Fail> {
-    let mut events = Vec::new(rt.alloc());
-    for _ in 0..1000 {
-        events.extend_from_slice(b"start\n".as_slice())?;
-    }
-    let script = with_manifest(rt.alloc(), events.as_slice())?;
-    let mut reader = script.as_slice();
-    let mut out = Full {
-        room: 1_000_000,
-        writes: 0,
-    };
-    assert_eq!(rt;
-        run_world(rt.alloc(), &mut reader, DEFAULT_LIMIT, &mut out),
-        Ok(())
-    );
-    assert_eq!(rt; out.writes, 1);
-    Ok(())
 }

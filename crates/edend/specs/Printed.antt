@@ -1,0 +1,151 @@
+-- What each event prints, and what `show` prints of the world.
+use Rattle.std.specs.Prelude.{ℕ, ◌-◌, ◌^◌, false, List, [], ◌∷◌, ◌++◌, length, codes, slice_get, Option, Some, None}
+use Rattle.std.specs.Fmt.{decimal, digits, padded_integral, format_spec}
+use Rattle.std.specs.Option.{option_and_then}
+use Rattle.eden_base.specs.declared.attr.Attr.{Attr}
+use Rattle.eden_base.specs.declared.attr.Kind.{Kind}
+use Rattle.eden_base.specs.declared.attr.Kind.TheVariants.{Dir, File}
+use Rattle.eden_base.specs.declared.errno.Errno.{Errno}
+use Rattle.eden_base.specs.declared.errno.Errno.TheVariants.{ENOENT, EIO, ENOMEM, EEXIST, ENOTDIR, EISDIR, EINVAL, ENOSPC, ENAMETOOLONG, ENOSYS, ENOTEMPTY, EOVERFLOW, ESTALE}
+use Rattle.eden_base.specs.declared.number.Number.{Number}
+use Rattle.eden_base.specs.declared.place.Place.{Place}
+use Rattle.eden_base.specs.declared.place.Place.TheVariants.{Linked, Unlinked}
+use Rattle.broker_core.specs.Broker.{BrokerState, held_count}
+use Rattle.broker_core.specs.declared.request.Answer.{Answer}
+use Rattle.broker_core.specs.declared.request.Answer.TheVariants.{Entry, Error}
+use Rattle.broker_core.specs.declared.seat.Seat.{Seat}
+use Rattle.world.specs.Holder.{served_of}
+use Rattle.world.specs.Served.{ServedState}
+use Rattle.world.specs.State.{State}
+use Rattle.world.specs.declared.event.Event.{Event}
+use Rattle.world.specs.declared.event.Event.TheVariants.{Show}
+use Rattle.world.specs.declared.inode_map.Forgot.{Forgot as ForgotHow}
+use Rattle.world.specs.declared.inode_map.Forgot.TheVariants as how
+use Rattle.world.specs.declared.inode_map.Kept.{Kept}
+use Rattle.world.specs.declared.outcome.Happened.{Happened}
+use Rattle.world.specs.declared.outcome.Happened.TheVariants.{Started, Mounted, Answered, Forgot, Refused}
+use Rattle.world.specs.declared.outcome.Refusal.{Refusal}
+use Rattle.world.specs.declared.outcome.Refusal.TheVariants as refusal
+
+-- words parted by one space each, and LF
+abbrev pub line : List (List ℕ) → List ℕ
+line [] = 10 ∷ []
+line (word ∷ []) = word ++ 10 ∷ []
+line (word ∷ next ∷ more) = word ++ 32 ∷ line (next ∷ more)
+
+-- octal digits, with zeros in front where there are fewer than four: `{:04o}`
+abbrev pub octal : ℕ → List ℕ
+octal n = padded_integral (format_spec 32 0 4 4 (2 ^ 64 - 1)) false [] (digits 8 false n)
+
+-- a kind's word
+abbrev pub kind_name : Kind → List ℕ
+kind_name File = codes "file"
+kind_name Dir = codes "dir"
+
+-- what a forget came to
+abbrev pub forgot_name : ForgotHow → List ℕ
+forgot_name how.Lowered = codes "Lowered"
+forgot_name how.Dropped = codes "Dropped"
+forgot_name how.Bad = codes "Bad"
+forgot_name how.Root = codes "Root"
+
+-- why an event was refused
+abbrev pub refusal_name : Refusal → List ℕ
+refusal_name refusal.NoDaemon = codes "NoDaemon"
+refusal_name refusal.WrongPhase = codes "WrongPhase"
+refusal_name refusal.Seated = codes "Seated"
+refusal_name refusal.LastGeneration = codes "LastGeneration"
+refusal_name refusal.NotMounted = codes "NotMounted"
+refusal_name refusal.NotHeld = codes "NotHeld"
+refusal_name refusal.BadForget = codes "BadForget"
+refusal_name refusal.Full = codes "Full"
+refusal_name refusal.NoMemory = codes "NoMemory"
+
+-- why a request failed, as `errno.h` has it
+abbrev pub errno_name : Errno → List ℕ
+errno_name ENOENT = codes "ENOENT"
+errno_name EIO = codes "EIO"
+errno_name ENOMEM = codes "ENOMEM"
+errno_name EEXIST = codes "EEXIST"
+errno_name ENOTDIR = codes "ENOTDIR"
+errno_name EISDIR = codes "EISDIR"
+errno_name EINVAL = codes "EINVAL"
+errno_name ENOSPC = codes "ENOSPC"
+errno_name ENAMETOOLONG = codes "ENAMETOOLONG"
+errno_name ENOSYS = codes "ENOSYS"
+errno_name ENOTEMPTY = codes "ENOTEMPTY"
+errno_name EOVERFLOW = codes "EOVERFLOW"
+errno_name ESTALE = codes "ESTALE"
+
+-- `answer U entry N KIND PERM SIZE NLINK`
+abbrev pub entry_line : ℕ → Number → Attr → List ℕ
+entry_line unique number attr =
+    line (codes "answer" ∷ decimal unique ∷ codes "entry" ∷ decimal number.0 ∷ kind_name attr.kind ∷ octal attr.perm.bits
+    ∷ decimal attr.size ∷ decimal attr.nlink ∷ [])
+
+-- the same, or `answer U error ERRNO`
+abbrev pub answer_line : ℕ → Answer → List ℕ
+answer_line unique (Entry number attr) = entry_line unique number attr
+answer_line unique (Error errno) = line (codes "answer" ∷ decimal unique ∷ codes "error" ∷ errno_name errno ∷ [])
+
+-- the line of what happened
+abbrev pub line_of : Happened → List ℕ
+line_of (Started daemon) = line (codes "daemon" ∷ decimal daemon.0 ∷ [])
+line_of (Mounted generation) = line (codes "mounted" ∷ decimal generation ∷ [])
+line_of (Answered reply) = answer_line reply.unique reply.answer
+line_of (Forgot item forgot) = line (codes "forgot" ∷ forgot_name forgot ∷ [])
+line_of (Refused refusal) = line (codes "refused" ∷ refusal_name refusal ∷ [])
+
+-- where a number stands: `at PARENT NAME`, the name byte for byte, or `unlinked FILE`
+abbrev pub place_line : Place → List ℕ
+place_line (Linked parent name) = line (codes "at" ∷ decimal parent.0 ∷ name ∷ [])
+place_line (Unlinked file) = line (codes "unlinked" ∷ decimal file.0 ∷ [])
+
+-- a number that a daemon keeps, and what stands before its place; nothing is under way between events
+abbrev pub kept_words : BrokerState → Kept → List (List ℕ)
+kept_words broker kept =
+    codes "number" ∷ decimal kept.number.0 ∷ codes "held" ∷ decimal (held_count broker.held kept.number.0)
+    ∷ codes "up" ∷ codes "0" ∷ codes "down" ∷ codes "0" ∷ codes "count" ∷ decimal kept.count ∷ []
+
+-- words, each with a space behind it
+abbrev pub spaced : List (List ℕ) → List ℕ
+spaced [] = []
+spaced (word ∷ more) = word ++ 32 ∷ spaced more
+
+-- `number N held H up 0 down 0 count C` and the place
+abbrev pub kept_line : BrokerState → Kept → List ℕ
+kept_line broker kept = spaced (kept_words broker kept) ++ place_line kept.place
+
+-- the line of each number that a daemon keeps
+abbrev pub kept_lines : BrokerState → List Kept → List ℕ
+kept_lines broker [] = []
+kept_lines broker (kept ∷ more) = kept_line broker kept ++ kept_lines broker more
+
+-- `seat G D next X`, and what the daemon keeps
+abbrev pub served_lines : BrokerState → Seat → ServedState → List ℕ
+served_lines broker seat served =
+    line (codes "seat" ∷ decimal seat.generation ∷ decimal seat.daemon.0 ∷ codes "next" ∷ decimal served.map.next ∷ [])
+    ++ kept_lines broker served.map.entries
+
+-- nobody has the seat
+abbrev pub no_seat : List ℕ
+no_seat = line (codes "seat" ∷ codes "none" ∷ [])
+
+-- who has the seat, and what it serves
+abbrev pub seat_lines : State → Option Seat → Option ServedState → List ℕ
+seat_lines state (Some seat) (Some served) = served_lines state.broker seat served
+seat_lines state _ _ = no_seat
+
+-- what `show` prints
+abbrev pub world_lines : State → List ℕ
+world_lines state = seat_lines state state.broker.seat (option_and_then (λ (seat : Seat). served_of state seat.daemon) state.broker.seat)
+
+-- the line of the last thing that happened, if anything did
+abbrev pub last_line : Option Happened → List ℕ
+last_line None = []
+last_line (Some happened) = line_of happened
+
+-- what an event prints, with the world after it
+abbrev pub printed : State → Event → List Happened → List ℕ
+printed state Show outcome = world_lines state
+printed state event outcome = last_line (slice_get outcome (length outcome - 1))
