@@ -45,7 +45,6 @@ IsReadRefusal _ = ⊥
 
 -- the fault comes before anything of a script is run
 abbrev pub comes_first : Fault → Bool
-comes_first NoMemory = false
 comes_first CannotWrite = false
 comes_first _ = true
 

@@ -4,7 +4,7 @@ use Rattle.std.specs.Io.KnownBytes.{Appends}
 use Rattle.checkout.specs.Manifest.{Manifest}
 use Rattle.checkout.specs.ManifestText.{manifest_of}
 use Rattle.checkout.specs.declared.fault.ManifestFault.{ManifestFault}
-use Rattle.world.specs.State.{State}
+use Rattle.world.specs.State.{State, started}
 use Rattle.world.specs.Step.{Step}
 use Rattle.world.specs.declared.event.Event.{Event}
 use Rattle.world.specs.declared.outcome.Happened.{Happened}
@@ -40,3 +40,8 @@ pub record RunsEvents (start : State) (events : List Event) (before after : Opti
   pub last : State
   pub prints : Prints start events text last
   pub written : Appends before after text
+
+-- a script that may be run was: its events happen in the world of its manifest, and what they print is written
+pub record Runs (script : List ℕ) (limit : ℕ) (before after : Option (List ℕ)) : Type 0 where
+  pub good : IsGood script
+  pub runs : RunsEvents (started good.manifest limit) good.events before after

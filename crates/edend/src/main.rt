@@ -16,7 +16,7 @@ mod script;
 mod tests;
 
 pub use fault::Fault;
-pub use run::{DEFAULT_LIMIT, run_world};
+pub use run::{DEFAULT_LIMIT, run_buffered, run_world};
 use std::process::ExitCode;
 
 fn main(rt: HostRuntime) -> ExitCode {

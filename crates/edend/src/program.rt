@@ -1,6 +1,6 @@
 //! The program, over any system that has files, standard streams and words.
 use crate::command_line::script_of;
-use crate::{DEFAULT_LIMIT, Fault, run_world};
+use crate::{DEFAULT_LIMIT, Fault, run_buffered};
 use clap::Error;
 use clap::error::ErrorKind;
 use std::process::ExitCode;
@@ -32,10 +32,10 @@ fn words_of<R: Env + AllocGlobal>(rt: &R) -> io::Result<Vec<String>> {
 fn run_script<R: Files + Input + Print + AllocGlobal>(rt: &R, path: &str) -> Result<(), Fault> {
     let mut out = io::writer(rt);
     if path == "-" {
-        return run_world(rt.alloc(), &mut rt.reader(), DEFAULT_LIMIT, &mut out);
+        return run_buffered(rt.alloc(), &mut rt.reader(), DEFAULT_LIMIT, &mut out);
     }
     match fs::open(rt, path) {
-        Ok(mut file) => run_world(rt.alloc(), &mut file, DEFAULT_LIMIT, &mut out),
+        Ok(mut file) => run_buffered(rt.alloc(), &mut file, DEFAULT_LIMIT, &mut out),
         Err(_) => Err(Fault::CannotRead),
     }
 }

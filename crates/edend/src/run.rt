@@ -1,8 +1,8 @@
 //! A script, run.
-ghost use Rattle.std.specs.Prelude.{◌≡◌, true, false, IfErr, IfSome, OnOk};
+ghost use Rattle.std.specs.Prelude.{◌≡◌, true, IfErr, IfSome, OnOk};
 ghost use Rattle.std.specs.Io.KnownBytes.{Keeps};
 ghost use Rattle.edend.specs.Refusal.{IsRunRefusal, comes_first};
-ghost use Rattle.edend.specs.Script.{IsGood, RunsEvents};
+ghost use Rattle.edend.specs.Script.{Runs, RunsEvents};
 
 use crate::Fault;
 use crate::input::read_whole;
@@ -17,14 +17,16 @@ pub const DEFAULT_LIMIT: usize = 1024;
 
 /// Runs the script that a reader gives, and writes a line for each event that has one, in order. Nothing is run or
 /// written before the whole script is known to be good. An event that is refused is no fault: its line says so.
-/// `limit`, from 1 to 65,536, is how many nodes a daemon keeps loaded, which has no effect yet.
+/// `limit`, from 1 to 65,536, is how many nodes a daemon keeps loaded, which has no effect yet. A line is written in
+/// pieces, so the writer does well to gather them, as that of `run_buffered` does.
 pub fn run_world<R: Read, W: Write>(
     alloc: Global,
     reader: &mut R,
     limit: usize,
     writer: &mut W,
 ) -> Result<(), Fault>
-    ensures good { OnOk result (IfSome (R.remaining reader.old) IsGood) }
+    ensures runs { OnOk result (IfSome (R.remaining reader.old) (λ script.
+        Runs script limit (W.contents writer.old) (W.contents writer.new))) }
     ensures refused { IfErr result (λ fault.
         IfSome (R.remaining reader.old) (λ script. IsRunRefusal script fault)) }
     ensures unwritten { IfErr result (λ fault. comes_first fault ≡ true
@@ -32,23 +34,8 @@ pub fn run_world<R: Read, W: Write>(
 {
     let bytes = read_whole(alloc, reader)?;
     let script = Script::read(alloc, bytes.as_slice())?;
-    run_script(alloc, &script, limit, writer)
-}
-
-/// Runs a script that was read.
-fn run_script<W: Write>(
-    alloc: Global,
-    script: &Script,
-    limit: usize,
-    writer: &mut W,
-) -> Result<(), Fault>
-    ensures { IfErr result (λ fault. comes_first fault ≡ false) }
-{
     let mut world = World::new(alloc, &script.manifest, limit)?;
-    let Ok(mut out) = BufWriter::with_capacity(alloc, BUFFER, writer) else {
-        return Err(Fault::NoMemory);
-    };
-    match play(&mut world, script.events.as_slice(), &mut out) {
+    match play(&mut world, script.events.as_slice(), writer) {
         Ok(()) => Ok(()),
         Err(_) => Err(Fault::CannotWrite),
     }
@@ -56,6 +43,22 @@ fn run_script<W: Write>(
 
 /// How many bytes are written at once, except for the last.
 const BUFFER: usize = 65_536;
+
+/// `run_world` over a writer that is given many lines at once.
+pub fn run_buffered<R: Read, W: Write>(
+    alloc: Global,
+    reader: &mut R,
+    limit: usize,
+    writer: &mut W,
+) -> Result<(), Fault>
+    ensures refused { IfErr result (λ fault.
+        IfSome (R.remaining reader.old) (λ script. IsRunRefusal script fault)) }
+{
+    let Ok(mut out) = BufWriter::with_capacity(alloc, BUFFER, writer) else {
+        return Err(Fault::NoMemory);
+    };
+    run_world(alloc, reader, limit, &mut out)
+}
 
 /// Lets all events happen in turn, and prints each.
 fn play<W: Write>(world: &mut World, events: &[Event], out: &mut W) -> io::Result<()>

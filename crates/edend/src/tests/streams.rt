@@ -4,7 +4,7 @@ ghost use Rattle.std.specs.Counts.{IsPrefixLen};
 
 use super::MANIFEST;
 use crate::input::MAX_READS;
-use crate::{DEFAULT_LIMIT, Fault, run_world};
+use crate::{DEFAULT_LIMIT, Fault, run_buffered, run_world};
 use std::io::{self, ErrorKind, Read, Write};
 
 /// What a reader does once its text is read.
@@ -114,7 +114,7 @@ fn writes_all_lines_at_once_or_tells_that_it_cannot(rt: HostRuntime) {
     ] {
         let mut reader = THREE_LINES;
         let mut out = Full { room, writes: 0 };
-        let ran = run_world(rt.alloc(), &mut reader, DEFAULT_LIMIT, &mut out);
+        let ran = run_buffered(rt.alloc(), &mut reader, DEFAULT_LIMIT, &mut out);
         assert_eq!(rt; ran, want, "at {room}");
         assert_eq!(rt; out.writes, writes, "at {room}");
     }
