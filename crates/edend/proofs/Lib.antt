@@ -1,3 +1,4 @@
 pub mod LineLemmas
 pub mod PrintLemmas
+pub mod RunLemmas
 pub mod ScriptLemmas

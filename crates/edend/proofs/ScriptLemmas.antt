@@ -1,8 +1,7 @@
 -- Lemmas on the parts of a script, and on the events of its lines.
-use Rattle.std.proofs.Common.{◌≡◌, ℕ, ◌+◌, ◌-◌, ◌<◌, ◌≤◌, Bool, true, false, cond, nat_lt, suc, List, [], ◌∷◌, ◌++◌, length, map, take, drop, Option, Some, None, is_none, refl, ap, subst, sym, ◌∙◌, append_assoc, arith, rules}
+use Rattle.std.proofs.Common.{◌≡◌, ℕ, ◌+◌, ◌-◌, ◌<◌, ◌≤◌, Bool, true, false, cond, nat_lt, suc, List, [], ◌∷◌, ◌++◌, length, map, take, drop, Option, Some, None, is_none, refl, ap, subst, sym, ◌∙◌, append_assoc, arith}
 use Rattle.std.specs.List.{before_first, after_first, position_or_len, position}
 use Rattle.std.proofs.lemmas.List.{length-take-le, map-append, drop-drop}
-use Rattle.std.proofs.lemmas.Grind.{common_steps}
 use Rattle.std.proofs.lemmas.Bool.Decides.{nat_tests}
 use Rattle.world.specs.declared.event.Event.{Event}
 use Rattle.edend.specs.EventLine.{event_of}

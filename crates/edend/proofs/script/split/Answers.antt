@@ -1,4 +1,4 @@
-use Rattle.std.proofs.Common.{sym, ◌∙◌, arith}
+use Rattle.std.proofs.Common.{arith}
 use Rattle.edend.proofs.ScriptLemmas.{IsSplit-at, IsRest-more}
 use Rattle.edend.proofs.script.split.Goals as goal
 
