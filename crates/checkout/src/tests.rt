@@ -1,6 +1,6 @@
 //! What a small manifest says, and the first fault of lines that are none.
 use crate::{Backing, Manifest, ManifestBacking, ManifestFault, ManifestFaultKind, Tree};
-use eden_base::{FileId, Kind, Name};
+use eden_base::{FileId, Kind, Name, NameFault};
 use std::alloc::{AllocError, Global};
 use std::process::Abort;
 use std::test::Fail;
@@ -131,47 +131,67 @@ fn reads_a_commit_in_either_case(rt: HostRuntime) -> Result<(), Fail> {
     Ok(())
 }
 
+/// What `SMALL` has at a directory and a name.
+const CHILDREN: [(u64, &[u8], Option<FileId>); 5] = [
+    (1, b"src", Some(FileId(2))),
+    (2, b"a", Some(FileId(3))),
+    (1, b"README", Some(FileId(5))),
+    (1, b"a", None),
+    (3, b"a", None),
+];
+
+fn child_at(
+    alloc: Global,
+    tree: &Tree,
+    dir: u64,
+    name: &[u8],
+) -> Result<Option<FileId>, NameFault> {
+    let name = Name::parse(alloc, name)?;
+    Ok(tree.child(FileId(dir), &name))
+}
+
+fn has_children(rt: &impl Abort, alloc: Global, tree: &Tree) -> Result<(), Fail> {
+    for (dir, name, file) in CHILDREN {
+        assert_eq!(rt; child_at(alloc, tree, dir, name)?, file);
+    }
+    Ok(())
+}
+
 #[test]
 fn finds_the_files_of_a_small_manifest(rt: HostRuntime) -> Result<(), Fail> {
-    let manifest = Manifest::read(rt.alloc(), SMALL)?.copy(rt.alloc())?;
+    let manifest = Manifest::read(rt.alloc(), SMALL)?;
     let tree = Tree::of(rt.alloc(), &manifest)?;
-    let src = Name::parse(rt.alloc(), b"src".as_slice())?;
-    let a = Name::parse(rt.alloc(), b"a".as_slice())?;
-    let readme = Name::parse(rt.alloc(), b"README".as_slice())?;
     assert_eq!(rt; tree.commit(), manifest.commit());
-    assert_eq!(rt; tree.child(FileId::ROOT, &src), Some(FileId(2)));
-    assert_eq!(rt; tree.child(FileId(2), &a), Some(FileId(3)));
-    assert_eq!(rt; tree.child(FileId::ROOT, &readme), Some(FileId(5)));
-    assert_eq!(rt; tree.child(FileId::ROOT, &a), None);
-    assert_eq!(rt; tree.child(FileId(3), &a), None);
-    assert_eq!(rt; tree.kind(FileId::ROOT), Some(Kind::Dir));
-    assert_eq!(rt; tree.kind(FileId(2)), Some(Kind::Dir));
-    assert_eq!(rt; tree.kind(FileId(5)), Some(Kind::File));
-    assert_eq!(rt; tree.kind(FileId(0)), None);
-    assert_eq!(rt; tree.kind(FileId(6)), None);
-    Ok(())
+    has_children(&rt, rt.alloc(), &tree)
+}
+
+/// The files of `SMALL`, with their kind, permissions, size and count of links.
+const ATTRIBUTES: [(u64, Option<(Kind, u16, u64, u32)>); 6] = [
+    (0, None),
+    (1, Some((Kind::Dir, 0o755, 0, 2))),
+    (2, Some((Kind::Dir, 0o755, 0, 2))),
+    (3, Some((Kind::File, 0o644, 12, 1))),
+    (5, Some((Kind::File, 0o644, 7, 1))),
+    (6, None),
+];
+
+fn attributes_of(tree: &Tree, file: u64) -> Option<(Kind, u16, u64, u32)> {
+    let attr = tree.attr(FileId(file))?;
+    Some((attr.kind, attr.perm.bits(), attr.size, attr.nlink))
+}
+
+fn has_attributes(rt: &impl Abort, tree: &Tree) {
+    for (file, attributes) in ATTRIBUTES {
+        assert_eq!(rt; attributes_of(tree, file), attributes);
+        assert_eq!(rt; tree.kind(FileId(file)).is_some(), attributes.is_some());
+    }
 }
 
 #[test]
 fn tells_attributes_as_a_line_has_them(rt: HostRuntime) -> Result<(), Fail> {
     let manifest = Manifest::read(rt.alloc(), SMALL)?;
     let tree = Tree::of(rt.alloc(), &manifest)?;
-    let file = tree.attr(FileId(3)).ok_or("file 3")?;
-    assert_eq!(rt;
-        (file.kind, file.perm.bits(), file.size, file.nlink),
-        (Kind::File, 0o644, 12, 1)
-    );
-    let dir = tree.attr(FileId(2)).ok_or("file 2")?;
-    assert_eq!(rt;
-        (dir.kind, dir.perm.bits(), dir.size, dir.nlink),
-        (Kind::Dir, 0o755, 0, 2)
-    );
-    let root = tree.attr(FileId::ROOT).ok_or("the root")?;
-    assert_eq!(rt;
-        (root.kind, root.perm.bits(), root.size, root.nlink),
-        (Kind::Dir, 0o755, 0, 2)
-    );
-    assert_eq!(rt; tree.attr(FileId(6)).is_none(), true);
+    has_attributes(&rt, &tree);
     Ok(())
 }
 
@@ -223,24 +243,27 @@ fn many(alloc: Global, files: u32) -> Result<Vec<u8>, AllocError> {
 }
 
 #[test]
-fn takes_65536_lines_and_no_more(rt: HostRuntime) -> Result<(), Fail> {
-    use ManifestFaultKind::{BadLine, TooManyLines, Twice};
+fn takes_65536_lines(rt: HostRuntime) -> Result<(), Fail> {
     let full = many(rt.alloc(), 65535)?;
     let manifest = Manifest::read(rt.alloc(), full.as_slice())?;
     let tree = Tree::of(rt.alloc(), &manifest)?;
-    let name = Name::parse(rt.alloc(), b"f65534".as_slice())?;
-    assert_eq!(rt; tree.child(FileId::ROOT, &name), Some(FileId(65536)));
+    let last = child_at(rt.alloc(), &tree, 1, b"f65534")?;
+    assert_eq!(rt; last, Some(FileId(65536)));
+    Ok(())
+}
+
+#[test]
+fn tells_each_fault_of_line_65537(rt: HostRuntime) -> Result<(), Fail> {
+    use ManifestFaultKind::{BadLine, TooManyLines, Twice};
+    let full = many(rt.alloc(), 65535)?;
     for (line, kind) in [
         (b"file 0644 0 z\n".as_slice(), TooManyLines),
         (b"file 0644 0 z".as_slice(), BadLine),
         (b"dir f0\n".as_slice(), Twice),
     ] {
         let text = joined(rt.alloc(), full.as_slice(), line)?;
-        assert_eq!(rt;
-            fault_of(rt.alloc(), text.as_slice()),
-            Some(ManifestFault { line: 65537, kind }),
-            "{kind}"
-        );
+        let fault = ManifestFault { line: 65537, kind };
+        assert_eq!(rt; fault_of(rt.alloc(), text.as_slice()), Some(fault));
     }
     Ok(())
 }
