@@ -1,3 +1,4 @@
 pub mod First
 pub mod Name
 pub mod Text
+pub mod Words

@@ -1,11 +1,24 @@
 //! What the kernel is told of a file.
 ghost use Rattle.std.specs.Prelude.{◌≡◌, ◌≤◌, ◌↔◌, IfSome, IsSome};
+ghost use Rattle.eden_base.specs.Words.{kind_name};
 
 /// Whether a file has content or entries. Links and devices are no part of a checkout here.
 #[derive(Clone, Copy, Debug, PartialEq, Eq)]
 pub enum Kind {
     File,
     Dir,
+}
+
+impl Kind {
+    /// Its word in manifests and printed lines.
+    pub fn name(self) -> &'static str
+        ensures name { result.now ≡ kind_name self }
+    {
+        match self {
+            Kind::File => "file",
+            Kind::Dir => "dir",
+        }
+    }
 }
 
 /// The low twelve bits of a mode: setuid, setgid and sticky, then read, write and execute three times.

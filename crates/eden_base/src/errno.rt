@@ -1,5 +1,6 @@
 //! The error numbers of `errno.h` that a daemon answers.
-use std::fmt;
+ghost use Rattle.std.specs.Prelude.{◌≡◌};
+ghost use Rattle.eden_base.specs.Words.{errno_name};
 
 /// Why a request failed, as the kernel passes it on to the program that asked.
 #[derive(Clone, Copy, Debug, PartialEq, Eq)]
@@ -32,9 +33,12 @@ pub enum Errno {
     ESTALE,
 }
 
-impl fmt::Display for Errno {
-    fn fmt<W: fmt::Write>(&self, f: &mut fmt::Formatter<W>) -> fmt::Result {
-        f.write_str(match self {
+impl Errno {
+    /// Its name in `errno.h`.
+    pub fn name(self) -> &'static str
+        ensures name { result.now ≡ errno_name self }
+    {
+        match self {
             Errno::ENOENT => "ENOENT",
             Errno::EIO => "EIO",
             Errno::ENOMEM => "ENOMEM",
@@ -48,6 +52,6 @@ impl fmt::Display for Errno {
             Errno::ENOTEMPTY => "ENOTEMPTY",
             Errno::EOVERFLOW => "EOVERFLOW",
             Errno::ESTALE => "ESTALE",
-        })
+        }
     }
 }

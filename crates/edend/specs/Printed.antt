@@ -2,11 +2,8 @@
 use Rattle.std.specs.Prelude.{ℕ, ◌-◌, ◌^◌, false, List, [], ◌∷◌, ◌++◌, length, codes, slice_get, Option, Some, None}
 use Rattle.std.specs.Fmt.{decimal, digits, padded_integral, format_spec}
 use Rattle.std.specs.Option.{option_and_then}
+use Rattle.eden_base.specs.Words.{errno_name, kind_name}
 use Rattle.eden_base.specs.declared.attr.Attr.{Attr}
-use Rattle.eden_base.specs.declared.attr.Kind.{Kind}
-use Rattle.eden_base.specs.declared.attr.Kind.TheVariants.{Dir, File}
-use Rattle.eden_base.specs.declared.errno.Errno.{Errno}
-use Rattle.eden_base.specs.declared.errno.Errno.TheVariants.{ENOENT, EIO, ENOMEM, EEXIST, ENOTDIR, EISDIR, EINVAL, ENOSPC, ENAMETOOLONG, ENOSYS, ENOTEMPTY, EOVERFLOW, ESTALE}
 use Rattle.eden_base.specs.declared.number.Number.{Number}
 use Rattle.eden_base.specs.declared.place.Place.{Place}
 use Rattle.eden_base.specs.declared.place.Place.TheVariants.{Linked, Unlinked}
@@ -17,15 +14,12 @@ use Rattle.broker_core.specs.declared.seat.Seat.{Seat}
 use Rattle.world.specs.Holder.{served_of}
 use Rattle.world.specs.Served.{ServedState}
 use Rattle.world.specs.State.{State}
+use Rattle.world.specs.Words.{refusal_name, forgot_name}
 use Rattle.world.specs.declared.event.Event.{Event}
 use Rattle.world.specs.declared.event.Event.TheVariants.{Show}
-use Rattle.world.specs.declared.inode_map.Forgot.{Forgot as ForgotHow}
-use Rattle.world.specs.declared.inode_map.Forgot.TheVariants as how
 use Rattle.world.specs.declared.inode_map.Kept.{Kept}
 use Rattle.world.specs.declared.outcome.Happened.{Happened}
 use Rattle.world.specs.declared.outcome.Happened.TheVariants.{Started, Mounted, Answered, Forgot, Refused}
-use Rattle.world.specs.declared.outcome.Refusal.{Refusal}
-use Rattle.world.specs.declared.outcome.Refusal.TheVariants as refusal
 
 -- words parted by one space each, and LF
 abbrev pub line : List (List ℕ) → List ℕ
@@ -38,44 +32,6 @@ abbrev pub octal : ℕ → List ℕ
 octal n = padded_integral (format_spec 32 0 4 4 (2 ^ 64 - 1)) false [] (digits 8 false n)
 
 -- a kind's word
-abbrev pub kind_name : Kind → List ℕ
-kind_name File = codes "file"
-kind_name Dir = codes "dir"
-
--- what a forget came to
-abbrev pub forgot_name : ForgotHow → List ℕ
-forgot_name how.Lowered = codes "Lowered"
-forgot_name how.Dropped = codes "Dropped"
-forgot_name how.Bad = codes "Bad"
-forgot_name how.Root = codes "Root"
-
--- why an event was refused
-abbrev pub refusal_name : Refusal → List ℕ
-refusal_name refusal.NoDaemon = codes "NoDaemon"
-refusal_name refusal.WrongPhase = codes "WrongPhase"
-refusal_name refusal.Seated = codes "Seated"
-refusal_name refusal.LastGeneration = codes "LastGeneration"
-refusal_name refusal.NotMounted = codes "NotMounted"
-refusal_name refusal.NotHeld = codes "NotHeld"
-refusal_name refusal.BadForget = codes "BadForget"
-refusal_name refusal.Full = codes "Full"
-refusal_name refusal.NoMemory = codes "NoMemory"
-
--- why a request failed, as `errno.h` has it
-abbrev pub errno_name : Errno → List ℕ
-errno_name ENOENT = codes "ENOENT"
-errno_name EIO = codes "EIO"
-errno_name ENOMEM = codes "ENOMEM"
-errno_name EEXIST = codes "EEXIST"
-errno_name ENOTDIR = codes "ENOTDIR"
-errno_name EISDIR = codes "EISDIR"
-errno_name EINVAL = codes "EINVAL"
-errno_name ENOSPC = codes "ENOSPC"
-errno_name ENAMETOOLONG = codes "ENAMETOOLONG"
-errno_name ENOSYS = codes "ENOSYS"
-errno_name ENOTEMPTY = codes "ENOTEMPTY"
-errno_name EOVERFLOW = codes "EOVERFLOW"
-errno_name ESTALE = codes "ESTALE"
 
 -- `answer U entry N KIND PERM SIZE NLINK`
 abbrev pub entry_line : ℕ → Number → Attr → List ℕ

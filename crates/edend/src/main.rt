@@ -6,7 +6,6 @@ mod event_line;
 mod fault;
 mod input;
 mod lines;
-mod names;
 mod number;
 mod print;
 mod program;
@@ -16,7 +15,7 @@ mod script;
 mod tests;
 
 pub use fault::Fault;
-pub use run::{DEFAULT_LIMIT, run_buffered, run_world};
+pub use run::{DEFAULT_LIMIT, run_world};
 use std::process::ExitCode;
 
 fn main(rt: HostRuntime) -> ExitCode {

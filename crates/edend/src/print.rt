@@ -3,7 +3,6 @@ ghost use Rattle.std.specs.Prelude.{OnOk};
 ghost use Rattle.std.specs.Io.KnownBytes.{Appends};
 ghost use Rattle.edend.specs.Printed.{printed, line, line_of, answer_line, entry_line, world_lines, served_lines, kept_lines, kept_line, place_line};
 
-use crate::names::{errno_name, forgot_name, kind_name, refusal_name};
 use broker_core::{Answer, Broker, Reply, Seat};
 use eden_base::{Attr, Number, Place};
 use std::io::{self, Write};
@@ -39,11 +38,11 @@ fn print_happened<W: Write>(out: &mut W, happened: &Happened) -> io::Result<()>
         Happened::Mounted(generation) => writeln!(out, "mounted {generation}"),
         Happened::Answered(reply) => print_reply(out, reply),
         Happened::Forgot { forgot, .. } => {
-            let name = forgot_name(*forgot);
+            let name = forgot.name();
             writeln!(out, "forgot {name}")
         }
         Happened::Refused(refusal) => {
-            let name = refusal_name(*refusal);
+            let name = refusal.name();
             writeln!(out, "refused {name}")
         }
     }
@@ -57,7 +56,7 @@ fn print_reply<W: Write>(out: &mut W, reply: &Reply) -> io::Result<()>
     match &reply.answer {
         Answer::Entry { number, attr } => print_entry(out, unique, *number, attr),
         Answer::Error(errno) => {
-            let name = errno_name(*errno);
+            let name = errno.name();
             writeln!(out, "answer {unique} error {name}")
         }
     }
@@ -68,7 +67,7 @@ fn print_entry<W: Write>(out: &mut W, unique: u64, number: Number, attr: &Attr) 
         (entry_line unique number attr.now)) }
 {
     let number = number.0;
-    let kind = kind_name(attr.kind);
+    let kind = attr.kind.name();
     let perm = attr.perm.bits();
     let size = attr.size;
     let nlink = attr.nlink;

@@ -1,11 +1,12 @@
 //! The program, over any system that has files, standard streams and words.
 use crate::command_line::script_of;
-use crate::{DEFAULT_LIMIT, Fault, run_buffered};
+use crate::{DEFAULT_LIMIT, Fault, run_world};
 use clap::Error;
 use clap::error::ErrorKind;
+use std::io::{self, BufWriter};
 use std::process::ExitCode;
 use std::rt::{Env, Files};
-use std::{env, fs, io};
+use std::{env, fs};
 
 /// Does what the words of the command line ask for. The status is 0 where a script was run, 1 at a fault, which is
 /// printed, and 2 where the words were refused.
@@ -28,14 +29,19 @@ fn words_of<R: Env + AllocGlobal>(rt: &R) -> io::Result<Vec<String>> {
     Ok(words)
 }
 
+/// How many bytes of printed lines are gathered for one write.
+const BUFFER: usize = 65_536;
+
 /// Runs the script of a file, or of standard input at `-`.
 fn run_script<R: Files + Input + Print + AllocGlobal>(rt: &R, path: &str) -> Result<(), Fault> {
-    let mut out = io::writer(rt);
+    let Ok(mut out) = BufWriter::with_capacity(rt.alloc(), BUFFER, io::writer(rt)) else {
+        return Err(Fault::NoMemory);
+    };
     if path == "-" {
-        return run_buffered(rt.alloc(), &mut rt.reader(), DEFAULT_LIMIT, &mut out);
+        return run_world(rt.alloc(), &mut rt.reader(), DEFAULT_LIMIT, &mut out);
     }
     match fs::open(rt, path) {
-        Ok(mut file) => run_buffered(rt.alloc(), &mut file, DEFAULT_LIMIT, &mut out),
+        Ok(mut file) => run_world(rt.alloc(), &mut file, DEFAULT_LIMIT, &mut out),
         Err(_) => Err(Fault::CannotRead),
     }
 }

@@ -9,7 +9,7 @@ use crate::input::read_whole;
 use crate::print::print_event;
 use crate::script::Script;
 use std::alloc::Global;
-use std::io::{self, BufWriter, Read, Write};
+use std::io::{self, Read, Write};
 use world::{Event, World};
 
 /// How many nodes a daemon keeps loaded where the caller has no wish of its own.
@@ -18,7 +18,7 @@ pub const DEFAULT_LIMIT: usize = 1024;
 /// Runs the script that a reader gives, and writes a line for each event that has one, in order. Nothing is run or
 /// written before the whole script is known to be good. An event that is refused is no fault: its line says so.
 /// `limit`, from 1 to 65,536, is how many nodes a daemon keeps loaded, which has no effect yet. A line is written in
-/// pieces, so the writer does well to gather them, as that of `run_buffered` does.
+/// pieces, so the writer does well to gather them, as a `BufWriter` does; it is flushed after the last.
 pub fn run_world<R: Read, W: Write>(
     alloc: Global,
     reader: &mut R,
@@ -39,25 +39,6 @@ pub fn run_world<R: Read, W: Write>(
         Ok(()) => Ok(()),
         Err(_) => Err(Fault::CannotWrite),
     }
-}
-
-/// How many bytes are written at once, except for the last.
-const BUFFER: usize = 65_536;
-
-/// `run_world` over a writer that is given many lines at once.
-pub fn run_buffered<R: Read, W: Write>(
-    alloc: Global,
-    reader: &mut R,
-    limit: usize,
-    writer: &mut W,
-) -> Result<(), Fault>
-    ensures refused { IfErr result (λ fault.
-        IfSome (R.remaining reader.old) (λ script. IsRunRefusal script fault)) }
-{
-    let Ok(mut out) = BufWriter::with_capacity(alloc, BUFFER, writer) else {
-        return Err(Fault::NoMemory);
-    };
-    run_world(alloc, reader, limit, &mut out)
 }
 
 /// Lets all events happen in turn, and prints each.

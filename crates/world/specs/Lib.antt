@@ -8,3 +8,4 @@ pub mod EntryPlaces
 pub mod DaemonWork
 pub mod Inside
 pub mod Holder
+pub mod Words

@@ -1,5 +1,6 @@
 //! What a daemon remembers for the kernel.
 ghost use Rattle.std.specs.Prelude.{◌≡◌, ◌^◌, ◌<◌, None, IfOk, IfErr, OnOk, OnErr};
+ghost use Rattle.world.specs.Words.{forgot_name};
 ghost use Rattle.world.specs.InodeMap.{new_map, entry_at, count_of, give_fault, number_given, given, IsGiveRefusal, forgot, forgotten, file_in};
 
 use crate::entries::{locate, lower, place_at, place_of, prune, useless_place};
@@ -29,6 +30,20 @@ pub enum Forgot {
     Bad,
     /// The root is held always; nothing changed.
     Root,
+}
+
+impl Forgot {
+    /// The word that a printed line has for it.
+    pub fn name(self) -> &'static str
+        ensures name { result.now ≡ forgot_name self }
+    {
+        match self {
+            Forgot::Lowered => "Lowered",
+            Forgot::Dropped => "Dropped",
+            Forgot::Bad => "Bad",
+            Forgot::Root => "Root",
+        }
+    }
 }
 
 /// Why no number could be given.

@@ -1,5 +1,6 @@
 //! What came of an event.
 ghost use Rattle.std.specs.Prelude.{◌≡◌, [], ◌∷◌};
+ghost use Rattle.world.specs.Words.{refusal_name};
 ghost use Rattle.world.specs.State.{refusal_of_mount, refusal_of_issue};
 
 use crate::inode_map::Forgot;
@@ -7,29 +8,38 @@ use arrayvec::ArrayVec;
 use broker_core::{IssueFault, Item, MountFault, Reply};
 use eden_base::{DaemonId, NoMemory};
 use std::marker::Model;
-use thiserror::Error;
 
 /// Why an event was refused. A refusal changes nothing.
-#[derive(Clone, Copy, Debug, PartialEq, Eq, Error)]
+#[derive(Clone, Copy, Debug, PartialEq, Eq)]
 pub enum Refusal {
-    #[error("NoDaemon")]
     NoDaemon,
-    #[error("WrongPhase")]
     WrongPhase,
-    #[error("Seated")]
     Seated,
-    #[error("LastGeneration")]
     LastGeneration,
-    #[error("NotMounted")]
     NotMounted,
-    #[error("NotHeld")]
     NotHeld,
-    #[error("BadForget")]
     BadForget,
-    #[error("Full")]
     Full,
-    #[error("NoMemory")]
     NoMemory,
+}
+
+impl Refusal {
+    /// The word that a printed line has for it.
+    pub fn name(self) -> &'static str
+        ensures name { result.now ≡ refusal_name self }
+    {
+        match self {
+            Refusal::NoDaemon => "NoDaemon",
+            Refusal::WrongPhase => "WrongPhase",
+            Refusal::Seated => "Seated",
+            Refusal::LastGeneration => "LastGeneration",
+            Refusal::NotMounted => "NotMounted",
+            Refusal::NotHeld => "NotHeld",
+            Refusal::BadForget => "BadForget",
+            Refusal::Full => "Full",
+            Refusal::NoMemory => "NoMemory",
+        }
+    }
 }
 
 /// One thing that an event made happen.

@@ -16,7 +16,7 @@ returns-in-None t c =
 
 pub returns-in-Some-locate : goal.returns-in-Some-locate
 returns-in-Some-locate t c =
-    c.child.ensures
+    c.child.ensures.child
     ∙ sym (file_in-linked c.args.steps c.args.tree.now c.args.entries.now c.args.number.0 c.in-Some.place c.index-entries-place.result c.in-Linked.parent c.in-Linked.name _
     (omega arith) (sym c.eq.ensures ∙ c.if-eq.false) c.in-Some.ensures c.index-entries-place.is (ap (λ (k : Kept). k.place) c.index-entries-place.is ∙ c.in-Linked.is) c.in-Some-locate.ensures)
 
