@@ -74,6 +74,8 @@ module _ (m : Manifest) (is : IsManifest m) where
     root_is_dir = root_kind;
     ids_below_next = λ file h. below_next file.0 _ refl h;
     next_fits = omega (arith, is.few);
+    has_manifest_files = λ file f h. h;
+    others_are_later = λ file f h. inl h;
     links_give_files = λ dir name file h. let r = file_is dir name file h in is_some_from _ r.line.file (ap (get (files_from 2 m.lines)) r.file_is ∙ file_of_line 2 r.place m.lines r.line r.here);
     links_stand_in_dirs = λ dir name file h. let r = file_is dir name file h in ap (kind_of tree) (same_id dir r.line.dir (sym r.dir_is)) ∙ dir_kind r.line.dir r.place ((is.each r.place r.line r.here).dir_before);
     root_has_no_link = λ dir name file h. let r = file_is dir name file h in omega (arith, r.file_is);

@@ -1,7 +1,7 @@
 -- The tree of a checkout: its files, the names that lead to them, and the file that would be made next. Files are
 -- never taken out of it while a mount lasts. (EdenFS's documents on inodes and the overlay; the next file is this
 -- project's own.)
-use Rattle.std.specs.Prelude.{◌≡◌, ℕ, ◌+◌, ◌^◌, ◌<◌, Bool, true, false, ◌&&◌, ◌==◌, not, List, [], ◌∷◌, length, Option, Some, None, IsSome, if◌then◌else◌}
+use Rattle.std.specs.Prelude.{◌≡◌, ℕ, ◌+◌, ◌^◌, ◌<◌, ◌≤◌, ◌⊎◌, Bool, true, false, ◌&&◌, ◌==◌, not, List, [], ◌∷◌, length, Option, Some, None, IsSome, if◌then◌else◌}
 use Rattle.std.specs.Option.{option_map, option_and_then}
 use Rattle.std.specs.List.{list_any}
 use Rattle.std.specs.Ordering.{nat_cmp, ordering_then}
@@ -87,22 +87,6 @@ file_at tree dir (name ∷ path) = option_and_then (λ child. file_at tree child
 abbrev pub root : FileId
 root = record { 0 = 1 }
 
--- what makes files and links a tree
-pub record IsTree (tree : Tree) : Type 0 where
-  pub root_is_dir : kind_of tree root ≡ Some Dir
-  pub ids_below_next : (file : FileId) → IsSome (file_of tree file) → file.0 < tree.next_file
-  pub next_fits : tree.next_file < 2 ^ 63
-  pub links_give_files : (dir : FileId) (name : List ℕ) (file : FileId) → child_of tree dir name ≡ Some file → IsSome (file_of tree file)
-  pub links_stand_in_dirs : (dir : FileId) (name : List ℕ) (file : FileId) → child_of tree dir name ≡ Some file → kind_of tree dir ≡ Some Dir
-  pub root_has_no_link : (dir : FileId) (name : List ℕ) (file : FileId) → child_of tree dir name ≡ Some file → 1 < file.0
-  -- no file stands twice
-  pub links_are_apart : (dir other_dir : FileId) (name other_name : List ℕ) (file : FileId) →
-      child_of tree dir name ≡ Some file → child_of tree other_dir other_name ≡ Some file → (dir ≡ other_dir) × (name ≡ other_name)
-  pub linked_is_linked : (dir : FileId) (name : List ℕ) (file : FileId) → child_of tree dir name ≡ Some file → is_linked tree file ≡ true
-  -- each linked file is reached from the root
-  pub links_are_reached : (dir : FileId) (name : List ℕ) (file : FileId) → child_of tree dir name ≡ Some file →
-      (path : List (List ℕ)) × (file_at tree root path ≡ Some file)
-
 -- what each directory of a manifest may be used for: all but writing, which is its owner's alone (0o755)
 abbrev pub dir_perm : Perm
 dir_perm = record { bits = 493; in_range = lit≤ tt }
@@ -129,3 +113,24 @@ tree_of manifest = record {
   links = links_from 2 manifest.lines;
   next_file = length manifest.lines + 2;
 }
+
+-- what makes files and links a tree of a manifest
+pub record IsTree (tree : Tree) : Type 0 where
+  pub root_is_dir : kind_of tree root ≡ Some Dir
+  pub ids_below_next : (file : FileId) → IsSome (file_of tree file) → file.0 < tree.next_file
+  pub next_fits : tree.next_file < 2 ^ 63
+  -- the manifest's files are as they stand there, and the root with them
+  pub has_manifest_files : (file : FileId) (f : File) → file_of (tree_of tree.manifest) file ≡ Some f → file_of tree file ≡ Some f
+  -- all others came later, and are empty
+  pub others_are_later : (file : FileId) (f : File) → file_of tree file ≡ Some f →
+      (file_of (tree_of tree.manifest) file ≡ Some f) ⊎ ((length tree.manifest.lines + 2 ≤ file.0) × (f.size ≡ 0))
+  pub links_give_files : (dir : FileId) (name : List ℕ) (file : FileId) → child_of tree dir name ≡ Some file → IsSome (file_of tree file)
+  pub links_stand_in_dirs : (dir : FileId) (name : List ℕ) (file : FileId) → child_of tree dir name ≡ Some file → kind_of tree dir ≡ Some Dir
+  pub root_has_no_link : (dir : FileId) (name : List ℕ) (file : FileId) → child_of tree dir name ≡ Some file → 1 < file.0
+  -- no file stands twice
+  pub links_are_apart : (dir other_dir : FileId) (name other_name : List ℕ) (file : FileId) →
+      child_of tree dir name ≡ Some file → child_of tree other_dir other_name ≡ Some file → (dir ≡ other_dir) × (name ≡ other_name)
+  pub linked_is_linked : (dir : FileId) (name : List ℕ) (file : FileId) → child_of tree dir name ≡ Some file → is_linked tree file ≡ true
+  -- each linked file is reached from the root
+  pub links_are_reached : (dir : FileId) (name : List ℕ) (file : FileId) → child_of tree dir name ≡ Some file →
+      (path : List (List ℕ)) × (file_at tree root path ≡ Some file)

@@ -34,7 +34,7 @@ pub trait Backing {
 
     /// How often it failed.
     fn failures(&self) -> u64
-        ensures { result ≡ failed self.now };
+        ensures failures { result ≡ failed self.now };
 }
 
 /// The store that a manifest is itself. It takes no memory and never fails.
@@ -57,7 +57,7 @@ impl<'a> Model for ManifestBacking<'a> {
 impl<'a> ManifestBacking<'a> {
     /// The backing that tells what this manifest says.
     pub fn of(manifest: &'a Manifest) -> ManifestBacking<'a>
-        ensures { result ≡ manifest.now }
+        ensures manifest { result ≡ manifest.now }
     {
         ManifestBacking { manifest }
     }

@@ -34,7 +34,7 @@ impl Model for Line {
 impl Line {
     /// What a daemon tells the kernel of the file while its name leads to it.
     pub fn attr(&self) -> Attr
-        ensures { result ≡ attr_of_linked self.now.file }
+        ensures attr { result ≡ attr_of_linked self.now.file }
     {
         let nlink = match self.kind {
             Kind::File => 1,

@@ -52,21 +52,21 @@ impl Tree {
 
     /// Whether the tree has the file, as a directory or not.
     pub fn kind(&self, file: FileId) -> Option<Kind>
-        ensures { result ≡ kind_of self.now file }
+        ensures kind { result ≡ kind_of self.now file }
     {
         kind_of(self.manifest.lines(), file)
     }
 
     /// What a daemon tells the kernel of a file of the tree.
     pub fn attr(&self, file: FileId) -> Option<Attr>
-        ensures { result ≡ attr_of self.now file }
+        ensures attr { result ≡ attr_of self.now file }
     {
         attr_of(self.manifest.lines(), file)
     }
 
     /// Whether the file is a directory of the tree without a name in it. What is no directory isn't an empty one.
     pub fn is_empty_dir(&self, dir: FileId) -> bool
-        ensures { result ≡ is_empty_dir self.now dir }
+        ensures empty { result ≡ is_empty_dir self.now dir }
     {
         match self.kind(dir) {
             Some(Kind::Dir) => !self.links.has_links(dir),
@@ -77,7 +77,7 @@ impl Tree {
 
     /// The file under a name in a directory.
     pub fn child(&self, dir: FileId, name: &Name) -> Option<FileId>
-        ensures { result ≡ child_of self.now dir name.now }
+        ensures child { result ≡ child_of self.now dir name.now }
     {
         self.links.get(dir, name.bytes())
     }

@@ -1,5 +1,5 @@
 -- A number above a tenth of the limit, and one digit more, is too large.
-use Rattle.std.proofs.Common.{◌≡◌, Option, ℕ, ◌^◌, ◌<◌, false, nat_lt, Some, None, if◌then◌else◌, arith, ap, sym}
+use Rattle.std.proofs.Common.{◌≡◌, false, nat_lt, Some, None, if◌then◌else◌, arith, ap, sym}
 use Rattle.std.proofs.lemmas.Bool.Decides.{nat_tests}
 use Rattle.checkout.specs.Text.{decimal}
 use Rattle.checkout.proofs.TextLemmas.{decimal-tenfold}

@@ -1,5 +1,5 @@
 -- The number of the digits so far.
-use Rattle.std.proofs.Common.{◌≡◌, ◌<◌, ◌^◌, take}
+use Rattle.std.proofs.Common.{◌≡◌, take}
 use Rattle.checkout.specs.Text.{decimal}
 use Rattle.checkout.proofs.field.value_of.Given as goal
 

@@ -21,7 +21,7 @@ returns-then-file-eq1 c =
 pub returns-in-Some : goal.returns-in-Some
 returns-in-Some c =
     let lines = c.args.lines.now in
-    ap (λ (a : Attr). Some a) c.attr.ensures ∙ sym (ap (option_map attr_of_linked) (file_from_line lines c.args.file c.in-Some.line.now (sym c.in-Some.ensures)))
+    ap (λ (a : Attr). Some a) c.attr.ensures.attr ∙ sym (ap (option_map attr_of_linked) (file_from_line lines c.args.file c.in-Some.line.now (sym c.in-Some.ensures)))
 
 pub returns-in-None : goal.returns-in-None
 returns-in-None c =

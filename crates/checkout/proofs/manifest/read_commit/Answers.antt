@@ -1,5 +1,5 @@
 -- The first part is the commit's line, if it is ended.
-use Rattle.std.proofs.Common.{◌+◌, [], length, ap, sym, ◌∙◌, arith}
+use Rattle.std.proofs.Common.{[], length, ap, sym, ◌∙◌, arith}
 use Rattle.checkout.specs.ManifestText.{after_commit, lines_of, manifest_of_lines}
 use Rattle.checkout.proofs.TextLemmas.{parts-cut, parts-no_cut}
 use Rattle.checkout.proofs.ReadLemmas.{after_commit-some, first_line}

@@ -1,9 +1,8 @@
 -- The first line that is refused refuses the text.
-use Rattle.std.proofs.Common.{◌≡◌, ◌+◌, ◌<◌, ◌≤◌, List, [], length, false, Err, arith, ap, subst, sym, ◌∙◌}
+use Rattle.std.proofs.Common.{◌≡◌, ◌+◌, ◌<◌, [], length, false, Err, arith, ap, subst, sym, ◌∙◌}
 use Rattle.std.proofs.lemmas.Bool.Decides.{nat_tests}
-use Rattle.checkout.specs.Manifest.{Line}
 use Rattle.checkout.specs.declared.fault.ManifestFaultKind.TheVariants.{BadLine}
-use Rattle.checkout.specs.ManifestText.{fault_at, lines_of, line_of_text, read_on, IsRefusal}
+use Rattle.checkout.specs.ManifestText.{fault_at, lines_of, read_on, IsRefusal}
 use Rattle.checkout.proofs.TextLemmas.{parts-cut, parts-no_cut}
 use Rattle.checkout.proofs.ReadLemmas.{read_on-unended, read_on-taken, length_taken, refusal_from_line, among_lines, first_line}
 use Rattle.checkout.proofs.manifest.read_lines.Goals as goal

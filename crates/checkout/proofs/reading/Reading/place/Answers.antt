@@ -1,5 +1,5 @@
 -- What is a directory of the lines stands before the next.
-use Rattle.std.proofs.Common.{◌≡◌, Some, sym}
+use Rattle.std.proofs.Common.{◌≡◌, Some}
 use Rattle.std.specs.Option.{option_map}
 use Rattle.std.specs.FinMap.{get}
 use Rattle.eden_base.specs.declared.attr.Kind.TheVariants.{Dir}

@@ -10,5 +10,7 @@ use Rattle.checkout.proofs.tree.Tree.attr.Goals as goal
 pub returns : goal.returns
 returns c =
     rw (← c.self.view_is, c.self.invariant.1)
-    (c.attr_of.ensures ∙ ap (λ (ls : List Line). option_map attr_of_linked (get (files_from 2 ls) c.args.file.0)) c.lines.ensures.lines
-    ∙ sym (attr_of-tree_of c.self.inside.manifest c.self.invariant.0 c.args.file))
+    (record {
+      attr = c.attr_of.ensures ∙ ap (λ (ls : List Line). option_map attr_of_linked (get (files_from 2 ls) c.args.file.0)) c.lines.ensures.lines
+          ∙ sym (attr_of-tree_of c.self.inside.manifest c.self.invariant.0 c.args.file);
+    })
