@@ -77,7 +77,7 @@ impl Items {
 
     /// Whether there are none.
     pub fn is_empty(&self) -> bool
-        ensures { result ≡ (length self.now == 0) }
+        ensures empty { result ≡ (length self.now == 0) }
     {
         self.items.is_empty()
     }

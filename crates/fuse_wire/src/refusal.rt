@@ -10,7 +10,7 @@ use eden_base::{Errno, NameFault};
 /// The reply to bytes that `read_request` refused. A forget has none, nor have bytes without a whole header. It takes
 /// no memory.
 pub fn fault_reply(bytes: &[u8], fault: &WireFault) -> Option<Reply>
-    ensures { result ≡ fault_reply_of bytes.now fault.now }
+    ensures reply { result ≡ fault_reply_of bytes.now fault.now }
 {
     if bytes.len() < Header::LEN {
         return None;

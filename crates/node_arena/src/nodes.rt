@@ -43,7 +43,7 @@ impl<T> Nodes<T> {
     pub fn new(alloc: Global, capacity: usize) -> Result<Nodes<T>, AllocError>
         requires least { 1 ≤ capacity }
         requires most { capacity ≤ 65536 }
-        ensures { IfOk result (λ n. n ≡ arena [] capacity) }
+        ensures new { IfOk result (λ n. n ≡ arena [] capacity) }
     {
         let count = capacity + 2;
         let mut region = Region::new(alloc, count)?;
@@ -69,14 +69,14 @@ impl<T> Nodes<T> {
 
     /// How many values there may be.
     pub fn capacity(&self) -> usize
-        ensures { result ≡ self.now.capacity }
+        ensures capacity { result ≡ self.now.capacity }
     {
         self.capacity as usize
     }
 
     /// Whether the slot is of a value that is there.
     pub fn is_held(&self, slot: Slot) -> bool
-        ensures { IsTrue result ↔ IsHeld self.now slot }
+        ensures held { IsTrue result ↔ IsHeld self.now slot }
     {
         if slot.index >= self.region.count {
             return false;
@@ -87,7 +87,7 @@ impl<T> Nodes<T> {
     /// The value of the slot.
     pub fn get(&self, slot: Slot) -> &T
         requires { IsHeld self.now slot }
-        ensures { value_at self.now slot ≡ Some result.now }
+        ensures value { value_at self.now slot ≡ Some result.now }
     {
         self.region.value(self.region.link(slot.index))
     }

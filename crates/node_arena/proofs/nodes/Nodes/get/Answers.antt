@@ -16,6 +16,7 @@ value-requires g c = (
 )
 
 pub returns : goal.returns
-returns g c =
-    value_here c.self.inside.region c.self.inside.capacity c.self.inside.len c.self.invariant c.args.self.now c.self.view_is c.args.slot
-    ∙ ap (item_of c.self.inside.region) (sym c.link.ensures.1) ∙ c.value.ensures
+returns g c = record {
+  value = value_here c.self.inside.region c.self.inside.capacity c.self.inside.len c.self.invariant c.args.self.now c.self.view_is c.args.slot
+      ∙ ap (item_of c.self.inside.region) (sym c.link.ensures.1) ∙ c.value.ensures;
+}
