@@ -25,29 +25,52 @@ fn manifest_text(alloc: Global, lines: u32) -> Result<Vec<u8>, AllocError> {
     Ok(text)
 }
 
+/// A manifest of this many lines. Says how long it took to read.
+fn read_manifest(rt: &HostRuntime, lines: u32) -> Result<Manifest> {
+    let text = manifest_text(rt.alloc(), lines)?;
+    let started = Instant::now(rt)?;
+    let manifest = Manifest::read(rt.alloc(), text.as_slice())?;
+    let took = started.elapsed(rt)?;
+    eprintln!(rt; "{lines} lines: read in {took:?}")?;
+    Ok(manifest)
+}
+
+/// The tree of a manifest. Says how long it took to make.
+fn make_tree(rt: &HostRuntime, manifest: &Manifest) -> Result<Tree> {
+    let started = Instant::now(rt)?;
+    let tree = Tree::of(rt.alloc(), manifest)?;
+    let took = started.elapsed(rt)?;
+    eprintln!(rt; "tree made in {took:?}")?;
+    Ok(tree)
+}
+
+/// How many of 100,000 look-ups of one name find a file.
+fn found_of(tree: &Tree, name: &Name) -> u32 {
+    let mut found = 0u32;
+    for _ in 0..100_000u32 {
+        if tree.child(FileId(2), name).is_some() {
+            found = found.wrapping_add(1);
+        }
+    }
+    found
+}
+
+/// Says how many look-ups found a file, and how long all took.
+fn look_up(rt: &HostRuntime, lines: u32, tree: &Tree) -> Result<()> {
+    let name = Name::parse(rt.alloc(), b"file63.txt".as_slice())?;
+    let started = Instant::now(rt)?;
+    let found = found_of(tree, &name);
+    let took = started.elapsed(rt)?;
+    println!(rt; "{lines} lines, {found} found")?;
+    eprintln!(rt; "100,000 look-ups in {took:?}")?;
+    Ok(())
+}
+
 fn main(rt: HostRuntime) -> Result<()> {
     for lines in LINES {
-        let text = manifest_text(rt.alloc(), lines)?;
-        let started = Instant::now(&rt)?;
-        let manifest = Manifest::read(rt.alloc(), text.as_slice())?;
-        let read = started.elapsed(&rt)?;
-        let started = Instant::now(&rt)?;
-        let tree = Tree::of(rt.alloc(), &manifest)?;
-        let made = started.elapsed(&rt)?;
-        let name = Name::parse(rt.alloc(), b"file63.txt".as_slice())?;
-        let mut found = 0u32;
-        let started = Instant::now(&rt)?;
-        for _ in 0..100_000u32 {
-            if tree.child(FileId(2), &name).is_some() {
-                found = found.wrapping_add(1);
-            }
-        }
-        let looked_up = started.elapsed(&rt)?;
-        let bytes = text.len();
-        println!(rt; "{lines} lines, {found} found")?;
-        eprintln!(rt;
-            "{lines} lines, {bytes} bytes: read {read:?}, tree {made:?}, 100,000 look-ups {looked_up:?}"
-        )?;
+        let manifest = read_manifest(&rt, lines)?;
+        let tree = make_tree(&rt, &manifest)?;
+        look_up(&rt, lines, &tree)?;
     }
     Ok(())
 }
