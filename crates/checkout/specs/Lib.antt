@@ -5,3 +5,4 @@ pub mod ManifestText
 pub mod Names
 pub mod Text
 pub mod Tree
+pub mod Words

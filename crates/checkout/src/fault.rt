@@ -1,4 +1,7 @@
 //! Why bytes are no manifest.
+ghost use Rattle.std.specs.Prelude.{Some};
+ghost use Rattle.checkout.specs.Words.{kind_text};
+
 use std::fmt;
 use thiserror::Error;
 
@@ -35,6 +38,8 @@ pub enum ManifestFaultKind {
 }
 
 impl fmt::Display for ManifestFaultKind {
+    ghost output = { λ kind. Some (kind_text kind) };
+
     fn fmt<W: fmt::Write>(&self, f: &mut fmt::Formatter<W>) -> fmt::Result {
         f.write_str(match self {
             ManifestFaultKind::NoCommit => "NoCommit",

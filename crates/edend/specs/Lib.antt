@@ -7,3 +7,4 @@ pub mod Printed
 pub mod Refusal
 pub mod Script
 pub mod Words
+pub mod CommandLine
