@@ -44,11 +44,32 @@ fn make_tree(rt: &HostRuntime, manifest: &Manifest) -> Result<Tree> {
     Ok(tree)
 }
 
-/// How many of 100,000 look-ups of one name find a file.
-fn found_of(tree: &Tree, name: &Name) -> u32 {
+/// A file's directory, and its name there.
+#[derive(Drop)]
+struct Sought {
+    dir: FileId,
+    name: Name,
+}
+
+/// The files among the first 1,000 lines of such a manifest.
+fn sought_files(alloc: Global) -> Result<Vec<Sought>> {
+    let mut files = Vec::new(alloc);
+    for i in 2..1000u64 {
+        if i % 64 != 0 {
+            let dir = FileId((i - i % 64).max(1) + 1);
+            let name = format!(in alloc; "file{i}.txt")?;
+            let name = Name::parse(alloc, name.as_bytes())?;
+            files.push(Sought { dir, name })?;
+        }
+    }
+    Ok(files)
+}
+
+/// How many of the files the tree has.
+fn found_of(tree: &Tree, files: &[Sought]) -> u32 {
     let mut found = 0u32;
-    for _ in 0..100_000u32 {
-        if tree.child(FileId(2), name).is_some() {
+    for file in files {
+        if tree.child(file.dir, &file.name).is_some() {
             found = found.wrapping_add(1);
         }
     }
@@ -57,12 +78,16 @@ fn found_of(tree: &Tree, name: &Name) -> u32 {
 
 /// Says how many look-ups found a file, and how long all took.
 fn look_up(rt: &HostRuntime, lines: u32, tree: &Tree) -> Result<()> {
-    let name = Name::parse(rt.alloc(), b"file63.txt".as_slice())?;
+    let files = sought_files(rt.alloc())?;
     let started = Instant::now(rt)?;
-    let found = found_of(tree, &name);
+    let mut found = 0u32;
+    for _ in 0..100u32 {
+        found = found.wrapping_add(found_of(tree, files.as_slice()));
+    }
     let took = started.elapsed(rt)?;
-    println!(rt; "{lines} lines, {found} found")?;
-    eprintln!(rt; "100,000 look-ups in {took:?}")?;
+    let tries = files.len().saturating_mul(100);
+    println!(rt; "{lines} lines, {found} of {tries} found")?;
+    eprintln!(rt; "{tries} look-ups in {took:?}")?;
     Ok(())
 }
 
