@@ -1,10 +1,9 @@
 -- The first faulty line.
-use Rattle.std.proofs.Common.{◌≡◌, ℕ, zero, suc, ◌+◌, ◌<◌, ◌≤◌, List, [], ◌∷◌, ◌++◌, length, Option, Some, None, Result, Ok, Err, IsOk, IfErr, IsOkAnd, refl, sym, ap, subst, ◌∙◌, arith}
+use Rattle.std.proofs.Common.{◌≡◌, ℕ, suc, ◌+◌, ◌<◌, ◌≤◌, List, [], ◌∷◌, ◌++◌, length, Some, Result, Ok, Err, IsOk, IfErr, IsOkAnd, refl, sym, ap, ◌∙◌, arith}
 use Rattle.checkout.specs.declared.fault.ManifestFault.{ManifestFault}
 use Rattle.checkout.specs.declared.fault.ManifestFaultKind.{ManifestFaultKind}
 use Rattle.checkout.specs.declared.fault.ManifestFaultKind.TheVariants.{NoCommit, BadLine, BadMode, BadSize, BadPath, NoParent, Twice, TooManyLines, NoMemory}
-use Rattle.checkout.specs.Manifest.{Line, Manifest}
-use Rattle.checkout.specs.Text.{parts}
+use Rattle.checkout.specs.Manifest.{Line}
 use Rattle.checkout.specs.ManifestText.{line_of_text, on_line, fault_at, lines_of, read_on, with_commit, after_commit, IsLineRefusal, IsRefusal, IsAmongLines}
 use Rattle.checkout.proofs.TextLemmas.{some_part}
 

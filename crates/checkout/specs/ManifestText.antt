@@ -1,6 +1,6 @@
 -- The text of a manifest, line by line. (This project's own format. A commit is named by the twenty bytes of a hash,
 -- as in Git and EdenFS.)
-use Rattle.std.specs.Prelude.{◌≡◌, ℕ, ◌+◌, ◌-◌, ◌<◌, ◌≤◌, Bool, not, nat_lt, List, [], ◌∷◌, ◌++◌, length, codes, Option, Some, None, is_none, is_some, Result, Ok, Err, IsOk, IfErr, unwrap_or, if◌then◌else◌}
+use Rattle.std.specs.Prelude.{◌≡◌, ℕ, ◌+◌, ◌<◌, ◌≤◌, not, nat_lt, List, [], ◌∷◌, ◌++◌, length, codes, Option, Some, None, is_none, is_some, Result, Ok, Err, IsOk, IfErr, unwrap_or, if◌then◌else◌}
 use Rattle.std.specs.Option.{option_map, option_and_then, option_or}
 use Rattle.std.specs.Result.{result_ok}
 use Rattle.std.specs.List.{list_all}
@@ -12,7 +12,7 @@ use Rattle.eden_base.specs.declared.number.FileId.{FileId}
 use Rattle.checkout.specs.declared.fault.ManifestFault.{ManifestFault}
 use Rattle.checkout.specs.declared.fault.ManifestFaultKind.{ManifestFaultKind}
 use Rattle.checkout.specs.declared.fault.ManifestFaultKind.TheVariants.{NoCommit, BadLine, BadMode, BadSize, BadPath, NoParent, Twice, TooManyLines, NoMemory}
-use Rattle.checkout.specs.Manifest.{File, Line, Manifest}
+use Rattle.checkout.specs.Manifest.{Line, Manifest}
 use Rattle.checkout.specs.Names.{is_name}
 use Rattle.eden_base.specs.Text.{cut}
 use Rattle.checkout.specs.Text.{after, parts, front, last, mode_of, size_of}

@@ -1,6 +1,5 @@
 -- Texts in parts, and the numbers that digits write.
-use Rattle.std.specs.Prelude.{ℕ, ◌+◌, ◌-◌, ◌*◌, ◌^◌, ◌==◌, ◌&&◌, min, not, Bool, false, nat_le, nat_lt, nat_eq, List, [], ◌∷◌, length, take, drop, position, fold, Option, Some, None, if◌then◌else◌}
-use Rattle.std.specs.Option.{option_map}
+use Rattle.std.specs.Prelude.{ℕ, ◌+◌, ◌-◌, ◌*◌, ◌^◌, ◌==◌, ◌&&◌, min, not, Bool, false, nat_le, nat_lt, nat_eq, List, [], ◌∷◌, length, take, drop, fold, Option, Some, None, if◌then◌else◌}
 use Rattle.std.specs.List.{list_all}
 use Rattle.std.specs.Cmp.Lexicographic.{pointwise}
 use Rattle.std.proofs.Math.Nat.{min-le_right}

@@ -80,10 +80,8 @@ pub fn kind_of(lines: &[Line], file: FileId) -> Option<Kind>
     if file.0 == 1 {
         return Some(Kind::Dir);
     }
-    match line_of(lines, file) {
-        Some(line) => Some(line.kind),
-        None => None,
-    }
+    let line = line_of(lines, file)?;
+    Some(line.kind)
 }
 
 /// What a daemon tells the kernel of a file of these lines, or of the root, while the names lead to them.
@@ -98,8 +96,6 @@ pub fn attr_of(lines: &[Line], file: FileId) -> Option<Attr>
             nlink: 2,
         });
     }
-    match line_of(lines, file) {
-        Some(line) => Some(line.attr()),
-        None => None,
-    }
+    let line = line_of(lines, file)?;
+    Some(line.attr())
 }

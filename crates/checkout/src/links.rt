@@ -48,10 +48,7 @@ impl Links {
     pub fn get(&self, dir: FileId, name: &[u8]) -> Option<FileId>
         ensures { result ≡ get self.now (dir.0, name.now) }
     {
-        match self.directories.get(&dir.0) {
-            Some(directory) => directory.get(name),
-            None => None,
-        }
+        self.directories.get(&dir.0)?.get(name)
     }
 
     /// Whether a name stands in the directory.

@@ -74,9 +74,8 @@ impl Reading {
     {
         let entry = Entry::read(text)?;
         let (dir, bytes) = self.place(entry.path)?;
-        let name = match Name::parse(alloc, bytes) {
-            Ok(name) => name,
-            Err(_) => return Err(ManifestFaultKind::NoMemory),
+        let Ok(name) = Name::parse(alloc, bytes) else {
+            return Err(ManifestFaultKind::NoMemory);
         };
         let line = Line {
             dir,
@@ -106,14 +105,11 @@ impl Reading {
         let Some((dir, name)) = self.walk(path) else {
             return Err(ManifestFaultKind::NoParent);
         };
-        match kind_of(self.lines.as_slice(), dir) {
-            Some(Kind::Dir) => {}
-            Some(Kind::File) => return Err(ManifestFaultKind::NoParent),
-            None => return Err(ManifestFaultKind::NoParent),
+        if kind_of(self.lines.as_slice(), dir) != Some(Kind::Dir) {
+            return Err(ManifestFaultKind::NoParent);
         }
-        match self.links.get(dir, name) {
-            None => {}
-            Some(_) => return Err(ManifestFaultKind::Twice),
+        if self.links.get(dir, name).is_some() {
+            return Err(ManifestFaultKind::Twice);
         }
         if self.len() >= Reading::MAX_LINES {
             return Err(ManifestFaultKind::TooManyLines);
@@ -129,10 +125,7 @@ impl Reading {
         let mut dir = FileId::ROOT;
         let mut rest = path;
         while let Some((first, after)) = cut(rest, b'/') {
-            match self.links.get(dir, first) {
-                Some(child) => dir = child,
-                None => return None,
-            }
+            dir = self.links.get(dir, first)?;
             rest = after;
         }
         Some((dir, rest))

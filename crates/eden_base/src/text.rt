@@ -8,10 +8,8 @@ pub fn cut(bytes: &[u8], byte: u8) -> Option<(&[u8], &[u8])>
     ensures parts { option_map (λ p. (p.0.now, p.1.now)) result ≡ cut byte bytes.now }
     ensures shorter { IfSome result (λ p. length p.1.now < length bytes.now) }
 {
-    match first_of(bytes, byte) {
-        Some(i) => Some((&bytes[..i], &bytes[i + 1..])),
-        None => None,
-    }
+    let place = first_of(bytes, byte)?;
+    Some((&bytes[..place], &bytes[place + 1..]))
 }
 
 /// Where the first of this byte stands.

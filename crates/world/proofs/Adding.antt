@@ -1,18 +1,17 @@
 -- What a daemon knows fits together after a place got the next number.
-use Rattle.std.proofs.Common.{◌≡◌, ℕ, zero, suc, ◌+◌, ◌-◌, ◌^◌, ◌<◌, ◌≤◌, Bool, true, false, cond, ◌&&◌, ◌||◌, List, [], ◌∷◌, ◌++◌, Option, Some, None, refl, sym, ap, ◌∙◌, subst, inl, inr, ◌⊎◌, arith, add-one}
+use Rattle.std.proofs.Common.{◌≡◌, ℕ, ◌+◌, ◌-◌, ◌^◌, ◌<◌, ◌≤◌, Bool, true, false, ◌||◌, List, [], ◌∷◌, ◌++◌, Option, Some, None, refl, sym, ap, ◌∙◌, subst, inl, inr, ◌⊎◌, arith, add-one}
 use Rattle.std.specs.Prelude.{◌==◌, IsSome, nat_eq}
 use Rattle.std.specs.Option.{option_and_then}
 use Rattle.std.specs.List.{list_any}
 use Rattle.std.specs.Cmp.Lexicographic.{pointwise}
 use Rattle.eden_base.specs.declared.number.FileId.{FileId}
 use Rattle.eden_base.specs.declared.number.Number.{Number}
-use Rattle.eden_base.specs.declared.place.Place.{Place}
-use Rattle.eden_base.specs.declared.place.Place.TheVariants.{Linked, Unlinked}
+use Rattle.eden_base.specs.declared.place.Place.TheVariants.{Linked}
 use Rattle.checkout.specs.Tree.{Tree, IsTree, child_of, is_unlinked, is_linked}
-use Rattle.world.specs.InodeMap.{has_number, entry_of, entry_at, stands_at, is_place, new_entry, file_in, file_of_place, is_kid_of, is_of_use, greatest_count, count_of}
+use Rattle.world.specs.InodeMap.{has_number, entry_of, entry_at, stands_at, is_place, new_entry, file_in, file_of_place, is_kid_of, is_of_use, greatest_count}
 use Rattle.world.specs.Served.{IsUnlinkedPlace}
 use Rattle.world.specs.declared.inode_map.Kept.{Kept}
-use Rattle.world.proofs.EntryLemmas.{eq-true, true-eq, false-ne, append-same, append-other, numbers-append, numbers-entry, numbers-outside, numbers-bound, first-none, any-append}
+use Rattle.world.proofs.EntryLemmas.{eq-true, true-eq, false-ne, append-same, append-other, numbers-append, numbers-outside, numbers-bound, first-none, any-append}
 use Rattle.world.proofs.FileLemmas.{Extends, file_in-extended, file_in-entry}
 use Rattle.world.proofs.Fitting.{Fits, AreOfUseBut, some-is, some-IsSome, IsKnown, entry-place, linked_is_not_unlinked}
 use Rattle.world.proofs.Changing.{counted-of_use}

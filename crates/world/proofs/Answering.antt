@@ -1,6 +1,6 @@
 -- The answer to a look-up is one that the world may give, and the daemon knows what the world has after it.
-use Rattle.std.proofs.Common.{◌≡◌, ℕ, zero, suc, ◌+◌, ◌-◌, ◌^◌, ◌<◌, ◌≤◌, Bool, true, false, cond, List, [], ◌∷◌, ◌++◌, Option, Some, None, Result, Ok, Err, is_some, refl, sym, ap, ◌∙◌, subst, inl, inr, ◌⊎◌, arith}
-use Rattle.std.specs.Prelude.{◌==◌, IsSome, nat_le, if◌then◌else◌}
+use Rattle.std.proofs.Common.{◌≡◌, ℕ, ◌+◌, ◌^◌, ◌<◌, ◌≤◌, Bool, true, false, List, [], ◌∷◌, ◌++◌, Option, Some, None, Result, Ok, Err, is_some, refl, sym, ap, ◌∙◌, subst, inl, inr, ◌⊎◌, arith}
+use Rattle.std.specs.Prelude.{nat_le, if◌then◌else◌}
 use Rattle.std.specs.Option.{option_map_or}
 use Rattle.std.proofs.lemmas.Bool.Decides.{nat_tests}
 use Rattle.eden_base.specs.First.{changed_where}
@@ -12,13 +12,12 @@ use Rattle.eden_base.specs.declared.number.Number.{Number}
 use Rattle.broker_core.specs.declared.request.Answer.{Answer}
 use Rattle.broker_core.specs.declared.request.Answer.TheVariants.{Entry, Error}
 use Rattle.broker_core.specs.declared.request.Request.TheVariants.{Lookup}
-use Rattle.checkout.specs.Tree.{attr_of, root}
 use Rattle.world.specs.InodeMap.{MapState, entry_of, entry_at, count_of, stands_at, file_in, give_fault_at, given, number_given, once_more, new_entry, greatest_count, end_of_numbers}
 use Rattle.world.specs.Served.{ServedState, found_in, GivesEntry, LooksFound, LooksUp}
 use Rattle.world.specs.World.{World, file_named, times, owed, IsLive, IsNumberOf, IsFree, IsAtGreatest, HasNoNumber, MayAnswerFile, MayAnswerFound, MayAnswer, named_file, named_after, held_after}
 use Rattle.world.specs.declared.inode_map.Kept.{Kept}
 use Rattle.world.proofs.EntryLemmas.{entry_of-first, first-passes, numbers-entry, numbers-bound}
-use Rattle.world.proofs.FileLemmas.{file_in-root, known-entry}
+use Rattle.world.proofs.FileLemmas.{known-entry}
 use Rattle.world.proofs.Fitting.{IsKnown, some-IsSome, known-from, not-one}
 use Rattle.world.proofs.Adding.{at_place}
 use Rattle.world.proofs.Looking.{Knows, Found, served_over, live-known, known-file, found-child, stands-place, number-entry, entry-named, counted-knows, added-knows}

@@ -1,15 +1,15 @@
 -- What a daemon knows fits together after the count of a number changed.
-use Rattle.std.proofs.Common.{◌≡◌, ℕ, zero, suc, ◌+◌, ◌-◌, ◌<◌, ◌≤◌, Bool, true, false, cond, ◌||◌, List, [], ◌∷◌, Option, Some, None, refl, sym, ap, ◌∙◌, subst, inl, inr, ◌⊎◌, arith}
+use Rattle.std.proofs.Common.{◌≡◌, ℕ, ◌<◌, ◌≤◌, Bool, true, false, ◌||◌, List, Option, Some, None, refl, sym, ap, ◌∙◌, subst, inl, inr, ◌⊎◌, arith}
 use Rattle.std.specs.Prelude.{◌==◌, IsSome, nat_lt}
 use Rattle.std.specs.Option.{option_map, option_map_or}
 use Rattle.std.specs.List.{list_any}
 use Rattle.std.proofs.lemmas.Bool.Decides.{nat_tests}
 use Rattle.eden_base.specs.declared.number.FileId.{FileId}
-use Rattle.eden_base.specs.First.{first_where, changed_where}
+use Rattle.eden_base.specs.First.{changed_where}
 use Rattle.checkout.specs.Tree.{Tree}
 use Rattle.world.specs.InodeMap.{has_number, entry_of, count_of, file_in, is_kid_of, is_in, is_of_use, greatest_count}
 use Rattle.world.specs.declared.inode_map.Kept.{Kept}
-use Rattle.world.proofs.EntryLemmas.{true-eq, false-ne, changed-same, changed-other, numbers-changed, any-changed, entry_of-number}
+use Rattle.world.proofs.EntryLemmas.{true-eq, false-ne, changed-same, changed-other, numbers-changed, any-changed}
 use Rattle.world.proofs.FileLemmas.{Extends, file_in-extended}
 use Rattle.world.proofs.Fitting.{Fits, AreOfUseBut, some-is, some-IsSome}
 

@@ -1,5 +1,5 @@
 -- The daemons of a world after one of them started, mounted or worked.
-use Rattle.std.proofs.Common.{◌≡◌, ℕ, suc, zero, ◌+◌, ◌-◌, ◌<◌, ◌≤◌, Bool, true, false, cond, eqb, List, [], ◌∷◌, ◌++◌, length, Option, Some, None, get_or, set, refl, sym, ap, ◌∙◌, subst, if◌then◌else◌, arith}
+use Rattle.std.proofs.Common.{◌≡◌, ℕ, suc, zero, ◌-◌, ◌<◌, ◌≤◌, Bool, true, false, List, [], ◌∷◌, ◌++◌, length, Option, Some, None, get_or, set, refl, sym, ap, ◌∙◌, subst, if◌then◌else◌, arith}
 use Rattle.std.proofs.lemmas.Bool.Decides.{nat_tests}
 use Rattle.std.proofs.lemmas.Option.{get_or_from_slice_get, slice_get_read}
 use Rattle.std.specs.Prelude.{slice_get, ◌==◌, MatchOption}
@@ -11,8 +11,7 @@ use Rattle.broker_core.specs.declared.seat.Seat.{Seat}
 use Rattle.world.specs.declared.daemon.Daemon.{Daemon}
 use Rattle.world.specs.declared.daemon.Daemon.TheVariants.{Waiting, Serving}
 use Rattle.world.specs.declared.inode_map.Forgot.{Forgot}
-use Rattle.world.specs.InodeMap.{forgot, forgotten}
-use Rattle.world.specs.Served.{ServedState, LooksUp}
+use Rattle.world.specs.Served.{ServedState}
 use Rattle.world.specs.State.{State, daemon_of}
 use Rattle.world.specs.DaemonWork.{is_waiting, IsServing, DaemonLooks, DaemonForgets, ServesAt, LooksAt, ForgetsAt, HolderServes}
 use Rattle.world.specs.Holder.{place_of_daemon, HolderIsAt}

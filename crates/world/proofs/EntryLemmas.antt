@@ -1,13 +1,13 @@
 -- What a number's entry is after a change, a removal, an addition; and members of a list with rising numbers.
-use Rattle.std.proofs.Common.{◌≡◌, ℕ, zero, suc, ◌+◌, ◌<◌, ◌≤◌, Bool, true, false, cond, ◌||◌, List, [], ◌∷◌, ◌++◌, Option, Some, None, is_some, refl, sym, ap, ◌∙◌, subst, inl, inr, ◌⊎◌, arith, length}
-use Rattle.std.specs.Prelude.{◌==◌, IsSome, if◌then◌else◌}
-use Rattle.std.specs.Option.{option_map, option_map_or}
+use Rattle.std.proofs.Common.{◌≡◌, ℕ, suc, ◌+◌, ◌<◌, ◌≤◌, Bool, true, false, cond, ◌||◌, List, [], ◌∷◌, ◌++◌, Option, Some, None, is_some, refl, sym, ap, ◌∙◌, subst, inl, inr, ◌⊎◌, arith, length}
+use Rattle.std.specs.Prelude.{◌==◌, if◌then◌else◌}
+use Rattle.std.specs.Option.{option_map}
 use Rattle.std.specs.List.{list_any}
 use Rattle.std.proofs.lemmas.Bool.Decides.{nat_tests}
 use Rattle.eden_base.specs.declared.number.Number.{Number}
 use Rattle.eden_base.specs.First.{first_where, changed_where, without_where}
 use Rattle.eden_base.proofs.FirstLemmas.{first_where-append, first_where-changed_same, first_where-changed_other, first_where-without_other}
-use Rattle.world.specs.InodeMap.{has_number, entry_of, count_of, is_kid_of}
+use Rattle.world.specs.InodeMap.{has_number, entry_of}
 use Rattle.world.specs.Served.{AreNumbers}
 use Rattle.world.specs.declared.inode_map.Kept.{Kept}
 

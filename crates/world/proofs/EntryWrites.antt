@@ -1,20 +1,18 @@
 -- What dropping, lowering and following the entries of an inode map makes of them.
-use Rattle.std.proofs.Common.{◌≡◌, ℕ, suc, zero, ◌+◌, ◌-◌, ◌<◌, ◌≤◌, Bool, true, false, cond, leb, ltb, eqb, List, [], ◌∷◌, length, Option, Some, None, get_or, set, take, drop, refl, sym, ap, ◌∙◌, subst, if◌then◌else◌, arith, length-append}
-use Rattle.std.proofs.lemmas.Bool.Decides.{nat_tests}
+use Rattle.std.proofs.Common.{◌≡◌, ℕ, suc, zero, ◌-◌, ◌<◌, Bool, true, false, List, [], ◌∷◌, length, Option, Some, None, get_or, set, refl, sym, ap, ◌∙◌, arith}
 use Rattle.std.proofs.lemmas.List.{get_or_read}
-use Rattle.eden_base.proofs.FirstLemmas.{IsFirstPlace-here, without_where-none}
+use Rattle.eden_base.proofs.FirstLemmas.{IsFirstPlace-here}
 use Rattle.checkout.specs.Tree.{Tree, child_of, root}
-use Rattle.std.specs.Prelude.{slice_set, slice_index_or, remove, not, nat_lt, nat_le, ◌==◌, ◌||◌}
-use Rattle.std.specs.List.{list_any}
+use Rattle.std.specs.Prelude.{remove, not, ◌==◌}
 use Rattle.std.specs.Option.{option_map_or, option_and_then}
 use Rattle.eden_base.specs.declared.number.Number.{Number}
 use Rattle.eden_base.specs.declared.number.FileId.{FileId}
 use Rattle.eden_base.specs.declared.place.Place.{Place}
 use Rattle.eden_base.specs.declared.place.Place.TheVariants.{Linked, Unlinked}
-use Rattle.eden_base.specs.First.{first_where, changed_where, without_where, IsFirstPlace}
+use Rattle.eden_base.specs.First.{without_where, IsFirstPlace}
 use Rattle.world.specs.declared.inode_map.Kept.{Kept}
-use Rattle.world.specs.InodeMap.{has_number, entry_of, count_of, file_in, file_of_place, dir_or_root, is_kid_of, is_of_use, is_useless, is_bad_item, lowered, pruned, dir_of, dir_above}
-use Rattle.world.specs.EntryPlaces.{IsUselessPlace, lowered_or_same}
+use Rattle.world.specs.InodeMap.{has_number, entry_of, count_of, file_in, file_of_place, dir_or_root, is_of_use, is_useless, lowered, pruned, dir_of, dir_above}
+use Rattle.world.specs.EntryPlaces.{IsUselessPlace}
 
 -- an entry, for lists that have none
 abbrev pub nobody : Kept

@@ -1,15 +1,12 @@
 -- What a daemon knows fits together, but for numbers of no use; kept by a change of counts.
-use Rattle.std.proofs.Common.{◌≡◌, ℕ, zero, suc, ◌+◌, ◌^◌, ◌<◌, ◌≤◌, Bool, true, false, cond, ◌&&◌, ◌||◌, not, List, [], ◌∷◌, ◌++◌, Option, Some, None, is_some, refl, sym, ap, ◌∙◌, subst, inl, inr, ◌⊎◌, arith, length}
-use Rattle.std.specs.Prelude.{◌==◌, ◌↔◌, IsSome, IsTrue, nat_lt, if◌then◌else◌}
-use Rattle.std.specs.Option.{option_map, option_and_then}
-use Rattle.std.specs.List.{list_any}
+use Rattle.std.proofs.Common.{◌≡◌, ℕ, zero, suc, ◌^◌, ◌<◌, ◌≤◌, Bool, true, false, cond, ◌&&◌, not, List, Option, Some, None, refl, sym, ap, ◌∙◌, subst, inl, inr, ◌⊎◌, arith}
+use Rattle.std.specs.Prelude.{◌==◌, ◌↔◌, IsSome, IsTrue}
 use Rattle.eden_base.specs.declared.number.Number.{Number}
 use Rattle.eden_base.specs.declared.number.FileId.{FileId}
 use Rattle.eden_base.specs.declared.place.Place.{Place}
 use Rattle.eden_base.specs.declared.place.Place.TheVariants.{Linked, Unlinked}
-use Rattle.eden_base.specs.First.{first_where, changed_where, without_where}
 use Rattle.checkout.specs.Tree.{Tree, IsTree, child_of, root, file_of as tree_file, is_unlinked, is_linked}
-use Rattle.world.specs.InodeMap.{has_number, entry_of, file_in, file_of_place, dir_or_root, is_kid_of, is_of_use, greatest_count}
+use Rattle.world.specs.InodeMap.{entry_of, file_in, file_of_place, dir_or_root, is_of_use, greatest_count}
 use Rattle.world.specs.Served.{ServedState, AreNumbers, IsSound, IsUnlinkedPlace}
 use Rattle.world.specs.declared.inode_map.Kept.{Kept}
 use Rattle.world.proofs.EntryLemmas.{eq-true, eq-false, true-eq}

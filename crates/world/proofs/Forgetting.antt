@@ -1,6 +1,6 @@
 -- A forget of what the kernel holds is applied, and the daemon counts what the kernel holds after it.
-use Rattle.std.proofs.Common.{◌≡◌, ℕ, zero, suc, ◌+◌, ◌-◌, ◌<◌, ◌≤◌, Bool, true, false, cond, ◌||◌, List, [], ◌∷◌, Option, Some, None, refl, sym, ap, ◌∙◌, subst, inl, inr, ◌⊎◌, arith, length}
-use Rattle.std.specs.Prelude.{◌==◌, ◌↔◌, IsSome, nat_lt, if◌then◌else◌}
+use Rattle.std.proofs.Common.{◌≡◌, ℕ, suc, ◌+◌, ◌-◌, ◌≤◌, Bool, true, false, cond, List, [], ◌∷◌, Option, Some, refl, sym, ap, ◌∙◌, subst, inl, inr, ◌⊎◌, arith, length}
+use Rattle.std.specs.Prelude.{◌==◌, IsSome, nat_lt, if◌then◌else◌}
 use Rattle.std.specs.Option.{option_map_or}
 use Rattle.std.proofs.lemmas.Bool.Decides.{nat_tests}
 use Rattle.eden_base.specs.First.{changed_where}
@@ -11,9 +11,9 @@ use Rattle.world.specs.World.{times, without_times}
 use Rattle.world.specs.declared.inode_map.Forgot.{Forgot}
 use Rattle.world.specs.declared.inode_map.Forgot.TheVariants.{Lowered, Dropped, Bad, Root}
 use Rattle.world.specs.declared.inode_map.Kept.{Kept}
-use Rattle.world.proofs.EntryLemmas.{eq-true, eq-false, true-eq, false-ne}
+use Rattle.world.proofs.EntryLemmas.{eq-false, true-eq, false-ne}
 use Rattle.world.proofs.FileLemmas.{file_in-root, file_in-extended}
-use Rattle.world.proofs.Fitting.{Fits, AreOfUseBut, IsKnown, some-is, some-IsSome}
+use Rattle.world.proofs.Fitting.{Fits, IsKnown, some-is, some-IsSome}
 use Rattle.world.proofs.Changing.{KeepsPlace, fits-changed, lowered-of_use, changed-extends, changed-was, count-changed_same, count-changed_other}
 use Rattle.world.proofs.Pruning.{IsPruned, pruned-IsPruned}
 use Rattle.world.proofs.Looking.{Knows, counted_entry}

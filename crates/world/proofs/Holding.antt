@@ -1,11 +1,11 @@
 -- How often the kernel holds a number, after one more time and after fewer.
-use Rattle.std.proofs.Common.{◌≡◌, ℕ, zero, suc, ◌+◌, ◌-◌, ◌<◌, ◌≤◌, Bool, true, false, cond, List, [], ◌∷◌, ◌++◌, Option, Some, None, is_some, refl, sym, ap, ◌∙◌, subst, inl, inr, ◌⊎◌, arith}
+use Rattle.std.proofs.Common.{◌≡◌, ℕ, ◌+◌, ◌-◌, ◌≤◌, Bool, true, false, cond, List, [], ◌∷◌, ◌++◌, Option, Some, None, is_some, refl, sym, ap, ◌∙◌, subst, arith}
 use Rattle.std.specs.Prelude.{◌==◌, nat_le, if◌then◌else◌}
 use Rattle.std.specs.Option.{option_map, option_map_or}
 use Rattle.std.proofs.lemmas.Bool.Decides.{nat_tests}
 use Rattle.eden_base.specs.declared.number.Number.{Number}
 use Rattle.eden_base.specs.First.{first_where, changed_where, without_where}
-use Rattle.eden_base.proofs.FirstLemmas.{first_where-append, first_where-changed_same, first_where-changed_other, first_where-without_other, without_where-none}
+use Rattle.eden_base.proofs.FirstLemmas.{first_where-append, first_where-changed_same, first_where-changed_other, first_where-without_other}
 use Rattle.broker_core.specs.Broker.{has_number, held_count, raised, lowered}
 use Rattle.broker_core.specs.declared.held.Held.{Held}
 use Rattle.world.specs.Agreement.{IsOnce}

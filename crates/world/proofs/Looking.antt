@@ -1,31 +1,24 @@
 -- A look-up is answered as the world may answer it, and what the daemon knows is what the world has after it.
-use Rattle.std.proofs.Common.{◌≡◌, ℕ, zero, suc, ◌+◌, ◌-◌, ◌^◌, ◌<◌, ◌≤◌, Bool, true, false, cond, ◌&&◌, List, [], ◌∷◌, ◌++◌, Option, Some, None, Result, Ok, Err, is_some, refl, sym, ap, ◌∙◌, subst, inl, inr, ◌⊎◌, arith}
+use Rattle.std.proofs.Common.{◌≡◌, ℕ, ◌+◌, ◌<◌, ◌≤◌, Bool, true, false, ◌&&◌, List, [], ◌∷◌, ◌++◌, Option, Some, None, Ok, Err, is_some, refl, sym, ap, ◌∙◌, subst, inl, inr, ◌⊎◌, arith}
 use Rattle.std.specs.Prelude.{◌==◌, ◌↔◌, IsSome, nat_eq, nat_le, if◌then◌else◌}
 use Rattle.std.specs.Option.{option_map, option_map_or}
 use Rattle.std.specs.Cmp.Lexicographic.{pointwise, same_text}
 use Rattle.std.proofs.lemmas.Bool.Decides.{nat_tests}
-use Rattle.eden_base.specs.First.{first_where, changed_where}
-use Rattle.eden_base.specs.declared.attr.Attr.{Attr}
+use Rattle.eden_base.specs.First.{changed_where}
 use Rattle.eden_base.specs.declared.attr.Kind.{Kind}
 use Rattle.eden_base.specs.declared.attr.Kind.TheVariants.{Dir, File}
-use Rattle.eden_base.specs.declared.errno.Errno.{Errno}
-use Rattle.eden_base.specs.declared.errno.Errno.TheVariants.{ENOENT, EIO, ENOMEM, EEXIST, ENOTDIR, EISDIR, EINVAL, ENOSPC, ENAMETOOLONG, ENOSYS, ENOTEMPTY, EOVERFLOW, ESTALE}
+use Rattle.eden_base.specs.declared.errno.Errno.TheVariants.{ENOENT}
 use Rattle.eden_base.specs.declared.number.FileId.{FileId}
 use Rattle.eden_base.specs.declared.number.Number.{Number}
 use Rattle.eden_base.specs.declared.place.Place.{Place}
 use Rattle.eden_base.specs.declared.place.Place.TheVariants.{Linked, Unlinked}
-use Rattle.broker_core.specs.declared.request.Answer.{Answer}
-use Rattle.broker_core.specs.declared.request.Answer.TheVariants.{Entry, Error}
-use Rattle.broker_core.specs.declared.request.Request.TheVariants.{Lookup}
-use Rattle.checkout.specs.Tree.{Tree, IsTree, child_of, kind_of, attr_of, root}
+use Rattle.checkout.specs.Tree.{Tree, IsTree, child_of, kind_of, root}
 use Rattle.world.specs.InodeMap.{MapState, has_number, entry_of, entry_at, count_of, stands_at, is_place, file_in, give_fault, give_fault_at, given, number_given, once_more, new_entry, greatest_count, end_of_numbers}
-use Rattle.world.specs.Served.{ServedState, AreNumbers, found_in, found_in_dir, errno_of, GivesEntry, LooksFound, LooksUp}
-use Rattle.world.specs.World.{World, file_named, times, owed, IsLive, IsNumberOf, IsFree, IsAtGreatest, HasNoNumber, MayAnswerFile, MayAnswerFound, MayAnswer, named_file, named_after, held_after}
-use Rattle.world.specs.declared.inode_map.GiveFault.{GiveFault}
-use Rattle.world.specs.declared.inode_map.GiveFault.TheVariants.{NoNumber, TooMany, NoMemory}
+use Rattle.world.specs.Served.{ServedState, found_in, found_in_dir}
+use Rattle.world.specs.World.{World, file_named, times, owed, IsLive, IsNumberOf}
 use Rattle.world.specs.declared.inode_map.Kept.{Kept}
-use Rattle.world.proofs.EntryLemmas.{eq-true, eq-false, true-eq, false-ne, entry_of-first, changed-first, first-passes, numbers-entry, numbers-bound, append-same, append-other}
-use Rattle.world.proofs.FileLemmas.{file_in-root, file_in-extended, known-entry, file_in-entry}
+use Rattle.world.proofs.EntryLemmas.{eq-true, eq-false, true-eq, false-ne, entry_of-first, changed-first, numbers-entry, numbers-bound, append-same, append-other}
+use Rattle.world.proofs.FileLemmas.{file_in-root, file_in-extended}
 use Rattle.world.proofs.Fitting.{Fits, AreOfUseBut, IsKnown, some-is, some-IsSome, known-from, entry-place, entry-no_root, not-one}
 use Rattle.world.proofs.Changing.{KeepsPlace, fits-changed, raised-of_use, changed-extends, changed-was, count-changed_same, count-changed_other}
 use Rattle.world.proofs.Adding.{IsNewPlace, fits-added, added-of_use, new-file, old-file, no-entry}

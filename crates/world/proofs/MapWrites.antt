@@ -1,8 +1,8 @@
 -- The inode map after a number was given or forgotten.
-use Rattle.std.proofs.Common.{◌≡◌, ℕ, suc, ◌+◌, ◌-◌, ◌<◌, Bool, true, false, cond, eqb, List, [], ◌∷◌, ◌++◌, length, Option, Some, None, get_or, set, refl, sym, ap, ◌∙◌, subst, if◌then◌else◌, is_some}
+use Rattle.std.proofs.Common.{◌≡◌, ℕ, suc, ◌+◌, ◌-◌, Bool, true, false, cond, List, [], ◌∷◌, length, Option, Some, get_or, set, refl, sym, ap, ◌∙◌, is_some}
 use Rattle.std.specs.Prelude.{not, ◌==◌}
 use Rattle.eden_base.specs.declared.number.Number.{Number}
-use Rattle.eden_base.specs.First.{first_where, changed_where, IsFirstPlace}
+use Rattle.eden_base.specs.First.{changed_where, IsFirstPlace}
 use Rattle.world.specs.declared.inode_map.Kept.{Kept}
 use Rattle.world.specs.InodeMap.{MapState, stands_at, entry_at, once_more, given, forgotten, is_bad_item, lowered, pruned, has_number}
 

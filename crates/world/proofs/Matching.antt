@@ -1,45 +1,28 @@
 -- What makes the daemons' state match the world: the broker's books, and what the seated daemon knows.
-use Rattle.std.proofs.Common.{◌≡◌, ℕ, zero, suc, ◌+◌, ◌-◌, ◌^◌, ◌<◌, ◌≤◌, Bool, true, false, cond, not, ◌||◌, List, [], ◌∷◌, ◌++◌, Option, Some, None, is_some, refl, sym, ap, ◌∙◌, subst, inl, inr, ◌⊎◌, arith, length}
-use Rattle.std.specs.Prelude.{◌==◌, ◌↔◌, IsSome, Contains, nat_lt, nat_le, is_none, slice_get, slice_set, slice_index_or, if◌then◌else◌}
+use Rattle.std.proofs.Common.{◌≡◌, ℕ, zero, suc, ◌+◌, ◌-◌, ◌<◌, Bool, true, false, not, ◌||◌, List, [], ◌∷◌, Option, Some, None, refl, sym, ap, ◌∙◌, subst, inl, inr, ◌⊎◌, arith}
+use Rattle.std.specs.Prelude.{◌==◌, IsSome, Contains, slice_get, slice_set, if◌then◌else◌}
 use Rattle.std.specs.Option.{option_map, option_map_or}
 use Rattle.std.specs.List.{AllByRecursion}
-use Rattle.std.proofs.lemmas.Bool.Decides.{nat_tests}
 use Rattle.eden_base.specs.declared.number.DaemonId.{DaemonId}
-use Rattle.eden_base.specs.declared.number.FileId.{FileId}
-use Rattle.eden_base.specs.declared.number.Number.{Number}
-use Rattle.checkout.specs.Manifest.{Manifest}
-use Rattle.checkout.specs.Tree.{Tree, IsTree, tree_of, root}
-use Rattle.broker_core.specs.Broker.{BrokerState, held_count, issue_fault, mount_fault, may_be_asked, is_bad_forget, issued, settled, mounted, lowered, raised}
+use Rattle.checkout.specs.Tree.{Tree, IsTree, tree_of}
+use Rattle.broker_core.specs.Broker.{BrokerState, held_count, settled, raised}
 use Rattle.broker_core.specs.declared.broker.IssueFault.{IssueFault}
-use Rattle.broker_core.specs.declared.broker.MountFault.{MountFault}
 use Rattle.broker_core.specs.declared.request.Answer.{Answer}
 use Rattle.broker_core.specs.declared.request.Answer.TheVariants.{Entry, Error}
 use Rattle.broker_core.specs.declared.request.Item.{Item}
-use Rattle.broker_core.specs.declared.request.Request.{Request}
-use Rattle.broker_core.specs.declared.request.Request.TheVariants.{Lookup, Forget}
 use Rattle.broker_core.specs.declared.seat.Seat.{Seat}
-use Rattle.world.specs.InodeMap.{MapState, entry_of, count_of, file_in, forgot, forgotten, new_map}
-use Rattle.world.specs.Served.{ServedState, IsSound, file_of, LooksUp, new_served}
-use Rattle.world.specs.State.{State, started, daemon_of, with_daemon, fault, mount_refusal, refusal_of_issue, refusal_of_mount}
-use Rattle.world.specs.Step.{IsSeated, Looks, Forgets, Mounts, Starts, Makes, Refuses, TakesMemory, StepBy, Step, Steps}
+use Rattle.world.specs.InodeMap.{MapState, entry_of, count_of, file_in}
+use Rattle.world.specs.Served.{ServedState}
+use Rattle.world.specs.State.{State, daemon_of, with_daemon, refusal_of_issue}
+use Rattle.world.specs.Step.{IsSeated}
 use Rattle.world.specs.World.{World, Move, Ask, asks, forgets, works, applies, delivers, mounts, accepts, first_world, file_named, times, without_times, owed, IsLive, MayAnswer, named_after, held_after, IsLegal, IsRun, after, after_all}
-use Rattle.world.specs.Agreement.{Agrees, CountsAreOwed, NamesAreFirst, NumbersNameTheirFirstFile, OneDaemonForEachGeneration, IsOnce, IsGoodForget, Matches, holder_of, moves_of, all_moves}
+use Rattle.world.specs.Agreement.{NamesAreFirst, OneDaemonForEachGeneration, IsOnce, Matches}
 use Rattle.world.specs.declared.daemon.Daemon.{Daemon}
-use Rattle.world.specs.declared.daemon.Daemon.TheVariants.{Waiting, Serving}
-use Rattle.world.specs.declared.event.Event.{Event}
-use Rattle.world.specs.declared.event.Event.TheVariants.{Start, Mount, Do, Show}
-use Rattle.world.specs.declared.inode_map.Forgot.{Forgot}
-use Rattle.world.specs.declared.inode_map.Forgot.TheVariants.{Lowered, Dropped, Bad, Root}
-use Rattle.world.specs.declared.outcome.Happened.{Happened}
-use Rattle.world.specs.declared.outcome.Happened.TheVariants as happened
-use Rattle.world.specs.declared.outcome.Refusal.{Refusal}
-use Rattle.world.proofs.EntryLemmas.{eq-true, eq-false, true-eq, false-ne}
-use Rattle.world.proofs.FileLemmas.{file_in-root}
-use Rattle.world.proofs.Fitting.{Fits, AreOfUseBut, IsKnown, sound-fits, sound-of_use, fits-sound, some-is, some-IsSome}
-use Rattle.world.proofs.Holding.{held-raised_same, held-raised_other, held-lowered_same, held-lowered_other, once-raised, once-lowered}
+use Rattle.world.specs.declared.daemon.Daemon.TheVariants.{Serving}
+use Rattle.world.proofs.EntryLemmas.{true-eq, false-ne}
+use Rattle.world.proofs.Fitting.{Fits, IsKnown, sound-fits, sound-of_use, fits-sound}
+use Rattle.world.proofs.Holding.{held-raised_same, held-raised_other, once-raised}
 use Rattle.world.proofs.Looking.{Knows, served_over}
-use Rattle.world.proofs.Answering.{Looked, looked}
-use Rattle.world.proofs.Forgetting.{IsGood, Forgotten, forgets-well, times-same, times-other}
 
 -- a world in which nothing is under way, with this seat
 abbrev pub seated_world : World → Seat → World

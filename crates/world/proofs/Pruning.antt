@@ -1,17 +1,16 @@
 -- What a daemon knows fits together after numbers of no use left.
-use Rattle.std.proofs.Common.{◌≡◌, ℕ, zero, suc, ◌+◌, ◌-◌, ◌<◌, ◌≤◌, Bool, true, false, cond, not, ◌||◌, List, [], ◌∷◌, Option, Some, None, refl, sym, ap, ◌∙◌, subst, inl, inr, ◌⊎◌, arith, length}
-use Rattle.std.specs.Prelude.{◌==◌, IsSome, nat_lt, if◌then◌else◌}
+use Rattle.std.proofs.Common.{◌≡◌, ℕ, zero, suc, ◌≤◌, Bool, true, false, cond, not, ◌||◌, List, [], ◌∷◌, Option, Some, None, refl, sym, ap, ◌∙◌, subst, inl, inr, ◌⊎◌, arith, length}
+use Rattle.std.specs.Prelude.{◌==◌, nat_lt}
 use Rattle.std.specs.Option.{option_map_or, option_and_then}
 use Rattle.std.specs.List.{list_any}
 use Rattle.std.proofs.lemmas.Bool.Decides.{nat_tests}
-use Rattle.eden_base.specs.declared.number.FileId.{FileId}
 use Rattle.eden_base.specs.declared.place.Place.{Place}
 use Rattle.eden_base.specs.declared.place.Place.TheVariants.{Linked, Unlinked}
-use Rattle.eden_base.specs.First.{first_where, without_where}
+use Rattle.eden_base.specs.First.{without_where}
 use Rattle.checkout.specs.Tree.{Tree}
 use Rattle.world.specs.InodeMap.{has_number, entry_of, count_of, file_in, is_kid_of, is_in, is_of_use, is_useless, dir_of, dir_or_root, dir_above, pruned}
 use Rattle.world.specs.declared.inode_map.Kept.{Kept}
-use Rattle.world.proofs.EntryLemmas.{eq-true, true-eq, false-ne, without-same, without-other, numbers-without, any-first, any-without, length-without, entry_of-number}
+use Rattle.world.proofs.EntryLemmas.{true-eq, false-ne, without-same, without-other, numbers-without, any-first, any-without, length-without, entry_of-number}
 use Rattle.world.proofs.FileLemmas.{KeepsAbove, file_in-left}
 use Rattle.world.proofs.Fitting.{Fits, AreOfUseBut, some-is, some-IsSome}
 

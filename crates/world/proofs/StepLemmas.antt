@@ -1,17 +1,15 @@
 -- What the world's methods did is a step.
-use Rattle.std.proofs.Common.{◌≡◌, ℕ, ◌+◌, ◌-◌, ◌<◌, List, [], ◌∷◌, ◌++◌, length, Option, Some, None, set, refl, sym, ap, ◌∙◌, subst, inl, inr, ◌⊎◌}
+use Rattle.std.proofs.Common.{◌≡◌, ℕ, ◌+◌, ◌-◌, List, [], ◌∷◌, ◌++◌, Option, Some, None, set, refl, sym, ap, ◌∙◌, subst, inl}
 use Rattle.std.specs.Prelude.{slice_get}
 use Rattle.std.specs.Option.{option_map}
 use Rattle.eden_base.specs.declared.number.DaemonId.{DaemonId}
 use Rattle.eden_base.specs.declared.number.Number.{Number}
-use Rattle.checkout.specs.Manifest.{Manifest}
 use Rattle.broker_core.specs.Broker.{BrokerState, mount_fault, issue_fault, mounted, issued, settled}
 use Rattle.broker_core.specs.declared.broker.MountFault.{MountFault}
 use Rattle.broker_core.specs.declared.broker.IssueFault.{IssueFault}
 use Rattle.broker_core.specs.declared.request.Answer.{Answer}
 use Rattle.broker_core.specs.declared.request.Answer.TheVariants.{Entry, Error}
 use Rattle.broker_core.specs.declared.request.Item.{Item}
-use Rattle.broker_core.specs.declared.request.Request.{Request}
 use Rattle.broker_core.specs.declared.request.Request.TheVariants.{Lookup, Forget}
 use Rattle.world.specs.declared.daemon.Daemon.{Daemon}
 use Rattle.world.specs.declared.daemon.Daemon.TheVariants.{Waiting, Serving}
@@ -20,10 +18,9 @@ use Rattle.world.specs.declared.event.Event.TheVariants.{Mount, Do}
 use Rattle.world.specs.declared.inode_map.Forgot.{Forgot}
 use Rattle.world.specs.declared.outcome.Happened.{Happened}
 use Rattle.world.specs.declared.outcome.Happened.TheVariants as happened
-use Rattle.world.specs.declared.outcome.Refusal.{Refusal}
 use Rattle.world.specs.Served.{ServedState, new_served}
 use Rattle.world.specs.State.{State, daemon_of, with_daemon, mount_refusal, refusal_of_mount, refusal_of_issue}
-use Rattle.world.specs.Step.{Looks, Forgets, Mounts, Step, StepBy, Steps, IsSeated}
+use Rattle.world.specs.Step.{Looks, Forgets, Mounts, Step, StepBy, Steps}
 use Rattle.world.specs.DaemonWork.{LooksAt, ForgetsAt}
 use Rattle.world.specs.Holder.{place_of_daemon, HolderIsAt}
 use Rattle.world.proofs.DaemonWrites.{place-is, daemon_of-place}

@@ -1,12 +1,12 @@
 -- A whole list of events is a run of moves, and the state matches the world after them.
-use Rattle.std.proofs.Common.{◌≡◌, ℕ, List, [], ◌∷◌, ◌++◌, Option, Some, None, refl, sym, ap, ◌∙◌, subst, arith}
+use Rattle.std.proofs.Common.{◌≡◌, ℕ, List, [], ◌∷◌, ◌++◌, Some, None, refl, sym, subst, arith}
 use Rattle.std.specs.List.{AllByRecursion}
 use Rattle.checkout.specs.Manifest.{Manifest}
 use Rattle.checkout.specs.Tree.{IsTree, tree_of}
 use Rattle.world.specs.State.{State, started}
-use Rattle.world.specs.Step.{Step, Steps}
+use Rattle.world.specs.Step.{Steps}
 use Rattle.world.specs.World.{World, Move, first_world, IsRun, after, after_all}
-use Rattle.world.specs.Agreement.{Matches, MovesOn, IsGoodForget, moves_of, all_moves, world_after}
+use Rattle.world.specs.Agreement.{Matches, IsGoodForget, moves_of, all_moves}
 use Rattle.world.specs.declared.event.Event.{Event}
 use Rattle.world.specs.declared.outcome.Happened.{Happened}
 use Rattle.world.proofs.Events.{step-matched}

@@ -1,9 +1,8 @@
 -- Which moves an event makes in the world, and how the daemons' state matches the world after them.
-use Rattle.std.specs.Prelude.{◌≡◌, ◌≢◌, ℕ, ◌<◌, ◌≤◌, ◌⊎◌, ◌↔◌, List, [], ◌∷◌, ◌++◌, Contains, Option, Some, None, IsSome}
+use Rattle.std.specs.Prelude.{◌≡◌, ◌≢◌, ℕ, ◌<◌, ◌≤◌, ◌⊎◌, ◌↔◌, List, [], ◌∷◌, ◌++◌, Contains, Some, None, IsSome}
 use Rattle.std.specs.Option.{option_map_or}
 use Rattle.std.specs.List.{AllByRecursion}
 use Rattle.eden_base.specs.declared.number.DaemonId.{DaemonId}
-use Rattle.eden_base.specs.declared.number.FileId.{FileId}
 use Rattle.checkout.specs.Manifest.{Manifest}
 use Rattle.checkout.specs.Tree.{IsTree, tree_of, root}
 use Rattle.eden_base.specs.First.{first_where}
@@ -16,7 +15,7 @@ use Rattle.world.specs.State.{State}
 use Rattle.world.specs.Step.{IsSeated}
 use Rattle.world.specs.World.{World, Move, asks, forgets, works, applies, delivers, mounts, accepts, first_world, file_named, times, owed, IsRun, after_all}
 use Rattle.world.specs.declared.event.Event.{Event}
-use Rattle.world.specs.declared.event.Event.TheVariants.{Start, Mount, Do, Show}
+use Rattle.world.specs.declared.event.Event.TheVariants.{Mount, Do}
 use Rattle.world.specs.declared.inode_map.Forgot.TheVariants.{Bad, Root}
 use Rattle.world.specs.declared.outcome.Happened.{Happened}
 use Rattle.world.specs.declared.outcome.Happened.TheVariants as happened

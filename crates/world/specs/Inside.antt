@@ -1,7 +1,6 @@
 -- What the world keeps of its fields, whatever happens.
-use Rattle.std.specs.Prelude.{◌≡◌, ℕ, ◌-◌, ◌≤◌, List, vec_len, slice_get, Some, None}
+use Rattle.std.specs.Prelude.{◌≡◌, ◌≤◌, vec_len, Some, None}
 use Rattle.broker_core.specs.declared.seat.Seat.{Seat}
-use Rattle.world.specs.Served.{ServedState}
 use Rattle.world.specs.DaemonWork.{HolderServes}
 use Rattle.world.specs.declared.world.World.TheInside.{Inside}
 

@@ -1,7 +1,6 @@
 -- What a daemon serves: its numbers and the tree of its checkout, and what it answers from them.
-use Rattle.std.specs.Prelude.{◌≡◌, ℕ, ◌+◌, ◌^◌, ◌<◌, ◌≤◌, ◌⊎◌, ◌↔◌, Bool, true, nat_le, List, [], ◌∷◌, IsTrue, IsSome, Option, Some, None, Result, Ok, Err, if◌then◌else◌}
+use Rattle.std.specs.Prelude.{◌≡◌, ℕ, ◌+◌, ◌^◌, ◌<◌, ◌≤◌, ◌↔◌, List, [], ◌∷◌, IsTrue, IsSome, Option, Some, None, Result, Ok, Err}
 use Rattle.std.specs.Option.{option_map_or}
-use Rattle.eden_base.specs.declared.attr.Attr.{Attr}
 use Rattle.eden_base.specs.declared.attr.Kind.{Kind}
 use Rattle.eden_base.specs.declared.attr.Kind.TheVariants.{Dir, File}
 use Rattle.eden_base.specs.declared.errno.Errno.{Errno}
@@ -11,10 +10,10 @@ use Rattle.eden_base.specs.declared.number.Number.{Number}
 use Rattle.eden_base.specs.declared.place.Place.{Place}
 use Rattle.eden_base.specs.declared.place.Place.TheVariants.{Linked, Unlinked}
 use Rattle.checkout.specs.Manifest.{Manifest}
-use Rattle.checkout.specs.Tree.{Tree, IsTree, tree_of, kind_of, child_of, attr_of, file_of as tree_file, is_unlinked}
+use Rattle.checkout.specs.Tree.{Tree, tree_of, kind_of, child_of, attr_of, file_of as tree_file, is_unlinked}
 use Rattle.broker_core.specs.declared.request.Answer.{Answer}
 use Rattle.broker_core.specs.declared.request.Answer.TheVariants.{Entry, Error}
-use Rattle.world.specs.InodeMap.{MapState, greatest_count, new_map, entry_of, entry_at, is_of_use, file_in, give_fault, give_fault_at, given, number_given}
+use Rattle.world.specs.InodeMap.{MapState, greatest_count, new_map, entry_of, entry_at, is_of_use, file_in, give_fault, given, number_given}
 use Rattle.world.specs.declared.inode_map.Kept.{Kept}
 use Rattle.world.specs.declared.inode_map.GiveFault.{GiveFault}
 use Rattle.world.specs.declared.inode_map.GiveFault.TheVariants.{NoNumber, TooMany, NoMemory}

@@ -5,7 +5,6 @@ use Rattle.eden_base.specs.declared.number.Number.{Number}
 use Rattle.broker_core.specs.Broker.{mounted, issued, settled}
 use Rattle.broker_core.specs.declared.request.Answer.{Answer}
 use Rattle.broker_core.specs.declared.request.Item.{Item}
-use Rattle.broker_core.specs.declared.request.Request.{Request}
 use Rattle.broker_core.specs.declared.request.Request.TheVariants.{Lookup, Forget}
 use Rattle.broker_core.specs.declared.seat.Seat.{Seat}
 use Rattle.world.specs.InodeMap.{forgot, forgotten}

@@ -1,7 +1,7 @@
 -- The world as the kernel's programs may know it: what every number that was given in this mount names, what the kernel
 -- holds, and what is under way. No daemon's state, no phase and no byte stands in it. The rules are those of lookup
 -- counts in libfuse's `fuse_lowlevel.h`; the seat and its generations are this project's own.
-use Rattle.std.specs.Prelude.{◌≡◌, ℕ, ◌+◌, ◌-◌, ◌<◌, ◌≤◌, ◌⊎◌, ◌≢◌, Bool, true, false, ◌==◌, List, [], ◌∷◌, ◌++◌, length, slice_get, remove, sum_by, count_by, Contains, Option, Some, None, IsSome, IsNone, is_some, Result, Ok, Err, if◌then◌else◌}
+use Rattle.std.specs.Prelude.{◌≡◌, ℕ, ◌+◌, ◌-◌, ◌<◌, ◌≤◌, ◌⊎◌, ◌≢◌, Bool, false, ◌==◌, List, [], ◌∷◌, ◌++◌, length, slice_get, remove, sum_by, count_by, Contains, Option, Some, None, IsSome, is_some, Result, Ok, Err, if◌then◌else◌}
 use Rattle.std.specs.Option.{option_map, option_map_or}
 use Rattle.eden_base.specs.First.{first_where}
 use Rattle.eden_base.specs.declared.attr.Kind.TheVariants.{File}

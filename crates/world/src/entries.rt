@@ -103,9 +103,8 @@ pub(crate) fn lower(entries: &mut Vec<Kept>, number: Number, k: u64) -> bool
     if k == 0 {
         return false;
     }
-    let place = match place_of(entries, number) {
-        Some(place) => place,
-        None => return false,
+    let Some(place) = place_of(entries, number) else {
+        return false;
     };
     let kept = &mut entries[place];
     if kept.count < k {
@@ -139,15 +138,12 @@ pub(crate) fn locate(entries: &[Kept], tree: &Tree, number: Number, steps: u64) 
     if steps == 0 {
         return None;
     }
-    let place = match place_of(entries, number) {
-        Some(place) => place,
-        None => return None,
-    };
+    let place = place_of(entries, number)?;
     match &entries[place].place {
-        Place::Linked { parent, name } => match locate(entries, tree, *parent, steps - 1) {
-            Some(dir) => tree.child(dir, name),
-            None => None,
-        },
+        Place::Linked { parent, name } => {
+            let dir = locate(entries, tree, *parent, steps - 1)?;
+            tree.child(dir, name)
+        }
         Place::Unlinked { file } => Some(*file),
     }
 }

@@ -166,9 +166,8 @@ impl InodeMap {
         if self.next >= InodeMap::END_OF_NUMBERS {
             return Err(GiveFault::NoNumber);
         }
-        let name = match name.copy(alloc) {
-            Ok(name) => name,
-            Err(NoMemory) => return Err(GiveFault::NoMemory),
+        let Ok(name) = name.copy(alloc) else {
+            return Err(GiveFault::NoMemory);
         };
         let number = Number(self.next);
         let place = Place::Linked { parent, name };

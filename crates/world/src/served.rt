@@ -96,20 +96,13 @@ impl Served {
     fn find(&self, dir: Number, name: &Name) -> Result<Attr, Errno>
         ensures { Finds self.now.tree (found_in self.now.tree (file_of self.now dir.0) name.now) result }
     {
-        let dir = match self.locate(dir) {
-            Some(dir) => dir,
-            None => return Err(Errno::ESTALE),
-        };
-        match self.tree.kind(dir) {
-            Some(Kind::Dir) => {}
-            Some(Kind::File) => return Err(Errno::ENOTDIR),
-            None => return Err(Errno::ENOTDIR),
+        let dir = self.locate(dir).ok_or(Errno::ESTALE)?;
+        if self.tree.kind(dir) != Some(Kind::Dir) {
+            return Err(Errno::ENOTDIR);
         }
-        match self.tree.child(dir, name) {
-            // Each name gives a file of the tree, so there is always an attribute.
-            Some(file) => self.tree.attr(file).ok_or(Errno::ENOENT),
-            None => Err(Errno::ENOENT),
-        }
+        let file = self.tree.child(dir, name).ok_or(Errno::ENOENT)?;
+        // Each name gives a file of the tree, so there is always an attribute.
+        self.tree.attr(file).ok_or(Errno::ENOENT)
     }
 
     /// Takes back what an item says. It takes no memory.

@@ -80,13 +80,8 @@ impl World {
     pub fn served(&self, daemon: DaemonId) -> Option<&Served>
         ensures served { option_copied result ≡ served_of self.now daemon }
     {
-        match place_of(daemon) {
-            Some(place) => match self.daemons.as_slice().get(place) {
-                Some(daemon) => daemon.served(),
-                None => None,
-            },
-            None => None,
-        }
+        let place = place_of(daemon)?;
+        self.daemons.as_slice().get(place)?.served()
     }
 
     /// Lets one event happen, or refuses it for the first cause that holds. A refusal changes nothing.
@@ -130,9 +125,8 @@ impl World {
     fn mount(&mut self, daemon: DaemonId) -> Outcome
         ensures step { Step self.old (Event.Mount daemon) result self.new }
     {
-        let place = match place_of(daemon) {
-            Some(place) => place,
-            None => return Outcome::refused(Refusal::NoDaemon),
+        let Some(place) = place_of(daemon) else {
+            return Outcome::refused(Refusal::NoDaemon);
         };
         if place >= self.daemons.len() {
             return Outcome::refused(Refusal::NoDaemon);
@@ -143,9 +137,8 @@ impl World {
         if self.broker.seat().is_some() {
             return Outcome::refused(Refusal::Seated);
         }
-        let served = match Served::new(self.alloc, &self.manifest, self.limit) {
-            Ok(served) => served,
-            Err(NoMemory) => return Outcome::refused(Refusal::NoMemory),
+        let Ok(served) = Served::new(self.alloc, &self.manifest, self.limit) else {
+            return Outcome::refused(Refusal::NoMemory);
         };
         match self.broker.mount(daemon) {
             Ok(generation) => {
@@ -174,13 +167,11 @@ impl World {
         requires accepted { issue_fault self.old.broker (Request.Lookup dir name.now) ≡ None }
         ensures step { Step self.old (Event.Do (Request.Lookup dir name.now)) result self.new }
     {
-        let copy = match name.copy(self.alloc) {
-            Ok(copy) => copy,
-            Err(NoMemory) => return Outcome::refused(Refusal::NoMemory),
+        let Ok(copy) = name.copy(self.alloc) else {
+            return Outcome::refused(Refusal::NoMemory);
         };
-        let place = match self.holder() {
-            Some(place) => place,
-            None => return Outcome::refused(Refusal::NotMounted),
+        let Some(place) = self.holder() else {
+            return Outcome::refused(Refusal::NotMounted);
         };
         let unique = match self.broker.issue(Request::Lookup { dir, name: copy }) {
             Ok(unique) => unique.unwrap(),
@@ -197,26 +188,24 @@ impl World {
         requires accepted { issue_fault self.old.broker (Request.Forget item) ≡ None }
         ensures step { Step self.old (Event.Do (Request.Forget item)) result self.new }
     {
-        let place = match self.holder() {
-            Some(place) => place,
-            None => return Outcome::refused(Refusal::NotMounted),
+        let Some(place) = self.holder() else {
+            return Outcome::refused(Refusal::NotMounted);
         };
         match self.broker.issue(Request::Forget(item)) {
-            Ok(_unique) => {}
-            Err(fault) => return Outcome::refused(Refusal::from(fault)),
+            Ok(_unique) => {
+                let forgot = forget_at(&mut self.daemons, place, item);
+                Outcome::of(Happened::Forgot { item, forgot })
+            }
+            Err(fault) => Outcome::refused(Refusal::from(fault)),
         }
-        let forgot = forget_at(&mut self.daemons, place, item);
-        Outcome::of(Happened::Forgot { item, forgot })
     }
 
     /// The place of the daemon that has the seat, which serves.
     fn holder(&self) -> Option<usize>
         ensures holder { MatchOption result (self.now.broker.seat ≡ None) (HolderIsAt self.now) }
     {
-        match self.broker.seat() {
-            Some(seat) => place_of(seat.daemon),
-            None => None,
-        }
+        let seat = self.broker.seat()?;
+        place_of(seat.daemon)
     }
 }
 

@@ -12,11 +12,11 @@ returns-then-file-eq1 c =
     let lines = c.args.lines.now in
     sym (ap (option_map (λ (f : File). f.kind)) (ap (get (files_from 2 lines)) c.if-file-eq1.true ∙ root_of_files 2 lines (omega arith)))
 
-pub returns-in-Some : goal.returns-in-Some
-returns-in-Some c =
+pub returns : goal.returns
+returns c =
     let lines = c.args.lines.now in
-    ap (λ (l : Line). Some l.file.kind) c.line.view_is ∙ sym (ap (option_map (λ (f : File). f.kind)) (file_from_line lines c.args.file c.in-Some.line.now (sym c.in-Some.ensures)))
+    ap (λ (l : Line). Some l.file.kind) c.line.view_is ∙ sym (ap (option_map (λ (f : File). f.kind)) (file_from_line lines c.args.file c.in_ok-line.line.now (sym c.in_ok-line.ensures)))
 
-pub returns-in-None : goal.returns-in-None
-returns-in-None c =
-    sym (ap (option_map (λ (f : File). f.kind)) (no_file c.args.lines.now c.args.file c.if-file-eq1.false (sym c.in-None.ensures)))
+pub returns-in_err-line : goal.returns-in_err-line
+returns-in_err-line c =
+    c.from_residual.ensures ∙ sym (ap (option_map (λ (f : File). f.kind)) (no_file c.args.lines.now c.args.file c.if-file-eq1.false (sym c.in_err-line.ensures)))

@@ -10,22 +10,22 @@ pub returns-then-steps-eq0 : goal.returns-then-steps-eq0
 returns-then-steps-eq0 t c =
     sym (file_in-no_step c.args.steps c.args.tree.now c.args.entries.now c.args.number.0 c.if-steps-eq0.true (sym c.eq.ensures ∙ c.if-eq.false))
 
-pub returns-in-None : goal.returns-in-None
-returns-in-None t c =
-    sym (file_in-unknown c.args.steps c.args.tree.now c.args.entries.now c.args.number.0 (sym c.eq.ensures ∙ c.if-eq.false) c.in-None.ensures)
+pub returns-in_err-place : goal.returns-in_err-place
+returns-in_err-place t c =
+    c.from_residual.ensures ∙ sym (file_in-unknown c.args.steps c.args.tree.now c.args.entries.now c.args.number.0 (sym c.eq.ensures ∙ c.if-eq.false) c.in_err-place.ensures)
 
-pub returns-in-Some-locate : goal.returns-in-Some-locate
-returns-in-Some-locate t c =
+pub returns-in_ok-dir-in-Linked : goal.returns-in_ok-dir-in-Linked
+returns-in_ok-dir-in-Linked t c =
     c.child.ensures.child
-    ∙ sym (file_in-linked c.args.steps c.args.tree.now c.args.entries.now c.args.number.0 c.in-Some.place c.index-entries-place.result c.in-Linked.parent c.in-Linked.name _
-    (omega arith) (sym c.eq.ensures ∙ c.if-eq.false) c.in-Some.ensures c.index-entries-place.is (ap (λ (k : Kept). k.place) c.index-entries-place.is ∙ c.in-Linked.is) c.in-Some-locate.ensures)
+    ∙ sym (file_in-linked c.args.steps c.args.tree.now c.args.entries.now c.args.number.0 c.in_ok-place.place c.index-entries-place.result c.in-Linked.parent c.in-Linked.name _
+    (omega arith) (sym c.eq.ensures ∙ c.if-eq.false) c.in_ok-place.ensures c.index-entries-place.is (ap (λ (k : Kept). k.place) c.index-entries-place.is ∙ c.in-Linked.is) c.in_ok-dir-in-Linked.ensures)
 
-pub returns-in-None-locate : goal.returns-in-None-locate
-returns-in-None-locate t c =
-    sym (file_in-linked c.args.steps c.args.tree.now c.args.entries.now c.args.number.0 c.in-Some.place c.index-entries-place.result c.in-Linked.parent c.in-Linked.name _
-    (omega arith) (sym c.eq.ensures ∙ c.if-eq.false) c.in-Some.ensures c.index-entries-place.is (ap (λ (k : Kept). k.place) c.index-entries-place.is ∙ c.in-Linked.is) c.in-None-locate.ensures)
+pub returns-in_err-dir-in-Linked : goal.returns-in_err-dir-in-Linked
+returns-in_err-dir-in-Linked t c =
+    c.from_residual-in_err-dir-in-Linked.ensures ∙ sym (file_in-linked c.args.steps c.args.tree.now c.args.entries.now c.args.number.0 c.in_ok-place.place c.index-entries-place.result c.in-Linked.parent c.in-Linked.name _
+    (omega arith) (sym c.eq.ensures ∙ c.if-eq.false) c.in_ok-place.ensures c.index-entries-place.is (ap (λ (k : Kept). k.place) c.index-entries-place.is ∙ c.in-Linked.is) c.in_err-dir-in-Linked.ensures)
 
 pub returns-in-Unlinked : goal.returns-in-Unlinked
 returns-in-Unlinked t c =
-    sym (file_in-unlinked c.args.steps c.args.tree.now c.args.entries.now c.args.number.0 c.in-Some.place c.index-entries-place.result c.in-Unlinked.file
-    (omega arith) (sym c.eq.ensures ∙ c.if-eq.false) c.in-Some.ensures c.index-entries-place.is (ap (λ (k : Kept). k.place) c.index-entries-place.is ∙ c.in-Unlinked.is))
+    sym (file_in-unlinked c.args.steps c.args.tree.now c.args.entries.now c.args.number.0 c.in_ok-place.place c.index-entries-place.result c.in-Unlinked.file
+    (omega arith) (sym c.eq.ensures ∙ c.if-eq.false) c.in_ok-place.ensures c.index-entries-place.is (ap (λ (k : Kept). k.place) c.index-entries-place.is ∙ c.in-Unlinked.is))

@@ -1,5 +1,5 @@
 -- What is a directory of the lines stands before the next.
-use Rattle.std.proofs.Common.{◌≡◌, Some}
+use Rattle.std.proofs.Common.{◌≡◌, Some, rules, sym, ◌∙◌}
 use Rattle.std.specs.Option.{option_map}
 use Rattle.std.specs.FinMap.{get}
 use Rattle.eden_base.specs.declared.attr.Kind.TheVariants.{Dir}
@@ -10,5 +10,5 @@ use Rattle.checkout.proofs.reading.Reading.place.Goals as goal
 
 pub returns-clause-before : goal.returns-clause-before
 returns-clause-before c =
-    let kind : option_map (λ (f : File). f.kind) (get (files_from 2 c.as_slice.result.now) c.in-Some.dir.0) ≡ Some Dir = cc (c.in-Some-Dir.ensures, c.in-Some-Dir.field-0-is) in
+    let kind : option_map (λ (f : File). f.kind) (get (files_from 2 c.as_slice.result.now) c.in-Some.dir.0) ≡ Some Dir = sym c.kind_of.ensures ∙ (search rules) in
     rw (← c.self.view_is, ← c.as_slice.ensures.value) (dir_before c.as_slice.result.now c.in-Some.dir kind)

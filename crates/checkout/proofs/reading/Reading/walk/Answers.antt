@@ -9,17 +9,18 @@ use Rattle.checkout.specs.ManifestText.{names_of, tree_so_far}
 use Rattle.checkout.proofs.TextLemmas.{parts-cut, parts-no_cut, front-more, last-more}
 use Rattle.checkout.proofs.reading.Reading.walk.Goals as goal
 
-pub returns-in-None : goal.returns-in-None
-returns-in-None c =
+pub returns-in_err-dir : goal.returns-in_err-dir
+returns-in_err-dir c =
     let tree = tree_so_far c.args.self.now in
     let dir = c.loop-first.dir in
     let name = c.in-Some.first.now in
     let rest = front (names_of c.in-Some.after.now) in
-    let child = sym c.get.ensures ∙ c.in-None.is in
+    let child = sym c.get.ensures ∙ c.in_err-dir.was in
     let links = c.self.invariant.1 ∙ ap (links_from 2) c.self.view_is in
     let first = parts-cut 47 c.loop-first.rest.now name c.in-Some.after.now (sym c.in-Some.ensures.parts) in
-    sym c.loop-first.invariant.0 ∙ ap (file_at tree dir) (ap front first ∙ front-more 47 name c.in-Some.after.now)
-    ∙ ap (option_and_then (λ (f : FileId). file_at tree f rest)) (sym (ap (λ m. get m (dir.0, name)) links) ∙ child)
+    let none = sym c.loop-first.invariant.0 ∙ ap (file_at tree dir) (ap front first ∙ front-more 47 name c.in-Some.after.now)
+    ∙ ap (option_and_then (λ (f : FileId). file_at tree f rest)) (sym (ap (λ m. get m (dir.0, name)) links) ∙ child) in
+    rw c.from_residual.ensures none
 
 pub loop-first-preserved : goal.loop-first-preserved
 loop-first-preserved c =
@@ -27,7 +28,7 @@ loop-first-preserved c =
     let dir = c.loop-first.dir in
     let name = c.in-Some.first.now in
     let rest = front (names_of c.in-Some.after.now) in
-    let child = sym c.get.ensures ∙ c.in-Some-get.is in
+    let child = sym c.get.ensures ∙ c.in_ok-dir.was in
     let links = c.self.invariant.1 ∙ ap (links_from 2) c.self.view_is in
     let first = parts-cut 47 c.loop-first.rest.now name c.in-Some.after.now (sym c.in-Some.ensures.parts) in
     let whole = sym c.loop-first.invariant.0 ∙ ap (file_at tree dir) (ap front first ∙ front-more 47 name c.in-Some.after.now)

@@ -17,16 +17,16 @@ forget_at-forgot-requires c =
     let at : HolderIsAt old c.in-Some.place = subst (λ (s : State). HolderIsAt s c.in-Some.place) (sym c.self.view_is) c.in-Some.ensures.holder in
     record { serves = record { served = at.served; is_there = at.serves } }
 
-pub invariant_of-self-2 : goal.invariant_of-self-2
-invariant_of-self-2 c = record {
+pub invariant_of-self : goal.invariant_of-self
+invariant_of-self c = record {
   holder_serves = λ seat e. subst (λ (ds : List Daemon). HolderServes ds seat) (sym c.forget_at-forgot.ensures.forgets.makes)
       (HolderServes-set c.self.inside.daemons.items c.in-Some.place _ seat (c.self.invariant.holder_serves seat (ap (λ (b : BrokerState). b.seat) (sym c.in-Ok.ensures.issued) ∙ e)));
   never_seated = λ e. ap (λ (b : BrokerState). b.last) c.in-Ok.ensures.issued ∙ c.self.invariant.never_seated (ap (λ (b : BrokerState). b.seat) (sym c.in-Ok.ensures.issued) ∙ e);
   few = omega (arith, c.forget_at-forgot.ensures.len, c.self.invariant.few);
 }
 
-pub returns : goal.returns
-returns c =
+pub returns-in-Ok : goal.returns-in-Ok
+returns-in-Ok c =
     let old : State = record { manifest = c.self.inside.manifest; limit = c.self.inside.limit; broker = c.self.inside.broker; daemons = c.self.inside.daemons.items } in
     let at : HolderIsAt old c.in-Some.place = subst (λ (s : State). HolderIsAt s c.in-Some.place) (sym c.self.view_is) c.in-Some.ensures.holder in
     let new : State = record old { broker = c.issue.new.self; daemons = c.forget_at-forgot.new.daemons.items } in

@@ -15,8 +15,8 @@ use Rattle.world.proofs.world.World.look_up.Goals as goal
 
 pub invariant_of-self : goal.invariant_of-self
 invariant_of-self c = record {
-  holder_serves = λ seat e. c.self.invariant.holder_serves seat (ap (λ (b : BrokerState). b.seat) (sym c.in-Err-issue.ensures.unchanged) ∙ e);
-  never_seated = λ e. ap (λ (b : BrokerState). b.last) c.in-Err-issue.ensures.unchanged ∙ c.self.invariant.never_seated (ap (λ (b : BrokerState). b.seat) (sym c.in-Err-issue.ensures.unchanged) ∙ e);
+  holder_serves = λ seat e. c.self.invariant.holder_serves seat (ap (λ (b : BrokerState). b.seat) (sym c.in-Err.ensures.unchanged) ∙ e);
+  never_seated = λ e. ap (λ (b : BrokerState). b.last) c.in-Err.ensures.unchanged ∙ c.self.invariant.never_seated (ap (λ (b : BrokerState). b.seat) (sym c.in-Err.ensures.unchanged) ∙ e);
   few = c.self.invariant.few;
 }
 
