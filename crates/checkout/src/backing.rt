@@ -79,7 +79,8 @@ impl Backing for ManifestBacking<'_> {
     fn attr(&mut self, file: FileId) -> Result<Attr, BackingFault>
         requires held { IsSome (attr_of (tree_of self.old) file) }
         ensures attr { IfOk result (λ attr. attr_of (tree_of self.old) file ≡ Some attr) }
-        ensures same_content { (other : FileId) → attr_of (tree_of self.new) other ≡ attr_of (tree_of self.old) other }
+        ensures same_content { (other : FileId)
+            → attr_of (tree_of self.new) other ≡ attr_of (tree_of self.old) other }
         ensures answered { OnOk result (◌≡◌ {A = ℕ} 0 0) }
         ensures failed { OnErr result (0 < 0) }
         ensures never_fails { IsOk result }

@@ -18,7 +18,12 @@ pub struct Entry<'a> {
 impl<'a> Entry<'a> {
     /// What a line says, without its LF.
     pub fn read(line: &'a [u8]) -> Result<Entry<'a>, ManifestFaultKind>
-        ensures entry { IfOk result (λ e. entry_of line.now ≡ Some (record { kind = e.kind; perm = Some e.perm; size = Some e.size; path = e.path.now })) }
+        ensures entry { IfOk result (λ e. entry_of line.now ≡ Some (record {
+          kind = e.kind;
+          perm = Some e.perm;
+          size = Some e.size;
+          path = e.path.now;
+        })) }
         ensures small { IfOk result (λ e. e.size < 2 ^ 63) }
         ensures refused { IfErr result (λ fault. entry_fault (entry_of line.now) ≡ Some fault) }
     {
@@ -38,7 +43,12 @@ impl<'a> Entry<'a> {
 
     /// Of `MODE SIZE PATH`.
     fn of_file(rest: &'a [u8]) -> Result<Entry<'a>, ManifestFaultKind>
-        ensures entry { IfOk result (λ e. file_entry rest.now ≡ Some (record { kind = e.kind; perm = Some e.perm; size = Some e.size; path = e.path.now })) }
+        ensures entry { IfOk result (λ e. file_entry rest.now ≡ Some (record {
+          kind = e.kind;
+          perm = Some e.perm;
+          size = Some e.size;
+          path = e.path.now;
+        })) }
         ensures small { IfOk result (λ e. e.size < 2 ^ 63) }
         ensures refused { IfErr result (λ fault. entry_fault (file_entry rest.now) ≡ Some fault) }
     {

@@ -97,7 +97,8 @@ fn is_decimal(digits: &[u8]) -> bool
 
 /// The number of these digits, if it is below 2^63.
 fn value_of(digits: &[u8]) -> Option<u64>
-    ensures value { result ≡ (if nat_lt (decimal digits.now) (2 ^ 63) then Some (decimal digits.now) else None) }
+    ensures value { result
+        ≡ (if nat_lt (decimal digits.now) (2 ^ 63) then Some (decimal digits.now) else None) }
     ensures small { IfSome result (λ n. n < 2 ^ 63) }
 {
     let mut value: u64 = 0;

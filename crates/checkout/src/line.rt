@@ -28,7 +28,11 @@ impl Model for Line {
 
     ghost coded = { line_code };
 
-    ghost view = { λ a. record { dir = a.dir; name = a.name; file = record { kind = a.kind; perm = a.perm; size = a.size } } };
+    ghost view = { λ a. record {
+      dir = a.dir;
+      name = a.name;
+      file = record { kind = a.kind; perm = a.perm; size = a.size };
+    } };
 }
 
 impl Line {

@@ -82,8 +82,10 @@ impl Manifest {
 
 /// The commit, and what comes after its line.
 fn read_commit(bytes: &[u8]) -> Result<([u8; 20], &[u8]), ManifestFaultKind>
-    ensures commit { IfOk result (λ p. manifest_of bytes.now ≡ with_commit p.0 (read_on [] 2 (lines_of p.1.now))) }
-    ensures behind { IfOk result (λ p. length (lines_of bytes.now) ≡ length (lines_of p.1.now) + 1) }
+    ensures commit { IfOk result (λ p.
+        manifest_of bytes.now ≡ with_commit p.0 (read_on [] 2 (lines_of p.1.now))) }
+    ensures behind { IfOk result (λ p.
+        length (lines_of bytes.now) ≡ length (lines_of p.1.now) + 1) }
     ensures refused { IfErr result (IsRefusal (manifest_of bytes.now) 1) }
     ensures line { IfErr result (IsAmongLines (length (lines_of bytes.now)) 1) }
 {
@@ -114,8 +116,10 @@ fn commit_of(line: &[u8]) -> Option<[u8; 20]>
 /// The lines after the first.
 fn read_lines(alloc: Global, bytes: &[u8]) -> Result<Reading, ManifestFault>
     ensures lines { IfOk result (λ lines. read_on [] 2 (lines_of bytes.now) ≡ Ok lines) }
-    ensures refused { IfErr result (λ fault. IsRefusal (read_on [] 2 (lines_of bytes.now)) fault.line fault.kind) }
-    ensures line { IfErr result (λ fault. IsAmongLines (length (lines_of bytes.now) + 1) fault.line fault.kind) }
+    ensures refused { IfErr result (λ fault.
+        IsRefusal (read_on [] 2 (lines_of bytes.now)) fault.line fault.kind) }
+    ensures line { IfErr result (λ fault.
+        IsAmongLines (length (lines_of bytes.now) + 1) fault.line fault.kind) }
 {
     let mut reading = Reading::new(alloc);
     let mut rest = bytes;

@@ -69,7 +69,8 @@ impl Reading {
 
     /// Takes one more line, without its LF.
     pub fn add(&mut self, alloc: Global, text: &[u8]) -> Result<(), ManifestFaultKind>
-        ensures added { OnOk result (IsOkAnd (line_of_text self.old text.now) (λ line. self.new ≡ self.old ++ line ∷ [])) }
+        ensures added { OnOk result (IsOkAnd (line_of_text self.old text.now) (λ line.
+            self.new ≡ self.old ++ line ∷ [])) }
         ensures refused { IfErr result (IsLineRefusal (line_of_text self.old text.now)) }
     {
         let entry = Entry::read(text)?;
@@ -120,7 +121,8 @@ impl Reading {
     /// The file that all but the last name of a path lead to, and that name.
     fn walk<'a>(&self, path: &'a [u8]) -> Option<(FileId, &'a [u8])>
         ensures { let found = file_at (tree_so_far self.now) root (front (names_of path.now)) in
-            MatchOption result (found ≡ None) (λ p. (found ≡ Some p.0) × (p.1.now ≡ last (names_of path.now))) }
+            MatchOption result (found ≡ None) (λ p.
+            (found ≡ Some p.0) × (p.1.now ≡ last (names_of path.now))) }
     {
         let mut dir = FileId::ROOT;
         let mut rest = path;

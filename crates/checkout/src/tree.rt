@@ -26,7 +26,12 @@ impl Model for Tree {
 
     ghost coded = { tree_code };
 
-    ghost view = { λ a. record { manifest = a.manifest; files = files_from 2 a.manifest.lines; links = a.links; next_file = length a.manifest.lines + 2 } };
+    ghost view = { λ a. record {
+      manifest = a.manifest;
+      files = files_from 2 a.manifest.lines;
+      links = a.links;
+      next_file = length a.manifest.lines + 2;
+    } };
 
     ghost invariant = { λ a. IsManifest a.manifest × (a.links ≡ links_from 2 a.manifest.lines) };
 }

@@ -14,7 +14,8 @@ const SCRIPT: &str = "SCRIPT";
 /// The script that the words name: `-` is standard input, and is meant where they name none. The first word is the
 /// program's name.
 pub fn script_of<'a>(alloc: Global, words: &'a [String]) -> Result<&'a str, Error>
-    ensures script { IfOk result (λ script. script.now ≡ script_named (map string_bytes words.now)) }
+    ensures script { IfOk result (λ script.
+        script.now ≡ script_named (map string_bytes words.now)) }
     ensures plain { (script : _) → NamesPlainly (map string_bytes words.now) script
         → MatchResult result (λ named. named.now ≡ script)
         (λ error. kind_of error ≡ ErrorKind.OutOfMemory) }

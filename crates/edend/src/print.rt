@@ -28,7 +28,8 @@ pub fn print_event<W: Write>(
 }
 
 fn print_happened<W: Write>(out: &mut W, happened: &Happened) -> io::Result<()>
-    ensures { OnOk result (Appends (W.contents out.old) (W.contents out.new) (line_of happened.now)) }
+    ensures { OnOk result (Appends (W.contents out.old) (W.contents out.new)
+        (line_of happened.now)) }
 {
     match happened {
         Happened::Started(daemon) => {
@@ -78,7 +79,8 @@ fn print_entry<W: Write>(out: &mut W, unique: u64, number: Number, attr: &Attr) 
 }
 
 fn print_world<W: Write>(out: &mut W, world: &World) -> io::Result<()>
-    ensures { OnOk result (Appends (W.contents out.old) (W.contents out.new) (world_lines world.now)) }
+    ensures { OnOk result (Appends (W.contents out.old) (W.contents out.new)
+        (world_lines world.now)) }
 {
     let broker = world.broker();
     let Some(seat) = broker.seat() else {
@@ -133,7 +135,8 @@ fn print_kept<W: Write>(out: &mut W, broker: &Broker, kept: &Kept) -> io::Result
 
 /// A name is written byte for byte.
 fn print_place<W: Write>(out: &mut W, place: &Place) -> io::Result<()>
-    ensures { OnOk result (Appends (W.contents out.old) (W.contents out.new) (place_line place.now)) }
+    ensures { OnOk result (Appends (W.contents out.old) (W.contents out.new)
+        (place_line place.now)) }
 {
     match place {
         Place::Linked { parent, name } => {

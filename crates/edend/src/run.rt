@@ -43,7 +43,8 @@ pub fn run_world<R: Read, W: Write>(
 
 /// Lets all events happen in turn, and prints each.
 fn play<W: Write>(world: &mut World, events: &[Event], out: &mut W) -> io::Result<()>
-    ensures { OnOk result (RunsEvents world.old events.now (W.contents out.old) (W.contents out.new)) }
+    ensures { OnOk result (RunsEvents world.old events.now
+        (W.contents out.old) (W.contents out.new)) }
 {
     for event in events {
         let outcome = world.step(event);

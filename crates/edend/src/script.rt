@@ -49,7 +49,8 @@ struct Parts<'a> {
 fn split(script: &[u8]) -> Option<Parts<'_>>
     ensures parts { MatchOption result (lines_behind (lines_of script.now) ≡ None)
         (λ parts. IsSplit script.now parts.manifest.now parts.events.now parts.first) }
-    ensures room { IfSome result (λ parts. parts.first + length parts.events.now ≤ length script.now + 1) }
+    ensures room { IfSome result (λ parts.
+        parts.first + length parts.events.now ≤ length script.now + 1) }
 {
     let mut rest = script;
     let mut number = 1;
@@ -71,7 +72,8 @@ fn split(script: &[u8]) -> Option<Parts<'_>>
 /// The events of all lines of a text, of which the first has this number in the script.
 fn read_events(alloc: Global, text: &[u8], first: usize) -> Result<Vec<Event>, Fault>
     requires room { first + length text.now < 2 ^ 64 }
-    ensures events { IfOk result (λ events. map Some events.items ≡ map event_of (lines_of text.now)) }
+    ensures events { IfOk result (λ events.
+        map Some events.items ≡ map event_of (lines_of text.now)) }
     ensures refused { IfErr result (IsEventsRefusal (lines_of text.now) first) }
 {
     let mut events = Vec::new(alloc);

@@ -169,7 +169,8 @@ pub fn read_request(alloc: Global, bytes: &[u8]) -> Result<Ask, WireFault>
     // What is read is spelled so.
     ensures text { IfOk result (λ ask. IsRequestText ask bytes.now) }
     // What is spelled so is read, unless memory for its name runs out.
-    ensures only { (ask : Ask) → FitsAsk ask → IsRequestText ask bytes.now → Gives AsksByName result (Ok ask) }
+    ensures only { (ask : Ask) → FitsAsk ask → IsRequestText ask bytes.now
+        → Gives AsksByName result (Ok ask) }
     ensures sendable { IfOk result (λ ask. IsSendable ask.what) }
     // Which fault it is.
     ensures exact { Gives AsksByName result (request_of bytes.now) }

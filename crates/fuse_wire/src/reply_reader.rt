@@ -16,9 +16,11 @@ use eden_base::{Attr, Number};
 /// The reply that the bytes are. A reply has one spelling: other bytes are `BadBody`. It takes no memory.
 pub fn read_reply(bytes: &[u8]) -> Result<Reply, WireFault>
     ensures text { IfOk result (λ reply. bytes.now ≡ reply_text reply) }
-    ensures only { (reply : Reply) → FitsReply reply → bytes.now ≡ reply_text reply → result ≡ Ok reply }
+    ensures only { (reply : Reply) → FitsReply reply → bytes.now ≡ reply_text reply
+        → result ≡ Ok reply }
     ensures short { IsErrOf result WireFault.Short ↔ (length bytes.now < 16) }
-    ensures bad_length { IsErrOf result WireFault.BadLength ↔ ((16 ≤ length bytes.now) × (u32_at bytes.now ≢ length bytes.now)) }
+    ensures bad_length { IsErrOf result WireFault.BadLength
+        ↔ ((16 ≤ length bytes.now) × (u32_at bytes.now ≢ length bytes.now)) }
     ensures no_others { IfErr result IsReplyFault }
 {
     if bytes.len() < REPLY_HEADER_LEN {

@@ -29,7 +29,8 @@ pub fn write_reply(reply: &Reply, out: &mut [u8; 160]) -> usize
 
 /// The header (`struct fuse_out_header`).
 fn put_header(out: &mut [u8; 160], len: u32, reply: &Reply) -> usize
-    ensures field { Writes out.old out.new 0 (reply_header len (error_word reply.now.answer) reply.now.unique) }
+    ensures field { Writes out.old out.new 0
+        (reply_header len (error_word reply.now.answer) reply.now.unique) }
     ensures after { result ≡ 16 }
     ensures fits { reply.now.unique < 2 ^ 64 }
 {

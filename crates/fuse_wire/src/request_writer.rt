@@ -41,7 +41,8 @@ fn put_header(
     unique: u64,
     node: u64,
 ) -> Result<(), NoMemory>
-    ensures header { OnOk result (out.new.items ≡ out.old.items ++ (header len code unique node ++ zeros 16)) }
+    ensures header { OnOk result (out.new.items
+        ≡ out.old.items ++ (header len code unique node ++ zeros 16)) }
     ensures fits { unique < 2 ^ 64 }
 {
     put_u32(out, len)?;

@@ -86,7 +86,8 @@ fn is_of_use(entries: &[Kept], kept: &Kept) -> bool
 
 /// The place of a number that is of no use.
 pub(crate) fn useless_place(entries: &[Kept], number: Number) -> Option<usize>
-    ensures { MatchOption result (is_useless entries.now number.0 ≡ false) (IsUselessPlace entries.now number.0) }
+    ensures { MatchOption result (is_useless entries.now number.0 ≡ false)
+        (IsUselessPlace entries.now number.0) }
 {
     let place = place_of(entries, number)?;
     if is_of_use(entries, &entries[place]) {
@@ -116,7 +117,8 @@ pub(crate) fn lower(entries: &mut Vec<Kept>, number: Number, k: u64) -> bool
 
 /// Drops a number of no use, and then its directory if that is of none, and so on upwards.
 pub(crate) fn prune(entries: &mut Vec<Kept>, number: Number)
-    ensures { entries.new.items ≡ pruned (length entries.old.items) (Some number.0) entries.old.items }
+    ensures { entries.new.items
+        ≡ pruned (length entries.old.items) (Some number.0) entries.old.items }
 {
     let mut number = number;
     while let Some(place) = useless_place(entries, number) {

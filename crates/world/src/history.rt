@@ -24,7 +24,8 @@ pub fn run(
     ensures steps { IfOk result (λ r. Steps (started manifest.now limit) events.now r.1.items r.0) }
 
     // What the events made is a run of moves, and the world after it agrees with the state.
-    ensures events_are_a_run_of_moves { IfOk result (λ r. IsRunOfMoves manifest.now events.now r.1.items r.0) }
+    ensures events_are_a_run_of_moves { IfOk result (λ r.
+        IsRunOfMoves manifest.now events.now r.1.items r.0) }
 
     // The seated daemon's counts and numbers are the world's, and each generation was answered by one daemon.
     ensures counts_are_what_is_owed { IfOk result (λ r.
@@ -33,7 +34,8 @@ pub fn run(
         NumbersNameTheirFirstFile (world_after manifest.now events.now r.1.items) r.0) }
     ensures one_daemon_for_each_generation { IfOk result (λ r.
         OneDaemonForEachGeneration (world_after manifest.now events.now r.1.items)) }
-    ensures no_bad_forget { IfOk result (λ r. AllByRecursion (AllByRecursion IsGoodForget) r.1.items) }
+    ensures no_bad_forget { IfOk result (λ r.
+        AllByRecursion (AllByRecursion IsGoodForget) r.1.items) }
 {
     let mut world = World::new(alloc, manifest, limit)?;
     let outcomes = outcomes_of(alloc, &mut world, events)?;

@@ -70,7 +70,11 @@ impl Model for InodeMap {
 
     ghost Value = { MapState };
 
-    ghost view = { λ m. record { entries = m.entries.items; next = m.next; bad_items = m.bad_items } };
+    ghost view = { λ m. record {
+      entries = m.entries.items;
+      next = m.next;
+      bad_items = m.bad_items;
+    } };
 
     ghost use Rattle.std.specs.Prelude.{◌^◌, ◌<◌};
 

@@ -94,7 +94,8 @@ impl Served {
 
     /// What the kernel is told of the file under a name in the directory of a number.
     fn find(&self, dir: Number, name: &Name) -> Result<Attr, Errno>
-        ensures { Finds self.now.tree (found_in self.now.tree (file_of self.now dir.0) name.now) result }
+        ensures { Finds self.now.tree
+            (found_in self.now.tree (file_of self.now dir.0) name.now) result }
     {
         let dir = self.locate(dir).ok_or(Errno::ESTALE)?;
         if self.tree.kind(dir) != Some(Kind::Dir) {
@@ -108,7 +109,8 @@ impl Served {
     /// Takes back what an item says. It takes no memory.
     pub fn forget(&mut self, item: Item) -> Forgot
         ensures forgot { result ≡ forgot self.old.map item.node.0 item.k }
-        ensures forgotten { self.new ≡ record self.old { map = forgotten self.old.map item.node.0 item.k } }
+        ensures forgotten { self.new
+            ≡ record self.old { map = forgotten self.old.map item.node.0 item.k } }
     {
         self.map.forget(item.node, item.k)
     }

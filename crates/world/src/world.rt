@@ -89,7 +89,8 @@ impl World {
         ensures step { Step self.old event.now result self.new }
 
         // The event's moves may happen in any world that the state matches, and it matches the world after them.
-        ensures moves_on { (ideal : Ideal) → Matches ideal self.old → MovesOn ideal event.now result self.new }
+        ensures moves_on { (ideal : Ideal) → Matches ideal self.old
+            → MovesOn ideal event.now result self.new }
     {
         self.decide(event)
     }
