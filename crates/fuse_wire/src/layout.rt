@@ -1,16 +1,25 @@
 //! How long the parts of a message are, in bytes, and where they stand.
 
+/// `struct fuse_in_header`: behind the nodeid, the user, the group, the process and a padding.
+pub(crate) const SENDER_LEN: usize = 16;
+
 /// CREATE: flags, mode, umask and one more word (`struct fuse_create_in`).
 pub(crate) const CREATE_FIXED: usize = 16;
 
 /// Where in it the mode is.
 pub(crate) const CREATE_MODE: usize = 4;
 
+/// Behind it, the umask and that word.
+pub(crate) const CREATE_REST_LEN: usize = 8;
+
 /// MKDIR: mode and umask (`struct fuse_mkdir_in`).
 pub(crate) const MKDIR_FIXED: usize = 8;
 
 /// Where in it the mode is.
 pub(crate) const MKDIR_MODE: usize = 0;
+
+/// Behind it, the umask.
+pub(crate) const MKDIR_REST_LEN: usize = 4;
 
 /// GETATTR: flags, a padding and a handle (`struct fuse_getattr_in`).
 pub(crate) const GETATTR_LEN: usize = 16;
@@ -20,6 +29,9 @@ pub(crate) const FORGET_LEN: usize = 8;
 
 /// BATCH_FORGET: how many lines, and a padding.
 pub(crate) const BATCH_FIXED: usize = 8;
+
+/// That padding.
+pub(crate) const BATCH_REST_LEN: usize = 4;
 
 /// A line of it: a nodeid and a count (`struct fuse_forget_one`).
 pub(crate) const LINE_LEN: usize = 16;

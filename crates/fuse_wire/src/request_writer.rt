@@ -8,7 +8,10 @@ ghost use Rattle.eden_base.specs.Name.{IsNameText};
 ghost use Rattle.fuse_wire.specs.Reading.{request_of};
 
 use crate::header::Header;
-use crate::layout::{BATCH_FIXED, CREATE_FIXED, FORGET_LEN, GETATTR_LEN, LINE_LEN, MKDIR_FIXED};
+use crate::layout::{
+    BATCH_FIXED, BATCH_REST_LEN, CREATE_FIXED, CREATE_MODE, CREATE_REST_LEN, FORGET_LEN,
+    GETATTR_LEN, LINE_LEN, MKDIR_FIXED, MKDIR_REST_LEN, SENDER_LEN,
+};
 use crate::mode::mode_of;
 use crate::opcode::Opcode;
 use crate::{Ask, Item, Items, Request};
@@ -49,7 +52,7 @@ fn put_header(
     put_u32(out, code)?;
     put_u64(out, unique)?;
     put_u64(out, node)?;
-    put_16_zeros(out)?;
+    put_zeros(out, SENDER_LEN)?;
     Ok(())
 }
 
@@ -147,30 +150,14 @@ fn put_u64(out: &mut Vec<u8>, value: u64) -> Result<(), NoMemory>
     Ok(())
 }
 
-/// Four bytes that no reader looks at.
+/// Bytes that no reader looks at.
 #[tactic(auto, unfolding(crate::specs::RequestText::zeros))]
-fn put_4_zeros(out: &mut Vec<u8>) -> Result<(), NoMemory>
-    ensures { OnOk result (out.new.items ≡ out.old.items ++ zeros 4) }
+fn put_zeros(out: &mut Vec<u8>, count: usize) -> Result<(), NoMemory>
+    requires { count ≤ 16 }
+    ensures { OnOk result (out.new.items ≡ out.old.items ++ zeros count) }
 {
-    out.extend_from_slice(&[0; 4])?;
-    Ok(())
-}
-
-/// Eight bytes that no reader looks at.
-#[tactic(auto, unfolding(crate::specs::RequestText::zeros))]
-fn put_8_zeros(out: &mut Vec<u8>) -> Result<(), NoMemory>
-    ensures { OnOk result (out.new.items ≡ out.old.items ++ zeros 8) }
-{
-    out.extend_from_slice(&[0; 8])?;
-    Ok(())
-}
-
-/// Sixteen bytes that no reader looks at.
-#[tactic(auto, unfolding(crate::specs::RequestText::zeros))]
-fn put_16_zeros(out: &mut Vec<u8>) -> Result<(), NoMemory>
-    ensures { OnOk result (out.new.items ≡ out.old.items ++ zeros 16) }
-{
-    out.extend_from_slice(&[0; 16])?;
+    let len = out.len() + count;
+    out.resize(len, 0)?;
     Ok(())
 }
 
@@ -214,7 +201,7 @@ fn put_body(out: &mut Vec<u8>, request: &Request) -> Result<(), NoMemory>
             put_name(out, name),
         Request::Create { name, perm, .. } => put_create(out, name, *perm),
         Request::Mkdir { name, perm, .. } => put_mkdir(out, name, *perm),
-        Request::Getattr { .. } => put_16_zeros(out),
+        Request::Getattr { .. } => put_zeros(out, GETATTR_LEN),
         Request::Forget(item) => put_u64(out, item.k),
         Request::BatchForget(items) => put_batch(out, items),
         Request::Other { .. } => Ok(()),
@@ -225,9 +212,9 @@ fn put_body(out: &mut Vec<u8>, request: &Request) -> Result<(), NoMemory>
 fn put_create(out: &mut Vec<u8>, name: &Name, perm: Perm) -> Result<(), NoMemory>
     ensures { OnOk result (out.new.items ≡ out.old.items ++ create_body name.now perm) }
 {
-    put_4_zeros(out)?;
+    put_zeros(out, CREATE_MODE)?;
     put_u32(out, mode_of(Kind::File, perm))?;
-    put_8_zeros(out)?;
+    put_zeros(out, CREATE_REST_LEN)?;
     put_name(out, name)
 }
 
@@ -236,7 +223,7 @@ fn put_mkdir(out: &mut Vec<u8>, name: &Name, perm: Perm) -> Result<(), NoMemory>
     ensures { OnOk result (out.new.items ≡ out.old.items ++ mkdir_body name.now perm) }
 {
     put_u32(out, u32::from(perm.bits()))?;
-    put_4_zeros(out)?;
+    put_zeros(out, MKDIR_REST_LEN)?;
     put_name(out, name)
 }
 
@@ -246,6 +233,6 @@ fn put_batch(out: &mut Vec<u8>, items: &Items) -> Result<(), NoMemory>
     ensures fits { OnOk result (All FitsItem items.now) }
 {
     put_u32(out, items.len() as u32)?;
-    put_4_zeros(out)?;
+    put_zeros(out, BATCH_REST_LEN)?;
     put_lines(out, items.as_slice())
 }
