@@ -65,10 +65,7 @@ fn answer_of(error: u32, bytes: &[u8]) -> Option<Answer>
     ensures { result ≡ answer_at error bytes.now }
 {
     if error != 0 {
-        return match errno_of(u32::MAX - error + 1) {
-            Some(errno) => Some(Answer::Error(errno)),
-            None => None,
-        };
+        return errno_of(u32::MAX - error + 1).map(Answer::Error);
     }
     match bytes.len() {
         DONE_REPLY_LEN => Some(Answer::Done),
