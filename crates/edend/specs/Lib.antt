@@ -6,5 +6,6 @@ pub mod Number
 pub mod Printed
 pub mod Refusal
 pub mod Script
+pub mod Status
 pub mod Words
 pub mod CommandLine

@@ -1,4 +1,10 @@
 //! The program, over any system that has files, standard streams and words.
+ghost use Rattle.std.specs.Prelude.{◌≡◌, ◌≤◌};
+ghost use Rattle.std.specs.IoError.{error_kind};
+ghost use Rattle.std.specs.Process.{exit_status};
+ghost use Rattle.clap.specs.Words.{kind_of};
+ghost use Rattle.edend.specs.Status.{status_of, status_of_words};
+
 use crate::command_line::script_of;
 use crate::{DEFAULT_LIMIT, Fault, run_world};
 use clap::Error;
@@ -10,7 +16,9 @@ use std::{env, fs};
 
 /// Does what the words of the command line ask for. The status is 0 where a script was run, 1 at a fault, which is
 /// printed, and 2 where the words were refused.
-pub fn run_program<R: Files + Input + Print + Eprint + Env + AllocGlobal>(rt: &R) -> ExitCode {
+pub fn run_program<R: Files + Input + Print + Eprint + Env + AllocGlobal>(rt: &R) -> ExitCode
+    ensures status { exit_status result ≤ 2 }
+{
     let words: Vec<String> = match words_of(rt) {
         Ok(words) => words,
         Err(error) => return refuse_words(rt, &error),
@@ -47,13 +55,17 @@ fn run_script<R: Files + Input + Print + AllocGlobal>(rt: &R, path: &str) -> Res
 }
 
 /// Prints a fault on standard output, or nothing where that can't be written.
-fn report(rt: &impl Print, fault: Fault) -> ExitCode {
+fn report(rt: &impl Print, fault: Fault) -> ExitCode
+    ensures status { exit_status result ≡ 1 }
+{
     let _ = println!(rt; "fault: {fault}");
     ExitCode::from(1)
 }
 
 /// Answers words that ask for no script: with what is wrong with them, or with the help or the version.
-fn refuse<R: Print + Eprint>(rt: &R, error: &Error) -> ExitCode {
+fn refuse<R: Print + Eprint>(rt: &R, error: &Error) -> ExitCode
+    ensures status { exit_status result ≡ status_of (kind_of error.now) }
+{
     if error.kind() == ErrorKind::OutOfMemory {
         return report(rt, Fault::NoMemory);
     }
@@ -66,7 +78,9 @@ fn refuse<R: Print + Eprint>(rt: &R, error: &Error) -> ExitCode {
 }
 
 /// Answers words that could not be had, as they are no text.
-fn refuse_words<R: Print + Eprint>(rt: &R, error: &io::Error) -> ExitCode {
+fn refuse_words<R: Print + Eprint>(rt: &R, error: &io::Error) -> ExitCode
+    ensures status { exit_status result ≡ status_of_words (error_kind error.now) }
+{
     if error.kind() == io::ErrorKind::OutOfMemory {
         return report(rt, Fault::NoMemory);
     }
