@@ -3,7 +3,7 @@ ghost use Rattle.std.specs.Prelude.{◌≡◌, ◌≤◌};
 ghost use Rattle.std.specs.IoError.{error_kind};
 ghost use Rattle.std.specs.Process.{exit_status};
 ghost use Rattle.clap.specs.Words.{kind_of};
-ghost use Rattle.edend.specs.Status.{status_of, status_of_words};
+ghost use Rattle.edend.specs.Status.{status_of, status_of_run, status_of_words};
 
 use crate::command_line::script_of;
 use crate::{DEFAULT_LIMIT, Fault, run_world};
@@ -24,10 +24,7 @@ pub fn run_program<R: Files + Input + Print + Eprint + Env + AllocGlobal>(rt: &R
         Err(error) => return refuse_words(rt, &error),
     };
     match script_of(rt.alloc(), words.as_slice()) {
-        Ok(path) => match run_script(rt, path) {
-            Ok(()) => ExitCode::SUCCESS,
-            Err(fault) => report(rt, fault),
-        },
+        Ok(path) => end_run(rt, run_script(rt, path)),
         Err(error) => refuse(rt, &error),
     }
 }
@@ -51,6 +48,16 @@ fn run_script<R: Files + Input + Print + AllocGlobal>(rt: &R, path: &str) -> Res
     match fs::open(rt, path) {
         Ok(mut file) => run_world(rt.alloc(), &mut file, DEFAULT_LIMIT, &mut out),
         Err(_) => Err(Fault::CannotRead),
+    }
+}
+
+/// How a script's run ends. A fault is printed.
+fn end_run(rt: &impl Print, run: Result<(), Fault>) -> ExitCode
+    ensures status { exit_status result ≡ status_of_run run }
+{
+    match run {
+        Ok(()) => ExitCode::SUCCESS,
+        Err(fault) => report(rt, fault),
     }
 }
 
