@@ -7,7 +7,7 @@ use Rattle.broker_core.specs.Broker.{BrokerState}
 use Rattle.world.specs.State.{State}
 use Rattle.world.specs.Step.{Step}
 use Rattle.world.specs.declared.event.Event.{Event}
-use Rattle.world.specs.declared.inode_map.Kept.{Kept}
+use Rattle.inode_map.specs.declared.inode_map.Kept.{Kept}
 use Rattle.world.specs.declared.outcome.Happened.{Happened}
 use Rattle.edend.specs.Printed.{kept_line, kept_lines, printed}
 use Rattle.edend.specs.Script.{Prints, RunsEvents}

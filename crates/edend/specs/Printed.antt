@@ -12,12 +12,13 @@ use Rattle.broker_core.specs.declared.request.Answer.{Answer}
 use Rattle.broker_core.specs.declared.request.Answer.TheVariants.{Entry, Error}
 use Rattle.broker_core.specs.declared.seat.Seat.{Seat}
 use Rattle.world.specs.Holder.{served_of}
-use Rattle.world.specs.Served.{ServedState}
+use Rattle.fuse_ops.specs.Served.{ServedState}
 use Rattle.world.specs.State.{State}
-use Rattle.world.specs.Words.{refusal_name, forgot_name}
+use Rattle.inode_map.specs.Words.{forgot_name}
+use Rattle.world.specs.Words.{refusal_name}
 use Rattle.world.specs.declared.event.Event.{Event}
 use Rattle.world.specs.declared.event.Event.TheVariants.{Show}
-use Rattle.world.specs.declared.inode_map.Kept.{Kept}
+use Rattle.inode_map.specs.declared.inode_map.Kept.{Kept}
 use Rattle.world.specs.declared.outcome.Happened.{Happened}
 use Rattle.world.specs.declared.outcome.Happened.TheVariants.{Started, Mounted, Answered, Forgot, Refused}
 

@@ -5,8 +5,10 @@ ghost use Rattle.edend.specs.Printed.{printed, line, line_of, answer_line, entry
 
 use broker_core::{Answer, Broker, Reply, Seat};
 use eden_base::{Attr, Number, Place};
+use fuse_ops::Served;
+use inode_map::Kept;
 use std::io::{self, Write};
-use world::{Event, Happened, Kept, Outcome, Served, World};
+use world::{Event, Happened, Outcome, World};
 
 /// Prints what came of an event, and the world where the event was to show it.
 pub fn print_event<W: Write>(

@@ -8,9 +8,9 @@ use Rattle.eden_base.specs.declared.number.FileId.{FileId}
 use Rattle.eden_base.specs.declared.number.Number.{Number}
 use Rattle.eden_base.specs.declared.place.Place.TheVariants.{Linked}
 use Rattle.checkout.specs.Tree.{Tree, IsTree, child_of, is_unlinked, is_linked}
-use Rattle.world.specs.InodeMap.{has_number, entry_of, entry_at, stands_at, is_place, new_entry, file_in, file_of_place, is_kid_of, is_of_use, greatest_count}
-use Rattle.world.specs.Served.{IsUnlinkedPlace}
-use Rattle.world.specs.declared.inode_map.Kept.{Kept}
+use Rattle.inode_map.specs.InodeMap.{has_number, entry_of, entry_at, stands_at, is_place, new_entry, file_in, file_of_place, is_kid_of, is_of_use, greatest_count}
+use Rattle.fuse_ops.specs.Served.{IsUnlinkedPlace}
+use Rattle.inode_map.specs.declared.inode_map.Kept.{Kept}
 use Rattle.world.proofs.EntryLemmas.{eq-true, true-eq, false-ne, append-same, append-other, numbers-append, numbers-outside, numbers-bound, first-none, any-append}
 use Rattle.world.proofs.FileLemmas.{Extends, file_in-extended, file_in-entry}
 use Rattle.world.proofs.Fitting.{Fits, AreOfUseBut, some-is, some-IsSome, IsKnown, entry-place, linked_is_not_unlinked}

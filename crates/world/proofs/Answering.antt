@@ -12,10 +12,10 @@ use Rattle.eden_base.specs.declared.number.Number.{Number}
 use Rattle.broker_core.specs.declared.request.Answer.{Answer}
 use Rattle.broker_core.specs.declared.request.Answer.TheVariants.{Entry, Error}
 use Rattle.broker_core.specs.declared.request.Request.TheVariants.{Lookup}
-use Rattle.world.specs.InodeMap.{MapState, entry_of, entry_at, count_of, stands_at, file_in, give_fault_at, given, number_given, once_more, new_entry, greatest_count, end_of_numbers}
-use Rattle.world.specs.Served.{ServedState, found_in, GivesEntry, LooksFound, LooksUp}
+use Rattle.inode_map.specs.InodeMap.{MapState, entry_of, entry_at, count_of, stands_at, file_in, give_fault_at, given, number_given, once_more, new_entry, greatest_count, end_of_numbers}
+use Rattle.fuse_ops.specs.Served.{ServedState, found_in, GivesEntry, LooksFound, LooksUp}
 use Rattle.world.specs.World.{World, file_named, times, owed, IsLive, IsNumberOf, IsFree, IsAtGreatest, HasNoNumber, MayAnswerFile, MayAnswerFound, MayAnswer, named_file, named_after, held_after}
-use Rattle.world.specs.declared.inode_map.Kept.{Kept}
+use Rattle.inode_map.specs.declared.inode_map.Kept.{Kept}
 use Rattle.world.proofs.EntryLemmas.{entry_of-first, first-passes, numbers-entry, numbers-bound}
 use Rattle.world.proofs.FileLemmas.{known-entry}
 use Rattle.world.proofs.Fitting.{IsKnown, some-IsSome, known-from, not-one}
@@ -86,7 +86,7 @@ found_in_place w m dir name above file answer later owes f found named (Some kep
   number_is : number_given m dir.0 name ≡ kept.number
   number_is = ap (λ (o : Option Kept). option_map_or (λ (y : Kept). y.number) o (record { 0 = m.next })) at
 
-  full_in : (b : Bool) → nat_le greatest_count kept.count ≡ b → GivesEntry (served_over w.tree m) dir name file (if b then Some Rattle.world.specs.declared.inode_map.GiveFault.TheVariants.TooMany else None) answer later → Looked w dir name answer later
+  full_in : (b : Bool) → nat_le greatest_count kept.count ≡ b → GivesEntry (served_over w.tree m) dir name file (if b then Some Rattle.inode_map.specs.declared.inode_map.GiveFault.TheVariants.TooMany else None) answer later → Looked w dir name answer later
   full_in true e g = let most : kept.count ≤ greatest_count = f.knows.fits.counts_fit k kept entry in
       let least : greatest_count ≤ kept.count = grind (arith, nat_tests) in
       refused w m dir name answer later EOVERFLOW f.knows g.0 g.1
@@ -133,7 +133,7 @@ found_in_place w m dir name above file answer later owes f found named None at g
   no_number : (n : ℕ) → IsNumberOf w file n → ⊥
   no_number n is = let e = number-entry w m dir name above file owes f n is in
       let t = at_place dir.0 name e.0 e.2 in
-      let g = Rattle.world.proofs.EntryLemmas.first-none m.entries (Rattle.world.specs.InodeMap.has_number n) (stands_at dir.0 name) e.0 at e.1 in
+      let g = Rattle.world.proofs.EntryLemmas.first-none m.entries (Rattle.inode_map.specs.InodeMap.has_number n) (stands_at dir.0 name) e.0 at e.1 in
       let c : true ≡ false = sym t ∙ g in let none : ⊥ = cc in none
 
   not_full : (n : ℕ) → IsAtGreatest w file n → ⊥
@@ -151,7 +151,7 @@ found_in_place w m dir name above file answer later owes f found named None at g
     none_in None e = refl
     none_in (Some x) e = absurd (let r = (f.knows.numbers m.next).0 (ap is_some e) in omega (arith, r.1))
 
-  full_in : (b : Bool) → nat_le end_of_numbers m.next ≡ b → GivesEntry (served_over w.tree m) dir name file (if b then Some Rattle.world.specs.declared.inode_map.GiveFault.TheVariants.NoNumber else None) answer later → Looked w dir name answer later
+  full_in : (b : Bool) → nat_le end_of_numbers m.next ≡ b → GivesEntry (served_over w.tree m) dir name file (if b then Some Rattle.inode_map.specs.declared.inode_map.GiveFault.TheVariants.NoNumber else None) answer later → Looked w dir name answer later
   full_in true e g = let last : end_of_numbers ≤ m.next = grind (arith, nat_tests) in
       refused w m dir name answer later ENOSPC f.knows g.0 g.1
       (found_answer (Error ENOSPC) (record { no_number = no_number; none_left = λ n low high. (f.knows.numbers n).1 (omega arith, omega arith) }))

@@ -7,8 +7,8 @@ use Rattle.std.proofs.lemmas.Bool.Decides.{nat_tests}
 use Rattle.eden_base.specs.declared.number.FileId.{FileId}
 use Rattle.eden_base.specs.First.{changed_where}
 use Rattle.checkout.specs.Tree.{Tree}
-use Rattle.world.specs.InodeMap.{has_number, entry_of, count_of, file_in, is_kid_of, is_in, is_of_use, greatest_count}
-use Rattle.world.specs.declared.inode_map.Kept.{Kept}
+use Rattle.inode_map.specs.InodeMap.{has_number, entry_of, count_of, file_in, is_kid_of, is_in, is_of_use, greatest_count}
+use Rattle.inode_map.specs.declared.inode_map.Kept.{Kept}
 use Rattle.world.proofs.EntryLemmas.{true-eq, false-ne, changed-same, changed-other, numbers-changed, any-changed}
 use Rattle.world.proofs.FileLemmas.{Extends, file_in-extended}
 use Rattle.world.proofs.Fitting.{Fits, AreOfUseBut, some-is, some-IsSome}
@@ -67,7 +67,7 @@ fits-changed tree next es k change keeps few fits = record {
   files_are_apart = λ m n file s t e f. fits.files_are_apart m n file (some_before m s) (some_before n t) (back m file s e) (back n file t f);
   unlinked_alike = λ n now file e f. let w = was n now e in
       let u = fits.unlinked_alike n w.kept file w.was (back n file (some-IsSome (entry_of new n) now e) f) in
-      (λ p. u.0 (subst Rattle.world.specs.Served.IsUnlinkedPlace w.place p), λ p. subst Rattle.world.specs.Served.IsUnlinkedPlace (sym w.place) (u.1 p));
+      (λ p. u.0 (subst Rattle.fuse_ops.specs.Served.IsUnlinkedPlace w.place p), λ p. subst Rattle.fuse_ops.specs.Served.IsUnlinkedPlace (sym w.place) (u.1 p));
   counts_fit = λ n now e. count_in n now (was n now e);
 } where
   new : List Kept

@@ -10,8 +10,8 @@ use Rattle.broker_core.specs.declared.request.Item.{Item}
 use Rattle.broker_core.specs.declared.seat.Seat.{Seat}
 use Rattle.world.specs.declared.daemon.Daemon.{Daemon}
 use Rattle.world.specs.declared.daemon.Daemon.TheVariants.{Waiting, Serving}
-use Rattle.world.specs.declared.inode_map.Forgot.{Forgot}
-use Rattle.world.specs.Served.{ServedState}
+use Rattle.inode_map.specs.declared.inode_map.Forgot.{Forgot}
+use Rattle.fuse_ops.specs.Served.{ServedState}
 use Rattle.world.specs.State.{State, daemon_of}
 use Rattle.world.specs.DaemonWork.{is_waiting, IsServing, DaemonLooks, DaemonForgets, ServesAt, LooksAt, ForgetsAt, HolderServes}
 use Rattle.world.specs.Holder.{place_of_daemon, HolderIsAt}

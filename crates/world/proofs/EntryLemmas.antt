@@ -7,9 +7,9 @@ use Rattle.std.proofs.lemmas.Bool.Decides.{nat_tests}
 use Rattle.eden_base.specs.declared.number.Number.{Number}
 use Rattle.eden_base.specs.First.{first_where, changed_where, without_where}
 use Rattle.eden_base.proofs.FirstLemmas.{first_where-append, first_where-changed_same, first_where-changed_other, first_where-without_other}
-use Rattle.world.specs.InodeMap.{has_number, entry_of}
-use Rattle.world.specs.Served.{AreNumbers}
-use Rattle.world.specs.declared.inode_map.Kept.{Kept}
+use Rattle.inode_map.specs.InodeMap.{has_number, entry_of}
+use Rattle.fuse_ops.specs.Served.{AreNumbers}
+use Rattle.inode_map.specs.declared.inode_map.Kept.{Kept}
 
 -- tests of numbers, and what they say
 pub eq-true : (m n : ℕ) → m ≡ n → (m == n) ≡ true

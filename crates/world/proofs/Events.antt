@@ -15,8 +15,8 @@ use Rattle.broker_core.specs.declared.request.Answer.{Answer}
 use Rattle.broker_core.specs.declared.request.Item.{Item}
 use Rattle.broker_core.specs.declared.request.Request.TheVariants.{Lookup, Forget}
 use Rattle.broker_core.specs.declared.seat.Seat.{Seat}
-use Rattle.world.specs.InodeMap.{entry_of, file_in, forgot, forgotten, new_map}
-use Rattle.world.specs.Served.{ServedState, LooksUp, new_served}
+use Rattle.inode_map.specs.InodeMap.{entry_of, file_in, forgot, forgotten, new_map}
+use Rattle.fuse_ops.specs.Served.{ServedState, LooksUp, new_served}
 use Rattle.world.specs.State.{State, daemon_of, with_daemon, fault, mount_refusal, refusal_of_mount}
 use Rattle.world.specs.Step.{IsSeated, Looks, Forgets, Mounts, Starts, Makes, Refuses, TakesMemory, StepBy, Step}
 use Rattle.world.specs.World.{World, Move, asks, forgets, applies, mounts, file_named, times, without_times, IsRun, after, after_all}
@@ -25,8 +25,8 @@ use Rattle.world.specs.declared.daemon.Daemon.{Daemon}
 use Rattle.world.specs.declared.daemon.Daemon.TheVariants.{Waiting, Serving}
 use Rattle.world.specs.declared.event.Event.{Event}
 use Rattle.world.specs.declared.event.Event.TheVariants.{Start, Mount, Do, Show}
-use Rattle.world.specs.declared.inode_map.Forgot.{Forgot}
-use Rattle.world.specs.declared.inode_map.Forgot.TheVariants.{Lowered, Dropped, Bad, Root}
+use Rattle.inode_map.specs.declared.inode_map.Forgot.{Forgot}
+use Rattle.inode_map.specs.declared.inode_map.Forgot.TheVariants.{Lowered, Dropped, Bad, Root}
 use Rattle.world.specs.declared.outcome.Happened.{Happened}
 use Rattle.world.specs.declared.outcome.Happened.TheVariants as happened
 use Rattle.world.specs.declared.outcome.Refusal.{Refusal}

@@ -6,8 +6,8 @@ use Rattle.eden_base.specs.declared.number.FileId.{FileId}
 use Rattle.eden_base.specs.declared.place.Place.{Place}
 use Rattle.eden_base.specs.declared.place.Place.TheVariants.{Linked, Unlinked}
 use Rattle.checkout.specs.Tree.{Tree, child_of, root}
-use Rattle.world.specs.InodeMap.{entry_of, file_in, file_of_place, dir_or_root}
-use Rattle.world.specs.declared.inode_map.Kept.{Kept}
+use Rattle.inode_map.specs.InodeMap.{entry_of, file_in, file_of_place, dir_or_root}
+use Rattle.inode_map.specs.declared.inode_map.Kept.{Kept}
 use Rattle.world.proofs.EntryLemmas.{eq-true, eq-false, true-eq}
 
 file_in-zero_same : (tree : Tree) (old new : List Kept) (n : ℕ) → file_in zero tree new n ≡ file_in zero tree old n

@@ -6,9 +6,9 @@ use Rattle.eden_base.specs.declared.number.FileId.{FileId}
 use Rattle.eden_base.specs.declared.place.Place.{Place}
 use Rattle.eden_base.specs.declared.place.Place.TheVariants.{Linked, Unlinked}
 use Rattle.checkout.specs.Tree.{Tree, IsTree, child_of, root, file_of as tree_file, is_unlinked, is_linked}
-use Rattle.world.specs.InodeMap.{entry_of, file_in, file_of_place, dir_or_root, is_of_use, greatest_count}
-use Rattle.world.specs.Served.{ServedState, AreNumbers, IsSound, IsUnlinkedPlace}
-use Rattle.world.specs.declared.inode_map.Kept.{Kept}
+use Rattle.inode_map.specs.InodeMap.{entry_of, file_in, file_of_place, dir_or_root, is_of_use, greatest_count}
+use Rattle.fuse_ops.specs.Served.{ServedState, AreNumbers, IsSound, IsUnlinkedPlace}
+use Rattle.inode_map.specs.declared.inode_map.Kept.{Kept}
 use Rattle.world.proofs.EntryLemmas.{eq-true, eq-false, true-eq}
 use Rattle.world.proofs.FileLemmas.{Extends, place_file, file_in-root, file_in-entry, file_in-extended, known-entry}
 

@@ -6,11 +6,11 @@ use Rattle.std.proofs.lemmas.Bool.Decides.{nat_tests}
 use Rattle.eden_base.specs.First.{changed_where}
 use Rattle.eden_base.specs.declared.number.FileId.{FileId}
 use Rattle.checkout.specs.Tree.{Tree}
-use Rattle.world.specs.InodeMap.{MapState, has_number, entry_of, count_of, file_in, is_bad_item, is_useless, lowered, forgot, forgotten, pruned, greatest_count}
+use Rattle.inode_map.specs.InodeMap.{MapState, has_number, entry_of, count_of, file_in, is_bad_item, is_useless, lowered, forgot, forgotten, pruned, greatest_count}
 use Rattle.world.specs.World.{times, without_times}
-use Rattle.world.specs.declared.inode_map.Forgot.{Forgot}
-use Rattle.world.specs.declared.inode_map.Forgot.TheVariants.{Lowered, Dropped, Bad, Root}
-use Rattle.world.specs.declared.inode_map.Kept.{Kept}
+use Rattle.inode_map.specs.declared.inode_map.Forgot.{Forgot}
+use Rattle.inode_map.specs.declared.inode_map.Forgot.TheVariants.{Lowered, Dropped, Bad, Root}
+use Rattle.inode_map.specs.declared.inode_map.Kept.{Kept}
 use Rattle.world.proofs.EntryLemmas.{eq-false, true-eq, false-ne}
 use Rattle.world.proofs.FileLemmas.{file_in-root, file_in-extended}
 use Rattle.world.proofs.Fitting.{Fits, IsKnown, some-is, some-IsSome}

@@ -11,7 +11,5 @@ mod Forgetting
 mod Matching
 mod Events
 mod WholeRun
-pub mod EntryWrites
-pub mod MapWrites
 pub mod DaemonWrites
 pub mod StepLemmas

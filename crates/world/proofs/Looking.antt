@@ -13,10 +13,10 @@ use Rattle.eden_base.specs.declared.number.Number.{Number}
 use Rattle.eden_base.specs.declared.place.Place.{Place}
 use Rattle.eden_base.specs.declared.place.Place.TheVariants.{Linked, Unlinked}
 use Rattle.checkout.specs.Tree.{Tree, IsTree, child_of, kind_of, root}
-use Rattle.world.specs.InodeMap.{MapState, has_number, entry_of, entry_at, count_of, stands_at, is_place, file_in, give_fault, give_fault_at, given, number_given, once_more, new_entry, greatest_count, end_of_numbers}
-use Rattle.world.specs.Served.{ServedState, found_in, found_in_dir}
+use Rattle.inode_map.specs.InodeMap.{MapState, has_number, entry_of, entry_at, count_of, stands_at, is_place, file_in, give_fault, give_fault_at, given, number_given, once_more, new_entry, greatest_count, end_of_numbers}
+use Rattle.fuse_ops.specs.Served.{ServedState, found_in, found_in_dir}
 use Rattle.world.specs.World.{World, file_named, times, owed, IsLive, IsNumberOf}
-use Rattle.world.specs.declared.inode_map.Kept.{Kept}
+use Rattle.inode_map.specs.declared.inode_map.Kept.{Kept}
 use Rattle.world.proofs.EntryLemmas.{eq-true, eq-false, true-eq, false-ne, entry_of-first, changed-first, numbers-entry, numbers-bound, append-same, append-other}
 use Rattle.world.proofs.FileLemmas.{file_in-root, file_in-extended}
 use Rattle.world.proofs.Fitting.{Fits, AreOfUseBut, IsKnown, some-is, some-IsSome, known-from, entry-place, entry-no_root, not-one}
@@ -120,7 +120,7 @@ entry-named tree names held m dir name above file n kept f e p =
     let g = f.knows.fits.names_a_file n (some-IsSome (entry_of m.entries n) kept e) in
     let h = Rattle.world.proofs.Fitting.entry-file m.next tree m.entries n kept g.0 (not-one m.entries m.next n kept f.knows.fits.numbers e) e g.1 in
     let l = Rattle.world.proofs.Fitting.linked-file tree dir name (file_in m.next tree m.entries dir.0) g.0
-    (subst (λ (q : Place). Rattle.world.specs.InodeMap.file_of_place tree q (file_in m.next tree m.entries (Rattle.world.specs.InodeMap.dir_or_root q)) ≡ Some g.0) p h) in
+    (subst (λ (q : Place). Rattle.inode_map.specs.InodeMap.file_of_place tree q (file_in m.next tree m.entries (Rattle.inode_map.specs.InodeMap.dir_or_root q)) ≡ Some g.0) p h) in
     let same : l.0 ≡ above = (let s : Some l.0 ≡ Some above = sym l.1 ∙ f.at in cc) in
     let file_same : g.0 ≡ file = (let s : Some g.0 ≡ Some file = sym l.2 ∙ ap (λ (d : FileId). child_of tree d name) same ∙ f.child in cc) in
     g.1 ∙ ap Some file_same

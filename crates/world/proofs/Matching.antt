@@ -11,8 +11,8 @@ use Rattle.broker_core.specs.declared.request.Answer.{Answer}
 use Rattle.broker_core.specs.declared.request.Answer.TheVariants.{Entry, Error}
 use Rattle.broker_core.specs.declared.request.Item.{Item}
 use Rattle.broker_core.specs.declared.seat.Seat.{Seat}
-use Rattle.world.specs.InodeMap.{MapState, entry_of, count_of, file_in}
-use Rattle.world.specs.Served.{ServedState}
+use Rattle.inode_map.specs.InodeMap.{MapState, entry_of, count_of, file_in}
+use Rattle.fuse_ops.specs.Served.{ServedState}
 use Rattle.world.specs.State.{State, daemon_of, with_daemon, refusal_of_issue}
 use Rattle.world.specs.Step.{IsSeated}
 use Rattle.world.specs.World.{World, Move, Ask, asks, forgets, works, applies, delivers, mounts, accepts, first_world, file_named, times, without_times, owed, IsLive, MayAnswer, named_after, held_after, IsLegal, IsRun, after, after_all}

@@ -8,8 +8,8 @@ use Rattle.eden_base.specs.declared.place.Place.{Place}
 use Rattle.eden_base.specs.declared.place.Place.TheVariants.{Linked, Unlinked}
 use Rattle.eden_base.specs.First.{without_where}
 use Rattle.checkout.specs.Tree.{Tree}
-use Rattle.world.specs.InodeMap.{has_number, entry_of, count_of, file_in, is_kid_of, is_in, is_of_use, is_useless, dir_of, dir_or_root, dir_above, pruned}
-use Rattle.world.specs.declared.inode_map.Kept.{Kept}
+use Rattle.inode_map.specs.InodeMap.{has_number, entry_of, count_of, file_in, is_kid_of, is_in, is_of_use, is_useless, dir_of, dir_or_root, dir_above, pruned}
+use Rattle.inode_map.specs.declared.inode_map.Kept.{Kept}
 use Rattle.world.proofs.EntryLemmas.{true-eq, false-ne, without-same, without-other, numbers-without, any-first, any-without, length-without, entry_of-number}
 use Rattle.world.proofs.FileLemmas.{KeepsAbove, file_in-left}
 use Rattle.world.proofs.Fitting.{Fits, AreOfUseBut, some-is, some-IsSome}
@@ -35,7 +35,7 @@ useless es n h = useless_in (entry_of es n) refl h where
       (kept, record { entry = e; no_count = grind (arith, nat_tests); no_kids = subst (λ (m : ℕ). list_any (is_kid_of m) es ≡ false) (entry_of-number es n kept e) p.1 })
 
 -- an entry that was left
-left : (es : List Kept) (low next n m : ℕ) (now : Kept) → Rattle.world.specs.Served.AreNumbers low next es → entry_of (without_where (has_number n) es) m ≡ Some now → (m ≡ n → ⊥) × (entry_of es m ≡ Some now)
+left : (es : List Kept) (low next n m : ℕ) (now : Kept) → Rattle.fuse_ops.specs.Served.AreNumbers low next es → entry_of (without_where (has_number n) es) m ≡ Some now → (m ≡ n → ⊥) × (entry_of es m ≡ Some now)
 left es low next n m now are h = left_in (m == n) refl where
   left_in : (b : Bool) → (m == n) ≡ b → (m ≡ n → ⊥) × (entry_of es m ≡ Some now)
   left_in true t = absurd (let same : m ≡ n = true-eq m n t in let gone : entry_of (without_where (has_number n) es) m ≡ None = subst (λ (j : ℕ). entry_of (without_where (has_number n) es) j ≡ None) (sym same) (without-same es low next n are) in
@@ -47,7 +47,7 @@ kid_or_root : (place : Place) (n : ℕ) → is_in n place ≡ false → (dir_or_
 kid_or_root (Unlinked file) n h = inl refl
 kid_or_root (Linked dir name) n h = inr (false-ne dir.0 n h)
 
-left-keeps : (es : List Kept) (low next n : ℕ) (gone : Kept) → Rattle.world.specs.Served.AreNumbers low next es → IsUseless es n gone → KeepsAbove es (without_where (has_number n) es)
+left-keeps : (es : List Kept) (low next n : ℕ) (gone : Kept) → Rattle.fuse_ops.specs.Served.AreNumbers low next es → IsUseless es n gone → KeepsAbove es (without_where (has_number n) es)
 unfolding KeepsAbove
 left-keeps es low next n gone are is m now h =
     let l = left es low next n m now are h in

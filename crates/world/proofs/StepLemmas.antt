@@ -15,10 +15,10 @@ use Rattle.world.specs.declared.daemon.Daemon.{Daemon}
 use Rattle.world.specs.declared.daemon.Daemon.TheVariants.{Waiting, Serving}
 use Rattle.world.specs.declared.event.Event.{Event}
 use Rattle.world.specs.declared.event.Event.TheVariants.{Mount, Do}
-use Rattle.world.specs.declared.inode_map.Forgot.{Forgot}
+use Rattle.inode_map.specs.declared.inode_map.Forgot.{Forgot}
 use Rattle.world.specs.declared.outcome.Happened.{Happened}
 use Rattle.world.specs.declared.outcome.Happened.TheVariants as happened
-use Rattle.world.specs.Served.{ServedState, new_served}
+use Rattle.fuse_ops.specs.Served.{ServedState, new_served}
 use Rattle.world.specs.State.{State, daemon_of, with_daemon, mount_refusal, refusal_of_mount, refusal_of_issue}
 use Rattle.world.specs.Step.{Looks, Forgets, Mounts, Step, StepBy, Steps}
 use Rattle.world.specs.DaemonWork.{LooksAt, ForgetsAt}

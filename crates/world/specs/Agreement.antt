@@ -9,14 +9,14 @@ use Rattle.eden_base.specs.First.{first_where}
 use Rattle.broker_core.specs.Broker.{held_count, has_number}
 use Rattle.broker_core.specs.declared.held.Held.{Held}
 use Rattle.broker_core.specs.declared.seat.Seat.{Seat}
-use Rattle.world.specs.InodeMap.{count_of, entry_of}
-use Rattle.world.specs.Served.{ServedState, IsSound, file_of}
+use Rattle.inode_map.specs.InodeMap.{count_of, entry_of}
+use Rattle.fuse_ops.specs.Served.{ServedState, IsSound, file_of}
 use Rattle.world.specs.State.{State}
 use Rattle.world.specs.Step.{IsSeated}
 use Rattle.world.specs.World.{World, Move, asks, forgets, works, applies, delivers, mounts, accepts, first_world, file_named, times, owed, IsRun, after_all}
 use Rattle.world.specs.declared.event.Event.{Event}
 use Rattle.world.specs.declared.event.Event.TheVariants.{Mount, Do}
-use Rattle.world.specs.declared.inode_map.Forgot.TheVariants.{Bad, Root}
+use Rattle.inode_map.specs.declared.inode_map.Forgot.TheVariants.{Bad, Root}
 use Rattle.world.specs.declared.outcome.Happened.{Happened}
 use Rattle.world.specs.declared.outcome.Happened.TheVariants as happened
 

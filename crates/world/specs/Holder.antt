@@ -5,7 +5,7 @@ use Rattle.eden_base.specs.declared.number.DaemonId.{DaemonId}
 use Rattle.broker_core.specs.declared.seat.Seat.{Seat}
 use Rattle.world.specs.declared.daemon.Daemon.TheVariants.{Serving}
 use Rattle.world.specs.DaemonWork.{served_in}
-use Rattle.world.specs.Served.{ServedState}
+use Rattle.fuse_ops.specs.Served.{ServedState}
 use Rattle.world.specs.State.{State, daemon_of}
 
 -- what a daemon serves, if there is such a daemon and it does

@@ -1,10 +1,7 @@
-pub mod InodeMap
-pub mod Served
 pub mod State
 pub mod Step
 pub mod World
 pub mod Agreement
-pub mod EntryPlaces
 pub mod DaemonWork
 pub mod Inside
 pub mod Holder

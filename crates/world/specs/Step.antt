@@ -7,8 +7,8 @@ use Rattle.broker_core.specs.declared.request.Answer.{Answer}
 use Rattle.broker_core.specs.declared.request.Item.{Item}
 use Rattle.broker_core.specs.declared.request.Request.TheVariants.{Lookup, Forget}
 use Rattle.broker_core.specs.declared.seat.Seat.{Seat}
-use Rattle.world.specs.InodeMap.{forgot, forgotten}
-use Rattle.world.specs.Served.{ServedState, new_served, LooksUp}
+use Rattle.inode_map.specs.InodeMap.{forgot, forgotten}
+use Rattle.fuse_ops.specs.Served.{ServedState, new_served, LooksUp}
 use Rattle.world.specs.State.{State, daemon_of, with_daemon, fault}
 use Rattle.world.specs.declared.daemon.Daemon.TheVariants.{Waiting, Serving}
 use Rattle.world.specs.declared.event.Event.{Event}

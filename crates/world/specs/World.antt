@@ -18,8 +18,8 @@ use Rattle.broker_core.specs.declared.request.Reply.{Reply}
 use Rattle.broker_core.specs.declared.request.Request.{Request}
 use Rattle.broker_core.specs.declared.request.Request.TheVariants.{Lookup, Forget}
 use Rattle.broker_core.specs.declared.seat.Seat.{Seat}
-use Rattle.world.specs.InodeMap.{greatest_count, end_of_numbers}
-use Rattle.world.specs.Served.{found_in}
+use Rattle.inode_map.specs.InodeMap.{greatest_count, end_of_numbers}
+use Rattle.fuse_ops.specs.Served.{found_in}
 
 -- an ask of the kernel under its unique
 pub record Ask : Type 0 where

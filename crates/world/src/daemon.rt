@@ -3,10 +3,10 @@ ghost use Rattle.std.specs.Prelude.{◌≡◌, vec_len};
 ghost use Rattle.std.specs.Option.{option_copied};
 ghost use Rattle.world.specs.DaemonWork.{is_waiting, IsServing, served_in, DaemonLooks, DaemonForgets, ServesAt, LooksAt, ForgetsAt};
 
-use crate::inode_map::Forgot;
-use crate::served::Served;
 use broker_core::{Answer, Item};
 use eden_base::{Errno, Name, Number};
+use fuse_ops::Served;
+use inode_map::Forgot;
 use std::alloc::Global;
 
 /// A daemon: started, and then serving what it mounted.

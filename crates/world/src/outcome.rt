@@ -3,10 +3,10 @@ ghost use Rattle.std.specs.Prelude.{◌≡◌, [], ◌∷◌};
 ghost use Rattle.world.specs.Words.{refusal_name};
 ghost use Rattle.world.specs.State.{refusal_of_mount, refusal_of_issue};
 
-use crate::inode_map::Forgot;
 use arrayvec::ArrayVec;
 use broker_core::{IssueFault, Item, MountFault, Reply};
 use eden_base::{DaemonId, NoMemory};
+use inode_map::Forgot;
 use std::marker::Model;
 
 /// Why an event was refused. A refusal changes nothing.

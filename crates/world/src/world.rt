@@ -11,10 +11,10 @@ ghost use Rattle.world.specs.Holder.{served_of, place_of_daemon, HolderIsAt};
 use crate::daemon::{Daemon, forget_at, look_up_at};
 use crate::event::Event;
 use crate::outcome::{Happened, Outcome, Refusal};
-use crate::served::Served;
 use broker_core::{Broker, Item, Reply, Request};
 use checkout::Manifest;
 use eden_base::{DaemonId, Name, NoMemory, Number};
+use fuse_ops::Served;
 use std::alloc::Global;
 use std::marker::Model;
 

@@ -1,6 +1,6 @@
 use Rattle.std.proofs.Common.{◌+◌, ◌∷◌, drop, ap, sym, ◌∙◌, arith}
 use Rattle.std.proofs.lemmas.List.{drop_more}
-use Rattle.world.specs.declared.inode_map.Kept.{Kept}
+use Rattle.inode_map.specs.declared.inode_map.Kept.{Kept}
 use Rattle.edend.proofs.PrintLemmas.{kept_lines_more}
 use Rattle.edend.proofs.print.print_all_kept.Goals as goal
 

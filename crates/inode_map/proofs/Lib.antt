@@ -1,0 +1,2 @@
+pub mod EntryWrites
+pub mod MapWrites

@@ -1,0 +1,3 @@
+pub mod InodeMap
+pub mod EntryPlaces
+pub mod Words
