@@ -46,7 +46,7 @@ impl Name {
     /// In bytes (`NAME_MAX` of `linux/limits.h`).
     pub const MAX_LEN: usize = 255;
 
-    /// The name of these bytes.
+    /// Returns the name of these bytes.
     pub fn parse(alloc: Global, bytes: &[u8]) -> Result<Name, NameFault>
         ensures name { IfOk result (λ name. name ≡ bytes.now) }
         ensures accepted { OnOk result (IsNameText bytes.now) }
@@ -55,10 +55,44 @@ impl Name {
         if let Some(fault) = Name::fault(bytes) {
             return Err(fault);
         }
+        match Name::of(alloc, bytes) {
+            Ok(name) => Ok(name),
+            Err(NoMemory) => Err(NameFault::NoMemory),
+        }
+    }
+
+    /// Returns the name of these bytes, in memory that was taken before.
+    pub fn parse_to(room: NameRoom, bytes: &[u8]) -> Result<Name, NameFault>
+        ensures name { IfOk result (λ name. name ≡ bytes.now) }
+        ensures accepted { OnOk result (IsNameText bytes.now) }
+        ensures refused { IfErr result (λ fault. name_fault bytes.now ≡ Some fault) }
+        ensures no_want { ¬ (result ≡ Err NameFault.NoMemory) }
+    {
+        match Name::fault(bytes) {
+            None => Ok(Name::of_to(room, bytes)),
+            Some(fault) => Err(fault),
+        }
+    }
+
+    /// Returns the name of bytes that are one.
+    pub fn of(alloc: Global, bytes: &[u8]) -> Result<Name, NoMemory>
+        requires { IsNameText bytes.now }
+        ensures name { IfOk result (λ name. name ≡ bytes.now) }
+    {
         match Vec::from_slice(alloc, bytes) {
             Ok(bytes) => Ok(Name { bytes }),
-            Err(_refused) => Err(NameFault::NoMemory),
+            Err(_refused) => Err(NoMemory),
         }
+    }
+
+    /// Returns the name of bytes that are one, in memory that was taken before.
+    pub fn of_to(room: NameRoom, bytes: &[u8]) -> Name
+        requires { IsNameText bytes.now }
+        ensures name { result ≡ bytes.now }
+    {
+        let NameRoom { bytes: mut taken } = room;
+        taken.extend_from_slice(bytes).unwrap();
+        Name { bytes: taken }
     }
 
     /// The first fault of bytes as a name, want of memory apart: none where they are one.
@@ -88,23 +122,18 @@ impl Name {
         self.bytes.as_slice()
     }
 
-    /// The same name, in memory of its own.
+    /// Returns the same name, in memory of its own.
     pub fn copy(&self, alloc: Global) -> Result<Name, NoMemory>
         ensures copy { IfOk result (λ name. name ≡ self.now) }
     {
-        match Vec::from_slice(alloc, self.bytes()) {
-            Ok(bytes) => Ok(Name { bytes }),
-            Err(_refused) => Err(NoMemory),
-        }
+        Name::of(alloc, self.bytes())
     }
 
-    /// The same name, in memory that was taken before.
+    /// Returns the same name, in memory that was taken before.
     pub fn copy_to(&self, room: NameRoom) -> Name
         ensures copy { result ≡ self.now }
     {
-        let NameRoom { mut bytes } = room;
-        bytes.extend_from_slice(self.bytes()).unwrap();
-        Name { bytes }
+        Name::of_to(room, self.bytes())
     }
 
     /// Whether the two are one name, byte for byte.

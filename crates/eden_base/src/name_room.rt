@@ -5,8 +5,8 @@ use crate::{Name, NoMemory};
 use std::alloc::Global;
 use std::marker::Model;
 
-/// Room for any one name, seen as how many bytes it takes. `Name::copy_to` uses it up, and so has no want of memory to
-/// tell.
+/// Room for any one name, seen as how many bytes it takes. `Name::of_to`, `parse_to` and `copy_to` use it up, and so
+/// never run out of memory.
 #[derive(Drop)]
 pub struct NameRoom {
     pub(crate) bytes: Vec<u8>,

@@ -1,7 +1,8 @@
 //! The numbers that the kernel, the checkout and the broker give to files and daemons.
 
-/// An inode number as the kernel holds it: what `linux/fuse.h` calls a nodeid. No file has number 0.
-#[derive(Clone, Copy, Debug, PartialEq, Eq)]
+/// An inode number as the kernel holds it: what `linux/fuse.h` calls a nodeid. No file has number 0, which
+/// is the default.
+#[derive(Clone, Copy, Debug, Default, PartialEq, Eq)]
 pub struct Number(pub u64);
 
 impl Number {

@@ -54,6 +54,19 @@ fn refuses_what_is_no_name(rt: HostRuntime) {
 }
 
 #[test]
+fn parses_a_name_to_a_room(rt: HostRuntime) -> Result<(), Fail> {
+    let alloc = rt.alloc();
+    let name = Name::parse_to(room(alloc)?, b"src")?;
+    assert_eq!(rt; name.bytes(), b"src".as_slice());
+    let fault = match Name::parse_to(room(alloc)?, b"a/b") {
+        Ok(_) => panic!(rt; "a name with a slash"),
+        Err(fault) => fault,
+    };
+    assert_eq!(rt; fault, NameFault::BadByte);
+    Ok(())
+}
+
+#[test]
 fn copies_a_name(rt: HostRuntime) -> Result<(), Fail> {
     let alloc = rt.alloc();
     let longest = [b'n'; 255];

@@ -1,3 +1,4 @@
+pub mod Ask
 pub mod FaultReply
 pub mod Field
 pub mod Mode

@@ -128,20 +128,21 @@ IsForgetOf bytes items = (ask : Ask) × (request_of bytes ≡ Ok ask) × (lines_
 
 -- ---- what takes memory
 
--- a name is all that takes memory
-abbrev pub HasName : Request → Type 0
-HasName (requests.Lookup dir name) = Unit {0}
-HasName (requests.Create dir name perm) = Unit {0}
-HasName (requests.Mkdir dir name perm) = Unit {0}
-HasName (requests.Unlink dir name) = Unit {0}
-HasName (requests.Rmdir dir name) = Unit {0}
-HasName request = ⊥
+-- a name takes memory, and so does a batch
+abbrev pub TakesMemory : Request → Type 0
+TakesMemory (requests.Lookup dir name) = Unit {0}
+TakesMemory (requests.Create dir name perm) = Unit {0}
+TakesMemory (requests.Mkdir dir name perm) = Unit {0}
+TakesMemory (requests.Unlink dir name) = Unit {0}
+TakesMemory (requests.Rmdir dir name) = Unit {0}
+TakesMemory (requests.BatchForget items) = Unit {0}
+TakesMemory request = ⊥
 
 abbrev pub IsNamed : {X : Type 0} → X → Type 0
 IsNamed x = Unit {0}
 
-abbrev pub HasNoName : {X : Type 0} → X → Type 0
-HasNoName x = ⊥
+abbrev pub TakesNone : {X : Type 0} → X → Type 0
+TakesNone x = ⊥
 
-abbrev pub AsksByName : Ask → Type 0
-AsksByName ask = HasName ask.what
+abbrev pub WantsMemory : Ask → Type 0
+WantsMemory ask = TakesMemory ask.what

@@ -1,7 +1,8 @@
 //! What the kernel asks.
 ghost use Rattle.std.specs.Prelude.{◌≡◌, IfOk};
+ghost use Rattle.fuse_wire.specs.Ask.{is_ask, nodes};
 
-use crate::{Item, Items};
+use crate::{Batch, BatchRoom, Item, Nodes};
 use eden_base::{Name, NameRoom, NoMemory, Number, Perm};
 use std::alloc::Global;
 
@@ -17,7 +18,7 @@ pub enum Request {
     /// Has no reply.
     Forget(Item),
     /// Has no reply.
-    BatchForget(Items),
+    BatchForget(Batch),
     /// A request that is not served, by its opcode.
     Other { opcode: u32, node: Number },
 }
@@ -30,7 +31,7 @@ pub struct Ask {
 }
 
 impl Request {
-    /// The same request, in memory of its own.
+    /// Returns the same request, in memory of its own.
     pub fn copy(&self, alloc: Global) -> Result<Request, NoMemory>
         ensures copy { IfOk result (λ copy. copy ≡ self.now) }
     {
@@ -65,7 +66,10 @@ impl Request {
             }
             Request::Getattr { node } => Ok(Request::Getattr { node: *node }),
             Request::Forget(item) => Ok(Request::Forget(*item)),
-            Request::BatchForget(items) => Ok(Request::BatchForget(items.copy())),
+            Request::BatchForget(batch) => {
+                let batch = batch.copy(alloc)?;
+                Ok(Request::BatchForget(batch))
+            }
             Request::Other { opcode, node } => Ok(Request::Other {
                 opcode: *opcode,
                 node: *node,
@@ -73,8 +77,9 @@ impl Request {
         }
     }
 
-    /// The same request, in memory that was taken before: room for as many names as a request can have.
-    pub fn copy_to(&self, room: NameRoom, _second: NameRoom) -> Request
+    /// Returns the same request, in memory that was taken before: room for as many names as a request can have, and for
+    /// a batch.
+    pub fn copy_to(&self, room: NameRoom, _second: NameRoom, batch_room: BatchRoom) -> Request
         ensures copy { result ≡ self.now }
     {
         match self {
@@ -102,11 +107,37 @@ impl Request {
             },
             Request::Getattr { node } => Request::Getattr { node: *node },
             Request::Forget(item) => Request::Forget(*item),
-            Request::BatchForget(items) => Request::BatchForget(items.copy()),
+            Request::BatchForget(batch) => Request::BatchForget(batch.copy_to(batch_room)),
             Request::Other { opcode, node } => Request::Other {
                 opcode: *opcode,
                 node: *node,
             },
         }
     }
+
+    /// Whether the kernel waits for a reply: to all but the two forgets.
+    pub fn is_ask(&self) -> bool
+        ensures ask { result ≡ is_ask self.now }
+    {
+        !matches!(self, Request::Forget(_) | Request::BatchForget(_))
+    }
+
+    /// Returns the numbers that the request goes to. Those of a forget are in its items.
+    pub fn nodes(&self) -> Nodes
+        ensures nodes { result ≡ nodes self.now }
+    {
+        match self {
+            Request::Lookup { dir, .. }
+            | Request::Create { dir, .. }
+            | Request::Mkdir { dir, .. }
+            | Request::Unlink { dir, .. }
+            | Request::Rmdir { dir, .. } => Nodes::one(*dir),
+            Request::Getattr { node } | Request::Other { node, .. } => Nodes::one(*node),
+            Request::Forget(_) | Request::BatchForget(_) => Nodes::none(),
+        }
+    }
 }
+
+const _: () = prove!(size_of::<Request>() <= 80);
+
+const _: () = prove!(size_of::<Ask>() <= 88);

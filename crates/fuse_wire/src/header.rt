@@ -1,6 +1,6 @@
 //! The first 40 bytes of a request.
 ghost use Rattle.std.specs.Prelude.{◌≡◌, ◌≤◌, length, OnOk, ◌==◌};
-ghost use Rattle.fuse_wire.specs.Reading.{Gives, HasNoName, fields_of, header_of};
+ghost use Rattle.fuse_wire.specs.Reading.{Gives, TakesNone, fields_of, header_of};
 
 use crate::WireFault;
 use crate::reader::Reader;
@@ -44,7 +44,7 @@ impl Header {
 #[tactic(auto, unfolding(crate::specs::Reading::header_of))]
 pub(crate) fn read_header(bytes: &[u8]) -> Result<Header, WireFault>
     ensures header { result ≡ header_of bytes.now }
-    ensures no_want { Gives HasNoName result (header_of bytes.now) }
+    ensures no_want { Gives TakesNone result (header_of bytes.now) }
     ensures whole { OnOk result (40 ≤ length bytes.now) }
 {
     if bytes.len() < Header::LEN {

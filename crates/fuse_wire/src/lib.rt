@@ -2,12 +2,14 @@
 #![tactic(auto)]
 
 mod ask;
+mod batch;
 mod errno;
 mod fault;
 mod header;
 mod item;
 mod layout;
 mod mode;
+mod nodes;
 mod opcode;
 mod reader;
 mod reading;
@@ -18,8 +20,10 @@ mod reply_writer;
 mod request_writer;
 
 pub use ask::{Ask, Request};
+pub use batch::{Batch, BatchRoom};
 pub use fault::WireFault;
 pub use item::{Item, Items};
+pub use nodes::Nodes;
 pub use reading::{read_items, read_request};
 pub use refusal::fault_reply;
 pub use reply::{Answer, Reply};

@@ -1,7 +1,7 @@
 //! Requests read from their bytes.
 ghost use Rattle.std.specs.Prelude.{◌≡◌, ◌≤◌, ◌+◌, ◌*◌, length, IfOk, Ok};
 ghost use Rattle.fuse_wire.specs.Opcode.{opcode_of};
-ghost use Rattle.fuse_wire.specs.Reading.{Gives, HasName, IsNamed, HasNoName, AsksByName, name_of, made_of, forget_of, batch_of, items_at, what_of, lines_of, request_of, items_of, lines_told, IsForgetOf};
+ghost use Rattle.fuse_wire.specs.Reading.{Gives, TakesMemory, IsNamed, TakesNone, WantsMemory, name_of, made_of, forget_of, batch_of, items_at, what_of, lines_of, request_of, items_of, lines_told, IsForgetOf};
 ghost use Rattle.fuse_wire.specs.RequestText.{IsRequestText, IsSendable, FitsAsk};
 
 use crate::header::{Header, read_header};
@@ -11,8 +11,8 @@ use crate::layout::{
 };
 use crate::opcode::Opcode;
 use crate::reader::Reader;
-use crate::{Ask, Item, Items, Request, WireFault, mode};
-use eden_base::{Name, NameFault, Number, Perm};
+use crate::{Ask, Batch, Item, Items, Request, WireFault, mode};
+use eden_base::{Name, NameFault, NoMemory, Number, Perm};
 use std::alloc::Global;
 
 /// A name, and NUL.
@@ -58,7 +58,7 @@ fn read_made(
 /// A file to be made (`struct fuse_create_in`, and its name).
 #[tactic(auto, unfolding(crate::specs::Reading::what_of))]
 fn read_create(alloc: Global, dir: Number, body: &[u8]) -> Result<Request, WireFault>
-    ensures { Gives HasName result (what_of Opcode.Create dir body.now) }
+    ensures { Gives TakesMemory result (what_of Opcode.Create dir body.now) }
 {
     let (name, perm) = read_made(alloc, CREATE_FIXED, CREATE_MODE, body)?;
     Ok(Request::Create { dir, name, perm })
@@ -67,7 +67,7 @@ fn read_create(alloc: Global, dir: Number, body: &[u8]) -> Result<Request, WireF
 /// A directory to be made (`struct fuse_mkdir_in`, and its name).
 #[tactic(auto, unfolding(crate::specs::Reading::what_of))]
 fn read_mkdir(alloc: Global, dir: Number, body: &[u8]) -> Result<Request, WireFault>
-    ensures { Gives HasName result (what_of Opcode.Mkdir dir body.now) }
+    ensures { Gives TakesMemory result (what_of Opcode.Mkdir dir body.now) }
 {
     let (name, perm) = read_made(alloc, MKDIR_FIXED, MKDIR_MODE, body)?;
     Ok(Request::Mkdir { dir, name, perm })
@@ -76,7 +76,7 @@ fn read_mkdir(alloc: Global, dir: Number, body: &[u8]) -> Result<Request, WireFa
 /// A question for attributes (`struct fuse_getattr_in`), of which the length alone is looked at.
 #[tactic(auto, unfolding(crate::specs::Reading::what_of))]
 fn read_getattr(node: Number, body: &[u8]) -> Result<Request, WireFault>
-    ensures { Gives HasName result (what_of Opcode.Getattr node body.now) }
+    ensures { Gives TakesMemory result (what_of Opcode.Getattr node body.now) }
 {
     if body.len() != GETATTR_LEN {
         return Err(WireFault::BadBody);
@@ -88,7 +88,7 @@ fn read_getattr(node: Number, body: &[u8]) -> Result<Request, WireFault>
 #[tactic(auto, unfolding(crate::specs::Reading::forget_of))]
 fn read_forget(node: Number, body: &[u8]) -> Result<Item, WireFault>
     ensures value { result ≡ forget_of node body.now }
-    ensures no_want { Gives HasNoName result (forget_of node body.now) }
+    ensures no_want { Gives TakesNone result (forget_of node body.now) }
 {
     if body.len() != FORGET_LEN {
         return Err(WireFault::BadBody);
@@ -101,7 +101,7 @@ fn read_forget(node: Number, body: &[u8]) -> Result<Item, WireFault>
 #[tactic(auto, unfolding(crate::specs::Reading::batch_of))]
 fn read_batch(body: &[u8]) -> Result<Items, WireFault>
     ensures value { result ≡ batch_of body.now }
-    ensures no_want { Gives HasNoName result (batch_of body.now) }
+    ensures no_want { Gives TakesNone result (batch_of body.now) }
 {
     if body.len() < BATCH_FIXED {
         return Err(WireFault::BadBody);
@@ -133,7 +133,7 @@ fn read_lines(count: usize, lines: &[u8]) -> Items
 /// The request of a header and a body.
 #[tactic(auto, unfolding(crate::specs::Reading::what_of))]
 fn read_what(alloc: Global, header: Header, body: &[u8]) -> Result<Request, WireFault>
-    ensures { Gives HasName result (what_of (opcode_of header.opcode) header.node body.now) }
+    ensures { Gives TakesMemory result (what_of (opcode_of header.opcode) header.node body.now) }
 {
     let node = header.node;
     match Opcode::of(header.opcode) {
@@ -158,7 +158,10 @@ fn read_what(alloc: Global, header: Header, body: &[u8]) -> Result<Request, Wire
         }
         Opcode::BatchForget => {
             let items = read_batch(body)?;
-            Ok(Request::BatchForget(items))
+            match Batch::of(alloc, items.as_slice()) {
+                Ok(batch) => Ok(Request::BatchForget(batch)),
+                Err(NoMemory) => Err(WireFault::NoMemory),
+            }
         }
         Opcode::Other(opcode) => Ok(Request::Other { opcode, node }),
     }
@@ -170,10 +173,10 @@ pub fn read_request(alloc: Global, bytes: &[u8]) -> Result<Ask, WireFault>
     ensures text { IfOk result (λ ask. IsRequestText ask bytes.now) }
     // What is spelled so is read, unless memory for its name runs out.
     ensures only { (ask : Ask) → FitsAsk ask → IsRequestText ask bytes.now
-        → Gives AsksByName result (Ok ask) }
+        → Gives WantsMemory result (Ok ask) }
     ensures sendable { IfOk result (λ ask. IsSendable ask.what) }
     // Which fault it is.
-    ensures exact { Gives AsksByName result (request_of bytes.now) }
+    ensures exact { Gives WantsMemory result (request_of bytes.now) }
 {
     read_ask(alloc, bytes)
 }
@@ -181,7 +184,7 @@ pub fn read_request(alloc: Global, bytes: &[u8]) -> Result<Ask, WireFault>
 /// The header first, then the body.
 #[tactic(auto, unfolding(crate::specs::Reading::request_of))]
 fn read_ask(alloc: Global, bytes: &[u8]) -> Result<Ask, WireFault>
-    ensures { Gives AsksByName result (request_of bytes.now) }
+    ensures { Gives WantsMemory result (request_of bytes.now) }
 {
     let header = read_header(bytes)?;
     let (_, body) = bytes.split_at(Header::LEN);

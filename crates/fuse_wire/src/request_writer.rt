@@ -14,7 +14,7 @@ use crate::layout::{
 };
 use crate::mode::mode_of;
 use crate::opcode::Opcode;
-use crate::{Ask, Item, Items, Request};
+use crate::{Ask, Batch, Item, Request};
 use byteorder::{ByteOrder, LittleEndian};
 use eden_base::{Kind, Name, NoMemory, Perm};
 use std::alloc::Global;
@@ -228,7 +228,7 @@ fn put_mkdir(out: &mut Vec<u8>, name: &Name, perm: Perm) -> Result<(), NoMemory>
 }
 
 /// The count and a padding, then the lines (`struct fuse_batch_forget_in`).
-fn put_batch(out: &mut Vec<u8>, items: &Items) -> Result<(), NoMemory>
+fn put_batch(out: &mut Vec<u8>, items: &Batch) -> Result<(), NoMemory>
     ensures body { OnOk result (out.new.items ≡ out.old.items ++ batch_body items.now) }
     ensures fits { OnOk result (All FitsItem items.now) }
 {

@@ -55,6 +55,14 @@ fn room(alloc: Global) -> Result<NameRoom, NoMemory> {
     }
 }
 
+/// `BatchRoom::new`, and once more where memory was refused.
+fn batch_room(alloc: Global) -> Result<BatchRoom, NoMemory> {
+    match BatchRoom::new(alloc) {
+        Ok(room) => Ok(room),
+        Err(NoMemory) => BatchRoom::new(alloc),
+    }
+}
+
 /// Whether the request of the bytes is written as these, and so is each copy of it.
 fn is_kept(alloc: Global, bytes: &[u8], written: &[u8]) -> Result<bool, Fail> {
     let ask = read(alloc, bytes)?;
@@ -67,7 +75,9 @@ fn is_kept(alloc: Global, bytes: &[u8], written: &[u8]) -> Result<bool, Fail> {
     let of_first = write(alloc, &first)?;
     let second = Ask {
         unique,
-        what: ask.what.copy_to(room(alloc)?, room(alloc)?),
+        what: ask
+            .what
+            .copy_to(room(alloc)?, room(alloc)?, batch_room(alloc)?),
     };
     let of_second = write(alloc, &second)?;
     Ok(

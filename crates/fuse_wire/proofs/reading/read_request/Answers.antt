@@ -1,5 +1,5 @@
 use Rattle.std.proofs.Common.{subst, arith}
-use Rattle.fuse_wire.specs.Reading.{Gives, AsksByName}
+use Rattle.fuse_wire.specs.Reading.{Gives, WantsMemory}
 use Rattle.fuse_wire.proofs.Requests.{is_text, may_be_sent, request_again}
 use Rattle.fuse_wire.proofs.reading.read_request.Goals as goal
 
@@ -7,7 +7,7 @@ pub returns-clause-text : goal.returns-clause-text
 returns-clause-text c = is_text c.args.bytes.now c.read_ask.result (λ i. omega (arith, c.type_inv.bytes i)) c.read_ask.ensures
 
 pub returns-clause-only : goal.returns-clause-only
-returns-clause-only c = λ ask fits is. subst (Gives AsksByName c.read_ask.result) (request_again ask c.args.bytes.now fits is) c.read_ask.ensures
+returns-clause-only c = λ ask fits is. subst (Gives WantsMemory c.read_ask.result) (request_again ask c.args.bytes.now fits is) c.read_ask.ensures
 
 pub returns-clause-sendable : goal.returns-clause-sendable
 returns-clause-sendable c = may_be_sent c.args.bytes.now c.read_ask.result (is_text c.args.bytes.now c.read_ask.result (λ i. omega (arith, c.type_inv.bytes i)) c.read_ask.ensures)

@@ -1,0 +1,24 @@
+-- What a layer above has to know of a request: the kernel waits for no reply to a forget (linux/fuse.h), and asks only
+-- on numbers that it holds. A kind of request is a row in each.
+use Rattle.std.specs.Prelude.{Bool, true, false, List, [], ◌∷◌}
+use Rattle.eden_base.specs.declared.number.Number.{Number}
+use Rattle.fuse_wire.specs.declared.ask.Request.{Request}
+use Rattle.fuse_wire.specs.declared.ask.Request.TheVariants.{Lookup, Getattr, Create, Mkdir, Unlink, Rmdir, Forget, BatchForget, Other}
+
+-- the request is answered
+abbrev pub is_ask : Request → Bool
+is_ask (Forget item) = false
+is_ask (BatchForget items) = false
+is_ask request = true
+
+-- the numbers that a request goes to; those of a forget are in its items
+abbrev pub nodes : Request → List Number
+nodes (Lookup dir name) = dir ∷ []
+nodes (Getattr node) = node ∷ []
+nodes (Create dir name perm) = dir ∷ []
+nodes (Mkdir dir name perm) = dir ∷ []
+nodes (Unlink dir name) = dir ∷ []
+nodes (Rmdir dir name) = dir ∷ []
+nodes (Forget item) = []
+nodes (BatchForget items) = []
+nodes (Other opcode node) = node ∷ []

@@ -1,0 +1,113 @@
+//! What the kernel forgets at once, out of line.
+ghost use Rattle.std.specs.Prelude.{◌≡◌, ◌≤◌, ◌==◌, List, length, IfOk};
+
+use crate::{Item, Items};
+use eden_base::NoMemory;
+use std::alloc::Global;
+use std::marker::Model;
+
+/// The items of a batch, at most 256, in order. They lie in memory of their own, so that a request stays small.
+#[derive(Drop)]
+pub struct Batch {
+    items: Vec<Item>,
+}
+
+impl Model for Batch {
+    ghost use Rattle.std.specs.Prelude.{◌≤◌, List, length};
+    ghost use Rattle.fuse_wire.specs.declared.item.Item.{Item};
+
+    ghost Value = { List Item };
+
+    ghost view = { λ batch. batch.items.items };
+
+    ghost invariant = { λ batch. length batch.items.items ≤ 256 };
+}
+
+/// Room for any one batch, seen as how many items it takes. `Batch::of_to`, `Batch::copy_to` and `read_request_to` use
+/// it up, and so never run out of memory.
+#[derive(Drop)]
+pub struct BatchRoom {
+    pub(crate) items: Vec<Item>,
+}
+
+impl Model for BatchRoom {
+    ghost use Rattle.std.specs.Prelude.{◌≡◌, ℕ, ◌≤◌, vec_len, vec_capacity};
+
+    ghost Value = { ℕ };
+
+    ghost view = { λ room. vec_capacity room.items };
+
+    ghost invariant = { λ room. (vec_len room.items ≡ 0) × (256 ≤ vec_capacity room.items) };
+}
+
+impl BatchRoom {
+    /// Takes memory for the longest batch.
+    pub fn new(alloc: Global) -> Result<BatchRoom, NoMemory>
+        ensures for_any_batch { IfOk result (λ room. 256 ≤ room) }
+    {
+        match Vec::with_capacity(alloc, Items::MAX_LEN) {
+            Ok(items) => Ok(BatchRoom { items }),
+            Err(_refused) => Err(NoMemory),
+        }
+    }
+}
+
+impl Batch {
+    /// Returns a batch of these items.
+    pub fn of(alloc: Global, items: &[Item]) -> Result<Batch, NoMemory>
+        requires { length items.now ≤ 256 }
+        ensures items { IfOk result (λ batch. batch ≡ items.now) }
+    {
+        match Vec::from_slice(alloc, items) {
+            Ok(items) => Ok(Batch { items }),
+            Err(_refused) => Err(NoMemory),
+        }
+    }
+
+    /// Returns a batch of these items, in memory that was taken before.
+    pub fn of_to(room: BatchRoom, items: &[Item]) -> Batch
+        requires { length items.now ≤ 256 }
+        ensures items { result ≡ items.now }
+    {
+        let BatchRoom { items: mut taken } = room;
+        taken.extend_from_slice(items).unwrap();
+        Batch { items: taken }
+    }
+
+    /// Returns the items in their order.
+    pub fn as_slice(&self) -> &[Item]
+        ensures items { result.now ≡ self.now }
+        ensures at_most { length result.now ≤ 256 }
+    {
+        self.items.as_slice()
+    }
+
+    /// Returns how many there are.
+    pub fn len(&self) -> usize
+        ensures len { result ≡ length self.now }
+        ensures at_most { result ≤ 256 }
+    {
+        self.as_slice().len()
+    }
+
+    /// Whether there are none.
+    pub fn is_empty(&self) -> bool
+        ensures empty { result ≡ (length self.now == 0) }
+    {
+        self.as_slice().is_empty()
+    }
+
+    /// Returns the same items, in memory of their own.
+    pub fn copy(&self, alloc: Global) -> Result<Batch, NoMemory>
+        ensures copy { IfOk result (λ batch. batch ≡ self.now) }
+    {
+        Batch::of(alloc, self.as_slice())
+    }
+
+    /// Returns the same items, in memory that was taken before.
+    pub fn copy_to(&self, room: BatchRoom) -> Batch
+        ensures copy { result ≡ self.now }
+    {
+        Batch::of_to(room, self.as_slice())
+    }
+}

@@ -1,0 +1,51 @@
+//! The numbers that a request goes to.
+ghost use Rattle.std.specs.Prelude.{◌≡◌, ◌≤◌, [], ◌∷◌, length};
+
+use arrayvec::ArrayVec;
+use eden_base::Number;
+use std::marker::Model;
+
+/// The numbers that one request goes to, at most two.
+#[derive(Drop)]
+pub struct Nodes {
+    numbers: ArrayVec<Number, 2>,
+}
+
+impl Model for Nodes {
+    ghost use Rattle.std.specs.Prelude.{◌≤◌, List, length};
+    ghost use Rattle.eden_base.specs.declared.number.Number.{Number};
+
+    ghost Value = { List Number };
+
+    ghost view = { λ nodes. nodes.numbers.items };
+
+    ghost invariant = { λ nodes. length nodes.numbers.items ≤ 2 };
+}
+
+impl Nodes {
+    /// Returns no number.
+    pub(crate) fn none() -> Nodes
+        ensures { result ≡ [] }
+    {
+        Nodes {
+            numbers: ArrayVec::new(),
+        }
+    }
+
+    /// Returns one number.
+    pub(crate) fn one(number: Number) -> Nodes
+        ensures { result ≡ number ∷ [] }
+    {
+        let mut numbers = ArrayVec::new();
+        numbers.push(number);
+        Nodes { numbers }
+    }
+
+    /// Returns the numbers in their order.
+    pub fn as_slice(&self) -> &[Number]
+        ensures numbers { result.now ≡ self.now }
+        ensures at_most { length result.now ≤ 2 }
+    {
+        self.numbers.as_slice()
+    }
+}
