@@ -3,6 +3,7 @@
 
 mod attr;
 mod errno;
+mod limits;
 mod memory;
 mod name;
 mod name_room;
@@ -12,6 +13,7 @@ mod text;
 
 pub use attr::{Attr, Kind, Perm};
 pub use errno::Errno;
+pub use limits::{END_OF_NUMBERS, GREATEST_COUNT};
 pub use memory::NoMemory;
 pub use name::{Name, NameFault};
 pub use name_room::NameRoom;
