@@ -1,89 +1,88 @@
--- What a daemon serves: its numbers and the tree of its checkout, and what it answers from them.
-use Rattle.std.specs.Prelude.{◌≡◌, ℕ, ◌+◌, ◌^◌, ◌<◌, ◌≤◌, ◌↔◌, List, [], ◌∷◌, IsTrue, IsSome, Option, Some, None, Result, Ok, Err}
-use Rattle.std.specs.Option.{option_map_or}
-use Rattle.eden_base.specs.declared.attr.Kind.{Kind}
-use Rattle.eden_base.specs.declared.attr.Kind.TheVariants.{Dir, File}
-use Rattle.eden_base.specs.declared.errno.Errno.{Errno}
-use Rattle.eden_base.specs.declared.errno.Errno.TheVariants.{ESTALE, ENOTDIR, ENOENT, ENOSPC, EOVERFLOW, ENOMEM}
+-- What a daemon serves: its numbers and the tree of its checkout, and one step of it by a request and its answer.
+use Rattle.std.specs.Prelude.{◌≡◌, ℕ, Bool, true, false, List, [], ◌∷◌, Option, Some, None}
+use Rattle.std.specs.List.{AllByRecursion}
 use Rattle.eden_base.specs.declared.number.FileId.{FileId}
 use Rattle.eden_base.specs.declared.number.Number.{Number}
-use Rattle.eden_base.specs.declared.place.Place.{Place}
-use Rattle.eden_base.specs.declared.place.Place.TheVariants.{Linked, Unlinked}
 use Rattle.checkout.specs.Manifest.{Manifest}
-use Rattle.checkout.specs.Tree.{Tree, tree_of, kind_of, child_of, attr_of, file_of as tree_file, is_unlinked}
-use Rattle.broker_core.specs.declared.request.Answer.{Answer}
-use Rattle.broker_core.specs.declared.request.Answer.TheVariants.{Entry, Error}
-use Rattle.inode_map.specs.InodeMap.{MapState, greatest_count, new_map, entry_of, entry_at, is_of_use, file_in, give_fault, given, number_given}
-use Rattle.inode_map.specs.declared.inode_map.Kept.{Kept}
+use Rattle.checkout.specs.Tree.{Tree, tree_of}
+use Rattle.fuse_wire.specs.Ask.{is_ask, nodes}
+use Rattle.fuse_wire.specs.Given.{given_out}
+use Rattle.fuse_wire.specs.declared.ask.Request.{Request}
+use Rattle.fuse_wire.specs.declared.ask.Request.TheVariants.{Lookup, Forget, BatchForget}
+use Rattle.fuse_wire.specs.declared.item.Item.{Item}
+use Rattle.fuse_wire.specs.declared.reply.Answer.{Answer}
+use Rattle.inode_map.specs.InodeMap.{MapState, IsFileOf, new_map, entry_at, give_fault, given, number_given, forgotten}
 use Rattle.inode_map.specs.declared.inode_map.GiveFault.{GiveFault}
 use Rattle.inode_map.specs.declared.inode_map.GiveFault.TheVariants.{NoNumber, TooMany, NoMemory}
+use Rattle.fuse_ops.specs.Answers.{NumberFault, none_left, at_greatest, Numbers, Effect, comes_to, Answers, tree_after}
 
 -- the numbers that a daemon gave, and the tree of its checkout
 pub record ServedState : Type 0 where
   pub map : MapState
   pub tree : Tree
 
--- the file that a number names, for this daemon
-abbrev pub file_of : ServedState → ℕ → Option FileId
-file_of served n = file_in served.map.next served.tree served.map.entries n
-
--- the answer to a request for a name, up to the number: an error, or the file
-abbrev pub found_in_dir : Tree → FileId → List ℕ → Option Kind → Result FileId Errno
-found_in_dir tree dir name (Some Dir) = option_map_or (λ (file : FileId). Ok file) (child_of tree dir name) (Err ENOENT)
-found_in_dir tree dir name (Some File) = Err ENOTDIR
-found_in_dir tree dir name None = Err ENOTDIR
-
--- in the directory of a number, where the number names a file
-abbrev pub found_in : Tree → Option FileId → List ℕ → Result FileId Errno
-found_in tree (Some dir) name = found_in_dir tree dir name (kind_of tree dir)
-found_in tree None name = Err ESTALE
-
--- what a look-up is answered where no number can be given
-abbrev pub errno_of : GiveFault → Errno
-errno_of NoNumber = ENOSPC
-errno_of TooMany = EOVERFLOW
-errno_of NoMemory = ENOMEM
-
--- a file was found: its number is given, or the first thing that stands against it is told; want of memory comes for a new number alone
-abbrev pub GivesEntry : ServedState → Number → List ℕ → FileId → Option GiveFault → Answer → ServedState → Type 0
-GivesEntry old parent name file (Some fault) answer new = (answer ≡ Error (errno_of fault)) × (new ≡ old)
-GivesEntry old parent name file None (Entry number attr) new =
-    (number ≡ number_given old.map parent.0 name) × (attr_of old.tree file ≡ Some attr) × (new ≡ record old { map = given old.map parent name })
-GivesEntry old parent name file None (Error ENOMEM) new = (entry_at old.map.entries parent.0 name ≡ None) × (new ≡ old)
-GivesEntry old parent name file None (Error errno) new = ⊥
-
--- an error is told as it is; for a file its number is given
-abbrev pub LooksFound : ServedState → Number → List ℕ → Result FileId Errno → Answer → ServedState → Type 0
-LooksFound old parent name (Err errno) answer new = (answer ≡ Error errno) × (new ≡ old)
-LooksFound old parent name (Ok file) answer new = GivesEntry old parent name file (give_fault old.map parent.0 name) answer new
-
--- the answer to a look-up, and what the daemon knows after it
-abbrev pub LooksUp : ServedState → Number → List ℕ → Answer → ServedState → Type 0
-LooksUp old parent name answer new = LooksFound old parent name (found_in old.tree (file_of old parent.0) name) answer new
-
 -- a daemon that begins to serve a checkout
 abbrev pub new_served : Manifest → ServedState
 new_served manifest = record { map = new_map; tree = tree_of manifest }
 
--- the place is one that was taken away
-abbrev pub IsUnlinkedPlace : Place → Type 0
-IsUnlinkedPlace (Linked dir name) = ⊥
-IsUnlinkedPlace (Unlinked file) = Unit {0}
+-- the file that a number names for this daemon, or none
+abbrev pub IsLocated : ServedState → ℕ → Option FileId → Type 0
+IsLocated served n (Some file) = IsFileOf served.tree served.map.entries n file
+IsLocated served n None = (file : FileId) → IsFileOf served.tree served.map.entries n file → ⊥
 
--- numbers rise from 2 and stay below the next
-abbrev pub AreNumbers : ℕ → ℕ → List Kept → Type 0
-AreNumbers low next [] = low ≤ next
-AreNumbers low next (kept ∷ entries) = (low ≤ kept.number.0) × AreNumbers (kept.number.0 + 1) next entries
+-- the files that a request's numbers name for this daemon
+abbrev pub Locates : ServedState → Request → (ℕ → Option FileId) → Type 0
+Locates served request files = AllByRecursion (λ (node : Number). IsLocated served node.0 (files node.0)) (nodes request)
 
--- what a daemon knows fits together
-pub record IsSound (served : ServedState) : Type 0 where
-  pub numbers : AreNumbers 2 served.map.next served.map.entries
-  pub numbers_fit : served.map.next < 2 ^ 63
-  pub names_a_file : (n : ℕ) → IsSome (entry_of served.map.entries n) → (file : FileId) × (file_of served n ≡ Some file) × IsSome (tree_file served.tree file)
-  pub places_are_apart : (m n : ℕ) (one other : Kept) → entry_of served.map.entries m ≡ Some one → entry_of served.map.entries n ≡ Some other → one.place ≡ other.place → m ≡ n
-  pub files_are_apart : (m n : ℕ) (file : FileId) → IsSome (entry_of served.map.entries m) → IsSome (entry_of served.map.entries n) →
-      file_of served m ≡ Some file → file_of served n ≡ Some file → m ≡ n
-  pub unlinked_alike : (n : ℕ) (kept : Kept) (file : FileId) → entry_of served.map.entries n ≡ Some kept → file_of served n ≡ Some file →
-      IsUnlinkedPlace kept.place ↔ IsTrue (is_unlinked served.tree file)
-  pub each_of_use : (n : ℕ) (kept : Kept) → entry_of served.map.entries n ≡ Some kept → IsTrue (is_of_use served.map.entries kept)
-  pub counts_fit : (n : ℕ) (kept : Kept) → entry_of served.map.entries n ≡ Some kept → kept.count ≤ greatest_count
+-- the directory and the name whose number a request's success tells, where it tells an entry
+abbrev pub place_told : Request → Option (Number × List ℕ)
+place_told (Lookup dir name) = Some (dir, name)
+place_told request = None
+
+-- why a place's number is not given, in the words of the table
+abbrev pub number_fault : Option GiveFault → Option NumberFault
+number_fault (Some NoNumber) = Some none_left
+number_fault (Some TooMany) = Some at_greatest
+number_fault (Some NoMemory) = None
+number_fault None = None
+
+-- what a daemon reads the table by: its map says which number a place has; memory is wanted for a new number alone
+abbrev pub numbers_at : MapState → Option (Number × List ℕ) → Numbers
+numbers_at map (Some (dir, name)) = record {
+  IsAgainst = λ file fault. fault ≡ number_fault (give_fault map dir.0 name);
+  IsNumber = λ file n. n ≡ (number_given map dir.0 name).0;
+  MayFail = λ file. ⊥;
+  MayWant = λ file. entry_at map.entries dir.0 name ≡ None;
+}
+numbers_at map None = record { IsAgainst = λ file fault. ⊥; IsNumber = λ file n. ⊥; MayFail = λ file. ⊥; MayWant = λ file. ⊥ }
+
+-- the map after an answer: what is given out is counted once more
+abbrev pub map_after : MapState → Option (Number × List ℕ) → Option Number → MapState
+map_after map (Some (dir, name)) (Some number) = given map dir name
+map_after map place number = map
+
+-- a legal answer to an ask, and what the daemon knows after it
+pub record IsLegal (old : ServedState) (request : Request) (answer : Answer) (new : ServedState) : Type 0 where
+  pub files : ℕ → Option FileId
+  pub locates : Locates old request files
+  pub answers : Answers (numbers_at old.map (place_told request)) request (comes_to old.tree files request) answer
+  pub makes : new ≡ record {
+    map = map_after old.map (place_told request) (given_out answer);
+    tree = tree_after old.tree (comes_to old.tree files request) answer;
+  }
+
+-- the items of a forget
+abbrev pub items_of : Request → List Item
+items_of (Forget item) = item ∷ []
+items_of (BatchForget items) = items
+items_of request = []
+
+-- each item by itself, in order
+abbrev pub forgotten_all : MapState → List Item → MapState
+forgotten_all map [] = map
+forgotten_all map (item ∷ items) = forgotten_all (forgotten map item.node.0 item.k) items
+
+-- one step by a record of a request and its answer: an ask is answered legally, a forget is not answered
+abbrev pub Replay : ServedState → Request → Option Answer → ServedState → Type 0
+Replay old request (Some answer) new = (is_ask request ≡ true) × IsLegal old request answer new
+Replay old request None new = (is_ask request ≡ false) × (new ≡ record old { map = forgotten_all old.map (items_of request) })

@@ -1,13 +1,12 @@
-//! What one daemon serves.
-ghost use Rattle.std.specs.Prelude.{◌≡◌, IfOk};
-ghost use Rattle.fuse_ops.specs.Served.{new_served, file_of, found_in, errno_of, LooksUp};
-ghost use Rattle.inode_map.specs.InodeMap.{forgot, forgotten};
-ghost use Rattle.fuse_ops.specs.Work.{Finds, Applies};
+//! The numbers and the tree that one daemon serves.
+ghost use Rattle.std.specs.Prelude.{◌≡◌, true, IfOk};
+ghost use Rattle.fuse_ops.specs.Served.{new_served, forgotten_all, Replay};
+ghost use Rattle.fuse_ops.specs.Work.{errno_of, Finds, LooksUp};
 
-use broker_core::{Answer, Item, Request};
 use checkout::{Manifest, Tree};
-use eden_base::{Attr, Errno, FileId, Kind, Name, NoMemory, Number};
-use inode_map::{Forgot, GiveFault, InodeMap};
+use eden_base::{Attr, Errno, Kind, Name, NoMemory, Number};
+use fuse_wire::{Answer, Item, Request};
+use inode_map::{GiveFault, InodeMap};
 use std::alloc::Global;
 use std::marker::Model;
 
@@ -35,7 +34,8 @@ impl Model for Served {
 }
 
 impl Served {
-    /// A daemon that begins to serve what a manifest says. The limit has no effect yet: every file counts as loaded.
+    /// Returns a daemon that begins to serve what a manifest says. The limit has no effect yet: every file counts as
+    /// loaded.
     pub fn new(alloc: Global, manifest: &Manifest, _limit: usize) -> Result<Served, NoMemory>
         ensures new { IfOk result (λ served. served ≡ new_served manifest.now) }
     {
@@ -44,42 +44,40 @@ impl Served {
         Ok(Served { map, tree })
     }
 
-    /// The numbers that the daemon gave.
+    /// Returns the numbers that the daemon gave.
     pub fn map(&self) -> &InodeMap
         ensures map { result.now ≡ self.now.map }
     {
         &self.map
     }
 
-    /// The tree of the checkout.
+    /// Returns the tree of the checkout.
     pub fn tree(&self) -> &Tree
         ensures tree { result.now ≡ self.now.tree }
     {
         &self.tree
     }
 
-    /// The file that a number names.
-    pub fn locate(&self, number: Number) -> Option<FileId>
-        ensures file { result ≡ file_of self.now number.0 }
-    {
-        self.map.locate(&self.tree, number)
-    }
-
-    /// Answers an ask. A forget has no answer.
+    /// Answers an ask, or applies the items of a forget, which has no answer.
     pub fn apply(&mut self, alloc: Global, request: &Request) -> Option<Answer>
-        ensures applied { Applies self.old request.now result self.new }
+        ensures replay { Replay self.old request.now result self.new }
     {
         match request {
             Request::Lookup { dir, name } => Some(self.look_up(alloc, *dir, name)),
             Request::Forget(item) => {
-                self.forget(*item);
+                self.map.forget(item.node, item.k);
                 None
             }
+            Request::BatchForget(items) => {
+                self.forget_all(items.as_slice());
+                None
+            }
+            _ => Some(Answer::Error(Errno::ENOSYS)),
         }
     }
 
-    /// Answers a look-up. The number of the file that it finds is held once more.
-    pub fn look_up(&mut self, alloc: Global, dir: Number, name: &Name) -> Answer
+    /// Answers a lookup. The number of the file that it finds is held once more.
+    fn look_up(&mut self, alloc: Global, dir: Number, name: &Name) -> Answer
         ensures answer { LooksUp self.old dir name.now result self.new }
     {
         let attr = match self.find(dir, name) {
@@ -92,31 +90,33 @@ impl Served {
         }
     }
 
-    /// What the kernel is told of the file under a name in the directory of a number.
-    fn find(&self, dir: Number, name: &Name) -> Result<Attr, Errno>
-        ensures { Finds self.now.tree
-            (found_in self.now.tree (file_of self.now dir.0) name.now) result }
+    /// Returns what the kernel is told of the file under a name in the directory of a number.
+    fn find(&mut self, dir: Number, name: &Name) -> Result<Attr, Errno>
+        ensures found { Finds self.old dir.0 name.now result }
+        ensures unchanged { self.new ≡ self.old }
     {
-        let dir = self.locate(dir).ok_or(Errno::ESTALE)?;
+        let dir = self.map.locate(&self.tree, dir).ok_or(Errno::ESTALE)?;
         if self.tree.kind(dir) != Some(Kind::Dir) {
             return Err(Errno::ENOTDIR);
         }
         let file = self.tree.child(dir, name).ok_or(Errno::ENOENT)?;
-        // Each name gives a file of the tree, so there is always an attribute.
-        self.tree.attr(file).ok_or(Errno::ENOENT)
+        match self.tree.attr(file) {
+            Some(attr) => Ok(attr),
+            None => unreachable!(),
+        }
     }
 
-    /// Takes back what an item says. It takes no memory.
-    pub fn forget(&mut self, item: Item) -> Forgot
-        ensures forgot { result ≡ forgot self.old.map item.node.0 item.k }
-        ensures forgotten { self.new
-            ≡ record self.old { map = forgotten self.old.map item.node.0 item.k } }
+    /// Applies each item by itself, in order.
+    fn forget_all(&mut self, items: &[Item])
+        ensures forgotten { self.new ≡ record self.old { map = forgotten_all self.old.map items.now } }
     {
-        self.map.forget(item.node, item.k)
+        for item in items {
+            self.map.forget(item.node, item.k);
+        }
     }
 }
 
-/// What a look-up is answered where no number could be given.
+/// Returns what a lookup is answered where no number could be given.
 fn errno_of(fault: GiveFault) -> Errno
     ensures { result ≡ errno_of fault }
 {

@@ -1,35 +1,40 @@
--- Which moves an event makes in the world, and how the daemons' state matches the world after them.
-use Rattle.std.specs.Prelude.{◌≡◌, ◌≢◌, ℕ, ◌<◌, ◌≤◌, ◌⊎◌, ◌↔◌, List, [], ◌∷◌, ◌++◌, Contains, Some, None, IsSome}
+-- Which moves an event makes in the world, what a served state knows of a world, and how the state matches the world
+-- after them.
+use Rattle.std.specs.Prelude.{◌≡◌, ◌≢◌, ℕ, ◌<◌, ◌≤◌, ◌↔◌, List, [], ◌∷◌, ◌++◌, Contains, Option, Some, None, IsSome}
 use Rattle.std.specs.Option.{option_map_or}
 use Rattle.std.specs.List.{AllByRecursion}
 use Rattle.eden_base.specs.declared.number.DaemonId.{DaemonId}
+use Rattle.eden_base.specs.declared.number.FileId.{FileId}
 use Rattle.checkout.specs.Manifest.{Manifest}
-use Rattle.checkout.specs.Tree.{IsTree, tree_of, root}
-use Rattle.eden_base.specs.First.{first_where}
-use Rattle.broker_core.specs.Broker.{held_count, has_number}
-use Rattle.broker_core.specs.declared.held.Held.{Held}
+use Rattle.checkout.specs.Tree.{Tree, IsTree, tree_of, root}
+use Rattle.broker_core.specs.Broker.{BrokerState}
+use Rattle.broker_core.specs.Held.{held_count}
 use Rattle.broker_core.specs.declared.seat.Seat.{Seat}
-use Rattle.inode_map.specs.InodeMap.{count_of, entry_of}
-use Rattle.fuse_ops.specs.Served.{ServedState, IsSound, file_of}
-use Rattle.world.specs.State.{State}
-use Rattle.world.specs.Step.{IsSeated}
-use Rattle.world.specs.World.{World, Move, asks, forgets, works, applies, delivers, mounts, accepts, first_world, file_named, times, owed, IsRun, after_all}
+use Rattle.inode_map.specs.InodeMap.{IsFileOf, count_of}
+use Rattle.fuse_ops.specs.Served.{ServedState}
+use Rattle.fuse_ops.specs.Soundness.{IsSound}
+use Rattle.inode_map.specs.declared.inode_map.Forgot.TheVariants.{Bad, Root}
+use Rattle.world.specs.State.{State, IsSeated}
+use Rattle.world.specs.Step.{Step, Steps}
+use Rattle.world.specs.World.{World, Move, issue, issue_item, work, work_item, accept, deliver, mount, first_world, file_named, times, owed, IsRun, after_all}
 use Rattle.world.specs.declared.event.Event.{Event}
 use Rattle.world.specs.declared.event.Event.TheVariants.{Mount, Do}
-use Rattle.inode_map.specs.declared.inode_map.Forgot.TheVariants.{Bad, Root}
 use Rattle.world.specs.declared.outcome.Happened.{Happened}
 use Rattle.world.specs.declared.outcome.Happened.TheVariants as happened
+
+-- ---- moves of events
 
 -- the daemon that has the seat
 abbrev pub holder_of : World → DaemonId
 holder_of world = option_map_or (λ (seat : Seat). seat.daemon) world.seat (record { 0 = 0 })
 
--- The moves that an event made: a request that was done is issued, worked, and where it is an ask its reply is accepted
--- from the holder and delivered, all at once, so that each is the first that is under way. What was refused made none.
+-- The moves that an event made. A request that was done is issued, worked, and where it is an ask its reply is accepted
+-- from the holder and delivered. What was refused, and all else, made none.
 abbrev pub moves_of : World → Event → List Happened → List Move
-moves_of world (Mount daemon) (happened.Mounted generation ∷ []) = mounts daemon ∷ []
-moves_of world (Do request) (happened.Answered reply ∷ []) = asks reply.unique request ∷ works 0 reply.answer ∷ accepts 0 (holder_of world) ∷ delivers 0 ∷ []
-moves_of world (Do request) (happened.Forgot item forgot ∷ []) = forgets item ∷ applies 0 ∷ []
+moves_of world (Mount daemon) (happened.Mounted generation ∷ []) = mount daemon ∷ []
+moves_of world (Do request) (happened.Answered reply ∷ []) =
+    issue (record { unique = reply.unique; what = request }) ∷ work reply.unique reply.answer ∷ accept reply.unique (holder_of world) ∷ deliver reply.unique ∷ []
+moves_of world (Do request) (happened.Forgot item forgot ∷ []) = issue_item item ∷ work_item item ∷ []
 moves_of world event outcome = []
 
 -- the moves of events one after another
@@ -37,15 +42,45 @@ abbrev pub all_moves : World → List Event → List (List Happened) → List Mo
 all_moves world (event ∷ events) (outcome ∷ outcomes) = moves_of world event outcome ++ all_moves (after_all world (moves_of world event outcome)) events outcomes
 all_moves world events outcomes = []
 
--- the broker holds what the world does, nothing is under way, and whoever has the seat serves the world's tree
+-- the world after the moves of events, from before anything happened
+abbrev pub world_after : Manifest → List Event → List (List Happened) → World
+world_after manifest events outcomes = after_all (first_world manifest) (all_moves (first_world manifest) events outcomes)
+
+-- ---- the promises
+
+-- What a served state knows of a mount, where so much is owed for each number: its tree is the mount's, each count is what
+-- is owed, each number names what it was first given out for, and it fits together.
+pub record Knows (tree : Tree) (names : List (ℕ × FileId)) (owes : ℕ → ℕ) (served : ServedState) : Type 0 where
+  pub tree_is : served.tree ≡ tree
+  pub counts : (n : ℕ) → n ≢ 1 → count_of served.map.entries n ≡ owes n
+  pub files : (n : ℕ) (file : FileId) → IsFileOf served.tree served.map.entries n file → file_named names n ≡ Some file
+  pub sound : IsSound served
+  -- the numbers that name something are those from 1 to the next number less 1
+  pub numbers : (n : ℕ) → IsSome (file_named names n) ↔ ((1 ≤ n) × (n < served.map.next))
+
+-- whoever has the seat serves what is known of the world
+abbrev pub HolderKnows : World → State → Type 0
+HolderKnows world state = (seat : Seat) → state.broker.seat ≡ Some seat →
+    (served : ServedState) × IsSeated state seat served × Knows world.tree world.names (owed world) served
+
+-- the broker's books are the world's
+pub record Books (world : World) (broker : BrokerState) : Type 0 where
+  pub seat : world.seat ≡ broker.seat
+  pub last : world.last ≡ broker.last
+  pub held : (n : ℕ) → times n world.held ≡ held_count broker.held n
+  pub uniques : (unique : ℕ) → Contains world.uniques unique → unique < broker.next_unique
+
+-- nothing is under way
+pub record IsQuiet (world : World) : Type 0 where
+  pub asks : world.asks ≡ []
+  pub items : world.items ≡ []
+  pub replies : world.replies ≡ []
+
+-- The broker's books, what is under way, and the holder's tree are the world's.
 pub record Agrees (world : World) (state : State) : Type 0 where
   pub manifest : world.manifest ≡ state.manifest
-  pub seat : world.seat ≡ state.broker.seat
-  pub last : world.last ≡ state.broker.last
-  pub held : (n : ℕ) → times n world.held ≡ held_count state.broker.held n
-  pub no_asks : world.asks ≡ []
-  pub no_items : world.items ≡ []
-  pub no_replies : world.replies ≡ []
+  pub books : Books world state.broker
+  pub quiet : IsQuiet world
   pub holder_serves : (seat : Seat) → state.broker.seat ≡ Some seat → (served : ServedState) × IsSeated state seat served
   pub tree : (seat : Seat) (served : ServedState) → IsSeated state seat served → served.tree ≡ world.tree
 
@@ -55,8 +90,7 @@ CountsAreOwed world state = (seat : Seat) (served : ServedState) → IsSeated st
 
 -- what a daemon's numbers name is what they were first given out for
 pub record NamesAreFirst (world : World) (served : ServedState) : Type 0 where
-  pub root : file_of served 1 ≡ file_named world.names 1
-  pub files : (n : ℕ) → IsSome (entry_of served.map.entries n) → file_of served n ≡ file_named world.names n
+  pub files : (n : ℕ) (file : FileId) → IsFileOf served.tree served.map.entries n file → file_named world.names n ≡ Some file
   pub sound : IsSound served
   pub numbers : (n : ℕ) → IsSome (file_named world.names n) ↔ ((1 ≤ n) × (n < served.map.next))
 
@@ -68,44 +102,65 @@ NumbersNameTheirFirstFile world state = (seat : Seat) (served : ServedState) →
 abbrev pub OneDaemonForEachGeneration : World → Type 0
 OneDaemonForEachGeneration world = (one other : Seat) → Contains world.answered one → Contains world.answered other → one.generation ≡ other.generation → one ≡ other
 
--- no number stands twice in the broker's list
-abbrev pub IsOnce : List Held → Type 0
-IsOnce [] = Unit {0}
-IsOnce (h ∷ held) = (first_where (has_number h.number.0) held ≡ None) × IsOnce held
-
 -- no forget was bad, or of the root
 abbrev pub IsGoodForget : Happened → Type 0
 IsGoodForget (happened.Forgot item Bad) = ⊥
 IsGoodForget (happened.Forgot item Root) = ⊥
 IsGoodForget other = Unit {0}
 
--- the state matches the world: what the theorem says of them, and what keeps it true
-pub record Matches (world : World) (state : State) : Type 0 where
-  pub agrees : Agrees world state
-  pub counts : CountsAreOwed world state
-  pub names : NumbersNameTheirFirstFile world state
-  pub one_daemon : OneDaemonForEachGeneration world
-  pub manifest_is_tree : IsTree (tree_of state.manifest)
-  pub tree_is_tree : IsTree world.tree
-  pub seat_is_last : (seat : Seat) → state.broker.seat ≡ Some seat → seat.generation ≡ state.broker.last
-  pub empty_without_seat : state.broker.seat ≡ None → (world.held ≡ []) × (world.names ≡ (1, root) ∷ [])
-  -- a number stands once in the broker's list
-  pub held_once : IsOnce state.broker.held
-  pub uniques_were_used : (unique : ℕ) → Contains world.uniques unique → unique < state.broker.next_unique
-  -- the last generation is the seat's; no later one was answered
-  pub answered_before : (seat : Seat) → Contains world.answered seat → (seat.generation < state.broker.last) ⊎ (state.broker.seat ≡ Some seat)
+-- the seat from which an event's reply was posted
+abbrev pub posted_from : State → List Happened → Option Seat
+posted_from old (happened.Answered reply ∷ []) = old.broker.seat
+posted_from old outcome = None
 
--- the world after the moves of events, from before anything happened
-abbrev pub world_after : Manifest → List Event → List (List Happened) → World
-world_after manifest events outcomes = after_all (first_world manifest) (all_moves (first_world manifest) events outcomes)
+-- the seats from which the replies of events were posted, in the states through which they went
+abbrev pub posters : (old : State) (events : List Event) (outcomes : List (List Happened)) (end : State) → Steps old events outcomes end → List (Option Seat)
+posters old (event ∷ events) (outcome ∷ outcomes) end steps = posted_from old outcome ∷ posters steps.0 events outcomes end steps.2
+posters old [] outcomes end steps = []
+posters old (event ∷ events) [] end steps = []
+
+-- the daemon answered at the generation, as the world sees it
+abbrev pub IsAnswered : World → Option Seat → Type 0
+IsAnswered world (Some seat) = Contains world.answered seat
+IsAnswered world None = Unit {0}
+
+-- each reply that was posted is one that the world saw posted, by that daemon at that generation
+abbrev pub RepliesAreAnswered : World → State → List Event → List (List Happened) → State → Type 0
+RepliesAreAnswered world start events outcomes end = (steps : Steps start events outcomes end) → AllByRecursion (IsAnswered world) (posters start events outcomes end steps)
+
+-- ---- what keeps them true
+
+-- who answered did so at or before the last generation, and at the seat's generation only its holder
+pub record AnsweredBefore (world : World) : Type 0 where
+  pub one_daemon : OneDaemonForEachGeneration world
+  pub at_most : (seat : Seat) → Contains world.answered seat → seat.generation ≤ world.last
+  pub holder : (seat other : Seat) → world.seat ≡ Some seat → Contains world.answered other → other.generation ≡ seat.generation → other ≡ seat
+
+-- the seat is of the last generation, and without one nothing is held
+pub record SeatIsLast (world : World) : Type 0 where
+  pub is_last : (seat : Seat) → world.seat ≡ Some seat → seat.generation ≡ world.last
+  pub empty : world.seat ≡ None → world.held ≡ []
+
+-- the state matches the world
+pub record Matches (world : World) (state : State) : Type 0 where
+  pub manifest : world.manifest ≡ state.manifest
+  pub is_tree : IsTree (tree_of state.manifest)
+  pub tree_is_tree : IsTree world.tree
+  pub books : Books world state.broker
+  pub seat_is_last : SeatIsLast world
+  pub quiet : IsQuiet world
+  pub answered : AnsweredBefore world
+  pub knows : HolderKnows world state
 
 -- the events' moves are a run from before anything happened, and the world after it agrees with the state at the end
 pub record IsRunOfMoves (manifest : Manifest) (events : List Event) (outcomes : List (List Happened)) (end : State) : Type 0 where
   pub run : IsRun (first_world manifest) (all_moves (first_world manifest) events outcomes)
   pub agrees : Agrees (world_after manifest events outcomes) end
 
--- what one event does: its moves may happen in the world, the state matches the world after them, and no forget was bad
-pub record MovesOn (w : World) (event : Event) (outcome : List Happened) (new : State) : Type 0 where
-  pub run : IsRun w (moves_of w event outcome)
-  pub matches : Matches (after_all w (moves_of w event outcome)) new
+-- what one event does: its moves may happen in the world, the state matches the world after them, no forget was bad, and
+-- a reply was posted by the daemon that the world saw
+pub record MovesOn (world : World) (old : State) (event : Event) (outcome : List Happened) (new : State) : Type 0 where
+  pub run : IsRun world (moves_of world event outcome)
+  pub matches : Matches (after_all world (moves_of world event outcome)) new
   pub forgets : AllByRecursion IsGoodForget outcome
+  pub answered : IsAnswered (after_all world (moves_of world event outcome)) (posted_from old outcome)

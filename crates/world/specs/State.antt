@@ -1,6 +1,6 @@
 -- All daemons and the kernel's side at one moment, and what an event makes of them. (This project's own.)
-use Rattle.std.specs.Prelude.{ℕ, ◌-◌, ◌==◌, nat_le, List, [], length, slice_get, slice_set, Option, Some, None, if◌then◌else◌}
-use Rattle.std.specs.Option.{option_map}
+use Rattle.std.specs.Prelude.{◌≡◌, ℕ, ◌-◌, ◌==◌, nat_le, List, [], length, slice_get, slice_set, Option, Some, None, if◌then◌else◌}
+use Rattle.std.specs.Option.{option_map, option_and_then}
 use Rattle.eden_base.specs.declared.number.DaemonId.{DaemonId}
 use Rattle.checkout.specs.Manifest.{Manifest}
 use Rattle.broker_core.specs.Broker.{BrokerState, new_broker, mount_fault, issue_fault}
@@ -8,6 +8,8 @@ use Rattle.broker_core.specs.declared.broker.MountFault.{MountFault}
 use Rattle.broker_core.specs.declared.broker.MountFault.TheVariants as mount
 use Rattle.broker_core.specs.declared.broker.IssueFault.{IssueFault}
 use Rattle.broker_core.specs.declared.broker.IssueFault.TheVariants as issue
+use Rattle.broker_core.specs.declared.seat.Seat.{Seat}
+use Rattle.fuse_ops.specs.Served.{ServedState}
 use Rattle.world.specs.declared.daemon.Daemon.{Daemon}
 use Rattle.world.specs.declared.daemon.Daemon.TheVariants.{Waiting, Serving}
 use Rattle.world.specs.declared.event.Event.{Event}
@@ -15,7 +17,8 @@ use Rattle.world.specs.declared.event.Event.TheVariants.{Start, Mount, Do, Show}
 use Rattle.world.specs.declared.outcome.Refusal.{Refusal}
 use Rattle.world.specs.declared.outcome.Refusal.TheVariants as refusal
 
--- the manifest that every daemon is handed, how many loaded files a daemon keeps, the kernel's side, and the daemons in the order in which they started
+-- the manifest that every daemon is handed, how many loaded files a daemon keeps, the kernel's side, and the daemons in the
+-- order in which they started
 pub record State : Type 0 where
   pub manifest : Manifest
   pub limit : ℕ
@@ -37,6 +40,20 @@ daemon_of state daemon = if daemon.0 == 0 then None else slice_get state.daemons
 -- the state with this daemon changed
 abbrev pub with_daemon : State → DaemonId → Daemon → State
 with_daemon state daemon now = record state { daemons = slice_set state.daemons (daemon.0 - 1) now }
+
+-- what a daemon serves, by its phase
+abbrev pub served_in : Daemon → Option ServedState
+served_in Waiting = None
+served_in (Serving served) = Some served
+
+-- what a daemon serves, if there is such a daemon and it does
+abbrev pub served_of : State → DaemonId → Option ServedState
+served_of state daemon = option_and_then served_in (daemon_of state daemon)
+
+-- who has the seat, and what it serves
+pub record IsSeated (state : State) (seat : Seat) (served : ServedState) : Type 0 where
+  pub has_seat : state.broker.seat ≡ Some seat
+  pub serves : served_of state seat.daemon ≡ Some served
 
 -- the broker's faults keep their names
 abbrev pub refusal_of_mount : MountFault → Refusal

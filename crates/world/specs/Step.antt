@@ -1,15 +1,16 @@
 -- One event: it is refused for the first cause that holds, or made; and a list of them.
-use Rattle.std.specs.Prelude.{◌≡◌, ℕ, ◌+◌, ◌⊎◌, List, [], ◌∷◌, ◌++◌, length, Option, Some, None}
+use Rattle.std.specs.Prelude.{◌≡◌, ℕ, ◌+◌, ◌⊎◌, Bool, true, List, [], ◌∷◌, ◌++◌, length, Option, Some, None}
+use Rattle.std.specs.Option.{option_map_or}
 use Rattle.eden_base.specs.declared.number.DaemonId.{DaemonId}
-use Rattle.eden_base.specs.declared.number.Number.{Number}
-use Rattle.broker_core.specs.Broker.{mounted, issued, settled}
-use Rattle.broker_core.specs.declared.request.Answer.{Answer}
-use Rattle.broker_core.specs.declared.request.Item.{Item}
-use Rattle.broker_core.specs.declared.request.Request.TheVariants.{Lookup, Forget}
+use Rattle.broker_core.specs.Broker.{BrokerState, mounted, issued, settled, unique_of}
 use Rattle.broker_core.specs.declared.seat.Seat.{Seat}
-use Rattle.inode_map.specs.InodeMap.{forgot, forgotten}
-use Rattle.fuse_ops.specs.Served.{ServedState, new_served, LooksUp}
-use Rattle.world.specs.State.{State, daemon_of, with_daemon, fault}
+use Rattle.fuse_wire.specs.Ask.{is_ask}
+use Rattle.fuse_wire.specs.declared.ask.Request.{Request}
+use Rattle.fuse_wire.specs.declared.item.Item.{Item}
+use Rattle.fuse_wire.specs.declared.reply.Answer.{Answer}
+use Rattle.inode_map.specs.InodeMap.{forgot}
+use Rattle.fuse_ops.specs.Served.{ServedState, new_served, items_of, Replay}
+use Rattle.world.specs.State.{State, IsSeated, with_daemon, fault}
 use Rattle.world.specs.declared.daemon.Daemon.TheVariants.{Waiting, Serving}
 use Rattle.world.specs.declared.event.Event.{Event}
 use Rattle.world.specs.declared.event.Event.TheVariants.{Start, Mount, Do, Show}
@@ -33,42 +34,39 @@ Mounts old daemon outcome new =
     (outcome ≡ happened.Mounted (old.broker.last + 1) ∷ [])
     × (new ≡ with_daemon (record old { broker = mounted old.broker daemon }) daemon (Serving (new_served old.manifest)))
 
--- who has the seat, and what it serves
-pub record IsSeated (state : State) (seat : Seat) (served : ServedState) : Type 0 where
-  pub has_seat : state.broker.seat ≡ Some seat
-  pub serves : daemon_of state seat.daemon ≡ Some (Serving served)
+-- an ask's answer reached the kernel under its unique; of a forget it is told what became of each item
+abbrev pub told : BrokerState → ServedState → Request → Option Answer → List Happened
+told broker served request (Some answer) = happened.Answered (record { unique = broker.next_unique; answer = answer }) ∷ []
+told broker served request None = told_of (items_of request) where
+  told_of : List Item → List Happened
+  told_of [] = []
+  told_of (item ∷ items) = happened.Forgot item (forgot served.map item.node.0 item.k) ∷ told_of items
 
--- the seated daemon answers a look-up, and the kernel takes the reply
-pub record Looks (old : State) (dir : Number) (name : List ℕ) (outcome : List Happened) (new : State) : Type 0 where
+-- the broker after a request was issued and its answer, if it has one, reached the kernel
+abbrev pub done : BrokerState → Request → Option Answer → BrokerState
+done broker request answer = option_map_or (settled (issued broker request)) answer (issued broker request)
+
+-- the kernel's request is issued, and the seated daemon answers or applies it
+pub record Does (old : State) (request : Request) (outcome : List Happened) (new : State) : Type 0 where
   pub seat : Seat
   pub served : ServedState
   pub later : ServedState
-  pub answer : Answer
+  pub answer : Option Answer
   pub seated : IsSeated old seat served
-  pub answers : LooksUp served dir name answer later
-  pub tells : outcome ≡ happened.Answered (record { unique = old.broker.next_unique; answer = answer }) ∷ []
-  pub makes : new ≡ with_daemon (record old { broker = settled (issued old.broker (Lookup dir name)) answer }) seat.daemon (Serving later)
-
--- the kernel forgets, and the seated daemon applies it
-pub record Forgets (old : State) (item : Item) (outcome : List Happened) (new : State) : Type 0 where
-  pub seat : Seat
-  pub served : ServedState
-  pub seated : IsSeated old seat served
-  pub tells : outcome ≡ happened.Forgot item (forgot served.map item.node.0 item.k) ∷ []
-  pub makes : new ≡ with_daemon (record old { broker = issued old.broker (Forget item) }) seat.daemon
-      (Serving (record served { map = forgotten served.map item.node.0 item.k }))
+  pub replay : Replay served request answer later
+  pub tells : outcome ≡ told old.broker served request answer
+  pub makes : new ≡ with_daemon (record old { broker = done old.broker request answer }) seat.daemon (Serving later)
 
 -- what an event that no cause stands against makes
 abbrev pub Makes : State → Event → List Happened → State → Type 0
 Makes old Start outcome new = Starts old outcome new
 Makes old (Mount daemon) outcome new = Mounts old daemon outcome new
-Makes old (Do (Lookup dir name)) outcome new = Looks old dir name outcome new
-Makes old (Do (Forget item)) outcome new = Forgets old item outcome new
+Makes old (Do request) outcome new = Does old request outcome new
 Makes old Show outcome new = (outcome ≡ []) × (new ≡ old)
 
 -- a forget and a look at the world take no memory
 abbrev pub TakesMemory : Event → Type 0
-TakesMemory (Do (Forget item)) = ⊥
+TakesMemory (Do request) = is_ask request ≡ true
 TakesMemory Show = ⊥
 TakesMemory event = Unit {0}
 

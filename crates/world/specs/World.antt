@@ -1,32 +1,33 @@
 -- The world as the kernel's programs may know it: what every number that was given in this mount names, what the kernel
 -- holds, and what is under way. No daemon's state, no phase and no byte stands in it. The rules are those of lookup
 -- counts in libfuse's `fuse_lowlevel.h`; the seat and its generations are this project's own.
-use Rattle.std.specs.Prelude.{◌≡◌, ℕ, ◌+◌, ◌-◌, ◌<◌, ◌≤◌, ◌⊎◌, ◌≢◌, Bool, false, ◌==◌, List, [], ◌∷◌, ◌++◌, length, slice_get, remove, sum_by, count_by, Contains, Option, Some, None, IsSome, is_some, Result, Ok, Err, if◌then◌else◌}
+use Rattle.std.specs.Prelude.{◌≡◌, ◌≢◌, ℕ, ◌+◌, ◌-◌, ◌<◌, ◌≤◌, ◌⊎◌, Bool, true, false, ◌&&◌, ◌==◌, List, [], ◌∷◌, ◌++◌, length, sum_by, count_by, Contains, Option, Some, None, IsSome, is_some, Result, if◌then◌else◌}
 use Rattle.std.specs.Option.{option_map, option_map_or}
-use Rattle.eden_base.specs.First.{first_where}
+use Rattle.std.specs.List.{AllByRecursion}
+use Rattle.eden_base.specs.First.{first_where, without_where}
+use Rattle.eden_base.specs.Limits.{greatest_count, end_of_numbers}
 use Rattle.eden_base.specs.declared.attr.Kind.TheVariants.{File}
 use Rattle.eden_base.specs.declared.errno.Errno.{Errno}
-use Rattle.eden_base.specs.declared.errno.Errno.TheVariants.{ESTALE, ENOSPC, EOVERFLOW, EIO, ENOMEM}
+use Rattle.eden_base.specs.declared.errno.Errno.TheVariants.{ESTALE}
 use Rattle.eden_base.specs.declared.number.DaemonId.{DaemonId}
 use Rattle.eden_base.specs.declared.number.FileId.{FileId}
+use Rattle.eden_base.specs.declared.number.Number.{Number}
 use Rattle.checkout.specs.Manifest.{Manifest}
-use Rattle.checkout.specs.Tree.{Tree, tree_of, kind_of, attr_of, root}
-use Rattle.broker_core.specs.declared.request.Answer.{Answer}
-use Rattle.broker_core.specs.declared.request.Answer.TheVariants.{Entry, Error}
-use Rattle.broker_core.specs.declared.request.Item.{Item}
-use Rattle.broker_core.specs.declared.request.Reply.{Reply}
-use Rattle.broker_core.specs.declared.request.Request.{Request}
-use Rattle.broker_core.specs.declared.request.Request.TheVariants.{Lookup, Forget}
+use Rattle.checkout.specs.Tree.{Tree, tree_of, kind_of, root}
+use Rattle.fuse_wire.specs.Ask.{is_ask, nodes}
+use Rattle.fuse_wire.specs.Given.{given_out}
+use Rattle.fuse_wire.specs.declared.ask.Ask.{Ask}
+use Rattle.fuse_wire.specs.declared.ask.Request.{Request}
+use Rattle.fuse_wire.specs.declared.item.Item.{Item}
+use Rattle.fuse_wire.specs.declared.reply.Answer.{Answer}
+use Rattle.fuse_wire.specs.declared.reply.Answer.TheVariants.{Error}
+use Rattle.fuse_wire.specs.declared.reply.Reply.{Reply}
+use Rattle.fuse_ops.specs.Answers.{NumberFault, none_left, at_greatest, Numbers, Effect, comes_to, Answers, tree_after, file_told}
 use Rattle.broker_core.specs.declared.seat.Seat.{Seat}
-use Rattle.inode_map.specs.InodeMap.{greatest_count, end_of_numbers}
-use Rattle.fuse_ops.specs.Served.{found_in}
 
--- an ask of the kernel under its unique
-pub record Ask : Type 0 where
-  pub unique : ℕ
-  pub request : Request
-
--- asks and items are what is not worked yet, replies what is not delivered yet
+-- Who serves and at which generation; the last generation; the tree; the file that each number was given out for; and
+-- bags: what the kernel holds, what is not worked yet (asks and single items), what is not delivered yet. Beside them who
+-- answered at which generation, and the uniques that were used.
 pub record World : Type 0 where
   pub manifest : Manifest
   pub seat : Option Seat
@@ -56,24 +57,25 @@ first_world manifest = record {
   uniques = [];
 }
 
+-- ---- what is owed
+
 -- the file that a number was first given out for in this mount
 abbrev pub file_named : List (ℕ × FileId) → ℕ → Option FileId
 file_named names n = option_map (λ (pair : ℕ × FileId). pair.1) (first_where (λ pair. pair.0 == n) names)
 
--- how often a number stands in a list
+-- how often a number stands in a bag
 abbrev pub times : ℕ → List ℕ → ℕ
 times n [] = 0
 times n (m ∷ numbers) = (if m == n then 1 else 0) + times n numbers
 
--- the list with the number taken out so many times
+-- the bag with the number taken out so many times
 abbrev pub without_times : ℕ → ℕ → List ℕ → List ℕ
 without_times k n [] = []
 without_times k n (m ∷ numbers) = if m == n then (if k == 0 then m ∷ numbers else without_times (k - 1) n numbers) else m ∷ without_times k n numbers
 
 -- the answer gives this number out
 abbrev pub gives : ℕ → Answer → Bool
-gives n (Entry number attr) = number.0 == n
-gives n (Error errno) = false
+gives n answer = option_map_or (λ (number : Number). number.0 == n) (given_out answer) false
 
 -- the reply gives this number out
 abbrev pub carries : ℕ → Reply → Bool
@@ -87,6 +89,8 @@ taken_back n item = if item.node.0 == n then item.k else 0
 -- it out, and as often as the forgets under way take back.
 abbrev pub owed : World → ℕ → ℕ
 owed world n = times n world.held + count_by (carries n) world.replies + sum_by (taken_back n) world.items
+
+-- ---- the table of answers, read over the world
 
 -- the root, or a number that is owed a count
 abbrev pub IsLive : World → ℕ → Type 0
@@ -104,129 +108,189 @@ pub record IsFree (world : World) (file : FileId) (n : ℕ) : Type 0 where
   pub high : n < end_of_numbers
   pub named : (file_named world.names n ≡ None) ⊎ (file_named world.names n ≡ Some file)
 
+-- the file's live number, or where it has none one that is free
+abbrev pub MayNumber : World → FileId → ℕ → Type 0
+MayNumber world file n = IsNumberOf world file n ⊎ IsFree world file n
+
 -- a live number of the file that is owed the greatest count
 pub record IsAtGreatest (world : World) (file : FileId) (n : ℕ) : Type 0 where
   pub number : IsNumberOf world file n
   pub greatest : owed world n ≡ greatest_count
 
--- the file has no live number, and no number is left for it
+-- the file has no live number, and every number names something
 pub record HasNoNumber (world : World) (file : FileId) : Type 0 where
   pub no_number : (m : ℕ) → IsNumberOf world file m → ⊥
   pub none_left : (n : ℕ) → 2 ≤ n → n < end_of_numbers → IsSome (file_named world.names n)
 
--- nothing stands against giving out a number of the file: ENOSPC and EOVERFLOW come before the errors that leave this open
+-- there is a number for the file, and it may be given out once more
 pub record MayBeGiven (world : World) (file : FileId) : Type 0 where
+  pub number : ℕ
+  pub may : MayNumber world file number
   pub not_greatest : (n : ℕ) → IsAtGreatest world file n → ⊥
-  pub some_left : HasNoNumber world file → ⊥
 
--- the number of an ask
-abbrev pub node_of : Request → ℕ
-node_of (Lookup dir name) = dir.0
-node_of (Forget item) = item.node.0
+-- what stands against giving a number of the file out once more
+abbrev pub IsAgainst : World → FileId → Option NumberFault → Type 0
+IsAgainst world file (Some none_left) = HasNoNumber world file
+IsAgainst world file (Some at_greatest) = (n : ℕ) × IsAtGreatest world file n
+IsAgainst world file None = MayBeGiven world file
 
--- The answers for a file that was found, and where each may come; another error never does. Want of memory and a backing
--- that fails are no part of the world, so ENOMEM may come wherever no error before it does, and EIO for the manifest's regular files.
-abbrev pub MayAnswerFile : World → FileId → Answer → Type 0
-MayAnswerFile world file (Entry number attr) =
-    (attr_of world.tree file ≡ Some attr) × ((n : ℕ) → IsAtGreatest world file n → ⊥) × (IsNumberOf world file number.0 ⊎ IsFree world file number.0)
-MayAnswerFile world file (Error ENOSPC) = HasNoNumber world file
-MayAnswerFile world file (Error EOVERFLOW) = (n : ℕ) × IsAtGreatest world file n
-MayAnswerFile world file (Error EIO) = (kind_of world.tree file ≡ Some File) × (file.0 < length world.manifest.lines + 2) × MayBeGiven world file
-MayAnswerFile world file (Error ENOMEM) = MayBeGiven world file
-MayAnswerFile world file (Error errno) = ⊥
+-- a regular file of the manifest, which alone a daemon asks its backing for
+abbrev pub IsBacked : World → FileId → Type 0
+IsBacked world file = (kind_of world.tree file ≡ Some File) × (file.0 < length world.manifest.lines + 2)
 
--- an error that comes before, or as of the file
-abbrev pub MayAnswerFound : World → Result FileId Errno → Answer → Type 0
-MayAnswerFound world (Ok file) answer = MayAnswerFile world file answer
-MayAnswerFound world (Err errno) answer = answer ≡ Error errno
+-- What the world reads the table by. A backing that fails and memory that runs out are no part of it, so EIO may come for
+-- every file that is backed and ENOMEM for every number that is given out, where no error before them does.
+abbrev pub numbers_of : World → Numbers
+numbers_of world = record {
+  IsAgainst = IsAgainst world;
+  IsNumber = MayNumber world;
+  MayFail = IsBacked world;
+  MayWant = λ file. Unit {0};
+}
 
--- the answers to a request: as of the file that its number names, or that the number names nothing, where it is not live
+-- what a request comes to by what its numbers were given out for
+abbrev pub effect_in : World → Request → Result Effect Errno
+effect_in world request = comes_to world.tree (file_named world.names) request
+
+-- a number of the request is not live
+pub record IsStale (world : World) (request : Request) : Type 0 where
+  pub node : Number
+  pub goes_to : Contains (nodes request) node
+  pub not_live : IsLive world node.0 → ⊥
+
+-- the answers to a request: those of the table, or that a number of it names nothing, where it is not live
 abbrev pub MayAnswer : World → Request → Answer → Type 0
-MayAnswer world (Lookup dir name) answer =
-    ((answer ≡ Error ESTALE) × (IsLive world dir.0 → ⊥))
-    ⊎ ((file : FileId) × (file_named world.names dir.0 ≡ Some file) × MayAnswerFound world (found_in world.tree (Some file) name) answer)
-MayAnswer world (Forget item) answer = ⊥
+MayAnswer world request answer =
+    ((answer ≡ Error ESTALE) × IsStale world request) ⊎ Answers (numbers_of world) request (effect_in world request) answer
 
--- one thing that may happen; what is under way is named by its place
+-- ---- moves
+
+-- One thing that may happen. An ask and a reply are named by their unique, an item by what it says.
 pub data Move : Type 0 where
-  asks : ℕ → Request → Move
-  forgets : Item → Move
-  works : ℕ → Answer → Move
-  applies : ℕ → Move
-  delivers : ℕ → Move
-  mounts : DaemonId → Move
-  claims : ℕ → DaemonId → Move
-  ends : Move
-  accepts : ℕ → DaemonId → Move
+  -- the kernel asks
+  issue : Ask → Move
+  -- the kernel forgets
+  issue_item : Item → Move
+  -- an ask is answered
+  work : ℕ → Answer → Move
+  -- an item is applied
+  work_item : Item → Move
+  -- a daemon's reply is taken
+  accept : ℕ → DaemonId → Move
+  -- a reply reaches the kernel
+  deliver : ℕ → Move
+  -- a daemon takes the free seat
+  mount : DaemonId → Move
+  -- a daemon takes the seat over from a generation
+  claim : ℕ → DaemonId → Move
+  -- the mount is over
+  end : Move
 
--- the ask at a place
+-- the ask has this unique
+abbrev pub is_asked : ℕ → Ask → Bool
+is_asked unique ask = ask.unique == unique
+
+-- the reply has this unique
+abbrev pub is_replied : ℕ → Reply → Bool
+is_replied unique reply = reply.unique == unique
+
+-- the item says the same
+abbrev pub is_item : Item → Item → Bool
+is_item item other = other.node.0 == item.node.0 && other.k == item.k
+
+-- the root, or a number that the kernel holds
+abbrev pub MayGoTo : World → Number → Type 0
+MayGoTo world node = (node.0 ≡ 1) ⊎ (0 < times node.0 world.held)
+
+-- an ask under a unique that was never used, to numbers that the kernel holds
+pub record MayIssue (world : World) (ask : Ask) : Type 0 where
+  pub seat : IsSome world.seat
+  pub is : is_ask ask.what ≡ true
+  pub fresh : Contains world.uniques ask.unique → ⊥
+  pub held : AllByRecursion (MayGoTo world) (nodes ask.what)
+
+-- an item of some, and at most as much as the kernel holds; the root is held always
+pub record MayForget (world : World) (item : Item) : Type 0 where
+  pub seat : IsSome world.seat
+  pub no_root : item.node.0 ≢ 1
+  pub some : 1 ≤ item.k
+  pub at_most : item.k ≤ times item.node.0 world.held
+
+-- an ask that waits, and an answer that it may have
 abbrev pub MayWork : World → Option Ask → Answer → Type 0
-MayWork world (Some ask) answer = MayAnswer world ask.request answer
+MayWork world (Some ask) answer = MayAnswer world ask.what answer
 MayWork world None answer = ⊥
 
+-- the seat at a generation, whoever has it
+abbrev pub IsAt : World → ℕ → Type 0
+IsAt world g = (holder : DaemonId) × (world.seat ≡ Some (record { generation = g; daemon = holder }))
+
+-- the daemon has the seat
+abbrev pub HasSeat : World → DaemonId → Type 0
+HasSeat world daemon = (g : ℕ) × (world.seat ≡ Some (record { generation = g; daemon = daemon }))
+
 -- where each thing may happen
-abbrev pub IsLegal : World → Move → Type 0
-IsLegal world (asks unique (Lookup dir name)) = IsSome world.seat × (Contains world.uniques unique → ⊥) × ((dir.0 ≡ 1) ⊎ (0 < times dir.0 world.held))
-IsLegal world (asks unique (Forget item)) = ⊥
-IsLegal world (forgets item) = IsSome world.seat × (item.node.0 ≢ 1) × (1 ≤ item.k) × (item.k ≤ times item.node.0 world.held)
-IsLegal world (works i answer) = MayWork world (slice_get world.asks i) answer
-IsLegal world (applies i) = i < length world.items
-IsLegal world (delivers i) = i < length world.replies
-IsLegal world (mounts daemon) = world.seat ≡ None
-IsLegal world (claims g daemon) = (holder : DaemonId) × (world.seat ≡ Some (record { generation = g; daemon = holder }))
-IsLegal world ends = IsSome world.seat
-IsLegal world (accepts i daemon) = (i < length world.replies) × (g : ℕ) × (world.seat ≡ Some (record { generation = g; daemon = daemon }))
+abbrev pub MayMove : World → Move → Type 0
+MayMove world (issue ask) = MayIssue world ask
+MayMove world (issue_item item) = MayForget world item
+MayMove world (work unique answer) = MayWork world (first_where (is_asked unique) world.asks) answer
+MayMove world (work_item item) = IsSome (first_where (is_item item) world.items)
+MayMove world (accept unique daemon) = IsSome (first_where (is_replied unique) world.replies) × HasSeat world daemon
+MayMove world (deliver unique) = IsSome (first_where (is_replied unique) world.replies)
+MayMove world (mount daemon) = world.seat ≡ None
+MayMove world (claim g daemon) = IsAt world g
+MayMove world end = IsSome world.seat
 
--- the names after an entry for a file: the number names it from now on, if it named nothing
-abbrev pub named_file : List (ℕ × FileId) → Result FileId Errno → Answer → List (ℕ × FileId)
-named_file names (Ok file) (Entry number attr) = if is_some (file_named names number.0) then names else (number.0, file) ∷ names
-named_file names found answer = names
-
--- the names after an answer
-abbrev pub named_after : World → Request → Answer → List (ℕ × FileId)
-named_after world (Lookup dir name) answer = named_file world.names (found_in world.tree (file_named world.names dir.0) name) answer
-named_after world (Forget item) answer = world.names
+-- the names after a number was given out for a file: it names the file from now on, if it named nothing
+abbrev pub names_after : List (ℕ × FileId) → Option FileId → Option Number → List (ℕ × FileId)
+names_after names (Some file) (Some number) = if is_some (file_named names number.0) then names else (number.0, file) ∷ names
+names_after names file number = names
 
 -- an ask leaves for its reply
-abbrev pub worked : World → ℕ → Answer → Option Ask → World
-worked world i answer (Some ask) = record world {
-  names = named_after world ask.request answer;
-  asks = remove world.asks i;
+abbrev pub worked : World → Answer → Option Ask → World
+worked world answer (Some ask) = record world {
+  tree = tree_after world.tree (effect_in world ask.what) answer;
+  names = names_after world.names (file_told (effect_in world ask.what)) (given_out answer);
+  asks = without_where (is_asked ask.unique) world.asks;
   replies = world.replies ++ record { unique = ask.unique; answer = answer } ∷ [];
 }
-worked world i answer None = world
+worked world answer None = world
 
--- the kernel holds once more what an entry gives out
+-- the daemon answered at the seat's generation
+abbrev pub answered_by : World → DaemonId → List Seat
+answered_by world daemon =
+    option_map_or (λ (seat : Seat). record { generation = seat.generation; daemon = daemon } ∷ world.answered) world.seat world.answered
+
+-- the kernel holds once more what an answer gives out
 abbrev pub held_after : List ℕ → Answer → List ℕ
-held_after held (Entry number attr) = number.0 ∷ held
-held_after held (Error errno) = held
+held_after held answer = option_map_or (λ (number : Number). number.0 ∷ held) (given_out answer) held
 
 -- a reply reaches the kernel
-abbrev pub delivered : World → ℕ → Option Reply → World
-delivered world i (Some reply) = record world { held = held_after world.held reply.answer; replies = remove world.replies i }
-delivered world i None = world
+abbrev pub delivered : World → Option Reply → World
+delivered world (Some reply) = record world { held = held_after world.held reply.answer; replies = without_where (is_replied reply.unique) world.replies }
+delivered world None = world
 
 -- the world after each thing
 abbrev pub after : World → Move → World
-after world (asks unique request) = record world { asks = world.asks ++ record { unique = unique; request = request } ∷ []; uniques = unique ∷ world.uniques }
-after world (forgets item) = record world { held = without_times item.k item.node.0 world.held; items = world.items ++ item ∷ [] }
-after world (works i answer) = worked world i answer (slice_get world.asks i)
-after world (applies i) = record world { items = remove world.items i }
-after world (delivers i) = delivered world i (slice_get world.replies i)
-after world (mounts daemon) = record world {
+after world (issue ask) = record world { asks = world.asks ++ ask ∷ []; uniques = ask.unique ∷ world.uniques }
+after world (issue_item item) = record world { held = without_times item.k item.node.0 world.held; items = world.items ++ item ∷ [] }
+after world (work unique answer) = worked world answer (first_where (is_asked unique) world.asks)
+after world (work_item item) = record world { items = without_where (is_item item) world.items }
+after world (accept unique daemon) = record world { answered = answered_by world daemon }
+after world (deliver unique) = delivered world (first_where (is_replied unique) world.replies)
+after world (mount daemon) = record world {
   seat = Some (record { generation = world.last + 1; daemon = daemon });
   last = world.last + 1;
   tree = tree_of world.manifest;
   names = (1, root) ∷ [];
 }
-after world (claims g daemon) = record world { seat = Some (record { generation = g + 1; daemon = daemon }); last = g + 1 }
-after world ends = record world { seat = None; held = []; asks = []; items = []; replies = []; names = (1, root) ∷ [] }
-after world (accepts i daemon) = record world { answered = option_map_or (λ (seat : Seat). seat ∷ world.answered) world.seat world.answered }
+after world (claim g daemon) = record world { seat = Some (record { generation = g + 1; daemon = daemon }); last = g + 1 }
+after world end = record world { seat = None; held = []; asks = []; items = []; replies = []; names = (1, root) ∷ [] }
 
 -- each thing may happen where it stands
 abbrev pub IsRun : World → List Move → Type 0
 IsRun world [] = Unit {0}
-IsRun world (move ∷ moves) = IsLegal world move × IsRun (after world move) moves
+IsRun world (move ∷ moves) = MayMove world move × IsRun (after world move) moves
 
 -- the world after a list of moves
 abbrev pub after_all : World → List Move → World

@@ -1,0 +1,118 @@
+-- What each request is answered, as a table: first what it comes to in the tree, then what stands against a number, then
+-- what may fail. The world's moves and what `apply` promises read the same rows. The requests are those of `linux/fuse.h`;
+-- which errors there are, and in which order they are told, is this project's own.
+use Rattle.std.specs.Prelude.{◌≡◌, ℕ, ◌⊎◌, Bool, true, false, List, [], ◌∷◌, Contains, Option, Some, None, Result, Ok, Err}
+use Rattle.std.specs.Option.{option_map_or}
+use Rattle.eden_base.specs.declared.attr.Attr.{Attr}
+use Rattle.eden_base.specs.declared.attr.Kind.{Kind}
+use Rattle.eden_base.specs.declared.attr.Kind.TheVariants.{Dir, File}
+use Rattle.eden_base.specs.declared.errno.Errno.{Errno}
+use Rattle.eden_base.specs.declared.errno.Errno.TheVariants.{ESTALE, ENOTDIR, ENOENT, ENOSPC, EOVERFLOW, EIO, ENOMEM, ENOSYS}
+use Rattle.eden_base.specs.declared.number.FileId.{FileId}
+use Rattle.eden_base.specs.declared.number.Number.{Number}
+use Rattle.checkout.specs.Tree.{Tree, kind_of, child_of, attr_of}
+use Rattle.fuse_wire.specs.Ask.{nodes}
+use Rattle.fuse_wire.specs.declared.ask.Request.{Request}
+use Rattle.fuse_wire.specs.declared.ask.Request.TheVariants.{Lookup}
+use Rattle.fuse_wire.specs.declared.reply.Answer.{Answer}
+use Rattle.fuse_wire.specs.declared.reply.Answer.TheVariants.{Entry, Done, Error}
+
+-- ---- by the tree
+
+-- a success: the tree after it, the file of that tree that the answer tells, and whether its number is held once more
+pub record Effect : Type 0 where
+  pub tree : Tree
+  pub file : Option FileId
+  pub counts : Bool
+
+-- the file under a name in a directory of this kind
+abbrev pub found_in_dir : Tree → FileId → List ℕ → Option Kind → Result FileId Errno
+found_in_dir tree dir name (Some Dir) = option_map_or (λ (file : FileId). Ok file) (child_of tree dir name) (Err ENOENT)
+found_in_dir tree dir name (Some File) = Err ENOTDIR
+found_in_dir tree dir name None = Err ENOTDIR
+
+-- the file under a name, where a number names this file or none
+abbrev pub found_in : Tree → Option FileId → List ℕ → Result FileId Errno
+found_in tree (Some dir) name = found_in_dir tree dir name (kind_of tree dir)
+found_in tree None name = Err ESTALE
+
+-- an entry for a file of a tree that stays as it is
+abbrev pub enters : Tree → Result FileId Errno → Result Effect Errno
+enters tree (Ok file) = Ok (record { tree = tree; file = Some file; counts = true })
+enters tree (Err errno) = Err errno
+
+-- what a request comes to, where `files` tells the file that a number names; one row a request
+abbrev pub comes_to : Tree → (ℕ → Option FileId) → Request → Result Effect Errno
+comes_to tree files (Lookup dir name) = enters tree (found_in tree (files dir.0) name)
+comes_to tree files request = Err ENOSYS
+
+-- how a success tells a number and attributes; those of other requests tell that they were done
+abbrev pub telling : Request → Number → Attr → Answer
+telling (Lookup dir name) number attr = Entry number attr
+telling request number attr = Done
+
+-- ---- by the number
+
+-- why a file's number cannot be held once more: the first of these
+pub data NumberFault : Type 0 where
+  none_left : NumberFault
+  at_greatest : NumberFault
+
+-- what it is answered
+abbrev pub number_errno : NumberFault → Errno
+number_errno none_left = ENOSPC
+number_errno at_greatest = EOVERFLOW
+
+-- Who reads the table says of a file: what stands against holding its number once more, which number may be told, and
+-- where its attributes or the memory for its number may fail to come.
+pub record Numbers : Type 1 where
+  pub IsAgainst : FileId → Option NumberFault → Type 0
+  pub IsNumber : FileId → ℕ → Type 0
+  pub MayFail : FileId → Type 0
+  pub MayWant : FileId → Type 0
+
+-- the answer tells one of these numbers, with the file's attributes
+pub record Tells (request : Request) (tree : Tree) (file : FileId) (IsNumber : ℕ → Type 0) (answer : Answer) : Type 0 where
+  pub number : Number
+  pub attr : Attr
+  pub is : answer ≡ telling request number attr
+  pub is_number : IsNumber number.0
+  pub is_attr : attr_of tree file ≡ Some attr
+
+-- the answers for a file whose number is held once more
+abbrev pub AnswersCounted : Numbers → Request → Tree → FileId → Option NumberFault → Answer → Type 0
+AnswersCounted numbers request tree file (Some fault) answer = answer ≡ Error (number_errno fault)
+AnswersCounted numbers request tree file None answer =
+    Tells request tree file (numbers.IsNumber file) answer
+    ⊎ ((answer ≡ Error EIO) × numbers.MayFail file)
+    ⊎ ((answer ≡ Error ENOMEM) × numbers.MayWant file)
+
+-- the answers for a file whose number, one of the request's own, is held as often as before
+abbrev pub AnswersShown : Numbers → Request → Tree → FileId → Answer → Type 0
+AnswersShown numbers request tree file answer =
+    Tells request tree file (λ n. Contains (nodes request) (record { 0 = n })) answer ⊎ ((answer ≡ Error EIO) × numbers.MayFail file)
+
+-- the answers to a success, by the file that it tells and whether that file's number is held once more
+abbrev pub AnswersFile : Numbers → Request → Tree → Option FileId → Bool → Answer → Type 0
+AnswersFile numbers request tree (Some file) true answer =
+    (fault : Option NumberFault) × numbers.IsAgainst file fault × AnswersCounted numbers request tree file fault answer
+AnswersFile numbers request tree (Some file) false answer = AnswersShown numbers request tree file answer
+AnswersFile numbers request tree None counts answer = answer ≡ Done
+
+-- the answers to a request, by what it comes to
+abbrev pub Answers : Numbers → Request → Result Effect Errno → Answer → Type 0
+Answers numbers request (Ok effect) answer = AnswersFile numbers request effect.tree effect.file effect.counts answer
+Answers numbers request (Err errno) answer = answer ≡ Error errno
+
+-- ---- afterwards
+
+-- the tree after an answer: an error leaves it
+abbrev pub tree_after : Tree → Result Effect Errno → Answer → Tree
+tree_after tree result (Error errno) = tree
+tree_after tree (Ok effect) answer = effect.tree
+tree_after tree (Err errno) answer = tree
+
+-- the file that is told, if one is
+abbrev pub file_told : Result Effect Errno → Option FileId
+file_told (Ok effect) = effect.file
+file_told (Err errno) = None
