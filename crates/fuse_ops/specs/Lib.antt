@@ -1,2 +1,4 @@
+pub mod Gifts
 pub mod Served
+pub mod Soundness
 pub mod Work

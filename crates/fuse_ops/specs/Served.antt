@@ -1,5 +1,5 @@
 -- What a daemon serves: its numbers and the tree of its checkout, and what it answers from them.
-use Rattle.std.specs.Prelude.{◌≡◌, ℕ, ◌+◌, ◌^◌, ◌<◌, ◌≤◌, ◌↔◌, List, [], ◌∷◌, IsTrue, IsSome, Option, Some, None, Result, Ok, Err}
+use Rattle.std.specs.Prelude.{◌≡◌, ℕ, List, MatchOption, Option, Some, None, Result, Ok, Err}
 use Rattle.std.specs.Option.{option_map_or}
 use Rattle.eden_base.specs.declared.attr.Kind.{Kind}
 use Rattle.eden_base.specs.declared.attr.Kind.TheVariants.{Dir, File}
@@ -7,14 +7,11 @@ use Rattle.eden_base.specs.declared.errno.Errno.{Errno}
 use Rattle.eden_base.specs.declared.errno.Errno.TheVariants.{ESTALE, ENOTDIR, ENOENT, ENOSPC, EOVERFLOW, ENOMEM}
 use Rattle.eden_base.specs.declared.number.FileId.{FileId}
 use Rattle.eden_base.specs.declared.number.Number.{Number}
-use Rattle.eden_base.specs.declared.place.Place.{Place}
-use Rattle.eden_base.specs.declared.place.Place.TheVariants.{Linked, Unlinked}
 use Rattle.checkout.specs.Manifest.{Manifest}
-use Rattle.checkout.specs.Tree.{Tree, tree_of, kind_of, child_of, attr_of, file_of as tree_file, is_unlinked}
+use Rattle.checkout.specs.Tree.{Tree, tree_of, kind_of, child_of, attr_of}
 use Rattle.broker_core.specs.declared.request.Answer.{Answer}
 use Rattle.broker_core.specs.declared.request.Answer.TheVariants.{Entry, Error}
-use Rattle.inode_map.specs.InodeMap.{MapState, greatest_count, new_map, entry_of, entry_at, is_of_use, file_in, give_fault, given, number_given}
-use Rattle.inode_map.specs.declared.inode_map.Kept.{Kept}
+use Rattle.inode_map.specs.InodeMap.{MapState, new_map, entry_at, give_fault, given, number_given, IsFileOf}
 use Rattle.inode_map.specs.declared.inode_map.GiveFault.{GiveFault}
 use Rattle.inode_map.specs.declared.inode_map.GiveFault.TheVariants.{NoNumber, TooMany, NoMemory}
 
@@ -23,9 +20,10 @@ pub record ServedState : Type 0 where
   pub map : MapState
   pub tree : Tree
 
--- the file that a number names, for this daemon
-abbrev pub file_of : ServedState → ℕ → Option FileId
-file_of served n = file_in served.map.next served.tree served.map.entries n
+-- the file that a number names for this daemon, or none where it names none
+abbrev pub IsLocated : ServedState → ℕ → Option FileId → Type 0
+IsLocated served n found =
+    MatchOption found ((file : FileId) → IsFileOf served.tree served.map.entries n file → ⊥) (IsFileOf served.tree served.map.entries n)
 
 -- the answer to a request for a name, up to the number: an error, or the file
 abbrev pub found_in_dir : Tree → FileId → List ℕ → Option Kind → Result FileId Errno
@@ -59,31 +57,9 @@ LooksFound old parent name (Ok file) answer new = GivesEntry old parent name fil
 
 -- the answer to a look-up, and what the daemon knows after it
 abbrev pub LooksUp : ServedState → Number → List ℕ → Answer → ServedState → Type 0
-LooksUp old parent name answer new = LooksFound old parent name (found_in old.tree (file_of old parent.0) name) answer new
+LooksUp old parent name answer new =
+    (dir : Option FileId) × IsLocated old parent.0 dir × LooksFound old parent name (found_in old.tree dir name) answer new
 
 -- a daemon that begins to serve a checkout
 abbrev pub new_served : Manifest → ServedState
 new_served manifest = record { map = new_map; tree = tree_of manifest }
-
--- the place is one that was taken away
-abbrev pub IsUnlinkedPlace : Place → Type 0
-IsUnlinkedPlace (Linked dir name) = ⊥
-IsUnlinkedPlace (Unlinked file) = Unit {0}
-
--- numbers rise from 2 and stay below the next
-abbrev pub AreNumbers : ℕ → ℕ → List Kept → Type 0
-AreNumbers low next [] = low ≤ next
-AreNumbers low next (kept ∷ entries) = (low ≤ kept.number.0) × AreNumbers (kept.number.0 + 1) next entries
-
--- what a daemon knows fits together
-pub record IsSound (served : ServedState) : Type 0 where
-  pub numbers : AreNumbers 2 served.map.next served.map.entries
-  pub numbers_fit : served.map.next < 2 ^ 63
-  pub names_a_file : (n : ℕ) → IsSome (entry_of served.map.entries n) → (file : FileId) × (file_of served n ≡ Some file) × IsSome (tree_file served.tree file)
-  pub places_are_apart : (m n : ℕ) (one other : Kept) → entry_of served.map.entries m ≡ Some one → entry_of served.map.entries n ≡ Some other → one.place ≡ other.place → m ≡ n
-  pub files_are_apart : (m n : ℕ) (file : FileId) → IsSome (entry_of served.map.entries m) → IsSome (entry_of served.map.entries n) →
-      file_of served m ≡ Some file → file_of served n ≡ Some file → m ≡ n
-  pub unlinked_alike : (n : ℕ) (kept : Kept) (file : FileId) → entry_of served.map.entries n ≡ Some kept → file_of served n ≡ Some file →
-      IsUnlinkedPlace kept.place ↔ IsTrue (is_unlinked served.tree file)
-  pub each_of_use : (n : ℕ) (kept : Kept) → entry_of served.map.entries n ≡ Some kept → IsTrue (is_of_use served.map.entries kept)
-  pub counts_fit : (n : ℕ) (kept : Kept) → entry_of served.map.entries n ≡ Some kept → kept.count ≤ greatest_count
