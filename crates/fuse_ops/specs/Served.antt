@@ -1,5 +1,5 @@
 -- What a daemon serves: its numbers and the tree of its checkout, and one step of it by a request and its answer.
-use Rattle.std.specs.Prelude.{◌≡◌, ℕ, Bool, true, false, List, [], ◌∷◌, Option, Some, None}
+use Rattle.std.specs.Prelude.{◌≡◌, ℕ, Bool, true, false, List, [], ◌∷◌, MatchOption, Option, Some, None}
 use Rattle.std.specs.List.{AllByRecursion}
 use Rattle.eden_base.specs.declared.number.FileId.{FileId}
 use Rattle.eden_base.specs.declared.number.Number.{Number}
@@ -25,10 +25,10 @@ pub record ServedState : Type 0 where
 abbrev pub new_served : Manifest → ServedState
 new_served manifest = record { map = new_map; tree = tree_of manifest }
 
--- the file that a number names for this daemon, or none
+-- the file that a number names for this daemon, or none where it names none
 abbrev pub IsLocated : ServedState → ℕ → Option FileId → Type 0
-IsLocated served n (Some file) = IsFileOf served.tree served.map.entries n file
-IsLocated served n None = (file : FileId) → IsFileOf served.tree served.map.entries n file → ⊥
+IsLocated served n found =
+    MatchOption found ((file : FileId) → IsFileOf served.tree served.map.entries n file → ⊥) (IsFileOf served.tree served.map.entries n)
 
 -- the files that a request's numbers name for this daemon
 abbrev pub Locates : ServedState → Request → (ℕ → Option FileId) → Type 0

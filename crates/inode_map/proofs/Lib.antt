@@ -1,2 +1,0 @@
-pub mod EntryWrites
-pub mod MapWrites

@@ -1,12 +1,48 @@
 -- What the entries' code says of its results beside the definitions of the inode map.
-use Rattle.std.specs.Prelude.{◌≡◌, ℕ, Bool, true, List, if◌then◌else◌}
+use Rattle.std.specs.Prelude.{◌≡◌, ℕ, ◌<◌, ◌⊎◌, true, List, [], ◌∷◌, length, slice_index_or, Option, Some, None}
 use Rattle.eden_base.specs.First.{IsFirstPlace}
-use Rattle.inode_map.specs.InodeMap.{has_number, is_useless, lowered}
+use Rattle.eden_base.specs.declared.number.FileId.{FileId}
+use Rattle.eden_base.specs.declared.number.Number.{Number}
+use Rattle.eden_base.specs.declared.place.Place.{Place}
+use Rattle.eden_base.specs.declared.place.Place.TheVariants.{Linked, Unlinked}
+use Rattle.checkout.specs.Tree.{Tree}
+use Rattle.inode_map.specs.InodeMap.{has_number, entry_of, is_of_use, is_useless, IsFileOf}
 use Rattle.inode_map.specs.declared.inode_map.Kept.{Kept}
 
--- lowered where it may be, else the same
-abbrev pub lowered_or_same : Bool → List Kept → ℕ → ℕ → List Kept
-lowered_or_same lowers entries n k = if lowers then lowered entries n k else entries
+-- each number is greater than those before it
+abbrev pub Rises : List Kept → Type 0
+Rises entries = (i j : ℕ) (d : Kept) → i < j → j < length entries → (slice_index_or entries i d).number.0 < (slice_index_or entries j d).number.0
+
+-- each number is of use, but for one
+abbrev pub AreOfUseBut : Option ℕ → List Kept → Type 0
+AreOfUseBut but entries = (n : ℕ) (kept : Kept) → entry_of entries n ≡ Some kept → (is_of_use entries kept ≡ true) ⊎ (but ≡ Some n)
+
+-- the directory of a place
+abbrev pub dir_of : Place → Option ℕ
+dir_of (Linked dir name) = Some dir.0
+dir_of (Unlinked file) = None
+
+-- a number that stands in the directory of another, and the place of its entry
+pub record StepsUp (entries : List Kept) (n place up : ℕ) : Type 0 where
+  pub kept : Kept
+  pub dir : Number
+  pub name : List ℕ
+  pub not_root : n ≡ 1 → ⊥
+  pub is_place : IsFirstPlace (has_number n) entries place
+  pub entry : entry_of entries n ≡ Some kept
+  pub linked : kept.place ≡ Linked dir name
+  pub is_up : dir.0 ≡ up
+
+-- from one number up to another, by the places of the entries between them
+abbrev pub Climbs : List Kept → ℕ → List ℕ → ℕ → Type 0
+Climbs entries n [] top = n ≡ top
+Climbs entries n (place ∷ way) top = (up : ℕ) × StepsUp entries n place up × Climbs entries up way top
+
+-- a way up to a number whose file needs no directory
+pub record IsWay (entries : List Kept) (n : ℕ) (way : List ℕ) (file : FileId) : Type 0 where
+  pub top : ℕ
+  pub climbs : Climbs entries n way top
+  pub names : (tree : Tree) → IsFileOf tree entries top file
 
 -- a number of no use, and its place
 pub record IsUselessPlace (entries : List Kept) (n place : ℕ) : Type 0 where

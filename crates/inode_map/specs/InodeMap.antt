@@ -1,14 +1,15 @@
 -- What a daemon remembers for the kernel, as EdenFS's inode map does: each number that it gave, where the file of that
 -- number stands, and how often the kernel holds it, with libfuse's rules for lookup counts (`fuse_lowlevel.h`).
-use Rattle.std.specs.Prelude.{◌≡◌, ℕ, suc, zero, ◌+◌, ◌-◌, ◌^◌, min, Bool, false, ◌||◌, ◌&&◌, ◌==◌, nat_le, nat_lt, not, List, [], ◌∷◌, ◌++◌, length, nat_eq, Option, Some, None, is_some, if◌then◌else◌}
-use Rattle.std.specs.Option.{option_map_or, option_and_then}
-use Rattle.std.specs.List.{list_any}
+use Rattle.std.specs.Prelude.{◌≡◌, ℕ, suc, zero, ◌+◌, ◌-◌, ◌^◌, ◌≤◌, min, Bool, false, ◌||◌, ◌&&◌, ◌==◌, nat_le, nat_lt, not, List, [], ◌∷◌, ◌++◌, length, nat_eq, Option, Some, None, is_some, if◌then◌else◌}
+use Rattle.std.specs.Option.{option_map, option_map_or}
+use Rattle.std.specs.List.{filter, list_any}
 use Rattle.std.specs.Cmp.Lexicographic.{pointwise}
 use Rattle.eden_base.specs.declared.number.Number.{Number}
 use Rattle.eden_base.specs.declared.number.FileId.{FileId}
 use Rattle.eden_base.specs.declared.place.Place.{Place}
 use Rattle.eden_base.specs.declared.place.Place.TheVariants.{Linked, Unlinked}
-use Rattle.eden_base.specs.First.{first_where, changed_where, without_where}
+use Rattle.eden_base.specs.First.{first_where, changed_where}
+use Rattle.eden_base.specs.Limits.{greatest_count, end_of_numbers}
 use Rattle.checkout.specs.Tree.{Tree, child_of, root}
 use Rattle.inode_map.specs.declared.inode_map.Kept.{Kept}
 use Rattle.inode_map.specs.declared.inode_map.GiveFault.{GiveFault}
@@ -22,17 +23,17 @@ pub record MapState : Type 0 where
   pub next : ℕ
   pub bad_items : ℕ
 
--- how often the kernel may hold one number: a count of 32 bits
-abbrev pub greatest_count : ℕ
-greatest_count = 2 ^ 32 - 1
-
--- the number after the last that may be given
-abbrev pub end_of_numbers : ℕ
-end_of_numbers = 2 ^ 63 - 1
-
 -- the entry is of this number
 abbrev pub has_number : ℕ → Kept → Bool
 has_number n kept = kept.number.0 == n
+
+-- its number
+abbrev pub number_of_kept : Kept → Number
+number_of_kept kept = kept.number
+
+-- where its file stands
+abbrev pub place_of_kept : Kept → Place
+place_of_kept kept = kept.place
 
 -- what is remembered of a number
 abbrev pub entry_of : List Kept → ℕ → Option Kept
@@ -68,25 +69,22 @@ is_kid_of parent kept = is_in parent kept.place
 abbrev pub is_of_use : List Kept → Kept → Bool
 is_of_use entries kept = nat_lt 0 kept.count || list_any (is_kid_of kept.number.0) entries
 
--- the directory of a place
-abbrev pub dir_of : Place → Option ℕ
-dir_of (Linked dir name) = Some dir.0
-dir_of (Unlinked file) = None
-
 -- the number is remembered, and is of no use
 abbrev pub is_useless : List Kept → ℕ → Bool
 is_useless entries n = option_map_or (λ (kept : Kept). not (is_of_use entries kept)) (entry_of entries n) false
 
--- the directory in which the number's file stands
-abbrev pub dir_above : List Kept → ℕ → Option ℕ
-dir_above entries n = option_and_then (λ (kept : Kept). dir_of kept.place) (entry_of entries n)
+-- the entries without those of no use
+abbrev pub struck_once : List Kept → List Kept
+struck_once entries = filter (is_of_use entries) entries
 
--- A number of no use leaves, and so, after it, does its directory, and so on upwards; no walk takes more steps than there are numbers.
-abbrev pub pruned : ℕ → Option ℕ → List Kept → List Kept
-pruned zero n entries = entries
-pruned (suc steps) None entries = entries
-pruned (suc steps) (Some n) entries =
-    if is_useless entries n then pruned steps (dir_above entries n) (without_where (has_number n) entries) else entries
+-- that so many times, since a directory may be of no use once what stood in it is struck
+abbrev pub struck : ℕ → List Kept → List Kept
+struck zero entries = entries
+struck (suc rounds) entries = struck rounds (struck_once entries)
+
+-- every entry of no use is struck, until there is none: each round but the last strikes an entry at least
+abbrev pub left_of_use : List Kept → List Kept
+left_of_use entries = struck (length entries) entries
 
 -- by the entry of the place, if it has one: it may not be counted more often, or no number is left
 abbrev pub give_fault_at : MapState → Option Kept → Option GiveFault
@@ -99,7 +97,7 @@ give_fault map parent name = give_fault_at map (entry_at map.entries parent name
 
 -- what a place is given: the number that it has, or the next
 abbrev pub number_given : MapState → ℕ → List ℕ → Number
-number_given map parent name = option_map_or (λ (kept : Kept). kept.number) (entry_at map.entries parent name) (record { 0 = map.next })
+number_given map parent name = option_map_or number_of_kept (entry_at map.entries parent name) (record { 0 = map.next })
 
 -- counted once more
 abbrev pub once_more : Kept → Kept
@@ -142,23 +140,29 @@ abbrev pub forgotten : MapState → ℕ → ℕ → MapState
 forgotten map n k =
     if n == 1 then map
     else if is_bad_item map.entries n k then record map { bad_items = min (map.bad_items + 1) (2 ^ 64 - 1) }
-    else record map { entries = pruned (length map.entries) (Some n) (lowered map.entries n k) }
+    else record map { entries = left_of_use (lowered map.entries n k) }
 
--- the file of a place, where its directory's file is known
-abbrev pub file_of_place : Tree → Place → Option FileId → Option FileId
-file_of_place tree (Linked dir name) above = option_and_then (λ dir_file. child_of tree dir_file name) above
-file_of_place tree (Unlinked file) above = Some file
+-- the file that a number names in a tree: the root for 1; the child, at its name, of its directory's file; or the file in its mark
+pub data IsFileOf (tree : Tree) (entries : List Kept) : ℕ → FileId → Type 0 where
+  is_root : (n : ℕ) (file : FileId) → n ≡ 1 → file ≡ root → IsFileOf tree entries n file
+  is_child : (n : ℕ) (file : FileId) (kept : Kept) (dir : Number) (name : List ℕ) (dir_file : FileId) →
+      (n ≡ 1 → ⊥) → entry_of entries n ≡ Some kept → kept.place ≡ Linked dir name →
+      IsFileOf tree entries dir.0 dir_file → child_of tree dir_file name ≡ Some file → IsFileOf tree entries n file
+  is_marked : (n : ℕ) (file : FileId) (kept : Kept) →
+      (n ≡ 1 → ⊥) → entry_of entries n ≡ Some kept → kept.place ≡ Unlinked file → IsFileOf tree entries n file
 
--- the directory of a place, or the root where it has none
-abbrev pub dir_or_root : Place → ℕ
-dir_or_root place = option_map_or (λ (dir : ℕ). dir) (dir_of place) 1
+-- numbers rise from a lowest one and stay below the next
+abbrev pub AreNumbers : ℕ → ℕ → List Kept → Type 0
+AreNumbers low next [] = low ≤ next
+AreNumbers low next (kept ∷ entries) = (low ≤ kept.number.0) × AreNumbers (kept.number.0 + 1) next entries
 
--- the file of a number, from the root down, where at most so many directories lie above it
-unfoldable pub file_in : ℕ → Tree → List Kept → ℕ → Option FileId
-file_in zero tree entries n = if n == 1 then Some root else None
-file_in (suc steps) tree entries n =
-    if n == 1 then Some root
-    else option_and_then (λ (kept : Kept). file_of_place tree kept.place (file_in steps tree entries (dir_or_root kept.place))) (entry_of entries n)
+-- the entry's number is greater
+abbrev pub is_above : ℕ → Kept → Bool
+is_above n kept = nat_lt n kept.number.0
+
+-- the least number above another, where numbers rise
+abbrev pub number_after : List Kept → ℕ → Option Number
+number_after entries n = option_map number_of_kept (first_where (is_above n) entries)
 
 -- nothing was given yet but the root, which is no entry
 abbrev pub new_map : MapState

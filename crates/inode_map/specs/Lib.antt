@@ -1,3 +1,4 @@
-pub mod InodeMap
 pub mod EntryPlaces
+pub mod InodeMap
+pub mod Inside
 pub mod Words

@@ -1,27 +1,43 @@
 //! The entries of an inode map.
-ghost use Rattle.std.specs.Prelude.{◌≡◌, ◌<◌, ◌≤◌, Bool, true, false, not, IsTrue, length, vec_len, MatchOption};
+ghost use Rattle.std.specs.Prelude.{◌≡◌, ◌<◌, ◌≤◌, Bool, true, false, None, not, length, vec_len, vec_capacity, MatchOption, OnOk};
 ghost use Rattle.std.specs.Option.{option_map};
 ghost use Rattle.std.specs.List.{list_any};
+ghost use Rattle.std.specs.List.Sorted.{IsPartitionPoint};
+ghost use Rattle.checkout.specs.Tree.{Tree};
 ghost use Rattle.eden_base.specs.First.{first_where, IsFirstPlace};
 ghost use Rattle.eden_base.specs.declared.number.Number.{Number};
-ghost use Rattle.inode_map.specs.InodeMap.{has_number, stands_at, is_in, is_place, is_kid_of, is_of_use, is_useless, is_bad_item, lowered, pruned, dir_of, file_in};
-ghost use Rattle.inode_map.specs.EntryPlaces.{lowered_or_same, IsUselessPlace};
+ghost use Rattle.inode_map.specs.InodeMap.{has_number, stands_at, is_in, is_place, is_kid_of, is_above, is_of_use, is_useless, is_bad_item, lowered, left_of_use, IsFileOf};
+ghost use Rattle.inode_map.specs.EntryPlaces.{Rises, AreOfUseBut, IsUselessPlace, dir_of, IsWay};
 
 use crate::inode_map::Kept;
 use checkout::Tree;
 use eden_base::{FileId, Name, Number, Place};
 
+/// The place of the first entry whose number is greater, or the end.
+pub(crate) fn place_above(entries: &[Kept], number: Number) -> usize
+    requires { Rises entries.now }
+    ensures bound { result ≤ length entries.now }
+    ensures parted { IsPartitionPoint (λ kept. is_above number.0 kept ≡ false)
+        (λ kept. is_above number.0 kept ≡ true) entries.now result }
+{
+    entries.partition_point(|kept| kept.number.0 <= number.0)
+}
+
 /// The place of a number in the list.
 pub(crate) fn place_of(entries: &[Kept], number: Number) -> Option<usize>
+    requires { Rises entries.now }
     ensures { let is_it = has_number number.0 in
         MatchOption result (first_where is_it entries.now ≡ None) (IsFirstPlace is_it entries.now) }
 {
-    for (place, kept) in entries.iter().enumerate() {
-        if kept.number == number {
-            return Some(place);
-        }
+    let above = place_above(entries, number);
+    if above == 0 {
+        return None;
     }
-    None
+    let place = above - 1;
+    if entries[place].number != number {
+        return None;
+    }
+    Some(place)
 }
 
 /// The place of the entry that stands under a name in a directory.
@@ -61,7 +77,7 @@ fn is_in(place: &Place, parent: Number) -> bool
 }
 
 /// Whether an entry stands in the directory.
-fn has_kids(entries: &[Kept], parent: Number) -> bool
+pub(crate) fn has_kids(entries: &[Kept], parent: Number) -> bool
     ensures { result ≡ list_any (is_kid_of parent.0) entries.now }
 {
     entries.iter().any(|kept| is_in(&kept.place, parent))
@@ -77,48 +93,40 @@ fn dir_of(place: &Place) -> Option<Number>
     }
 }
 
-/// Whether the kernel holds the number, or an entry stands in its directory.
-fn is_of_use(entries: &[Kept], kept: &Kept) -> bool
-    ensures { result ≡ is_of_use entries.now kept.now }
-{
-    kept.count > 0 || has_kids(entries, kept.number)
-}
-
 /// The place of a number that is of no use.
-pub(crate) fn useless_place(entries: &[Kept], number: Number) -> Option<usize>
+fn useless_place(entries: &[Kept], number: Number) -> Option<usize>
+    requires { Rises entries.now }
     ensures { MatchOption result (is_useless entries.now number.0 ≡ false)
         (IsUselessPlace entries.now number.0) }
 {
     let place = place_of(entries, number)?;
-    if is_of_use(entries, &entries[place]) {
+    let kept = &entries[place];
+    if kept.count > 0 || has_kids(entries, kept.number) {
         return None;
     }
     Some(place)
 }
 
-/// Counts a number fewer times, unless that is none or more than it is counted: whether it did.
-pub(crate) fn lower(entries: &mut Vec<Kept>, number: Number, k: u64) -> bool
-    ensures lowers { result ≡ not (is_bad_item entries.old.items number.0 k) }
-    ensures entries { entries.new.items ≡ lowered_or_same result entries.old.items number.0 k }
+/// Counts a number fewer times.
+pub(crate) fn lower(entries: &mut Vec<Kept>, number: Number, k: u64)
+    requires rises { Rises entries.old.items }
+    requires held { is_bad_item entries.old.items number.0 k ≡ false }
+    ensures lowered { entries.new.items ≡ lowered entries.old.items number.0 k }
+    ensures len { vec_len entries.new ≡ vec_len entries.old }
 {
-    if k == 0 {
-        return false;
-    }
     let Some(place) = place_of(entries, number) else {
-        return false;
+        unreachable!()
     };
     let kept = &mut entries[place];
-    if kept.count < k {
-        return false;
-    }
     kept.count -= k;
-    true
 }
 
 /// Drops a number of no use, and then its directory if that is of none, and so on upwards.
 pub(crate) fn prune(entries: &mut Vec<Kept>, number: Number)
-    ensures { entries.new.items
-        ≡ pruned (length entries.old.items) (Some number.0) entries.old.items }
+    requires rises { Rises entries.old.items }
+    requires others_of_use { AreOfUseBut (Some number.0) entries.old.items }
+    ensures pruned { entries.new.items ≡ left_of_use entries.old.items }
+    ensures len { vec_len entries.new ≤ vec_len entries.old }
 {
     let mut number = number;
     while let Some(place) = useless_place(entries, number) {
@@ -130,22 +138,54 @@ pub(crate) fn prune(entries: &mut Vec<Kept>, number: Number)
     }
 }
 
-/// The file of a number, from the root down, with at most so many directories above it.
-pub(crate) fn locate(entries: &[Kept], tree: &Tree, number: Number, steps: u64) -> Option<FileId>
-    ensures { result ≡ file_in steps tree.now entries.now number.0 }
+/// Climbs from a number to the root or to a number without a name, and keeps the places on the way: the file there.
+/// A way of more steps than there are entries goes in a circle.
+pub(crate) fn climb(entries: &[Kept], way: &mut Vec<usize>, number: Number) -> Option<FileId>
+    requires rises { Rises entries.now }
+    requires room { length entries.now ≤ vec_capacity way.old }
+    ensures way { MatchOption result
+        ((tree : Tree) (file : FileId) → IsFileOf tree entries.now number.0 file → ⊥)
+        (IsWay entries.now number.0 way.new.items) }
+    ensures capacity { vec_capacity way.new ≡ vec_capacity way.old }
 {
-    if number == Number::ROOT {
-        return Some(FileId::ROOT);
-    }
-    if steps == 0 {
-        return None;
-    }
-    let place = place_of(entries, number)?;
-    match &entries[place].place {
-        Place::Linked { parent, name } => {
-            let dir = locate(entries, tree, *parent, steps - 1)?;
-            tree.child(dir, name)
+    way.clear();
+    let mut number = number;
+    while number != Number::ROOT {
+        let place = place_of(entries, number)?;
+        match &entries[place].place {
+            Place::Linked { parent, .. } => {
+                if way.len() == entries.len() {
+                    return None;
+                }
+                way.push_reserved(place);
+                number = *parent;
+            }
+            Place::Unlinked { file } => return Some(*file),
         }
-        Place::Unlinked { file } => Some(*file),
     }
+    Some(FileId::ROOT)
+}
+
+/// Comes down a way by the names on it: the file at its foot.
+pub(crate) fn descend(
+    entries: &[Kept],
+    way: &mut Vec<usize>,
+    tree: &Tree,
+    top: FileId,
+    number: Number,
+) -> Option<FileId>
+    requires { IsWay entries.now number.0 way.old.items top }
+    ensures found { MatchOption result
+        ((file : FileId) → IsFileOf tree.now entries.now number.0 file → ⊥)
+        (IsFileOf tree.now entries.now number.0) }
+    ensures capacity { vec_capacity way.new ≡ vec_capacity way.old }
+{
+    let mut file = top;
+    while let Some(place) = way.pop() {
+        let Place::Linked { name, .. } = &entries[place].place else {
+            unreachable!()
+        };
+        file = tree.child(file, name)?;
+    }
+    Some(file)
 }

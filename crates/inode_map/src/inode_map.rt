@@ -1,12 +1,15 @@
 //! What a daemon remembers for the kernel.
-ghost use Rattle.std.specs.Prelude.{◌≡◌, ◌^◌, ◌<◌, None, IfOk, IfErr, OnOk, OnErr};
+ghost use Rattle.std.specs.Prelude.{◌≡◌, ◌+◌, ◌<◌, ◌≤◌, ◌^◌, None, Some, vec_capacity, MatchOption, IfOk, IfErr, OnOk, OnErr};
+ghost use Rattle.std.specs.Option.{option_map, option_copied};
+ghost use Rattle.eden_base.specs.declared.number.FileId.{FileId};
+ghost use Rattle.eden_base.specs.declared.number.Number.{Number};
 ghost use Rattle.inode_map.specs.Words.{forgot_name};
-ghost use Rattle.inode_map.specs.InodeMap.{new_map, entry_at, count_of, give_fault, number_given, given, IsGiveRefusal, forgot, forgotten, file_in};
+ghost use Rattle.inode_map.specs.InodeMap.{new_map, entry_of, entry_at, count_of, number_after, number_of_kept, place_of_kept, give_fault, number_given, given, IsGiveRefusal, is_bad_item, forgot, forgotten, IsFileOf, AreNumbers};
 
-use crate::entries::{locate, lower, place_at, place_of, prune, useless_place};
+use crate::entries::{climb, descend, has_kids, lower, place_above, place_at, place_of, prune};
 use checkout::Tree;
-use eden_base::{FileId, Name, NoMemory, Number, Place};
-use std::alloc::Global;
+use eden_base::{END_OF_NUMBERS, FileId, GREATEST_COUNT, Name, NoMemory, Number, Place};
+use std::alloc::{AllocError, Global};
 use std::marker::Model;
 use thiserror::Error;
 
@@ -57,12 +60,13 @@ pub enum GiveFault {
     NoMemory,
 }
 
-/// Given numbers by rising number, the next one, and how many bad forgets came.
+/// Given numbers by rising number, the next one, and how many bad forgets came. The way is the room for a walk.
 #[derive(Drop)]
 pub struct InodeMap {
     entries: Vec<Kept>,
     next: u64,
     bad_items: u64,
+    way: Vec<usize>,
 }
 
 impl Model for InodeMap {
@@ -76,19 +80,13 @@ impl Model for InodeMap {
       bad_items = m.bad_items;
     } };
 
-    ghost use Rattle.std.specs.Prelude.{◌^◌, ◌<◌};
+    ghost use Rattle.inode_map.specs.Inside.{IsConsistent};
 
-    ghost invariant = { λ m. m.next < 2 ^ 63 };
+    ghost invariant = { IsConsistent };
 }
 
 impl InodeMap {
-    /// How often the kernel may hold one number: a count of 32 bits.
-    pub const GREATEST_COUNT: u64 = (1 << 32) - 1;
-
-    /// The number after the last that may be given.
-    pub const END_OF_NUMBERS: u64 = (1 << 63) - 1;
-
-    /// No number but the root's, which is no entry, is given yet.
+    /// Remembers no number yet but the root's, which is no entry.
     pub fn new(alloc: Global) -> Result<InodeMap, NoMemory>
         ensures new { IfOk result (λ map. map ≡ new_map) }
     {
@@ -96,31 +94,25 @@ impl InodeMap {
             entries: Vec::new(alloc),
             next: 2,
             bad_items: 0,
+            way: Vec::new(alloc),
         })
     }
 
-    /// The numbers that were given and are of use still, by rising number.
-    pub fn kept(&self) -> &[Kept]
-        ensures entries { result.now ≡ self.now.entries }
-    {
-        self.entries.as_slice()
-    }
-
-    /// The number that is given next.
+    /// Returns the number that is given next.
     pub fn next(&self) -> u64
         ensures next { result ≡ self.now.next }
     {
         self.next
     }
 
-    /// How many forgets were bad.
+    /// Returns how many forgets were bad.
     pub fn bad_items(&self) -> u64
         ensures bad_items { result ≡ self.now.bad_items }
     {
         self.bad_items
     }
 
-    /// How often the kernel holds a number, as far as the daemon knows: 0 for an unknown one, and for the root.
+    /// Returns how often the kernel holds a number, as far as the daemon knows: 0 for an unknown one, and for the root.
     pub fn count(&self, number: Number) -> u64
         ensures count { result ≡ count_of self.now.entries number.0 }
     {
@@ -130,11 +122,45 @@ impl InodeMap {
         }
     }
 
-    /// The file that a number names in a tree, by the names above it.
-    pub fn locate(&self, tree: &Tree, number: Number) -> Option<FileId>
-        ensures file { result ≡ file_in self.now.next tree.now self.now.entries number.0 }
+    /// Returns where the file of a number stands, unless the number is unknown or the root's.
+    pub fn entry(&self, number: Number) -> Option<&Place>
+        ensures place { option_copied result
+            ≡ option_map place_of_kept (entry_of self.now.entries number.0) }
     {
-        locate(self.entries.as_slice(), tree, number, self.next)
+        let place = place_of(self.entries.as_slice(), number)?;
+        Some(&self.entries[place].place)
+    }
+
+    /// Returns the least number above another. Numbers rise, so who goes on from the last answer sees each once.
+    pub fn after(&self, number: Number) -> Option<Number>
+        ensures after { result ≡ number_after self.now.entries number.0 }
+        ensures numbers { AreNumbers 2 self.now.next self.now.entries }
+    {
+        let place = place_above(self.entries.as_slice(), number);
+        if place < self.entries.len() {
+            return Some(self.entries[place].number);
+        }
+        None
+    }
+
+    /// Returns the number that a name in a directory has.
+    pub fn number_for(&self, parent: Number, name: &Name) -> Option<Number>
+        ensures number { result
+            ≡ option_map number_of_kept (entry_at self.now.entries parent.0 name.now) }
+    {
+        let place = place_at(self.entries.as_slice(), parent, name)?;
+        Some(self.entries[place].number)
+    }
+
+    /// Finds the file that a number names in a tree, by the names above it. It takes no memory.
+    pub fn locate(&mut self, tree: &Tree, number: Number) -> Option<FileId>
+        ensures found { MatchOption result
+            ((file : FileId) → IsFileOf tree.now self.old.entries number.0 file → ⊥)
+            (IsFileOf tree.now self.old.entries number.0) }
+        ensures unchanged { self.new ≡ self.old }
+    {
+        let top = climb(self.entries.as_slice(), &mut self.way, number)?;
+        descend(self.entries.as_slice(), &mut self.way, tree, top, number)
     }
 
     /// Gives the number of a name in a directory, which is then held once more: the one that it has, or the next.
@@ -148,7 +174,7 @@ impl InodeMap {
         match place_at(self.entries.as_slice(), parent, name) {
             Some(place) => {
                 let kept = &mut self.entries[place];
-                if kept.count >= InodeMap::GREATEST_COUNT {
+                if kept.count >= GREATEST_COUNT {
                     return Err(GiveFault::TooMany);
                 }
                 kept.count += 1;
@@ -167,12 +193,15 @@ impl InodeMap {
         ensures refused { IfErr result (IsGiveRefusal self.old parent.0 name.now) }
         ensures unchanged { OnErr result (self.new ≡ self.old) }
     {
-        if self.next >= InodeMap::END_OF_NUMBERS {
+        if self.next >= END_OF_NUMBERS {
             return Err(GiveFault::NoNumber);
         }
         let Ok(name) = name.copy(alloc) else {
             return Err(GiveFault::NoMemory);
         };
+        if reserve_way(&mut self.way, self.entries.len()).is_err() {
+            return Err(GiveFault::NoMemory);
+        }
         let number = Number(self.next);
         let place = Place::Linked { parent, name };
         let kept = Kept {
@@ -189,22 +218,48 @@ impl InodeMap {
         }
     }
 
+    /// Tells what would become of a forget.
+    pub fn forgot(&self, number: Number, k: u64) -> Forgot
+        ensures forgot { result ≡ forgot self.now number.0 k }
+    {
+        if number == Number::ROOT {
+            return Forgot::Root;
+        }
+        let count = self.count(number);
+        if k == 0 || count < k {
+            return Forgot::Bad;
+        }
+        if count > k || has_kids(self.entries.as_slice(), number) {
+            return Forgot::Lowered;
+        }
+        Forgot::Dropped
+    }
+
     /// Counts a number fewer times, and drops it, and each directory above it, once it is of no use.
     pub fn forget(&mut self, number: Number, k: u64) -> Forgot
         ensures forgot { result ≡ forgot self.old number.0 k }
         ensures forgotten { self.new ≡ forgotten self.old number.0 k }
     {
-        if number == Number::ROOT {
-            return Forgot::Root;
+        let forgot = self.forgot(number, k);
+        match forgot {
+            Forgot::Root => {}
+            Forgot::Bad => self.bad_items = self.bad_items.saturating_add(1),
+            Forgot::Lowered => lower(&mut self.entries, number, k),
+            Forgot::Dropped => {
+                lower(&mut self.entries, number, k);
+                prune(&mut self.entries, number);
+            }
         }
-        if !lower(&mut self.entries, number, k) {
-            self.bad_items = self.bad_items.saturating_add(1);
-            return Forgot::Bad;
-        }
-        if useless_place(self.entries.as_slice(), number).is_none() {
-            return Forgot::Lowered;
-        }
-        prune(&mut self.entries, number);
-        Forgot::Dropped
+        forgot
     }
+}
+
+/// Makes room for a way that has one entry more.
+fn reserve_way(way: &mut Vec<usize>, entries: usize) -> Result<(), AllocError>
+    requires { entries + 1 < 2 ^ 64 }
+    ensures ok { OnOk result (entries + 1 ≤ vec_capacity way.new) }
+    ensures err { OnErr result (vec_capacity way.new ≡ vec_capacity way.old) }
+{
+    way.clear();
+    way.try_reserve(entries + 1)
 }

@@ -34,13 +34,15 @@ Mounts old daemon outcome new =
     (outcome ≡ happened.Mounted (old.broker.last + 1) ∷ [])
     × (new ≡ with_daemon (record old { broker = mounted old.broker daemon }) daemon (Serving (new_served old.manifest)))
 
--- an ask's answer reached the kernel under its unique; of a forget it is told what became of each item
+-- what became of each item
+abbrev pub told_of : ServedState → List Item → List Happened
+told_of served [] = []
+told_of served (item ∷ items) = happened.Forgot item (forgot served.map item.node.0 item.k) ∷ told_of served items
+
+-- an ask's answer reached the kernel under its unique; of a forget it is told what became of its items
 abbrev pub told : BrokerState → ServedState → Request → Option Answer → List Happened
 told broker served request (Some answer) = happened.Answered (record { unique = broker.next_unique; answer = answer }) ∷ []
-told broker served request None = told_of (items_of request) where
-  told_of : List Item → List Happened
-  told_of [] = []
-  told_of (item ∷ items) = happened.Forgot item (forgot served.map item.node.0 item.k) ∷ told_of items
+told broker served request None = told_of served (items_of request)
 
 -- the broker after a request was issued and its answer, if it has one, reached the kernel
 abbrev pub done : BrokerState → Request → Option Answer → BrokerState
