@@ -242,15 +242,15 @@ MayMove world (claim g daemon) = IsAt world g
 MayMove world end = IsSome world.seat
 
 -- the names after a number was given out for a file: it names the file from now on, if it named nothing
-abbrev pub names_after : List (ℕ × FileId) → Option FileId → Option Number → List (ℕ × FileId)
-names_after names (Some file) (Some number) = if is_some (file_named names number.0) then names else (number.0, file) ∷ names
-names_after names file number = names
+abbrev pub names_after : List (ℕ × FileId) → Option Number → Option FileId → List (ℕ × FileId)
+names_after names (Some number) (Some file) = if is_some (file_named names number.0) then names else (number.0, file) ∷ names
+names_after names number file = names
 
 -- an ask leaves for its reply
 abbrev pub worked : World → Answer → Option Ask → World
 worked world answer (Some ask) = record world {
   tree = tree_after world.tree (effect_in world ask.what) answer;
-  names = names_after world.names (file_told (effect_in world ask.what)) (given_out answer);
+  names = names_after world.names (given_out answer) (file_told (effect_in world ask.what));
   asks = without_where (is_asked ask.unique) world.asks;
   replies = world.replies ++ record { unique = ask.unique; answer = answer } ∷ [];
 }
