@@ -1,6 +1,8 @@
 //! What the kernel forgets.
-ghost use Rattle.std.specs.Prelude.{◌≡◌, ◌<◌, ◌≤◌, List, [], ◌∷◌, ◌++◌, length, ◌==◌, nat_eq};
+ghost use Rattle.std.specs.Prelude.{◌≡◌, ◌<◌, ◌≤◌, ◌+◌, ◌*◌, List, [], ◌∷◌, ◌++◌, length, drop, ◌==◌, nat_eq};
+ghost use Rattle.fuse_wire.specs.Reading.{item_at, items_at};
 
+use crate::reader::Reader;
 use arrayvec::ArrayVec;
 use eden_base::Number;
 use std::marker::Model;
@@ -10,6 +12,23 @@ use std::marker::Model;
 pub struct Item {
     pub node: Number,
     pub k: u64,
+}
+
+impl Item {
+    /// In bytes (`struct fuse_forget_one`).
+    pub(crate) const LEN: usize = 16;
+
+    /// Reads the item that comes next.
+    pub(crate) fn read(fields: &mut Reader) -> Item
+        requires { fields.old.at + 16 ≤ length fields.old.bytes.now }
+        ensures item { result ≡ item_at (drop fields.old.at fields.old.bytes.now) }
+        ensures bytes { fields.new.bytes.now ≡ fields.old.bytes.now }
+        ensures at { fields.new.at ≡ fields.old.at + 16 }
+    {
+        let node = Number(fields.u64());
+        let k = fields.u64();
+        Item { node, k }
+    }
 }
 
 impl Default for Item {
@@ -57,6 +76,20 @@ impl Items {
         ensures pushed { self.new ≡ self.old ++ item ∷ [] }
     {
         self.items.push(item);
+    }
+
+    /// Reads so many items.
+    pub(crate) fn read(count: usize, bytes: &[u8]) -> Items
+        requires whole { length bytes.now ≡ 16 * count }
+        requires at_most { count ≤ 256 }
+        ensures { result ≡ items_at count bytes.now }
+    {
+        let mut fields = Reader::new(bytes);
+        let mut items = Items::new();
+        for _ in 0..count {
+            items.push(Item::read(&mut fields));
+        }
+        items
     }
 
     /// The items in their order.
