@@ -9,7 +9,7 @@ use std::alloc::Global;
 use std::marker::Model;
 
 /// The items of a batch, at most 256, in order. They lie in memory of their own, so that a request stays small.
-#[derive(Drop)]
+#[derive(Debug, Drop)]
 pub struct Batch {
     items: Vec<Item>,
 }
@@ -146,4 +146,23 @@ impl Batch {
     {
         Batch::of_to(room, self.as_slice())
     }
+}
+
+impl PartialEq for Batch {
+    ghost use Rattle.std.specs.Cmp.{partial_equiv_from_equiv};
+    ghost use Rattle.fuse_wire.specs.Item.{same_items, same_items_equiv};
+
+    ghost eq = { λ x y. same_items x y };
+
+    ghost laws = { partial_equiv_from_equiv same_items_equiv };
+
+    fn eq(&self, other: &Batch) -> bool {
+        self.as_slice() == other.as_slice()
+    }
+}
+
+impl Eq for Batch {
+    ghost use Rattle.fuse_wire.specs.Item.{same_items_equiv};
+
+    ghost laws = { same_items_equiv };
 }

@@ -81,31 +81,16 @@ fn copy_of(alloc: Global, batch: &Batch) -> Result<Batch, NoMemory> {
     }
 }
 
-/// Whether the request of the bytes is written as these, and so is each copy of it.
+/// Whether the request of the bytes is written as these, each copy of it is it, and so is what is read to rooms.
 fn is_kept(alloc: Global, bytes: &[u8], written: &[u8]) -> Result<bool, Fail> {
     let ask = read(alloc, bytes)?;
-    let unique = ask.unique;
     let own = write(alloc, &ask)?;
-    let first = Ask {
-        unique,
-        what: copy(alloc, &ask.what)?,
-    };
-    let of_first = write(alloc, &first)?;
-    let second = Ask {
-        unique,
-        what: ask
-            .what
-            .copy_to(room(alloc)?, room(alloc)?, batch_room(alloc)?),
-    };
-    let of_second = write(alloc, &second)?;
+    let first = copy(alloc, &ask.what)?;
+    let second = ask
+        .what
+        .copy_to(room(alloc)?, room(alloc)?, batch_room(alloc)?);
     let third = read_request_to(room(alloc)?, room(alloc)?, batch_room(alloc)?, bytes)?;
-    let of_third = write(alloc, &third)?;
-    Ok(
-        own.as_slice() == written
-            && of_first.as_slice() == written
-            && of_second.as_slice() == written
-            && of_third.as_slice() == written,
-    )
+    Ok(own.as_slice() == written && first == ask.what && second == ask.what && third == ask)
 }
 
 #[test]
@@ -431,8 +416,8 @@ fn reads_256_items_and_no_more(rt: HostRuntime) -> Result<(), Fail> {
     assert!(rt; is_kept(alloc, full.as_slice(), full.as_slice())?);
     let batch = batch_of(alloc, &items)?;
     assert!(rt; batch.as_slice() == items.as_slice());
-    assert!(rt; copy_of(alloc, &batch)?.as_slice() == items.as_slice());
-    assert!(rt; batch.copy_to(batch_room(alloc)?).as_slice() == items.as_slice());
+    assert!(rt; copy_of(alloc, &batch)? == batch);
+    assert!(rt; batch.copy_to(batch_room(alloc)?) == batch);
     let over = filled(alloc, 42, 4120, 257, 0)?;
     assert!(rt; matches!(read_items(over.as_slice()), Err(WireFault::BadCount)));
     assert!(rt;
