@@ -14,7 +14,7 @@ use std::marker::Model;
 use thiserror::Error;
 
 /// A name as `path_resolution(7)` has it, in bytes that need be no text.
-#[derive(Drop)]
+#[derive(Debug, Drop)]
 pub struct Name {
     bytes: Vec<u8>,
 }

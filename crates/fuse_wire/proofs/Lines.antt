@@ -6,8 +6,7 @@ use Rattle.std.proofs.lemmas.Grind.{common_steps}
 use Rattle.std.proofs.lemmas.List.Concat.{flat_map-cons, flat_map-append}
 use Rattle.std.proofs.lemmas.List.Elements.{All-push}
 use Rattle.fuse_wire.specs.declared.item.Item.{Item}
-use Rattle.fuse_wire.specs.Field.{u64_at}
-use Rattle.fuse_wire.specs.Reading.{items_at}
+use Rattle.fuse_wire.specs.Reading.{item_at, items_at}
 use Rattle.fuse_wire.specs.RequestText.{line, FitsItem}
 
 -- so many lines of all are read, and the others follow
@@ -15,19 +14,15 @@ pub record AreRead (items : List Item) (done count : ℕ) (lines : List ℕ) : T
   pub many : length items ≡ done
   pub whole : items ++ items_at (count - done) (drop (16 * done) lines) ≡ items_at count lines
 
--- the line at a place
-abbrev pub line_at : List ℕ → Item
-line_at bytes = record { node = record { 0 = u64_at bytes }; k = u64_at (drop 8 bytes) }
-
 pub goes_on : (items : List Item) (done count : ℕ) (lines : List ℕ) → done < count → AreRead items done count lines
-    → AreRead (items ++ line_at (drop (16 * done) lines) ∷ []) (done + 1) count lines
+    → AreRead (items ++ item_at (drop (16 * done) lines) ∷ []) (done + 1) count lines
 unfolding items_at
 goes_on items done count lines lt read =
     let left : count - done ≡ suc (count - (done + 1)) = omega arith in
     let next : drop 16 (drop (16 * done) lines) ≡ drop (16 * (done + 1)) lines = drop-drop 16 (16 * done) lines ∙ ap (λ (n : ℕ). drop n lines) (omega arith) in
-    let front : items ++ items_at (count - done) (drop (16 * done) lines) ≡ (items ++ line_at (drop (16 * done) lines) ∷ []) ++ items_at (count - (done + 1)) (drop (16 * (done + 1)) lines) =
-    rw (left, next) (sym (append_assoc items (line_at (drop (16 * done) lines) ∷ []) (items_at (count - (done + 1)) (drop (16 * (done + 1)) lines)))) in
-    record { many = omega (arith, length-append items (line_at (drop (16 * done) lines) ∷ []), read.many); whole = sym front ∙ read.whole }
+    let front : items ++ items_at (count - done) (drop (16 * done) lines) ≡ (items ++ item_at (drop (16 * done) lines) ∷ []) ++ items_at (count - (done + 1)) (drop (16 * (done + 1)) lines) =
+    rw (left, next) (sym (append_assoc items (item_at (drop (16 * done) lines) ∷ []) (items_at (count - (done + 1)) (drop (16 * (done + 1)) lines)))) in
+    record { many = omega (arith, length-append items (item_at (drop (16 * done) lines) ∷ []), read.many); whole = sym front ∙ read.whole }
 
 pub is_done : (items : List Item) (done count : ℕ) (lines : List ℕ) → count ≤ done → AreRead items done count lines → items ≡ items_at count lines
 unfolding items_at

@@ -2,6 +2,7 @@ pub mod Ask
 pub mod FaultReply
 pub mod Field
 pub mod Given
+pub mod Item
 pub mod Mode
 pub mod Opcode
 pub mod Reading

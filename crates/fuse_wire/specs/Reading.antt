@@ -1,5 +1,5 @@
 -- What a request is read as, and which fault is the first: the header's, then that of the body its opcode asks for.
-use Rattle.std.specs.Prelude.{◌≡◌, ℕ, zero, suc, ◌+◌, ◌-◌, ◌*◌, not, ◌||◌, ◌&&◌, ◌==◌, nat_lt, List, [], ◌∷◌, length, take, drop, slice_index, Option, Some, None, Result, Ok, Err, IsOkAnd, if◌then◌else◌}
+use Rattle.std.specs.Prelude.{◌≡◌, ℕ, zero, suc, ◌+◌, ◌-◌, ◌*◌, not, ◌||◌, ◌&&◌, ◌==◌, nat_lt, List, [], ◌∷◌, length, take, drop, slice_index, Option, Some, None, Result, Ok, Err, Bool, IsTrue, IsOkAnd, if◌then◌else◌}
 use Rattle.eden_base.specs.declared.number.Number.{Number}
 use Rattle.eden_base.specs.declared.name.NameFault.{NameFault}
 use Rattle.eden_base.specs.declared.attr.Perm.{Perm}
@@ -23,11 +23,11 @@ abbrev pub ◌>>=◌ : {A B : Type 0} → Result A WireFault → (A → Result B
 (Ok x) >>= f = f x
 (Err fault) >>= f = Err fault
 
--- what a call gave that takes memory for names: want of memory comes in place of a value that holds one
+-- what a call gave that takes memory for some values: want of memory comes in place of one of them alone
 abbrev pub Gives : {X : Type 0} → (X → Type 0) → Result X WireFault → Result X WireFault → Type 0
-Gives HoldsName (Ok x) read = read ≡ Ok x
-Gives HoldsName (Err NoMemory) read = IsOkAnd read HoldsName
-Gives HoldsName (Err fault) read = read ≡ Err fault
+Gives Takes (Ok x) read = read ≡ Ok x
+Gives Takes (Err NoMemory) read = IsOkAnd read Takes
+Gives Takes (Err fault) read = read ≡ Err fault
 
 -- ---- the header: 40 bytes, of which the last 16 (uid, gid, pid, padding) are ignored
 
@@ -62,25 +62,33 @@ name_of body =
     then checked (take (length body - 1) body) (name_fault (take (length body - 1) body))
     else Err BadBody
 
+-- a name beside permissions
+abbrev pub named_with : Perm → List ℕ → Result (List ℕ × Perm) WireFault
+named_with perm rest = name_of rest >>= λ name. Ok (name, perm)
+
 -- the name behind so many bytes, and the permissions of the mode, which is the word at a place in them
 unfoldable pub made_of : ℕ → ℕ → List ℕ → Result (List ℕ × Perm) WireFault
 made_of fixed place body =
     if nat_lt (length body) fixed then Err BadBody
-    else name_of (drop fixed body) >>= λ name. Ok (name, perm_of (u32_at (drop place body)))
+    else named_with (perm_of (u32_at (drop place body))) (drop fixed body)
 
--- the lines of a batch, one after the other
+-- the item in the first sixteen bytes
+abbrev pub item_at : List ℕ → Item
+item_at bytes = record { node = record { 0 = u64_at bytes }; k = u64_at (drop 8 bytes) }
+
+-- the items of a batch, one after the other
 unfoldable pub items_at : ℕ → List ℕ → List Item
 items_at zero bytes = []
-items_at (suc n) bytes = record { node = record { 0 = u64_at bytes }; k = u64_at (drop 8 bytes) } ∷ items_at n (drop 16 bytes)
+items_at (suc n) bytes = item_at bytes ∷ items_at n (drop 16 bytes)
 
--- the lines of a BATCH_FORGET: a count, four bytes that are ignored, the lines, at most 256
+-- the items of a BATCH_FORGET: a count, four bytes that are ignored, the items, at most 256
 unfoldable pub batch_of : List ℕ → Result (List Item) WireFault
 batch_of body =
     if nat_lt (length body) 8 then Err BadBody
     else if nat_lt 256 (u32_at body) || not (length body == 8 + 16 * u32_at body) then Err BadCount
     else Ok (items_at (u32_at body) (drop 8 body))
 
--- the line of a FORGET, on the number in the header
+-- the item of a FORGET, on the number in the header
 unfoldable pub forget_of : Number → List ℕ → Result Item WireFault
 forget_of node body = if length body == 8 then Ok (record { node = node; k = u64_at body }) else Err BadBody
 
@@ -98,33 +106,36 @@ what_of (Other opcode) node body = Ok (requests.Other opcode node)
 
 -- ---- whole messages
 
+-- a request, under the unique of its header
+abbrev pub asked : Header → Request → Ask
+asked header what = record { unique = header.unique; what = what }
+
+-- the request of a header and a body
+abbrev pub asked_of : Header → List ℕ → Result Ask WireFault
+asked_of header body = what_of (opcode_of header.opcode) header.node body >>= λ what. Ok (asked header what)
+
 -- the request that the bytes are, or their first fault
 unfoldable pub request_of : List ℕ → Result Ask WireFault
-request_of bytes = do
-  header ← header_of bytes
-  what ← what_of (opcode_of header.opcode) header.node (body_of bytes)
-  Ok (record { unique = header.unique; what = what })
+request_of bytes = header_of bytes >>= λ header. asked_of header (body_of bytes)
 
--- the lines of a forget; another request has no lines
-unfoldable pub lines_of : Opcode → Number → List ℕ → Result (List Item) WireFault
-lines_of Forget node body = forget_of node body >>= λ item. Ok (item ∷ [])
-lines_of BatchForget node body = batch_of body
-lines_of opcode node body = Err BadBody
+-- the items of a forget; another request has none
+unfoldable pub forgotten_of : Opcode → Number → List ℕ → Result (List Item) WireFault
+forgotten_of Forget node body = forget_of node body >>= λ item. Ok (item ∷ [])
+forgotten_of BatchForget node body = batch_of body
+forgotten_of opcode node body = Err BadBody
 
 unfoldable pub items_of : List ℕ → Result (List Item) WireFault
-items_of bytes = do
-  header ← header_of bytes
-  lines_of (opcode_of header.opcode) header.node (body_of bytes)
+items_of bytes = header_of bytes >>= λ header. forgotten_of (opcode_of header.opcode) header.node (body_of bytes)
 
--- the lines of a request that is a forget
-abbrev pub lines_told : Request → Result (List Item) WireFault
-lines_told (requests.Forget item) = Ok (item ∷ [])
-lines_told (requests.BatchForget items) = Ok items
-lines_told request = Err BadBody
+-- the items of a request that is a forget
+abbrev pub items_told : Request → Result (List Item) WireFault
+items_told (requests.Forget item) = Ok (item ∷ [])
+items_told (requests.BatchForget items) = Ok items
+items_told request = Err BadBody
 
--- the bytes are a forget of these lines
+-- the bytes are a forget of these items
 abbrev pub IsForgetOf : List ℕ → List Item → Type 0
-IsForgetOf bytes items = (ask : Ask) × (request_of bytes ≡ Ok ask) × (lines_told ask.what ≡ Ok items)
+IsForgetOf bytes items = (ask : Ask) × (request_of bytes ≡ Ok ask) × (items_told ask.what ≡ Ok items)
 
 -- ---- what takes memory
 
@@ -138,11 +149,15 @@ TakesMemory (requests.Rmdir dir name) = Unit {0}
 TakesMemory (requests.BatchForget items) = Unit {0}
 TakesMemory request = ⊥
 
+abbrev pub WantsMemory : Ask → Type 0
+WantsMemory ask = TakesMemory ask.what
+
 abbrev pub IsNamed : {X : Type 0} → X → Type 0
 IsNamed x = Unit {0}
 
 abbrev pub TakesNone : {X : Type 0} → X → Type 0
 TakesNone x = ⊥
 
-abbrev pub WantsMemory : Ask → Type 0
-WantsMemory ask = TakesMemory ask.what
+-- memory may be refused, and the value takes some
+abbrev pub MayLack : {X : Type 0} → Bool → (X → Type 0) → X → Type 0
+MayLack may_lack Takes x = IsTrue may_lack × Takes x

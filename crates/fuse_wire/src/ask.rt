@@ -7,7 +7,7 @@ use eden_base::{Name, NameRoom, NoMemory, Number, Perm};
 use std::alloc::Global;
 
 /// A request without the number that its reply goes by. `dir` is the nodeid of the header, a directory's.
-#[derive(Drop)]
+#[derive(Debug, PartialEq, Eq, Drop)]
 pub enum Request {
     Lookup { dir: Number, name: Name },
     Getattr { node: Number },
@@ -24,7 +24,7 @@ pub enum Request {
 }
 
 /// A request, and the `unique` that its reply goes by.
-#[derive(Drop)]
+#[derive(Debug, PartialEq, Eq, Drop)]
 pub struct Ask {
     pub unique: u64,
     pub what: Request,

@@ -1,13 +1,15 @@
 //! What the kernel forgets at once, out of line.
-ghost use Rattle.std.specs.Prelude.{◌≡◌, ◌≤◌, ◌==◌, List, length, IfOk};
+ghost use Rattle.std.specs.Prelude.{◌≡◌, ◌≤◌, ◌*◌, ◌==◌, List, length, vec_len, vec_capacity, IfOk};
+ghost use Rattle.fuse_wire.specs.Reading.{items_at};
 
+use crate::reader::Reader;
 use crate::{Item, Items};
 use eden_base::NoMemory;
 use std::alloc::Global;
 use std::marker::Model;
 
 /// The items of a batch, at most 256, in order. They lie in memory of their own, so that a request stays small.
-#[derive(Drop)]
+#[derive(Debug, Drop)]
 pub struct Batch {
     items: Vec<Item>,
 }
@@ -74,6 +76,40 @@ impl Batch {
         Batch { items: taken }
     }
 
+    /// Reads so many items.
+    pub(crate) fn read(alloc: Global, count: usize, bytes: &[u8]) -> Result<Batch, NoMemory>
+        requires whole { length bytes.now ≡ 16 * count }
+        requires at_most { count ≤ 256 }
+        ensures { IfOk result (λ batch. batch ≡ items_at count bytes.now) }
+    {
+        let items = Vec::with_capacity(alloc, count)?;
+        Ok(Batch::fill(items, count, bytes))
+    }
+
+    /// Reads so many items, to memory that was taken before.
+    pub(crate) fn read_to(room: BatchRoom, count: usize, bytes: &[u8]) -> Batch
+        requires whole { length bytes.now ≡ 16 * count }
+        requires at_most { count ≤ 256 }
+        ensures { result ≡ items_at count bytes.now }
+    {
+        Batch::fill(room.items, count, bytes)
+    }
+
+    /// Reads so many items, to a list that has room for them and none in it.
+    fn fill(mut items: Vec<Item>, count: usize, bytes: &[u8]) -> Batch
+        requires empty { vec_len items ≡ 0 }
+        requires room { count ≤ vec_capacity items }
+        requires whole { length bytes.now ≡ 16 * count }
+        requires at_most { count ≤ 256 }
+        ensures { result ≡ items_at count bytes.now }
+    {
+        let mut fields = Reader::new(bytes);
+        for _ in 0..count {
+            items.push_reserved(Item::read(&mut fields));
+        }
+        Batch { items }
+    }
+
     /// Returns the items in their order.
     pub fn as_slice(&self) -> &[Item]
         ensures items { result.now ≡ self.now }
@@ -110,4 +146,23 @@ impl Batch {
     {
         Batch::of_to(room, self.as_slice())
     }
+}
+
+impl PartialEq for Batch {
+    ghost use Rattle.std.specs.Cmp.{partial_equiv_from_equiv};
+    ghost use Rattle.fuse_wire.specs.Item.{same_items, same_items_equiv};
+
+    ghost eq = { λ x y. same_items x y };
+
+    ghost laws = { partial_equiv_from_equiv same_items_equiv };
+
+    fn eq(&self, other: &Batch) -> bool {
+        self.as_slice() == other.as_slice()
+    }
+}
+
+impl Eq for Batch {
+    ghost use Rattle.fuse_wire.specs.Item.{same_items_equiv};
+
+    ghost laws = { same_items_equiv };
 }

@@ -1,9 +1,9 @@
 //! The first 40 bytes of a request.
 ghost use Rattle.std.specs.Prelude.{◌≡◌, ◌≤◌, length, OnOk, ◌==◌};
-ghost use Rattle.fuse_wire.specs.Reading.{Gives, TakesNone, fields_of, header_of};
+ghost use Rattle.fuse_wire.specs.Reading.{Gives, TakesNone, asked, fields_of, header_of};
 
-use crate::WireFault;
 use crate::reader::Reader;
+use crate::{Ask, Request, WireFault};
 use eden_base::Number;
 
 /// What a header says of its request (`struct fuse_in_header`), but for the length and the last 16 bytes.
@@ -36,6 +36,16 @@ impl Header {
             opcode,
             unique,
             node,
+        }
+    }
+
+    /// Returns a request under the unique of this header.
+    pub(crate) fn asks(self, what: Request) -> Ask
+        ensures { result ≡ asked self what }
+    {
+        Ask {
+            unique: self.unique,
+            what,
         }
     }
 }

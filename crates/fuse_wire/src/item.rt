@@ -1,15 +1,34 @@
 //! What the kernel forgets.
-ghost use Rattle.std.specs.Prelude.{◌≡◌, ◌<◌, ◌≤◌, List, [], ◌∷◌, ◌++◌, length, ◌==◌, nat_eq};
+ghost use Rattle.std.specs.Prelude.{◌≡◌, ◌<◌, ◌≤◌, ◌+◌, ◌*◌, List, [], ◌∷◌, ◌++◌, length, drop, ◌==◌, nat_eq};
+ghost use Rattle.fuse_wire.specs.Reading.{item_at, items_at};
 
+use crate::reader::Reader;
 use arrayvec::ArrayVec;
 use eden_base::Number;
 use std::marker::Model;
 
-/// One line of a forget: the kernel holds the number `k` times less (`nlookup` of `linux/fuse.h`).
+/// One pair of a forget: the kernel holds the number `k` times less (`nlookup` of `linux/fuse.h`).
 #[derive(Clone, Copy, Debug, PartialEq, Eq)]
 pub struct Item {
     pub node: Number,
     pub k: u64,
+}
+
+impl Item {
+    /// In bytes (`struct fuse_forget_one`).
+    pub(crate) const LEN: usize = 16;
+
+    /// Reads the item that comes next.
+    pub(crate) fn read(fields: &mut Reader) -> Item
+        requires { fields.old.at + 16 ≤ length fields.old.bytes.now }
+        ensures item { result ≡ item_at (drop fields.old.at fields.old.bytes.now) }
+        ensures bytes { fields.new.bytes.now ≡ fields.old.bytes.now }
+        ensures at { fields.new.at ≡ fields.old.at + 16 }
+    {
+        let node = Number(fields.u64());
+        let k = fields.u64();
+        Item { node, k }
+    }
 }
 
 impl Default for Item {
@@ -21,8 +40,8 @@ impl Default for Item {
     }
 }
 
-/// The lines of a batch, at most 256, in order. They lie in the value itself.
-#[derive(Drop)]
+/// The items of a batch, at most 256, in order. They lie in the value itself.
+#[derive(Debug, Drop)]
 pub struct Items {
     items: ArrayVec<Item, 256>,
 }
@@ -42,7 +61,7 @@ impl Items {
     /// This project's own limit.
     pub const MAX_LEN: usize = 256;
 
-    /// A batch of nothing.
+    /// Returns no items.
     pub fn new() -> Items
         ensures empty { result ≡ [] }
     {
@@ -51,7 +70,14 @@ impl Items {
         }
     }
 
-    /// Adds a line at the end.
+    /// Whether no item can be added.
+    pub fn is_full(&self) -> bool
+        ensures full { result ≡ (length self.now == 256) }
+    {
+        self.items.is_full()
+    }
+
+    /// Adds an item at the end.
     pub fn push(&mut self, item: Item)
         requires { length self.old < 256 }
         ensures pushed { self.new ≡ self.old ++ item ∷ [] }
@@ -59,7 +85,21 @@ impl Items {
         self.items.push(item);
     }
 
-    /// The items in their order.
+    /// Reads so many items.
+    pub(crate) fn read(count: usize, bytes: &[u8]) -> Items
+        requires whole { length bytes.now ≡ 16 * count }
+        requires at_most { count ≤ 256 }
+        ensures { result ≡ items_at count bytes.now }
+    {
+        let mut fields = Reader::new(bytes);
+        let mut items = Items::new();
+        for _ in 0..count {
+            items.push(Item::read(&mut fields));
+        }
+        items
+    }
+
+    /// Returns the items in their order.
     pub fn as_slice(&self) -> &[Item]
         ensures items { result.now ≡ self.now }
         ensures at_most { length result.now ≤ 256 }
@@ -67,7 +107,7 @@ impl Items {
         self.items.as_slice()
     }
 
-    /// How many there are.
+    /// Returns how many there are.
     pub fn len(&self) -> usize
         ensures len { result ≡ length self.now }
         ensures at_most { result ≤ 256 }
@@ -82,7 +122,7 @@ impl Items {
         self.items.is_empty()
     }
 
-    /// The same lines once more. It takes no memory.
+    /// Returns the same items once more. It takes no memory.
     pub fn copy(&self) -> Items
         ensures copy { result ≡ self.now }
     {
@@ -90,4 +130,23 @@ impl Items {
             items: ArrayVec::try_from(self.items.as_slice()).unwrap(),
         }
     }
+}
+
+impl PartialEq for Items {
+    ghost use Rattle.std.specs.Cmp.{partial_equiv_from_equiv};
+    ghost use Rattle.fuse_wire.specs.Item.{same_items, same_items_equiv};
+
+    ghost eq = { λ x y. same_items x y };
+
+    ghost laws = { partial_equiv_from_equiv same_items_equiv };
+
+    fn eq(&self, other: &Items) -> bool {
+        self.as_slice() == other.as_slice()
+    }
+}
+
+impl Eq for Items {
+    ghost use Rattle.fuse_wire.specs.Item.{same_items_equiv};
+
+    ghost laws = { same_items_equiv };
 }

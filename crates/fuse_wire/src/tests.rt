@@ -63,28 +63,34 @@ fn batch_room(alloc: Global) -> Result<BatchRoom, NoMemory> {
     }
 }
 
-/// Whether the request of the bytes is written as these, and so is each copy of it.
+/// `Batch::of`, and once more where memory was refused.
+fn batch_of(alloc: Global, items: &Items) -> Result<Batch, NoMemory>
+    ensures items { IfOk result (λ batch. batch ≡ items.now) }
+{
+    match Batch::of(alloc, items.as_slice()) {
+        Ok(batch) => Ok(batch),
+        Err(NoMemory) => Batch::of(alloc, items.as_slice()),
+    }
+}
+
+/// `Batch::copy`, and once more where memory was refused.
+fn copy_of(alloc: Global, batch: &Batch) -> Result<Batch, NoMemory> {
+    match batch.copy(alloc) {
+        Ok(copy) => Ok(copy),
+        Err(NoMemory) => batch.copy(alloc),
+    }
+}
+
+/// Whether the request of the bytes is written as these, each copy of it is it, and so is what is read to rooms.
 fn is_kept(alloc: Global, bytes: &[u8], written: &[u8]) -> Result<bool, Fail> {
     let ask = read(alloc, bytes)?;
-    let unique = ask.unique;
     let own = write(alloc, &ask)?;
-    let first = Ask {
-        unique,
-        what: copy(alloc, &ask.what)?,
-    };
-    let of_first = write(alloc, &first)?;
-    let second = Ask {
-        unique,
-        what: ask
-            .what
-            .copy_to(room(alloc)?, room(alloc)?, batch_room(alloc)?),
-    };
-    let of_second = write(alloc, &second)?;
-    Ok(
-        own.as_slice() == written
-            && of_first.as_slice() == written
-            && of_second.as_slice() == written,
-    )
+    let first = copy(alloc, &ask.what)?;
+    let second = ask
+        .what
+        .copy_to(room(alloc)?, room(alloc)?, batch_room(alloc)?);
+    let third = read_request_to(room(alloc)?, room(alloc)?, batch_room(alloc)?, bytes)?;
+    Ok(own.as_slice() == written && first == ask.what && second == ask.what && third == ask)
 }
 
 #[test]
@@ -181,7 +187,7 @@ fn reads_a_create(rt: HostRuntime) -> Result<(), Fail> {
 }
 
 #[test]
-fn reads_the_lines_of_forgets(rt: HostRuntime) -> Result<(), Fail> {
+fn reads_the_items_of_forgets(rt: HostRuntime) -> Result<(), Fail> {
     let one = read_items(&FORGET)?;
     assert_eq!(rt;
         one.as_slice(),
@@ -192,7 +198,7 @@ fn reads_the_lines_of_forgets(rt: HostRuntime) -> Result<(), Fail> {
         .as_slice()
     );
     let two = read_items(&BATCH_FORGET)?;
-    let lines = [
+    let items = [
         Item {
             node: Number(2),
             k: 1,
@@ -202,7 +208,7 @@ fn reads_the_lines_of_forgets(rt: HostRuntime) -> Result<(), Fail> {
             k: 2,
         },
     ];
-    assert_eq!(rt; two.as_slice(), lines.as_slice());
+    assert_eq!(rt; two.as_slice(), items.as_slice());
     assert!(rt; matches!(read_items(&LOOKUP), Err(WireFault::BadBody)));
     Ok(())
 }
@@ -401,12 +407,17 @@ fn reads_a_name_of_255_bytes_and_no_longer_one(rt: HostRuntime) -> Result<(), Fa
 }
 
 #[test]
-fn reads_256_lines_and_no_more(rt: HostRuntime) -> Result<(), Fail> {
+fn reads_256_items_and_no_more(rt: HostRuntime) -> Result<(), Fail> {
     let alloc = rt.alloc();
     let full = filled(alloc, 42, 4104, 256, 0)?;
     assert_eq!(rt; full.len(), 4144);
-    assert_eq!(rt; read_items(full.as_slice())?.len(), 256);
-    assert!(rt; read(alloc, full.as_slice()).is_ok());
+    let items = read_items(full.as_slice())?;
+    assert_eq!(rt; items.len(), 256);
+    assert!(rt; is_kept(alloc, full.as_slice(), full.as_slice())?);
+    let batch = batch_of(alloc, &items)?;
+    assert!(rt; batch.as_slice() == items.as_slice());
+    assert!(rt; copy_of(alloc, &batch)? == batch);
+    assert!(rt; batch.copy_to(batch_room(alloc)?) == batch);
     let over = filled(alloc, 42, 4120, 257, 0)?;
     assert!(rt; matches!(read_items(over.as_slice()), Err(WireFault::BadCount)));
     assert!(rt;
@@ -415,6 +426,33 @@ fn reads_256_lines_and_no_more(rt: HostRuntime) -> Result<(), Fail> {
             Err(WireFault::BadCount)
         )
     );
+    Ok(())
+}
+
+#[test]
+fn tells_asks_and_their_numbers(rt: HostRuntime) -> Result<(), Fail> {
+    let alloc = rt.alloc();
+    for bytes in [
+        LOOKUP.as_slice(),
+        UNLINK.as_slice(),
+        RMDIR.as_slice(),
+        MKDIR.as_slice(),
+        CREATE.as_slice(),
+    ] {
+        let ask = read(alloc, bytes)?;
+        assert!(rt; ask.what.is_ask());
+        assert_eq!(rt; ask.what.nodes().as_slice(), [Number(1)].as_slice());
+    }
+    for bytes in [GETATTR.as_slice(), OPEN.as_slice()] {
+        let ask = read(alloc, bytes)?;
+        assert!(rt; ask.what.is_ask());
+        assert_eq!(rt; ask.what.nodes().as_slice(), [Number(2)].as_slice());
+    }
+    for bytes in [FORGET.as_slice(), BATCH_FORGET.as_slice()] {
+        let ask = read(alloc, bytes)?;
+        assert!(rt; !ask.what.is_ask());
+        assert_eq!(rt; ask.what.nodes().as_slice().len(), 0);
+    }
     Ok(())
 }
 

@@ -1,6 +1,0 @@
-use Rattle.std.proofs.Common.{◌≡◌, ◌*◌}
-use Rattle.fuse_wire.proofs.Lines.{AreRead}
-use Rattle.fuse_wire.proofs.reading.read_lines.Given as goal
-
-abbrev pub invariant-loop : goal.invariant-loop
-invariant-loop l = (l.fields.bytes.now ≡ l.lines) × (l.fields.at ≡ 16 * l.counter) × AreRead l.items l.counter l.count l.lines

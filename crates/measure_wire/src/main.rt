@@ -1,0 +1,126 @@
+//! Reads requests of one form again and again, so that the instructions of a read can be counted:
+//! `measure_wire FORM ROUNDS`. Without words it reads each form a few times.
+#![tactic(auto)]
+
+use anyhow::Result;
+use fuse_wire::{Ask, WireFault, read_request};
+use std::alloc::{AllocError, Global};
+use std::env;
+
+/// How many messages of one form there are, so that no two reads in a row are of the same bytes.
+const MESSAGES: u32 = 64;
+
+const FORMS: [&str; 9] = [
+    "lookup",
+    "getattr",
+    "forget",
+    "batch",
+    "short",
+    "bad-length",
+    "bad-body",
+    "bad-count",
+    "bad-name",
+];
+
+/// The opcode and the body of a form.
+fn body_of(alloc: Global, form: &str) -> Result<(u8, Vec<u8>), AllocError> {
+    match form {
+        "getattr" => Ok((3, Vec::from_slice(alloc, &[0; 16])?)),
+        "forget" => Ok((2, Vec::from_slice(alloc, &[1, 0, 0, 0, 0, 0, 0, 0])?)),
+        "batch" => Ok((42, batch(alloc, 0)?)),
+        "bad-count" => Ok((42, batch(alloc, 1)?)),
+        "bad-body" => Ok((1, Vec::from_slice(alloc, b"src")?)),
+        "bad-name" => Ok((1, Vec::from_slice(alloc, b"a/b\0")?)),
+        _ => Ok((1, Vec::from_slice(alloc, b"src\0")?)),
+    }
+}
+
+/// The body of a BATCH_FORGET of 256 items, which tells so many more.
+fn batch(alloc: Global, excess: u8) -> Result<Vec<u8>, AllocError> {
+    let mut body = Vec::from_slice(alloc, &[excess, 1, 0, 0, 0, 0, 0, 0])?;
+    for i in 0..256u64 {
+        body.extend_from_slice(&i.to_le_bytes())?;
+        body.extend_from_slice(&1u64.to_le_bytes())?;
+    }
+    Ok(body)
+}
+
+/// A message of a form, with this unique, on the root.
+fn message(alloc: Global, form: &str, unique: u32) -> Result<Vec<u8>, AllocError> {
+    let (opcode, body) = body_of(alloc, form)?;
+    let excess = if form == "bad-length" { 1 } else { 0 };
+    let len = body.len().wrapping_add(40).wrapping_add(excess) as u64;
+    let mut bytes = Vec::from_slice(alloc, &len.to_le_bytes()[..4])?;
+    bytes.extend_from_slice(&[opcode, 0, 0, 0])?;
+    bytes.extend_from_slice(&u64::from(unique).to_le_bytes())?;
+    bytes.extend_from_slice(&1u64.to_le_bytes())?;
+    bytes.extend_from_slice(&[0; 16])?;
+    bytes.extend_from_slice(body.as_slice())?;
+    if form == "short" {
+        bytes.truncate(39);
+    }
+    Ok(bytes)
+}
+
+/// The messages of a form.
+fn messages(alloc: Global, form: &str) -> Result<Vec<Vec<u8>>> {
+    let mut texts = Vec::new(alloc);
+    for unique in 0..MESSAGES {
+        texts.push(message(alloc, form, unique)?)?;
+    }
+    Ok(texts)
+}
+
+/// Reads one message, as a caller does that no compiler joins with the reader.
+#[inline(never)]
+fn read(alloc: Global, text: &[u8]) -> Result<Ask, WireFault> {
+    read_request(alloc, text)
+}
+
+/// Reads the messages. What is read is kept, so that each request is built whole.
+fn read_all(alloc: Global, texts: &[Vec<u8>], asks: &mut Vec<Ask>) -> Result<(), AllocError> {
+    for text in texts {
+        if let Ok(ask) = read(alloc, text.as_slice()) {
+            asks.push(ask)?;
+        }
+    }
+    Ok(())
+}
+
+/// The sum of all uniques.
+fn uniques(asks: &[Ask]) -> u64 {
+    let mut sum = 0u64;
+    for ask in asks {
+        sum = sum.wrapping_add(ask.unique);
+    }
+    sum
+}
+
+/// Says of how many reads of a form how many gave a request.
+fn measure(rt: &HostRuntime, form: &str, rounds: u32) -> Result<()> {
+    let texts = messages(rt.alloc(), form)?;
+    let mut asks = Vec::with_capacity(rt.alloc(), MESSAGES as usize)?;
+    let mut read = 0usize;
+    let mut sum = 0u64;
+    for _ in 0..rounds {
+        read_all(rt.alloc(), texts.as_slice(), &mut asks)?;
+        read = read.wrapping_add(asks.len());
+        sum = sum.wrapping_add(uniques(asks.as_slice()));
+        asks.clear();
+    }
+    let all = u64::from(rounds).wrapping_mul(u64::from(MESSAGES));
+    println!(rt; "{form}: {read} of {all} read, uniques {sum}")?;
+    Ok(())
+}
+
+fn main(rt: HostRuntime) -> Result<()> {
+    let mut words = env::args(&rt)?.skip(1);
+    if let Some(form) = words.next() {
+        let rounds = words.next().and_then(|word| word.parse::<u32>().ok());
+        return measure(&rt, form.as_str(), rounds.unwrap_or(1000));
+    }
+    for form in FORMS {
+        measure(&rt, form, 10)?;
+    }
+    Ok(())
+}
