@@ -1,6 +1,7 @@
 pub mod Ask
 pub mod FaultReply
 pub mod Field
+pub mod Given
 pub mod Mode
 pub mod Opcode
 pub mod Reading

@@ -5,6 +5,7 @@ mod ask;
 mod batch;
 mod errno;
 mod fault;
+mod given;
 mod header;
 mod item;
 mod layout;
