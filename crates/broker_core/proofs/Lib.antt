@@ -1,1 +1,2 @@
-mod HeldLemmas
+pub mod HeldLaws
+mod Places
