@@ -1,2 +1,5 @@
+mod Changes
 pub mod HeldLaws
 mod Places
+mod Rising
+mod Searching

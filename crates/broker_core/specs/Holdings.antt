@@ -38,3 +38,8 @@ pub record IsGapFor (holdings : List Holding) (n i : ℕ) : Type 0 where
   pub within : i ≤ length holdings
   pub before : (j : ℕ) (d : Holding) → j < i → number_at holdings j d < n
   pub after : (j : ℕ) (d : Holding) → i ≤ j → j < length holdings → n < number_at holdings j d
+
+-- up to a place the numbers are at most n, and from there on above it
+pub record IsAbove (holdings : List Holding) (n i : ℕ) : Type 0 where
+  pub low : (j : ℕ) (d : Holding) → j < i → number_at holdings j d ≤ n
+  pub high : (j : ℕ) (d : Holding) → i ≤ j → j < length holdings → n < number_at holdings j d

@@ -1,8 +1,9 @@
 //! The kernel's side of a mount.
 ghost use Rattle.std.specs.Prelude.{◌≡◌, ◌+◌, ◌≤◌, ◌≢◌, Bool, true, false, not, nat_lt, if◌then◌else◌, IsOk, IfOk, IfErr, OnOk, OnErr};
+ghost use Rattle.std.specs.List.{list_all};
 ghost use Rattle.fuse_wire.specs.Ask.{is_ask};
 ghost use Rattle.broker_core.specs.Held.{held_count, IsLeastHeldAfter};
-ghost use Rattle.broker_core.specs.Broker.{mount_fault, issue_fault, ask_fault, forget_fault, forgotten, mounted, issued, unique_of, settled, new_broker, IsIssueRefusal, HasRoomFor};
+ghost use Rattle.broker_core.specs.Broker.{mount_fault, issue_fault, ask_fault, forget_fault, forgotten, may_be_asked, mounted, issued, unique_of, settled, new_broker, IsIssueRefusal, HasRoomFor};
 
 use crate::Seat;
 use crate::held::Held;
@@ -143,15 +144,25 @@ impl Broker {
     fn ask_refusal(&self, request: &Request) -> Option<IssueFault>
         ensures { result ≡ ask_fault self.now request.now }
     {
-        for number in request.nodes().as_slice() {
-            if *number != Number::ROOT && self.held.count(*number) == 0 {
-                return Some(IssueFault::NotHeld);
-            }
+        if !self.may_all_be_asked(request.nodes().as_slice()) {
+            return Some(IssueFault::NotHeld);
         }
         if self.next_unique > Broker::LAST_UNIQUE {
             return Some(IssueFault::Full);
         }
         None
+    }
+
+    fn may_all_be_asked(&self, numbers: &[Number]) -> bool
+        ensures { result ≡ list_all (may_be_asked self.now) numbers.now }
+    {
+        numbers.iter().all(|number| self.may_be_asked(*number))
+    }
+
+    fn may_be_asked(&self, number: Number) -> bool
+        ensures { result ≡ may_be_asked self.now number }
+    {
+        number == Number::ROOT || self.held.count(number) > 0
     }
 
     fn forget_refusal(&self, item: Option<Item>) -> Option<IssueFault>

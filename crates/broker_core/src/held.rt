@@ -1,7 +1,7 @@
 //! The numbers that the kernel holds.
 ghost use Rattle.std.specs.Prelude.{◌≡◌, ◌-◌, ◌<◌, ◌≤◌, max, IfOk, IfErr, OnOk, OnErr};
 ghost use Rattle.broker_core.specs.Held.{held_count, none_held, raised, lowered, IsLeastHeldAfter};
-ghost use Rattle.broker_core.specs.Holdings.{IsRising, IsPlaceOf, IsGapFor};
+ghost use Rattle.broker_core.specs.Holdings.{IsRising, IsPlaceOf, IsGapFor, IsAbove};
 
 use eden_base::{NoMemory, Number};
 use std::alloc::Global;
@@ -73,6 +73,7 @@ impl Held {
         requires fits { held_count self.old.counts number.0 < u64.MAX }
         ensures raised { self.new ≡ record { counts = raised self.old.counts number.0; spare = self.old.spare - 1 } }
     {
+        self.spare -= 1;
         match place_of(&self.holdings, number) {
             Ok(place) => {
                 let holding = &mut self.holdings[place];
@@ -83,7 +84,6 @@ impl Held {
                 Err(_refused) => unreachable!(),
             },
         }
-        self.spare -= 1;
     }
 
     /// Holds a number k times less, and not at all where that is as often as it is held.
@@ -114,14 +114,8 @@ impl Held {
     pub(crate) fn least_after(&self, number: Number) -> Option<Number>
         ensures least { IsLeastHeldAfter self.now.counts number.0 result }
     {
-        let next = match place_of(&self.holdings, number) {
-            Ok(place) => place + 1,
-            Err(place) => place,
-        };
-        match self.holdings.get(next) {
-            Some(holding) => Some(holding.number),
-            None => None,
-        }
+        let next = first_above(&self.holdings, number);
+        self.holdings.get(next).map(|holding| holding.number)
     }
 }
 
@@ -132,4 +126,12 @@ fn place_of(holdings: &[Holding], number: Number) -> Result<usize, usize>
     ensures missing { IfErr result (IsGapFor holdings.now number.0) }
 {
     holdings.binary_search_by_key(&number.0, |holding| holding.number.0)
+}
+
+/// Returns where the first number above another stands, or would stand.
+fn first_above(holdings: &[Holding], number: Number) -> usize
+    requires rising { IsRising holdings.now }
+    ensures above { IsAbove holdings.now number.0 result }
+{
+    holdings.partition_point(|holding| holding.number.0 <= number.0)
 }
