@@ -115,7 +115,8 @@ impl Held {
         ensures least { IsLeastHeldAfter self.now.counts number.0 result }
     {
         let next = first_above(&self.holdings, number);
-        self.holdings.get(next).map(|holding| holding.number)
+        let holding = self.holdings.get(next)?;
+        Some(holding.number)
     }
 }
 
