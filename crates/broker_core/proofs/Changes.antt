@@ -84,17 +84,17 @@ module _ (holdings : List Holding) (n i : ℕ) (gap : IsGapFor holdings n i) whe
 pub least-next : (holdings : List Holding) → IsRising holdings → All (λ (h : Holding). 1 ≤ h.count) holdings → (n next : ℕ) (x : Holding) → IsAbove holdings n next → next < length holdings → x ≡ get_or holdings next x → IsLeastHeldAfter (map_of holdings) n (Some x.number)
 least-next holdings rising some n next x above within here =
     (omega (arith, at x, above.high next x (omega arith) within), omega (arith, one, count-here holdings rising x.number.0 next place x here), λ m h l. count-nowhere holdings m (λ j d k e. between m j d h l k e)) where
-  at : (d : Holding) → number_at holdings next d ≡ x.number.0
-  at d = ap (λ (h : Holding). h.number.0) (get_or_default holdings next d x within ∙ sym here)
+      at : (d : Holding) → number_at holdings next d ≡ x.number.0
+      at d = ap (λ (h : Holding). h.number.0) (get_or_default holdings next d x within ∙ sym here)
 
-  place : IsPlaceOf holdings x.number.0 next
-  place = record { within = within; here = at }
+      place : IsPlaceOf holdings x.number.0 next
+      place = record { within = within; here = at }
 
-  one : 1 ≤ x.count
-  one = subst (λ (h : Holding). 1 ≤ h.count) (sym here) (some next x within)
+      one : 1 ≤ x.count
+      one = subst (λ (h : Holding). 1 ≤ h.count) (sym here) (some next x within)
 
-  between : (m j : ℕ) (d : Holding) → n < m → m < x.number.0 → j < length holdings → number_at holdings j d ≡ m → ⊥
-  between m j d h l k e = grind (arith, at d, above.low j d, rising.below next j d, λ (same : j ≡ next). ap (λ i. number_at holdings i d) same)
+      between : (m j : ℕ) (d : Holding) → n < m → m < x.number.0 → j < length holdings → number_at holdings j d ≡ m → ⊥
+      between m j d h l k e = grind (arith, at d, above.low j d, rising.below next j d, λ (same : j ≡ next). ap (λ i. number_at holdings i d) same)
 
 pub least-none : (holdings : List Holding) (n next : ℕ) → IsAbove holdings n next → length holdings ≤ next → IsLeastHeldAfter (map_of holdings) n None
 least-none holdings n next place end m h = count-nowhere holdings m (λ j d k e. omega (arith, place.low j d (omega arith)))

@@ -1,3 +1,4 @@
+pub mod Accepted
 mod Changes
 pub mod HeldLaws
 mod Places
