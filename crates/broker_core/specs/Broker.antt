@@ -30,7 +30,7 @@ pub record BrokerState : Type 0 where
   pub next_unique : ℕ
   pub spare : ℕ
 
--- they are kept as a tuple
+-- a state as a tuple, for a type that is seen as one
 abbrev pub broker_state_code : Coded BrokerState
 broker_state_code =
     code_by (Option Seat × (ℕ × (HeldMap × (ℕ × ℕ))))
@@ -76,7 +76,7 @@ may_be_asked broker number = number.0 == 1 || nat_lt 0 (held_count broker.held n
 abbrev pub is_bad_forget : BrokerState → Item → Bool
 is_bad_forget broker item = item.node.0 == 1 || item.k == 0 || nat_lt (held_count broker.held item.node.0) item.k
 
--- why an ask is refused, if it is, want of memory apart
+-- why an ask is refused, if it is, out of memory apart
 abbrev pub ask_fault : BrokerState → Request → Option IssueFault
 ask_fault broker request =
     if not (list_all (may_be_asked broker) (nodes request)) then Some NotHeld
@@ -88,14 +88,14 @@ abbrev pub forget_fault : BrokerState → Option Item → Option IssueFault
 forget_fault broker None = Some BadForget
 forget_fault broker (Some item) = if is_bad_forget broker item then Some BadForget else None
 
--- why the kernel's request is refused, if it is, want of memory apart
+-- why the kernel's request is refused, if it is, out of memory apart
 abbrev pub issue_fault : BrokerState → Request → Option IssueFault
 issue_fault broker request =
     if is_none broker.seat then Some NotMounted
     else if is_ask request then ask_fault broker request
     else forget_fault broker (forgotten request)
 
--- a refused request has the first fault; want of memory comes to an ask alone, and where no other fault does
+-- a refused request has the first fault; out of memory comes to an ask alone, and where no other fault does
 abbrev pub IsIssueRefusal : BrokerState → Request → IssueFault → Type 0
 IsIssueRefusal broker request NoMemory = (issue_fault broker request ≡ None) × (is_ask request ≡ true)
 IsIssueRefusal broker request fault = issue_fault broker request ≡ Some fault

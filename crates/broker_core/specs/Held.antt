@@ -10,7 +10,7 @@ use Rattle.eden_base.specs.declared.number.Number.{Number}
 abbrev pub HeldMap : Type 0
 HeldMap = map.FinMap nat_cmp ℕ
 
--- a map of counts, as a value that is kept
+-- a map as a list, for a type that is seen as one
 abbrev pub held_map_code : Coded HeldMap
 held_map_code = map.code coded_ℕ coded_ℕ
 
