@@ -1,5 +1,5 @@
 -- What it says that nothing refuses a mount, an ask or a forget.
-use Rattle.std.proofs.Common.{◌≡◌, ℕ, ◌+◌, ◌<◌, ◌≤◌, Bool, true, false, not, cond, ◌||◌, Option, Some, None, is_some, is_none, if◌then◌else◌, refl, sym, ◌∙◌, arith}
+use Rattle.std.proofs.Common.{◌≡◌, ◌<◌, ◌≤◌, Bool, true, false, not, cond, ◌||◌, Option, Some, None, is_some, is_none, if◌then◌else◌, refl, arith}
 use Rattle.std.specs.Prelude.{◌==◌, ◌≢◌, nat_le, nat_lt}
 use Rattle.std.specs.List.{list_all}
 use Rattle.std.proofs.lemmas.Bool.Decides.{nat_tests}
@@ -9,9 +9,7 @@ use Rattle.fuse_wire.specs.Ask.{is_ask, nodes}
 use Rattle.broker_core.specs.Held.{held_count}
 use Rattle.broker_core.specs.Broker.{BrokerState, last_generation, last_unique, mount_fault, may_be_asked, is_bad_forget, forgotten, ask_fault, forget_fault, issue_fault}
 use Rattle.broker_core.specs.declared.seat.Seat.{Seat}
-use Rattle.broker_core.specs.declared.broker.MountFault.{MountFault}
 use Rattle.broker_core.specs.declared.broker.MountFault.TheVariants.{Seated, LastGeneration}
-use Rattle.broker_core.specs.declared.broker.IssueFault.{IssueFault}
 use Rattle.broker_core.specs.declared.broker.IssueFault.TheVariants.{NotMounted, NotHeld, BadForget, Full}
 
 -- a test whose failure would be a fault

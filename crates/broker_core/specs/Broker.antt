@@ -1,7 +1,7 @@
 -- What the kernel holds, and who serves it: the requests and the lookup counts of libfuse's `fuse_lowlevel.h`, seen
 -- from the kernel's side, and the seat, which is this project's own and stands in for a file descriptor that is handed
 -- over.
-use Rattle.std.specs.Prelude.{◌≡◌, ℕ, ◌+◌, ◌-◌, ◌^◌, ◌≤◌, Bool, true, false, ◌||◌, ◌==◌, not, nat_le, nat_lt, max, Option, Some, None, IsSome, is_none, is_some, if◌then◌else◌, refl}
+use Rattle.std.specs.Prelude.{◌≡◌, ℕ, ◌+◌, ◌-◌, ◌^◌, ◌≤◌, Bool, true, ◌||◌, ◌==◌, not, nat_le, nat_lt, max, Option, Some, None, IsSome, is_none, is_some, if◌then◌else◌, refl}
 use Rattle.std.specs.List.{list_all}
 use Rattle.std.specs.Option.{option_map_or}
 use Rattle.std.specs.Coded.{Coded, code_by, coded×, coded_option, coded_ℕ}

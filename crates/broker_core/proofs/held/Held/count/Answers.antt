@@ -1,6 +1,5 @@
-use Rattle.std.proofs.Common.{ap, sym, ◌∙◌}
-use Rattle.broker_core.specs.Holdings.{HeldState, IsPlaceOf, IsGapFor}
-use Rattle.broker_core.specs.Held.{held_count}
+use Rattle.std.proofs.Common.{sym}
+use Rattle.broker_core.specs.Holdings.{IsPlaceOf, IsGapFor}
 use Rattle.broker_core.proofs.Changes.{count-here, count-gap}
 use Rattle.broker_core.proofs.held.Held.count.Goals as goal
 

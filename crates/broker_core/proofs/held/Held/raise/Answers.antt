@@ -1,8 +1,7 @@
 use Rattle.std.proofs.Common.{ap, arith, ◌-◌, refl}
 use Rattle.broker_core.specs.Held.{HeldMap}
 use Rattle.broker_core.specs.Holdings.{HeldState, IsPlaceOf, IsGapFor}
-use Rattle.broker_core.proofs.Changes.{count-here, raised-here, raised-gap, least-next, least-none}
-use Rattle.broker_core.proofs.Rising.{rising-set, rising-insert, rising-remove, All-insert}
+use Rattle.broker_core.proofs.Changes.{count-here, raised-here, raised-gap}
 use Rattle.broker_core.proofs.held.Held.raise.Goals as goal
 
 pub overflow_add-holding : goal.overflow_add-holding
