@@ -1,1 +1,6 @@
-mod HeldLemmas
+pub mod Accepted
+mod Changes
+pub mod HeldLaws
+mod Places
+mod Rising
+mod Searching

@@ -1,3 +1,5 @@
 pub mod Broker
+pub mod Held
+pub mod Holdings
 pub mod Inside
-pub mod Nearest
+pub mod Kept

@@ -1,87 +1,138 @@
 //! The numbers that the kernel holds.
-ghost use Rattle.std.specs.Prelude.{◌≡◌, ◌+◌, ◌^◌, ◌<◌, ◌≤◌, vec_len, vec_capacity, All, MatchOption};
-ghost use Rattle.eden_base.specs.First.{first_where, IsFirstPlace};
-ghost use Rattle.broker_core.specs.Broker.{has_number, raised, lowered, IsLeastHeldAfter};
-ghost use Rattle.broker_core.specs.Nearest.{nearest_of};
+ghost use Rattle.std.specs.Prelude.{◌≡◌, ◌-◌, ◌<◌, ◌≤◌, max, IfOk, IfErr, OnOk, OnErr};
+ghost use Rattle.broker_core.specs.Held.{held_count, none_held, raised, lowered, IsLeastHeldAfter};
+ghost use Rattle.broker_core.specs.Holdings.{IsRising, IsPlaceOf, IsGapFor, IsAbove};
 
-use crate::Item;
-use eden_base::Number;
+use eden_base::{NoMemory, Number};
+use std::alloc::Global;
+use std::marker::Model;
 
-/// A number that the kernel holds, and how many entries gave it that no forget has taken back.
+/// A number that is held, and how often: at least once.
 #[derive(Clone, Copy)]
-pub struct Held {
-    pub number: Number,
-    /// At least 1.
-    pub count: u64,
+pub(crate) struct Holding {
+    number: Number,
+    count: u64,
 }
 
-/// The place of a number in the list.
-pub(crate) fn place_of(held: &[Held], number: Number) -> Option<usize>
-    ensures { let is_it = has_number number.0 in
-        MatchOption result (first_where is_it held.now ≡ None) (IsFirstPlace is_it held.now) }
-{
-    for (place, holding) in held.iter().enumerate() {
-        if holding.number == number {
-            return Some(place);
+/// The numbers that the kernel holds, with room for more. Clauses see it as a `HeldState`.
+#[derive(Drop)]
+pub(crate) struct Held {
+    /// By rising number.
+    holdings: Vec<Holding>,
+    spare: usize,
+}
+
+impl Model for Held {
+    ghost use Rattle.broker_core.specs.Holdings.{HeldState, held_state_code, map_of};
+
+    ghost Value = { HeldState };
+
+    ghost coded = { held_state_code };
+
+    ghost view = { λ held. record {
+      counts = map_of held.holdings.items;
+      spare = held.spare;
+    } };
+
+    ghost use Rattle.broker_core.specs.Kept.{IsKept};
+
+    ghost invariant = { IsKept };
+}
+
+impl Held {
+    pub(crate) fn new(alloc: Global) -> Held
+        ensures none { result ≡ record { counts = none_held; spare = 0 } }
+    {
+        Held {
+            holdings: Vec::new(alloc),
+            spare: 0,
         }
     }
-    None
-}
 
-/// Holds a number once more.
-pub(crate) fn raise(held: &mut Vec<Held>, number: Number)
-    requires room { vec_len held.old < vec_capacity held.old }
-    requires fits { All (λ h. h.count < 2 ^ 63) held.old.items }
-    ensures raised { held.new.items ≡ raised held.old.items number }
-    ensures len { vec_len held.new ≤ vec_len held.old + 1 }
-    ensures capacity { vec_capacity held.new ≡ vec_capacity held.old }
-{
-    match place_of(held, number) {
-        Some(place) => {
-            let holding = &mut held[place];
-            holding.count += 1;
+    /// Makes room for one more number where there is none.
+    pub(crate) fn make_room(&mut self) -> Result<(), NoMemory>
+        ensures made { OnOk result (self.new ≡ record self.old { spare = max self.old.spare 1 }) }
+        ensures unchanged { OnErr result (self.new ≡ self.old) }
+        ensures without_room { OnErr result (self.old.spare ≡ 0) }
+    {
+        if self.spare > 0 {
+            return Ok(());
         }
-        None => held.push_reserved(Held { number, count: 1 }),
-    }
-}
-
-/// Lets go of a number some times, and of all where that is as often as it is held.
-pub(crate) fn lower(held: &mut Vec<Held>, item: Item)
-    ensures lowered { held.new.items ≡ lowered held.old.items item.node item.k }
-    ensures len { vec_len held.new ≤ vec_len held.old }
-    ensures capacity { vec_capacity held.new ≡ vec_capacity held.old }
-{
-    if let Some(place) = place_of(held, item.node) {
-        if held[place].count <= item.k {
-            let _ = held.remove(place);
-        } else {
-            let holding = &mut held[place];
-            holding.count -= item.k;
+        match self.holdings.try_reserve(1) {
+            Ok(()) => {
+                self.spare = 1;
+                Ok(())
+            }
+            Err(_refused) => Err(NoMemory),
         }
     }
+
+    /// Holds a number once more, and takes one room for it.
+    pub(crate) fn raise(&mut self, number: Number)
+        requires room { 1 ≤ self.old.spare }
+        requires fits { held_count self.old.counts number.0 < u64.MAX }
+        ensures raised { self.new ≡ record { counts = raised self.old.counts number.0; spare = self.old.spare - 1 } }
+    {
+        self.spare -= 1;
+        match place_of(&self.holdings, number) {
+            Ok(place) => {
+                let holding = &mut self.holdings[place];
+                holding.count += 1;
+            }
+            Err(place) => match self.holdings.insert(place, Holding { number, count: 1 }) {
+                Ok(()) => (),
+                Err(_refused) => unreachable!(),
+            },
+        }
+    }
+
+    /// Holds a number k times less, and not at all where that is as often as it is held.
+    pub(crate) fn lower(&mut self, number: Number, k: u64)
+        ensures lowered { self.new ≡ record self.old { counts = lowered self.old.counts number.0 k } }
+    {
+        if let Ok(place) = place_of(&self.holdings, number) {
+            if self.holdings[place].count <= k {
+                let _ = self.holdings.remove(place);
+            } else {
+                let holding = &mut self.holdings[place];
+                holding.count -= k;
+            }
+        }
+    }
+
+    /// Returns how often a number is held.
+    pub(crate) fn count(&self, number: Number) -> u64
+        ensures count { result ≡ held_count self.now.counts number.0 }
+    {
+        match place_of(&self.holdings, number) {
+            Ok(place) => self.holdings[place].count,
+            Err(_) => 0,
+        }
+    }
+
+    /// Returns the least held number above another.
+    pub(crate) fn least_after(&self, number: Number) -> Option<Number>
+        ensures least { IsLeastHeldAfter self.now.counts number.0 result }
+    {
+        let next = first_above(&self.holdings, number);
+        let holding = self.holdings.get(next)?;
+        Some(holding.number)
+    }
 }
 
-/// The least number in the list above another.
-pub(crate) fn least_after(held: &[Held], number: Number) -> Option<Number>
-    requires some { All (λ h. 1 ≤ h.count) held.now }
-    ensures least { IsLeastHeldAfter held.now number.0 result }
+/// Returns where a number stands, or else where it would stand.
+fn place_of(holdings: &[Holding], number: Number) -> Result<usize, usize>
+    requires rising { IsRising holdings.now }
+    ensures found { IfOk result (IsPlaceOf holdings.now number.0) }
+    ensures missing { IfErr result (IsGapFor holdings.now number.0) }
 {
-    let mut least: Option<Number> = None;
-    for holding in held {
-        least = nearest(number, least, holding.number);
-    }
-    least
+    holdings.binary_search_by_key(&number.0, |holding| holding.number.0)
 }
 
-/// The least above a number, of one that was found and another.
-fn nearest(number: Number, found: Option<Number>, other: Number) -> Option<Number>
-    ensures { result ≡ nearest_of number.0 found other }
+/// Returns where the first number above another stands, or would stand.
+fn first_above(holdings: &[Holding], number: Number) -> usize
+    requires rising { IsRising holdings.now }
+    ensures above { IsAbove holdings.now number.0 result }
 {
-    if other.0 <= number.0 {
-        return found;
-    }
-    match found {
-        Some(least) if least.0 <= other.0 => found,
-        _ => Some(other),
-    }
+    holdings.partition_point(|holding| holding.number.0 <= number.0)
 }

@@ -3,10 +3,7 @@
 
 mod broker;
 mod held;
-mod request;
 mod seat;
 
 pub use broker::{Broker, IssueFault, MountFault};
-pub use held::Held;
-pub use request::{Answer, Item, Reply, Request};
 pub use seat::Seat;

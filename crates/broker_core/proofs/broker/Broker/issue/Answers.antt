@@ -1,12 +1,10 @@
 use Rattle.std.proofs.Common.{arith}
-use Rattle.broker_core.proofs.HeldLemmas.{lowered-each}
+use Rattle.broker_core.proofs.HeldLaws.{held_count-lowered}
 use Rattle.broker_core.proofs.broker.Broker.issue.Goals as goal
 
-pub invariant_of-self : goal.invariant_of-self
-invariant_of-self c = record {
+pub invariant_of-self-in-Some : goal.invariant_of-self-in-Some
+invariant_of-self-in-Some c = rw c.lower.ensures.lowered (record {
   generation = c.self.invariant.generation;
-  asked_for = c.self.invariant.asked_for;
   uniques = c.self.invariant.uniques;
-  room = omega arith;
-  each = rw c.lower.ensures.lowered (lowered-each c.self.inside.next_unique c.self.inside.spare c.self.inside.held.items c.in-Forget.item.node c.in-Forget.item.k c.self.invariant.each);
-}
+  asked_for = λ n. omega (arith, c.self.invariant.asked_for n, held_count-lowered c.self.inside.held.counts c.in-Some.item.node.0 c.in-Some.item.k n);
+})
