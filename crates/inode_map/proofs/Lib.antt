@@ -1,0 +1,10 @@
+pub mod Changing
+pub mod Climbing
+pub mod EntryLemmas
+pub mod EntryWrites
+pub mod FileLemmas
+pub mod Forgetting
+pub mod Giving
+pub mod Heights
+pub mod Striking
+pub mod Walking

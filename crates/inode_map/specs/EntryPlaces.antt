@@ -1,17 +1,27 @@
 -- What the entries' code says of its results beside the definitions of the inode map.
-use Rattle.std.specs.Prelude.{◌≡◌, ℕ, ◌<◌, ◌⊎◌, true, List, [], ◌∷◌, length, slice_index_or, Option, Some, None}
+use Rattle.std.specs.Prelude.{◌≡◌, ℕ, ◌<◌, ◌≤◌, ◌⊎◌, true, List, [], ◌∷◌, length, slice_index_or, Option, Some, None}
 use Rattle.eden_base.specs.First.{IsFirstPlace}
 use Rattle.eden_base.specs.declared.number.FileId.{FileId}
 use Rattle.eden_base.specs.declared.number.Number.{Number}
 use Rattle.eden_base.specs.declared.place.Place.{Place}
 use Rattle.eden_base.specs.declared.place.Place.TheVariants.{Linked, Unlinked}
 use Rattle.checkout.specs.Tree.{Tree}
-use Rattle.inode_map.specs.InodeMap.{has_number, entry_of, is_of_use, is_useless, IsFileOf}
+use Rattle.inode_map.specs.InodeMap.{has_number, entry_of, is_of_use, is_useless, AreNumbers, IsFileOf}
 use Rattle.inode_map.specs.declared.inode_map.Kept.{Kept}
 
 -- each number is greater than those before it
 abbrev pub Rises : List Kept → Type 0
 Rises entries = (i j : ℕ) (d : Kept) → i < j → j < length entries → (slice_index_or entries i d).number.0 < (slice_index_or entries j d).number.0
+
+-- the entries are numbers of a map, whichever is its next
+abbrev pub IsNumbered : List Kept → Type 0
+IsNumbered entries = (next : ℕ) × AreNumbers 2 next entries
+
+-- numbers up to this one stand before the place, and greater ones from there on
+pub record IsParted (entries : List Kept) (n at : ℕ) : Type 0 where
+  pub bound : at ≤ length entries
+  pub below : (j : ℕ) (d : Kept) → j < at → (slice_index_or entries j d).number.0 ≤ n
+  pub above : (j : ℕ) (d : Kept) → at ≤ j → j < length entries → n < (slice_index_or entries j d).number.0
 
 -- each number is of use, but for one
 abbrev pub AreOfUseBut : Option ℕ → List Kept → Type 0

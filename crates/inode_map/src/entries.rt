@@ -2,12 +2,11 @@
 ghost use Rattle.std.specs.Prelude.{◌≡◌, ◌<◌, ◌≤◌, Bool, true, false, None, not, length, vec_len, vec_capacity, MatchOption, OnOk};
 ghost use Rattle.std.specs.Option.{option_map};
 ghost use Rattle.std.specs.List.{list_any};
-ghost use Rattle.std.specs.List.Sorted.{IsPartitionPoint};
 ghost use Rattle.checkout.specs.Tree.{Tree};
 ghost use Rattle.eden_base.specs.First.{first_where, IsFirstPlace};
 ghost use Rattle.eden_base.specs.declared.number.Number.{Number};
 ghost use Rattle.inode_map.specs.InodeMap.{has_number, stands_at, is_in, is_place, is_kid_of, is_above, is_of_use, is_useless, is_bad_item, lowered, left_of_use, IsFileOf};
-ghost use Rattle.inode_map.specs.EntryPlaces.{Rises, AreOfUseBut, IsUselessPlace, dir_of, IsWay};
+ghost use Rattle.inode_map.specs.EntryPlaces.{IsNumbered, IsParted, AreOfUseBut, IsUselessPlace, dir_of, IsWay};
 
 use crate::inode_map::Kept;
 use checkout::Tree;
@@ -15,17 +14,15 @@ use eden_base::{FileId, Name, Number, Place};
 
 /// The place of the first entry whose number is greater, or the end.
 pub(crate) fn place_above(entries: &[Kept], number: Number) -> usize
-    requires { Rises entries.now }
-    ensures bound { result ≤ length entries.now }
-    ensures parted { IsPartitionPoint (λ kept. is_above number.0 kept ≡ false)
-        (λ kept. is_above number.0 kept ≡ true) entries.now result }
+    requires { IsNumbered entries.now }
+    ensures { IsParted entries.now number.0 result }
 {
     entries.partition_point(|kept| kept.number.0 <= number.0)
 }
 
 /// The place of a number in the list.
 pub(crate) fn place_of(entries: &[Kept], number: Number) -> Option<usize>
-    requires { Rises entries.now }
+    requires { IsNumbered entries.now }
     ensures { let is_it = has_number number.0 in
         MatchOption result (first_where is_it entries.now ≡ None) (IsFirstPlace is_it entries.now) }
 {
@@ -95,7 +92,7 @@ fn dir_of(place: &Place) -> Option<Number>
 
 /// The place of a number that is of no use.
 fn useless_place(entries: &[Kept], number: Number) -> Option<usize>
-    requires { Rises entries.now }
+    requires { IsNumbered entries.now }
     ensures { MatchOption result (is_useless entries.now number.0 ≡ false)
         (IsUselessPlace entries.now number.0) }
 {
@@ -109,7 +106,7 @@ fn useless_place(entries: &[Kept], number: Number) -> Option<usize>
 
 /// Counts a number fewer times.
 pub(crate) fn lower(entries: &mut Vec<Kept>, number: Number, k: u64)
-    requires rises { Rises entries.old.items }
+    requires numbers { IsNumbered entries.old.items }
     requires held { is_bad_item entries.old.items number.0 k ≡ false }
     ensures lowered { entries.new.items ≡ lowered entries.old.items number.0 k }
     ensures len { vec_len entries.new ≡ vec_len entries.old }
@@ -123,7 +120,7 @@ pub(crate) fn lower(entries: &mut Vec<Kept>, number: Number, k: u64)
 
 /// Drops a number of no use, and then its directory if that is of none, and so on upwards.
 pub(crate) fn prune(entries: &mut Vec<Kept>, number: Number)
-    requires rises { Rises entries.old.items }
+    requires numbers { IsNumbered entries.old.items }
     requires others_of_use { AreOfUseBut (Some number.0) entries.old.items }
     ensures pruned { entries.new.items ≡ left_of_use entries.old.items }
     ensures len { vec_len entries.new ≤ vec_len entries.old }
@@ -141,7 +138,7 @@ pub(crate) fn prune(entries: &mut Vec<Kept>, number: Number)
 /// Climbs from a number to the root or to a number without a name, and keeps the places on the way: the file there.
 /// A way of more steps than there are entries goes in a circle.
 pub(crate) fn climb(entries: &[Kept], way: &mut Vec<usize>, number: Number) -> Option<FileId>
-    requires rises { Rises entries.now }
+    requires numbers { IsNumbered entries.now }
     requires room { length entries.now ≤ vec_capacity way.old }
     ensures way { MatchOption result
         ((tree : Tree) (file : FileId) → IsFileOf tree entries.now number.0 file → ⊥)

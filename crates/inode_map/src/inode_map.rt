@@ -199,9 +199,9 @@ impl InodeMap {
         let Ok(name) = name.copy(alloc) else {
             return Err(GiveFault::NoMemory);
         };
-        if reserve_way(&mut self.way, self.entries.len()).is_err() {
+        let Ok(()) = reserve_way(&mut self.way, self.entries.len()) else {
             return Err(GiveFault::NoMemory);
-        }
+        };
         let number = Number(self.next);
         let place = Place::Linked { parent, name };
         let kept = Kept {
@@ -229,7 +229,10 @@ impl InodeMap {
         if k == 0 || count < k {
             return Forgot::Bad;
         }
-        if count > k || has_kids(self.entries.as_slice(), number) {
+        if count > k {
+            return Forgot::Lowered;
+        }
+        if has_kids(self.entries.as_slice(), number) {
             return Forgot::Lowered;
         }
         Forgot::Dropped

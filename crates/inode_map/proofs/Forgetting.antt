@@ -1,0 +1,116 @@
+-- What becomes of a forget, by the count and by what stands in the directory.
+use Rattle.std.proofs.Common.{◌≡◌, ℕ, ◌-◌, ◌<◌, ◌≤◌, Bool, true, false, cond, length, not, ◌||◌, List, Option, Some, None, refl, sym, ap, ◌∙◌, subst, inl, inr, ◌⊎◌, arith}
+use Rattle.std.specs.Prelude.{◌==◌, nat_lt, if◌then◌else◌}
+use Rattle.std.specs.List.{list_any}
+use Rattle.std.specs.Option.{option_map, option_map_or}
+use Rattle.std.proofs.lemmas.Bool.Decides.{nat_tests}
+use Rattle.eden_base.proofs.MemberLemmas.{some-or}
+use Rattle.eden_base.proofs.NumberTests.{eq-false}
+use Rattle.inode_map.specs.InodeMap.{MapState, has_number, entry_of, count_of, is_kid_of, is_of_use, is_useless, is_bad_item, lowered, left_of_use, forgot, forgotten, AreNumbers}
+use Rattle.inode_map.specs.declared.inode_map.Forgot.{Forgot}
+use Rattle.inode_map.specs.declared.inode_map.Forgot.TheVariants.{Lowered, Dropped, Bad, Root}
+use Rattle.inode_map.specs.declared.inode_map.Kept.{Kept}
+use Rattle.inode_map.specs.EntryPlaces.{AreOfUseBut}
+use Rattle.inode_map.proofs.Changing.{KeepsPlace, lowered-of_use, kids-changed, count_of-entry, count_of-none}
+use Rattle.inode_map.proofs.EntryLemmas.{changed-same, entry_of-number, numbers-changed}
+use Rattle.inode_map.proofs.Giving.{AreKept}
+use Rattle.inode_map.proofs.Striking.{left_of_use-all}
+use Rattle.inode_map.proofs.Walking.{all-of_use, struck-keeps}
+
+-- counted so much less
+abbrev pub less : ℕ → Kept → Kept
+less k kept = record kept { count = kept.count - k }
+
+pub less-keeps : (k : ℕ) → KeepsPlace (less k)
+less-keeps k = record { number = λ x. refl; place = λ x. refl }
+
+-- what is counted is an entry
+pub counted-entry : (es : List Kept) (n : ℕ) → 0 < count_of es n → (kept : Kept) × (entry_of es n ≡ Some kept)
+counted-entry es n some = in_ (some-or (entry_of es n)) where
+  in_ : ((kept : Kept) × (entry_of es n ≡ Some kept)) ⊎ (entry_of es n ≡ None) → (kept : Kept) × (entry_of es n ≡ Some kept)
+  in_ (inl e) = e
+  in_ (inr none) = absurd (let z : count_of es n ≡ 0 = count_of-none es n none in omega arith)
+
+-- whether the number is of use once it is counted less
+pub lowered-useless : (es : List Kept) (n k : ℕ) → (k ≡ 0 → ⊥) → k ≤ count_of es n → is_useless (lowered es n k) n ≡ not (nat_lt 0 (count_of es n - k) || list_any (is_kid_of n) es)
+lowered-useless es n k some few =
+    let e = counted-entry es n (let s : k ≡ 0 → ⊥ = some in omega arith) in
+    let there : entry_of (lowered es n k) n ≡ Some (less k e.0) = changed-same es n (less k) (less-keeps k).number ∙ ap (option_map (less k)) e.1 in
+    let kids : list_any (is_kid_of n) (lowered es n k) ≡ list_any (is_kid_of n) es = kids-changed es n n (less k) (less-keeps k) in
+    ap (λ (o : Option Kept). option_map_or (λ (kept : Kept). not (is_of_use (lowered es n k) kept)) o false) there
+    ∙ ap (λ (m : ℕ). not (nat_lt 0 (e.0.count - k) || list_any (is_kid_of m) (lowered es n k))) (entry_of-number es n e.0 e.1)
+    ∙ ap (λ b. not (nat_lt 0 (e.0.count - k) || b)) kids
+    ∙ ap (λ (m : ℕ). not (nat_lt 0 (m - k) || list_any (is_kid_of n) es)) (sym (count_of-entry es n e.0 e.1))
+
+-- what is neither nothing nor too much is no bad item
+pub good-item : (es : List Kept) (n k : ℕ) → (k ≡ 0 → ⊥) → k ≤ count_of es n → is_bad_item es n k ≡ false
+good-item es n k some few = let z : (k == 0) ≡ false = eq-false k 0 some in let l : nat_lt (count_of es n) k ≡ false = grind (arith, nat_tests) in rw (z, l) refl
+
+-- so what becomes of the forget
+pub forgot-good : (map : MapState) (n k : ℕ) (b c : Bool) → (n == 1) ≡ false → (k ≡ 0 → ⊥) → k ≤ count_of map.entries n → nat_lt 0 (count_of map.entries n - k) ≡ b → list_any (is_kid_of n) map.entries ≡ c →
+    forgot map n k ≡ cond (not (b || c)) Dropped Lowered
+forgot-good map n k b c other some few counted kids =
+    let good : is_bad_item map.entries n k ≡ false = good-item map.entries n k some few in
+    let useless : is_useless (lowered map.entries n k) n ≡ not (b || c) = lowered-useless map.entries n k some few ∙ (ap (λ x. not (x || list_any (is_kid_of n) map.entries)) counted ∙ ap (λ y. not (b || y)) kids) in
+    rw (other, good, useless) refl
+
+-- what the answer says of the forget
+pub record IsTold (map : MapState) (n k : ℕ) (is : Bool) : Type 0 where
+  pub other : (n == 1) ≡ false
+  pub good : is_bad_item map.entries n k ≡ false
+  pub useless : is_useless (lowered map.entries n k) n ≡ is
+
+pub told-lowered : (map : MapState) (n k : ℕ) → Lowered ≡ forgot map n k → IsTold map n k false
+told-lowered map n k h = in_ (n == 1) (is_bad_item map.entries n k) (is_useless (lowered map.entries n k) n) refl refl refl h where
+  in_ : (a b c : Bool) → (n == 1) ≡ a → is_bad_item map.entries n k ≡ b → is_useless (lowered map.entries n k) n ≡ c →
+      Lowered ≡ (if a then Root else if b then Bad else if c then Dropped else Lowered) → IsTold map n k false
+  in_ true b c e f g h' = absurd (let none : ⊥ = cc in none)
+  in_ false true c e f g h' = absurd (let none : ⊥ = cc in none)
+  in_ false false true e f g h' = absurd (let none : ⊥ = cc in none)
+  in_ false false false e f g h' = record { other = e; good = f; useless = g }
+
+pub told-dropped : (map : MapState) (n k : ℕ) → Dropped ≡ forgot map n k → IsTold map n k true
+told-dropped map n k h = in_ (n == 1) (is_bad_item map.entries n k) (is_useless (lowered map.entries n k) n) refl refl refl h where
+  in_ : (a b c : Bool) → (n == 1) ≡ a → is_bad_item map.entries n k ≡ b → is_useless (lowered map.entries n k) n ≡ c →
+      Dropped ≡ (if a then Root else if b then Bad else if c then Dropped else Lowered) → IsTold map n k true
+  in_ true b c e f g h' = absurd (let none : ⊥ = cc in none)
+  in_ false true c e f g h' = absurd (let none : ⊥ = cc in none)
+  in_ false false true e f g h' = record { other = e; good = f; useless = g }
+  in_ false false false e f g h' = absurd (let none : ⊥ = cc in none)
+
+pub counted-more : (count k : ℕ) → k < count → nat_lt 0 (count - k) ≡ true
+counted-more count k h = grind (arith, nat_tests)
+
+pub counted-all : (count k : ℕ) → count ≤ k → nat_lt 0 (count - k) ≡ false
+counted-all count k h = grind (arith, nat_tests)
+
+-- the entries after they were counted less
+pub lowered-numbers : (es : List Kept) (next n k : ℕ) → AreNumbers 2 next es → AreNumbers 2 next (lowered es n k)
+lowered-numbers es next n k are = numbers-changed es 2 next (has_number n) (less k) (less-keeps k).number are
+
+pub lowered-others : (es : List Kept) (n k : ℕ) → AreOfUseBut None es → AreOfUseBut (Some n) (lowered es n k)
+lowered-others es n k useful = lowered-of_use es n (less k) (less-keeps k) useful
+
+-- where the number is of use still, so are all
+pub lowered-kept : (map : MapState) (n k : ℕ) → AreKept map.next map.entries → IsTold map n k false → AreKept map.next (lowered map.entries n k)
+lowered-kept map n k are told = record {
+  numbers = lowered-numbers map.entries map.next n k are.numbers;
+  of_use = all-of_use (lowered map.entries n k) n told.useless (lowered-others map.entries n k are.of_use);
+}
+
+-- what is left of use
+pub struck-kept : (es : List Kept) (next n k : ℕ) → AreKept next es → AreKept next (left_of_use (lowered es n k))
+struck-kept es next n k are = let s = struck-keeps (λ xs. Unit {0}) 2 next (λ xs m numbers useless here. tt) (length (lowered es n k)) (Some n) (lowered es n k) (omega arith)
+        (lowered-numbers es next n k are.numbers) (lowered-others es n k are.of_use) tt in
+    record { numbers = s.numbers; of_use = s.of_use }
+
+-- where the number is of use still, none leaves
+pub forgotten-lowered : (map : MapState) (n k : ℕ) → AreKept map.next map.entries → IsTold map n k false → record map { entries = lowered map.entries n k } ≡ forgotten map n k
+forgotten-lowered map n k are told =
+    let kept = lowered-kept map n k are told in
+    let same : lowered map.entries n k ≡ left_of_use (lowered map.entries n k) = sym (left_of_use-all (lowered map.entries n k) 2 map.next kept.numbers kept.of_use) in
+    let other : (n == 1) ≡ false = told.other in let good : is_bad_item map.entries n k ≡ false = told.good in
+    rw (other, good) (ap (λ (entries : List Kept). record map { entries = entries }) same)
+
+pub forgotten-dropped : (map : MapState) (n k : ℕ) → IsTold map n k true → record map { entries = left_of_use (lowered map.entries n k) } ≡ forgotten map n k
+forgotten-dropped map n k told = let other : (n == 1) ≡ false = told.other in let good : is_bad_item map.entries n k ≡ false = told.good in rw (other, good) refl
