@@ -41,6 +41,11 @@ abbrev pub enters : Tree → Result FileId Errno → Result Effect Errno
 enters tree (Ok file) = Ok (record { tree = tree; file = Some file; counts = true })
 enters tree (Err errno) = Err errno
 
+-- the numbers whose files a row looks at
+abbrev pub looks_at : Request → List Number
+looks_at (Lookup dir name) = dir ∷ []
+looks_at request = []
+
 -- what a request comes to, where `files` tells the file that a number names; one row a request
 abbrev pub comes_to : Tree → (ℕ → Option FileId) → Request → Result Effect Errno
 comes_to tree files (Lookup dir name) = enters tree (found_in tree (files dir.0) name)

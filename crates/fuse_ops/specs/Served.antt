@@ -5,7 +5,7 @@ use Rattle.eden_base.specs.declared.number.FileId.{FileId}
 use Rattle.eden_base.specs.declared.number.Number.{Number}
 use Rattle.checkout.specs.Manifest.{Manifest}
 use Rattle.checkout.specs.Tree.{Tree, tree_of}
-use Rattle.fuse_wire.specs.Ask.{is_ask, nodes}
+use Rattle.fuse_wire.specs.Ask.{is_ask}
 use Rattle.fuse_wire.specs.Given.{given_out}
 use Rattle.fuse_wire.specs.declared.ask.Request.{Request}
 use Rattle.fuse_wire.specs.declared.ask.Request.TheVariants.{Lookup, Forget, BatchForget}
@@ -14,7 +14,7 @@ use Rattle.fuse_wire.specs.declared.reply.Answer.{Answer}
 use Rattle.inode_map.specs.InodeMap.{MapState, IsFileOf, new_map, entry_at, give_fault, given, number_given, forgotten}
 use Rattle.inode_map.specs.declared.inode_map.GiveFault.{GiveFault}
 use Rattle.inode_map.specs.declared.inode_map.GiveFault.TheVariants.{NoNumber, TooMany, NoMemory}
-use Rattle.fuse_ops.specs.Answers.{NumberFault, none_left, at_greatest, Numbers, Effect, comes_to, Answers, tree_after}
+use Rattle.fuse_ops.specs.Answers.{NumberFault, none_left, at_greatest, Numbers, looks_at, comes_to, Answers, tree_after}
 
 -- the numbers that a daemon gave, and the tree of its checkout
 pub record ServedState : Type 0 where
@@ -30,9 +30,9 @@ abbrev pub IsLocated : ServedState → ℕ → Option FileId → Type 0
 IsLocated served n found =
     MatchOption found ((file : FileId) → IsFileOf served.tree served.map.entries n file → ⊥) (IsFileOf served.tree served.map.entries n)
 
--- the files that a request's numbers name for this daemon
+-- the files that the numbers of a request name for this daemon, as far as they are looked at
 abbrev pub Locates : ServedState → Request → (ℕ → Option FileId) → Type 0
-Locates served request files = AllByRecursion (λ (node : Number). IsLocated served node.0 (files node.0)) (nodes request)
+Locates served request files = AllByRecursion (λ (node : Number). IsLocated served node.0 (files node.0)) (looks_at request)
 
 -- the directory and the name whose number a request's success tells, where it tells an entry
 abbrev pub place_told : Request → Option (Number × List ℕ)

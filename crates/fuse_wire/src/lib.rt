@@ -5,7 +5,7 @@ mod ask;
 mod batch;
 mod errno;
 mod fault;
-mod given;
+mod given_out;
 mod header;
 mod item;
 mod layout;

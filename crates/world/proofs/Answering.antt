@@ -1,210 +1,395 @@
--- The answer to a look-up is one that the world may give, and the daemon knows what the world has after it.
-use Rattle.std.proofs.Common.{◌≡◌, ℕ, ◌+◌, ◌^◌, ◌<◌, ◌≤◌, Bool, true, false, List, [], ◌∷◌, ◌++◌, Option, Some, None, Result, Ok, Err, is_some, refl, sym, ap, ◌∙◌, subst, inl, inr, ◌⊎◌, arith}
-use Rattle.std.specs.Prelude.{nat_le, if◌then◌else◌}
-use Rattle.std.specs.Option.{option_map_or}
+-- A daemon's legal answer is one that the world may give, and what the daemon knows after it is what the world has then.
+use Rattle.std.proofs.Common.{◌≡◌, ℕ, ◌+◌, ◌<◌, ◌≤◌, Bool, true, false, List, [], ◌∷◌, Option, Some, None, Result, Ok, Err, is_some, refl, sym, ap, ◌∙◌, subst, inl, inr, ◌⊎◌, arith}
+use Rattle.std.specs.Prelude.{◌==◌, ◌↔◌, IsSome, Contains, nat_le, if◌then◌else◌}
+use Rattle.std.specs.Option.{option_map, option_map_or}
 use Rattle.std.proofs.lemmas.Bool.Decides.{nat_tests}
-use Rattle.eden_base.specs.First.{changed_where}
+use Rattle.eden_base.specs.Limits.{greatest_count, end_of_numbers}
 use Rattle.eden_base.specs.declared.attr.Attr.{Attr}
+use Rattle.eden_base.specs.declared.attr.Kind.{Kind}
+use Rattle.eden_base.specs.declared.attr.Kind.TheVariants.{Dir, File}
 use Rattle.eden_base.specs.declared.errno.Errno.{Errno}
-use Rattle.eden_base.specs.declared.errno.Errno.TheVariants.{ENOMEM, ENOSPC, EOVERFLOW, ESTALE}
+use Rattle.eden_base.specs.declared.errno.Errno.TheVariants.{ESTALE, ENOENT, ENOSPC, EOVERFLOW, EIO, ENOMEM, ENOSYS}
 use Rattle.eden_base.specs.declared.number.FileId.{FileId}
 use Rattle.eden_base.specs.declared.number.Number.{Number}
-use Rattle.broker_core.specs.declared.request.Answer.{Answer}
-use Rattle.broker_core.specs.declared.request.Answer.TheVariants.{Entry, Error}
-use Rattle.broker_core.specs.declared.request.Request.TheVariants.{Lookup}
-use Rattle.inode_map.specs.InodeMap.{MapState, entry_of, entry_at, count_of, stands_at, file_in, give_fault_at, given, number_given, once_more, new_entry, greatest_count, end_of_numbers}
-use Rattle.fuse_ops.specs.Served.{ServedState, found_in, GivesEntry, LooksFound, LooksUp}
-use Rattle.world.specs.World.{World, file_named, times, owed, IsLive, IsNumberOf, IsFree, IsAtGreatest, HasNoNumber, MayAnswerFile, MayAnswerFound, MayAnswer, named_file, named_after, held_after}
+use Rattle.eden_base.proofs.MemberLemmas.{some-IsSome, some-is}
+use Rattle.eden_base.proofs.NumberTests.{eq-true, eq-false, true-eq, false-ne, eq-or}
+use Rattle.checkout.specs.Tree.{Tree, IsTree, child_of, kind_of, root}
+use Rattle.fuse_wire.specs.Given.{given_out}
+use Rattle.fuse_wire.specs.declared.ask.Request.{Request}
+use Rattle.fuse_wire.specs.declared.ask.Request.TheVariants.{Lookup, Getattr, Create, Mkdir, Unlink, Rmdir, Forget, BatchForget, Other}
+use Rattle.fuse_wire.specs.declared.reply.Answer.{Answer}
+use Rattle.fuse_wire.specs.declared.reply.Answer.TheVariants.{Entry, Error}
+use Rattle.inode_map.specs.InodeMap.{MapState, IsFileOf, is_root, entry_of, entry_at, count_of, stands_at, give_fault, give_fault_at, given, number_given}
+use Rattle.inode_map.specs.declared.inode_map.GiveFault.{GiveFault}
+use Rattle.inode_map.specs.declared.inode_map.GiveFault.TheVariants.{NoNumber, TooMany, NoMemory}
 use Rattle.inode_map.specs.declared.inode_map.Kept.{Kept}
-use Rattle.world.proofs.EntryLemmas.{entry_of-first, first-passes, numbers-entry, numbers-bound}
-use Rattle.world.proofs.FileLemmas.{known-entry}
-use Rattle.world.proofs.Fitting.{IsKnown, some-IsSome, known-from, not-one}
-use Rattle.world.proofs.Adding.{at_place}
-use Rattle.world.proofs.Looking.{Knows, Found, served_over, live-known, known-file, found-child, stands-place, number-entry, entry-named, counted-knows, added-knows}
+use Rattle.inode_map.proofs.EntryLemmas.{entry_of-first, numbers-entry, numbers-bound}
+use Rattle.inode_map.proofs.FileLemmas.{IsFileOf-same, named-known}
+use Rattle.fuse_ops.specs.Answers.{NumberFault, none_left, at_greatest, Effect, found_in, found_in_dir, enters, comes_to, Tells, AnswersCounted, Answers, tree_after, file_told}
+use Rattle.fuse_ops.specs.Gifts.{served_over, Gave, IsPlaced, NumberAtPlace}
+use Rattle.fuse_ops.specs.Served.{ServedState, IsLocated, numbers_at, number_fault, map_after, place_told, IsLegal}
+use Rattle.fuse_ops.specs.Soundness.{IsSound}
+use Rattle.world.specs.World.{World, file_named, gives, owed, IsLive, IsNumberOf, IsFree, MayNumber, IsAtGreatest, HasNoNumber, MayBeGiven, IsAgainst, numbers_of, effect_in, IsStale, MayAnswer, names_after}
+use Rattle.world.specs.Agreement.{Knows}
+use Rattle.world.proofs.Laws.{giving, placing}
 
--- what a look-up came to
-pub record Looked (w : World) (dir : Number) (name : List ℕ) (answer : Answer) (later : ServedState) : Type 0 where
-  pub may : MayAnswer w (Lookup dir name) answer
-  pub now : MapState
-  pub later_is : later ≡ served_over w.tree now
-  pub knows : Knows w.tree (named_after w (Lookup dir name) answer) (held_after w.held answer) now
+-- an answer is one of the world's, and the daemon knows what the world has after it
+pub record Worked (w : World) (request : Request) (answer : Answer) (later : ServedState) : Type 0 where
+  pub may : MayAnswer w request answer
+  pub is_tree : IsTree (tree_after w.tree (effect_in w request) answer)
+  pub knows : Knows (tree_after w.tree (effect_in w request) answer) (names_after w.names (given_out answer) (file_told (effect_in w request)))
+      (λ n. owed w n + (if gives n answer then 1 else 0)) later
 
-named_error : (names : List (ℕ × FileId)) (found : Result FileId Errno) (e : Errno) → named_file names found (Error e) ≡ names
-named_error names (Ok file) e = refl
-named_error names (Err f) e = refl
+-- what is owed no more and no less is known the same
+pub knows-along : (tree : Tree) (names : List (ℕ × FileId)) (owes other : ℕ → ℕ) (served : ServedState) → ((n : ℕ) → owes n ≡ other n) → Knows tree names owes served → Knows tree names other served
+knows-along tree names owes other served same k = record { tree_is = k.tree_is; counts = λ n d. k.counts n d ∙ same n; files = k.files; sound = k.sound; numbers = k.numbers }
 
 -- an error changes nothing
-refused : (w : World) (m : MapState) (dir : Number) (name : List ℕ) (answer : Answer) (later : ServedState) (e : Errno) → Knows w.tree w.names w.held m →
-    answer ≡ Error e → later ≡ served_over w.tree m → MayAnswer w (Lookup dir name) (Error e) → Looked w dir name answer later
-refused w m dir name answer later e knows is same may = subst (λ a. Looked w dir name a later) (sym is) (record {
+refused : (w : World) (served later : ServedState) (request : Request) (errno : Errno) → IsTree w.tree → Knows w.tree w.names (owed w) served → later ≡ served → MayAnswer w request (Error errno) →
+    Worked w request (Error errno) later
+refused w served later request errno is k same may = record {
   may = may;
-  now = m;
-  later_is = same;
-  knows = subst (λ (names : List (ℕ × FileId)). Knows w.tree names w.held m) (sym (named_error w.names (found_in w.tree (file_named w.names dir.0) name) e)) knows;
-})
+  is_tree = is;
+  knows = subst (λ (s : ServedState). Knows w.tree w.names (λ n. owed w n + 0) s) (sym same) (knows-along w.tree w.names (owed w) (λ n. owed w n + 0) served (λ n. omega arith) k);
+}
 
--- the numbers after an entry for a file
-named_entry : (w : World) (dir : Number) (name : List ℕ) (above file : FileId) (number : Number) (attr : Attr) → file_named w.names dir.0 ≡ Some above → found_in w.tree (Some above) name ≡ Ok file →
-    named_after w (Lookup dir name) (Entry number attr) ≡ (if is_some (file_named w.names number.0) then w.names else (number.0, file) ∷ w.names)
-named_entry w dir name above file number attr named found =
-    ap (λ (o : Option FileId). named_file w.names (found_in w.tree o name) (Entry number attr)) named ∙ ap (λ (r : Result FileId Errno). named_file w.names r (Entry number attr)) found
+-- the kernel's count of a number is the daemon's
+counted_entry : (es : List Kept) (n : ℕ) → 0 < count_of es n → IsSome (entry_of es n)
+counted_entry es n some = in_ (entry_of es n) refl some where
+  in_ : (o : Option Kept) → entry_of es n ≡ o → 0 < option_map_or (λ (k : Kept). k.count) o 0 → IsSome (entry_of es n)
+  in_ None e h = absurd (omega arith)
+  in_ (Some k) e h = some-IsSome (entry_of es n) k e
 
--- a file was found
-found_in_place : (w : World) (m : MapState) (dir : Number) (name : List ℕ) (above file : FileId) (answer : Answer) (later : ServedState) → ((n : ℕ) → owed w n ≡ times n w.held) →
-    Found w.tree w.names w.held m dir name above file → found_in w.tree (Some above) name ≡ Ok file → file_named w.names dir.0 ≡ Some above →
-    (o : Option Kept) → entry_at m.entries dir.0 name ≡ o → GivesEntry (served_over w.tree m) dir name file (give_fault_at m o) answer later → Looked w dir name answer later
-unfolding IsKnown
-found_in_place w m dir name above file answer later owes f found named (Some kept) at gives = full_in (nat_le greatest_count kept.count) refl gives where
+-- what is live names a file, for the daemon too
+pub live-named : (w : World) (m : MapState) → Knows w.tree w.names (owed w) (served_over w.tree m) → (n : ℕ) → IsLive w n → (file : FileId) × IsFileOf w.tree m.entries n file
+live-named w m k n (inl one) = (root, is_root n root one refl)
+live-named w m k n (inr some) = in_ (eq-or n 1) where
+  in_ : (n ≡ 1) ⊎ (n ≡ 1 → ⊥) → (file : FileId) × IsFileOf w.tree m.entries n file
+  in_ (inl one) = (root, is_root n root one refl)
+  in_ (inr other) = let c : count_of m.entries n ≡ owed w n = k.counts n other in
+      let f = (k.sound).names_a_file n (counted_entry m.entries n (omega arith)) in (f.0, f.1)
+
+-- a live number of the file names it for the daemon
+number-names : (w : World) (m : MapState) → Knows w.tree w.names (owed w) (served_over w.tree m) → (n : ℕ) (file : FileId) → IsNumberOf w file n → IsFileOf w.tree m.entries n file
+number-names w m k n file is =
+    let f = live-named w m k n is.live in
+    let same : f.0 ≡ file = (let s : Some f.0 ≡ Some file = sym (k.files n f.0 f.1) ∙ is.named in cc) in
+    subst (λ (x : FileId). IsFileOf w.tree m.entries n x) same f.1
+
+-- a directory's child was found
+found-child : (tree : Tree) (dir file : FileId) (name : List ℕ) → found_in tree (Some dir) name ≡ Ok file → child_of tree dir name ≡ Some file
+found-child tree dir file name h = kind_in (kind_of tree dir) h where
+  child_in : (o : Option FileId) → option_map_or (λ (f : FileId). Ok f) o (Err ENOENT) ≡ Ok file → o ≡ Some file
+  child_in None e = absurd (let none : ⊥ = cc in none)
+  child_in (Some f) e = let same : f ≡ file = cc in ap Some same
+
+  kind_in : (k : Option Kind) → found_in_dir tree dir name k ≡ Ok file → child_of tree dir name ≡ Some file
+  kind_in (Some Dir) e = child_in (child_of tree dir name) e
+  kind_in (Some File) e = absurd (let none : ⊥ = cc in none)
+  kind_in None e = absurd (let none : ⊥ = cc in none)
+
+-- a lookup that found a file, in a directory that the daemon knows
+record Found (w : World) (m : MapState) (dir : Number) (name : List ℕ) (above file : FileId) : Type 0 where
+  is_tree : IsTree w.tree
+  knows : Knows w.tree w.names (owed w) (served_over w.tree m)
+  at : IsFileOf w.tree m.entries dir.0 above
+  found : found_in w.tree (Some above) name ≡ Ok file
+
+placed : (w : World) (m : MapState) (dir : Number) (name : List ℕ) (above file : FileId) → Found w m dir name above file → IsPlaced (served_over w.tree m) dir.0 name above file
+placed w m dir name above file f = record { is_tree = f.is_tree; sound = (f.knows).sound; at = f.at; child = found-child w.tree above file name f.found }
+
+-- what the lookup comes to in the world
+comes : (w : World) (m : MapState) (dir : Number) (name : List ℕ) (above file : FileId) → Found w m dir name above file → effect_in w (Lookup dir name) ≡ enters w.tree (Ok file)
+comes w m dir name above file f = ap (λ (o : Option FileId). enters w.tree (found_in w.tree o name)) ((f.knows).files dir.0 above f.at) ∙ ap (λ (r : Result FileId Errno). enters w.tree r) f.found
+
+-- the answers of the world to it, by what stands against the file's number
+may_in : (w : World) (m : MapState) (dir : Number) (name : List ℕ) (above file : FileId) (answer : Answer) → Found w m dir name above file →
+    Answers (numbers_of w) (Lookup dir name) (enters w.tree (Ok file)) answer → MayAnswer w (Lookup dir name) answer
+may_in w m dir name above file answer f a = inr (subst (λ (r : Result Effect Errno). Answers (numbers_of w) (Lookup dir name) r answer) (sym (comes w m dir name above file f)) a)
+
+-- the names after a number was given out for the file
+abbrev named : List (ℕ × FileId) → ℕ → FileId → List (ℕ × FileId)
+named names n file = if is_some (file_named names n) then names else (n, file) ∷ names
+
+-- the names of numbers after it: the number names the file, and each other what it named
+record IsNamed (names : List (ℕ × FileId)) (n : ℕ) (file : FileId) : Type 0 where
+  here : file_named (named names n file) n ≡ Some file
+  others : (m : ℕ) → (m ≡ n → ⊥) → file_named (named names n file) m ≡ file_named names m
+
+is-named : (names : List (ℕ × FileId)) (n : ℕ) (file : FileId) → (file_named names n ≡ None) ⊎ (file_named names n ≡ Some file) → IsNamed names n file
+is-named names n file (inr e) = record { here = rw e e; others = λ m d. rw e refl }
+is-named names n file (inl e) = record {
+  here = rw e (let t : (n == n) ≡ true = eq-true n n refl in rw t refl);
+  others = λ m d. rw e (let t : (n == m) ≡ false = eq-false n m (λ s. d (sym s)) in rw t refl);
+}
+
+-- what the daemon knows after it gave the number
+gave-knows : (w : World) (m new : MapState) (n : ℕ) (file : FileId) → Knows w.tree w.names (owed w) (served_over w.tree m) → Gave w.tree m new n file →
+    Knows w.tree (named w.names n file) (λ j. owed w j + (if n == j then 1 else 0)) (served_over w.tree new)
+gave-knows w m new n file k g = record {
+  tree_is = refl;
+  counts = λ j d. count_in j d (n == j) refl;
+  files = λ j other at. file_in j other at (eq-or j n);
+  sound = g.sound;
+  numbers = λ j. number_in j (eq-or j n) g.old_or_next;
+} where
+  old_named : (file_named w.names n ≡ None) ⊎ (file_named w.names n ≡ Some file)
+  old_named = old_in g.old_or_next where
+    old_in : (IsFileOf w.tree m.entries n file × (new.next ≡ m.next)) ⊎ ((n ≡ m.next) × (new.next ≡ m.next + 1)) → (file_named w.names n ≡ None) ⊎ (file_named w.names n ≡ Some file)
+    old_in (inl (at, e)) = inr (k.files n file at)
+    old_in (inr (is, e)) = inl (none_in (file_named w.names n) refl) where
+      none_in : (o : Option FileId) → file_named w.names n ≡ o → o ≡ None
+      none_in None e' = refl
+      none_in (Some x) e' = absurd (let r = (k.numbers n).0 (ap is_some e') in omega (arith, r.1))
+
+  is : IsNamed w.names n file
+  is = is-named w.names n file old_named
+
+  count_in : (j : ℕ) → (j ≡ 1 → ⊥) → (b : Bool) → (n == j) ≡ b → count_of new.entries j ≡ owed w j + (if b then 1 else 0)
+  count_in j d true e = let same : n ≡ j = true-eq n j e in
+      let one : count_of new.entries n ≡ owed w n + 1 = g.raised ∙ ap (λ i. i + 1) (k.counts n (λ s. d (sym same ∙ s))) in
+      subst (λ (i : ℕ). count_of new.entries i ≡ owed w i + 1) same one
+  count_in j d false e = let c : count_of new.entries j ≡ owed w j = g.others_count j (λ s. false-ne n j e (sym s)) ∙ k.counts j d in omega arith
+
+  file_in : (j : ℕ) (other : FileId) → IsFileOf w.tree new.entries j other → (j ≡ n) ⊎ (j ≡ n → ⊥) → file_named (named w.names n file) j ≡ Some other
+  file_in j other at (inl same) =
+      let there : IsFileOf w.tree new.entries n other = subst (λ (i : ℕ). IsFileOf w.tree new.entries i other) same at in
+      subst (λ (i : ℕ). file_named (named w.names n file) i ≡ Some other) (sym same) (is.here ∙ ap Some (IsFileOf-same w.tree new.entries n file other g.names there))
+  file_in j other at (inr d) = is.others j d ∙ k.files j other ((g.others_name j other d).0 at)
+
+  next_in : (IsFileOf w.tree m.entries n file × (new.next ≡ m.next)) ⊎ ((n ≡ m.next) × (new.next ≡ m.next + 1)) → (new.next ≡ m.next) ⊎ ((n ≡ m.next) × (new.next ≡ m.next + 1))
+  next_in (inl (at, e)) = inl e
+  next_in (inr r) = inr r
+
+  number_in : (j : ℕ) → (j ≡ n) ⊎ (j ≡ n → ⊥) → (IsFileOf w.tree m.entries n file × (new.next ≡ m.next)) ⊎ ((n ≡ m.next) × (new.next ≡ m.next + 1)) →
+      IsSome (file_named (named w.names n file) j) ↔ ((1 ≤ j) × (j < new.next))
+  number_in j (inl same) next =
+      let low : 2 ≤ n = g.low in let high : n < new.next = g.high in
+      (λ s. (omega arith, omega arith), λ r. subst (λ (i : ℕ). IsSome (file_named (named w.names n file) i)) (sym same) (some-IsSome (file_named (named w.names n file) n) file is.here))
+  number_in j (inr d) next =
+      let e = is.others j d in
+      (λ s. let r = (k.numbers j).0 (subst (λ (o : Option FileId). IsSome o) e s) in (r.0, below_in (next_in next) r.1),
+      λ r. subst (λ (o : Option FileId). IsSome o) (sym e) ((k.numbers j).1 (r.0, above_in (next_in next) r.1))) where
+        below_in : (new.next ≡ m.next) ⊎ ((n ≡ m.next) × (new.next ≡ m.next + 1)) → j < m.next → j < new.next
+        below_in (inl e') l = omega arith
+        below_in (inr (is', e')) l = omega arith
+
+        above_in : (new.next ≡ m.next) ⊎ ((n ≡ m.next) × (new.next ≡ m.next + 1)) → j < new.next → j < m.next
+        above_in (inl e') l = omega arith
+        above_in (inr (is', e')) l = omega (arith, d)
+
+-- the answers for a file whose number may be held once more
+given_in : (w : World) (m : MapState) (dir : Number) (name : List ℕ) (above file : FileId) (answer : Answer) (later : ServedState) → Found w m dir name above file →
+    give_fault m dir.0 name ≡ None → MayBeGiven w file → MayNumber w file (number_given m dir.0 name).0 →
+    Tells (Lookup dir name) w.tree file (λ n. n ≡ (number_given m dir.0 name).0) answer ⊎ ((answer ≡ Error EIO) × ⊥) ⊎ ((answer ≡ Error ENOMEM) × (entry_at m.entries dir.0 name ≡ None)) →
+    later ≡ served_over (tree_after w.tree (enters w.tree (Ok file)) answer) (map_after m (Some (dir, name)) (given_out answer)) → Worked w (Lookup dir name) answer later
+given_in w m dir name above file answer later f clear may number (inr (inl (e, none))) makes = absurd none
+given_in w m dir name above file answer later f clear may number (inr (inr (e, absent))) makes =
+    subst (λ (a : Answer). Worked w (Lookup dir name) a later) (sym e)
+    (refused w (served_over w.tree m) later (Lookup dir name) ENOMEM f.is_tree f.knows
+    (makes ∙ ap (λ (a : Answer). served_over (tree_after w.tree (enters w.tree (Ok file)) a) (map_after m (Some (dir, name)) (given_out a))) e)
+    (may_in w m dir name above file (Error ENOMEM) f (None, may, inr (inr (refl, tt)))))
+given_in w m dir name above file answer later f clear may number (inl t) makes =
+    subst (λ (a : Answer). Worked w (Lookup dir name) a later) (sym (t.is)) (record {
+      may = may_in w m dir name above file entry f (None, may, inl (record {
+        number = t.number;
+        attr = t.attr;
+        is = refl;
+        is_number = subst (λ (i : ℕ). MayNumber w file i) (sym (t.is_number)) number;
+        is_attr = t.is_attr;
+      }));
+      is_tree = subst (λ (r : Result Effect Errno). IsTree (tree_after w.tree r entry)) (sym came) f.is_tree;
+      knows = subst (λ (r : Result Effect Errno). Knows (tree_after w.tree r entry) (names_after w.names (Some t.number) (file_told r)) (λ j. owed w j + (if gives j entry then 1 else 0)) later) (sym came) known;
+    }) where
+      n : ℕ
+      n = (number_given m dir.0 name).0
+
+      entry : Answer
+      entry = Entry t.number t.attr
+
+      came : effect_in w (Lookup dir name) ≡ enters w.tree (Ok file)
+      came = comes w m dir name above file f
+
+      made : later ≡ served_over w.tree (given m dir name)
+      made = makes ∙ ap (λ (a : Answer). served_over (tree_after w.tree (enters w.tree (Ok file)) a) (map_after m (Some (dir, name)) (given_out a))) (t.is)
+
+      gave : Knows w.tree (named w.names n file) (λ j. owed w j + (if n == j then 1 else 0)) later
+      gave = subst (λ (s : ServedState). Knows w.tree (named w.names n file) (λ j. owed w j + (if n == j then 1 else 0)) s) (sym made)
+          (gave-knows w m (given m dir name) n file f.knows (giving (served_over w.tree m) dir name above file (placed w m dir name above file f) clear))
+
+      known : Knows w.tree (names_after w.names (Some t.number) (Some file)) (λ j. owed w j + (if gives j entry then 1 else 0)) later
+      known = subst (λ (i : ℕ). Knows w.tree (named w.names i file) (λ j. owed w j + (if i == j then 1 else 0)) later) (sym (t.is_number)) gave
+
+-- why no number is given
+full_in : (w : World) (m : MapState) (dir : Number) (name : List ℕ) (above file : FileId) (answer : Answer) (later : ServedState) (fault : NumberFault) → Found w m dir name above file →
+    IsAgainst w file (Some fault) → answer ≡ Error (Rattle.fuse_ops.specs.Answers.number_errno fault) →
+    later ≡ served_over (tree_after w.tree (enters w.tree (Ok file)) answer) (map_after m (Some (dir, name)) (given_out answer)) → Worked w (Lookup dir name) answer later
+full_in w m dir name above file answer later fault f against e makes =
+    subst (λ (a : Answer). Worked w (Lookup dir name) a later) (sym e)
+    (refused w (served_over w.tree m) later (Lookup dir name) (Rattle.fuse_ops.specs.Answers.number_errno fault) f.is_tree f.knows
+    (makes ∙ ap (λ (a : Answer). served_over (tree_after w.tree (enters w.tree (Ok file)) a) (map_after m (Some (dir, name)) (given_out a))) e)
+    (may_in w m dir name above file (Error (Rattle.fuse_ops.specs.Answers.number_errno fault)) f (Some fault, against, refl)))
+
+-- the file that was found is not the root
+found-no_root : (w : World) (m : MapState) (dir : Number) (name : List ℕ) (above file : FileId) → Found w m dir name above file → file.0 ≡ 1 → ⊥
+found-no_root w m dir name above file f one = let low : 1 < file.0 = (f.is_tree).root_has_no_link above name file (found-child w.tree above file name f.found) in omega arith
+
+-- a live number of the file is the one whose entry names it
+number-same : (w : World) (m : MapState) (dir : Number) (name : List ℕ) (above file : FileId) (k : ℕ) (kept : Kept) → Found w m dir name above file →
+    entry_of m.entries k ≡ Some kept → IsFileOf w.tree m.entries k file → (j : ℕ) → IsNumberOf w file j → j ≡ k
+number-same w m dir name above file k kept f entry names j is = in_ (named-known w.tree m.entries j file there) where
+  there : IsFileOf w.tree m.entries j file
+  there = number-names w m f.knows j file is
+
+  in_ : (j ≡ 1) ⊎ ((x : Kept) × (entry_of m.entries j ≡ Some x)) → j ≡ k
+  in_ (inl one) = absurd (found-no_root w m dir name above file f (ap (λ (x : FileId). x.0) (IsFileOf-same w.tree m.entries j file root there (is_root j root one refl))))
+  in_ (inr (x, e)) = ((f.knows).sound).files_are_apart j k file (some-IsSome (entry_of m.entries j) x e) (some-IsSome (entry_of m.entries k) kept entry) there names
+
+-- what stands against a place's number is answered, and else the number is given
+by_fault : (w : World) (m : MapState) (dir : Number) (name : List ℕ) (above file : FileId) (answer : Answer) (later : ServedState) (told : Option GiveFault) → Found w m dir name above file →
+    give_fault m dir.0 name ≡ told → IsAgainst w file (number_fault told) → (told ≡ None → MayNumber w file (number_given m dir.0 name).0) → (told ≡ Some NoMemory → ⊥) →
+    (fault : Option NumberFault) → fault ≡ number_fault (give_fault m dir.0 name) → AnswersCounted (numbers_at m (Some (dir, name))) (Lookup dir name) w.tree file fault answer →
+    later ≡ served_over (tree_after w.tree (enters w.tree (Ok file)) answer) (map_after m (Some (dir, name)) (given_out answer)) → Worked w (Lookup dir name) answer later
+by_fault w m dir name above file answer later told f e against number real fault is answers makes = in_ told e against number real (subst (λ (x : Option NumberFault). AnswersCounted (numbers_at m (Some (dir, name))) (Lookup dir name) w.tree file x answer) (is ∙ ap number_fault e) answers) where
+  in_ : (t : Option GiveFault) → give_fault m dir.0 name ≡ t → IsAgainst w file (number_fault t) → (t ≡ None → MayNumber w file (number_given m dir.0 name).0) → (t ≡ Some NoMemory → ⊥) →
+      AnswersCounted (numbers_at m (Some (dir, name))) (Lookup dir name) w.tree file (number_fault t) answer → Worked w (Lookup dir name) answer later
+  in_ (Some NoNumber) e' ag nu re a = full_in w m dir name above file answer later none_left f ag a makes
+  in_ (Some TooMany) e' ag nu re a = full_in w m dir name above file answer later at_greatest f ag a makes
+  in_ (Some NoMemory) e' ag nu re a = absurd (re refl)
+  in_ None e' ag nu re a = given_in w m dir name above file answer later f e' ag (nu refl) a makes
+
+-- what a lookup that found a file is answered, by the entry of its place
+Asked : World → MapState → Number → List ℕ → FileId → FileId → Answer → ServedState → Type 0
+Asked w m dir name above file answer later = (fault : Option NumberFault) → fault ≡ number_fault (give_fault m dir.0 name) → AnswersCounted (numbers_at m (Some (dir, name))) (Lookup dir name) w.tree file fault answer →
+    later ≡ served_over (tree_after w.tree (enters w.tree (Ok file)) answer) (map_after m (Some (dir, name)) (given_out answer)) → Worked w (Lookup dir name) answer later
+
+-- a place with a number: it may be given out once more, or is counted as often as may be
+old_in : (w : World) (m : MapState) (dir : Number) (name : List ℕ) (above file : FileId) (answer : Answer) (later : ServedState) (kept : Kept) → Found w m dir name above file →
+    entry_at m.entries dir.0 name ≡ Some kept → IsFileOf w.tree m.entries kept.number.0 file → Asked w m dir name above file answer later
+unfolding Asked
+old_in w m dir name above file answer later kept f at names = in_ (nat_le greatest_count kept.count) refl where
   k : ℕ
   k = kept.number.0
 
+  sound : IsSound (served_over w.tree m)
+  sound = (f.knows).sound
+
   entry : entry_of m.entries k ≡ Some kept
-  entry = entry_of-first m.entries 2 m.next (stands_at dir.0 name) kept f.knows.fits.numbers at
+  entry = entry_of-first m.entries 2 m.next (stands_at dir.0 name) kept sound.numbers at
 
-  place : kept.place ≡ Rattle.eden_base.specs.declared.place.Place.TheVariants.Linked dir name
-  place = stands-place dir name kept (first-passes m.entries (stands_at dir.0 name) kept at)
+  bounds : (2 ≤ k) × (k < m.next)
+  bounds = numbers-entry m.entries 2 m.next k kept sound.numbers entry
 
-  there : file_in m.next w.tree m.entries k ≡ Some file
-  there = entry-named w.tree w.names w.held m dir name above file k kept f entry place
+  counted : owed w k ≡ kept.count
+  counted = sym ((f.knows).counts k (λ one. let low : 2 ≤ k = bounds.0 in omega arith)) ∙ ap (λ (o : Option Kept). option_map_or (λ (x : Kept). x.count) o 0) entry
 
-  is_named : file_named w.names k ≡ Some file
-  is_named = sym (f.knows.files k (inr (some-IsSome (entry_of m.entries k) kept entry))) ∙ there
+  named_so : file_named w.names k ≡ Some file
+  named_so = (f.knows).files k file names
 
-  counted : count_of m.entries k ≡ kept.count
-  counted = ap (λ (o : Option Kept). option_map_or (λ (y : Kept). y.count) o 0) entry
+  is_it : (number_given m dir.0 name).0 ≡ k
+  is_it = ap (λ (o : Option Kept). (option_map_or (λ (x : Kept). x.number) o (record { 0 = m.next })).0) at
 
-  owes_count : owed w k ≡ kept.count
-  owes_count = owes k ∙ sym (f.knows.counts k (not-one m.entries m.next k kept f.knows.fits.numbers entry)) ∙ counted
-
-  -- a live number of the file is this one
-  only : (n : ℕ) → IsNumberOf w file n → n ≡ k
-  only n is = let e = number-entry w m dir name above file owes f n is in f.knows.fits.places_are_apart n k e.0 kept e.1 entry (e.2 ∙ sym place)
-
-  found_answer : (a : Answer) → MayAnswerFile w file a → MayAnswer w (Lookup dir name) a
-  found_answer a may = inr (above, named, subst (λ r. MayAnswerFound w r a) (sym found) may)
-
-  number_is : number_given m dir.0 name ≡ kept.number
-  number_is = ap (λ (o : Option Kept). option_map_or (λ (y : Kept). y.number) o (record { 0 = m.next })) at
-
-  full_in : (b : Bool) → nat_le greatest_count kept.count ≡ b → GivesEntry (served_over w.tree m) dir name file (if b then Some Rattle.inode_map.specs.declared.inode_map.GiveFault.TheVariants.TooMany else None) answer later → Looked w dir name answer later
-  full_in true e g = let most : kept.count ≤ greatest_count = f.knows.fits.counts_fit k kept entry in
-      let least : greatest_count ≤ kept.count = grind (arith, nat_tests) in
-      refused w m dir name answer later EOVERFLOW f.knows g.0 g.1
-      (let oc : owed w k ≡ kept.count = owes_count in found_answer (Error EOVERFLOW) (k, record { number = record { live = inr (omega arith); named = is_named }; greatest = omega arith }))
-  full_in false e g = answer_in answer g where
-    room : kept.count + 1 ≤ greatest_count
-    room = grind (arith, nat_tests)
-
-    not_full : (n : ℕ) → IsAtGreatest w file n → ⊥
-    not_full n is = let same : n ≡ k = only n is.number in let c : owed w k ≡ greatest_count = subst (λ (j : ℕ). owed w j ≡ greatest_count) same is.greatest in let r : kept.count + 1 ≤ greatest_count = room in let oc : owed w k ≡ kept.count = owes_count in omega arith
-
-    may_number : (b : Bool) → nat_le 1 kept.count ≡ b → IsNumberOf w file k ⊎ IsFree w file k
-    may_number true t = inl (let some : 1 ≤ kept.count = grind (arith, nat_tests) in let oc : owed w k ≡ kept.count = owes_count in record { live = inr (omega arith); named = is_named })
-    may_number false t = inr (let none : kept.count ≡ 0 = grind (arith, nat_tests) in let r = numbers-entry m.entries 2 m.next k kept f.knows.fits.numbers entry in let fit : m.next < 2 ^ 63 = f.knows.fits.numbers_fit in record {
-      no_number = λ n is. let same : n ≡ k = only n is in let z : owed w n ≡ 0 = subst (λ (j : ℕ). owed w j ≡ 0) (sym same) (owes_count ∙ none) in live_in n same z is.live;
-      low = r.0;
-      high = omega (arith, r.1);
-      named = inr is_named;
+  may : MayNumber w file k
+  may = live_in (eq-or (owed w k) 0) where
+    live_in : (owed w k ≡ 0) ⊎ (owed w k ≡ 0 → ⊥) → MayNumber w file k
+    live_in (inr some) = inl (record { live = inr (omega (arith, some)); named = named_so })
+    live_in (inl none) = inr (record {
+      no_number = λ j is. live_is j is (number-same w m dir name above file k kept f entry names j is) is.live;
+      low = bounds.0;
+      high = let fit : m.next ≤ end_of_numbers = sound.numbers_fit in let below : k < m.next = bounds.1 in omega arith;
+      named = inr named_so;
     }) where
-      live_in : (n : ℕ) → n ≡ k → owed w n ≡ 0 → IsLive w n → ⊥
-      live_in n same z (inl one) = not-one m.entries m.next k kept f.knows.fits.numbers entry (sym same ∙ one)
-      live_in n same z (inr some) = omega arith
+      live_is : (j : ℕ) → IsNumberOf w file j → j ≡ k → IsLive w j → ⊥
+      live_is j is same (inl one) = let low : 2 ≤ k = bounds.0 in omega arith
+      live_is j is same (inr some) = let none' : owed w j ≡ 0 = ap (owed w) same ∙ none in omega arith
 
-    answer_in : (a : Answer) → GivesEntry (served_over w.tree m) dir name file None a later → Looked w dir name a later
-    answer_in (Entry number attr) (number_eq, attr_eq, later_eq) =
-        let same : number ≡ kept.number = number_eq ∙ number_is in
-        let now : MapState = given m dir name in
-        let given_is : now ≡ record m { entries = changed_where (stands_at dir.0 name) once_more m.entries } =
-        ap (λ (o : Option Kept). if is_some o then record m { entries = changed_where (stands_at dir.0 name) once_more m.entries } else record m { entries = m.entries ++ new_entry m.next dir name ∷ []; next = m.next + 1 }) at in
-        let names_is : named_after w (Lookup dir name) (Entry number attr) ≡ w.names =
-        named_entry w dir name above file number attr named found ∙ ap (λ (o : Option FileId). if is_some o then w.names else (number.0, file) ∷ w.names) (ap (λ (j : Number). file_named w.names j.0) same ∙ is_named) in
-        record {
-          may = found_answer (Entry number attr) (attr_eq, not_full, subst (λ (j : Number). IsNumberOf w file j.0 ⊎ IsFree w file j.0) (sym same) (may_number (nat_le 1 kept.count) refl));
-          now = now;
-          later_is = later_eq;
-          knows = subst (λ (names : List (ℕ × FileId)). Knows w.tree names (number.0 ∷ w.held) now) (sym names_is)
-              (subst (λ (j : Number). Knows w.tree w.names (j.0 ∷ w.held) now) (sym same)
-              (subst (λ (x : MapState). Knows w.tree w.names (k ∷ w.held) x) (sym given_is) (counted-knows w.tree w.names w.held m dir name kept f.knows at room)));
-        }
-    answer_in (Error ENOMEM) (absent, later_eq) = absurd (let s : Some kept ≡ None = sym at ∙ absent in let none : ⊥ = cc in none)
-    answer_in (Error e') h = absurd h
-found_in_place w m dir name above file answer later owes f found named None at gives = full_in (nat_le end_of_numbers m.next) refl gives where
-  -- the file has no live number
-  no_number : (n : ℕ) → IsNumberOf w file n → ⊥
-  no_number n is = let e = number-entry w m dir name above file owes f n is in
-      let t = at_place dir.0 name e.0 e.2 in
-      let g = Rattle.world.proofs.EntryLemmas.first-none m.entries (Rattle.inode_map.specs.InodeMap.has_number n) (stands_at dir.0 name) e.0 at e.1 in
-      let c : true ≡ false = sym t ∙ g in let none : ⊥ = cc in none
+  in_ : (b : Bool) → nat_le greatest_count kept.count ≡ b → Asked w m dir name above file answer later
+  in_ true e = by_fault w m dir name above file answer later (Some TooMany) f (ap (give_fault_at m) at ∙ ap (λ (b : Bool). if b then Some TooMany else None) e)
+      (k, record { number = record { live = inr some; named = named_so }; greatest = most }) (λ h. absurd (let none : ⊥ = cc in none)) (λ h. let none : ⊥ = cc in none) where
+        most : owed w k ≡ greatest_count
+        most = let l : greatest_count ≤ kept.count = grind (arith, nat_tests) in let h : kept.count ≤ greatest_count = sound.counts_fit k kept entry in let c : owed w k ≡ kept.count = counted in omega arith
 
-  not_full : (n : ℕ) → IsAtGreatest w file n → ⊥
-  not_full n is = no_number n is.number
+        some : 0 < owed w k
+        some = let c : owed w k ≡ greatest_count = most in omega arith
+  in_ false e = by_fault w m dir name above file answer later None f (ap (give_fault_at m) at ∙ ap (λ (b : Bool). if b then Some TooMany else None) e)
+      (record { number = k; may = may; not_greatest = λ j is. less j is (number-same w m dir name above file k kept f entry names j is.number) }) (λ h. subst (λ (i : ℕ). MayNumber w file i) (sym is_it) may) (λ h. let none : ⊥ = cc in none) where
+        less : (j : ℕ) → IsAtGreatest w file j → j ≡ k → ⊥
+        less j is same = let l : kept.count < greatest_count = grind (arith, nat_tests) in let g : owed w j ≡ greatest_count = is.greatest in let c : owed w j ≡ kept.count = ap (owed w) same ∙ counted in omega arith
 
-  found_answer : (a : Answer) → MayAnswerFile w file a → MayAnswer w (Lookup dir name) a
-  found_answer a may = inr (above, named, subst (λ r. MayAnswerFound w r a) (sym found) may)
+-- a place without a number: the next one is given, or none is left
+new_in : (w : World) (m : MapState) (dir : Number) (name : List ℕ) (above file : FileId) (answer : Answer) (later : ServedState) → Found w m dir name above file →
+    entry_at m.entries dir.0 name ≡ None → ((j : ℕ) → IsFileOf w.tree m.entries j file → ⊥) → Asked w m dir name above file answer later
+unfolding Asked
+new_in w m dir name above file answer later f at nobody = in_ (nat_le end_of_numbers m.next) refl where
+  sound : IsSound (served_over w.tree m)
+  sound = (f.knows).sound
 
-  number_is : number_given m dir.0 name ≡ record { 0 = m.next }
-  number_is = ap (λ (o : Option Kept). option_map_or (λ (y : Kept). y.number) o (record { 0 = m.next })) at
+  no_number : (j : ℕ) → IsNumberOf w file j → ⊥
+  no_number j is = nobody j (number-names w m f.knows j file is)
+
+  is_it : (number_given m dir.0 name).0 ≡ m.next
+  is_it = ap (λ (o : Option Kept). (option_map_or (λ (x : Kept). x.number) o (record { 0 = m.next })).0) at
 
   not_named : file_named w.names m.next ≡ None
   not_named = none_in (file_named w.names m.next) refl where
     none_in : (o : Option FileId) → file_named w.names m.next ≡ o → o ≡ None
     none_in None e = refl
-    none_in (Some x) e = absurd (let r = (f.knows.numbers m.next).0 (ap is_some e) in omega (arith, r.1))
+    none_in (Some x) e = absurd (let r = ((f.knows).numbers m.next).0 (ap is_some e) in omega (arith, r.1))
 
-  full_in : (b : Bool) → nat_le end_of_numbers m.next ≡ b → GivesEntry (served_over w.tree m) dir name file (if b then Some Rattle.inode_map.specs.declared.inode_map.GiveFault.TheVariants.NoNumber else None) answer later → Looked w dir name answer later
-  full_in true e g = let last : end_of_numbers ≤ m.next = grind (arith, nat_tests) in
-      refused w m dir name answer later ENOSPC f.knows g.0 g.1
-      (found_answer (Error ENOSPC) (record { no_number = no_number; none_left = λ n low high. (f.knows.numbers n).1 (omega arith, omega arith) }))
-  full_in false e g = answer_in answer g where
-    room : m.next < end_of_numbers
-    room = grind (arith, nat_tests)
+  in_ : (b : Bool) → nat_le end_of_numbers m.next ≡ b → Asked w m dir name above file answer later
+  in_ true e = by_fault w m dir name above file answer later (Some NoNumber) f (ap (give_fault_at m) at ∙ ap (λ (b : Bool). if b then Some NoNumber else None) e)
+      (record { no_number = no_number; none_left = λ n low high. ((f.knows).numbers n).1 (omega arith, (let l : end_of_numbers ≤ m.next = grind (arith, nat_tests) in omega arith)) })
+      (λ h. absurd (let none : ⊥ = cc in none)) (λ h. let none : ⊥ = cc in none)
+  in_ false e = by_fault w m dir name above file answer later None f (ap (give_fault_at m) at ∙ ap (λ (b : Bool). if b then Some NoNumber else None) e)
+      (record { number = m.next; may = may; not_greatest = λ j is. no_number j is.number }) (λ h. subst (λ (i : ℕ). MayNumber w file i) (sym is_it) may) (λ h. let none : ⊥ = cc in none) where
+        may : MayNumber w file m.next
+        may = inr (record { no_number = no_number; low = numbers-bound m.entries 2 m.next sound.numbers; high = grind (arith, nat_tests); named = inl not_named })
 
-    -- the next number is left
-    left : HasNoNumber w file → ⊥
-    left none = let low : 2 ≤ m.next = numbers-bound m.entries 2 m.next f.knows.fits.numbers in
-        let r = (f.knows.numbers m.next).0 (none.none_left m.next low room) in omega (arith, r.1)
+-- a lookup that found a file
+file_in : (w : World) (m : MapState) (dir : Number) (name : List ℕ) (above file : FileId) (answer : Answer) (later : ServedState) → Found w m dir name above file →
+    (entry : Option Kept) → entry_at m.entries dir.0 name ≡ entry → NumberAtPlace w.tree m entry file → Asked w m dir name above file answer later
+file_in w m dir name above file answer later f (Some kept) at names = old_in w m dir name above file answer later kept f at names
+file_in w m dir name above file answer later f None at nobody = new_in w m dir name above file answer later f at nobody
 
-    answer_in : (a : Answer) → GivesEntry (served_over w.tree m) dir name file None a later → Looked w dir name a later
-    answer_in (Entry number attr) (number_eq, attr_eq, later_eq) =
-        let same : number ≡ record { 0 = m.next } = number_eq ∙ number_is in
-        let now : MapState = given m dir name in
-        let given_is : now ≡ record m { entries = m.entries ++ new_entry m.next dir name ∷ []; next = m.next + 1 } =
-        ap (λ (o : Option Kept). if is_some o then record m { entries = changed_where (stands_at dir.0 name) once_more m.entries } else record m { entries = m.entries ++ new_entry m.next dir name ∷ []; next = m.next + 1 }) at in
-        let names_is : named_after w (Lookup dir name) (Entry number attr) ≡ (number.0, file) ∷ w.names =
-        named_entry w dir name above file number attr named found ∙ ap (λ (o : Option FileId). if is_some o then w.names else (number.0, file) ∷ w.names) (ap (λ (j : Number). file_named w.names j.0) same ∙ not_named) in
-        let low : 2 ≤ m.next = numbers-bound m.entries 2 m.next f.knows.fits.numbers in
-        record {
-          may = found_answer (Entry number attr) (attr_eq, not_full, inr (subst (λ (j : Number). IsFree w file j.0) (sym same) (record { no_number = no_number; low = low; high = room; named = inl not_named })));
-          now = now;
-          later_is = later_eq;
-          knows = subst (λ (names : List (ℕ × FileId)). Knows w.tree names (number.0 ∷ w.held) now) (sym names_is)
-              (subst (λ (j : Number). Knows w.tree ((j.0, file) ∷ w.names) (j.0 ∷ w.held) now) (sym same)
-              (subst (λ (x : MapState). Knows w.tree ((m.next, file) ∷ w.names) (m.next ∷ w.held) x) (sym given_is) (added-knows w.tree w.names w.held m dir name above file f at room)));
-        }
-    answer_in (Error ENOMEM) (absent, later_eq) = refused w m dir name (Error ENOMEM) later ENOMEM f.knows refl later_eq (found_answer (Error ENOMEM) (record { not_greatest = not_full; some_left = left }))
-    answer_in (Error e') h = absurd h
+-- a lookup, by what its directory's number names and what the name gives there
+lookup_in : (w : World) (m : MapState) (dir : Number) (name : List ℕ) (answer : Answer) (later : ServedState) → IsTree w.tree → Knows w.tree w.names (owed w) (served_over w.tree m) →
+    (o : Option FileId) → IsLocated (served_over w.tree m) dir.0 o → (r : Result FileId Errno) → found_in w.tree o name ≡ r →
+    Answers (numbers_at m (Some (dir, name))) (Lookup dir name) (enters w.tree r) answer →
+    later ≡ served_over (tree_after w.tree (enters w.tree r) answer) (map_after m (Some (dir, name)) (given_out answer)) → Worked w (Lookup dir name) answer later
+unfolding Asked
+lookup_in w m dir name answer later is k o at (Ok file) found answers makes = in_ o at found where
+  in_ : (o : Option FileId) → IsLocated (served_over w.tree m) dir.0 o → found_in w.tree o name ≡ Ok file → Worked w (Lookup dir name) answer later
+  in_ None at' e = absurd (let none : ⊥ = cc in none)
+  in_ (Some above) at' e =
+      let f : Found w m dir name above file = record { is_tree = is; knows = k; at = at'; found = e } in
+      file_in w m dir name above file answer later f (entry_at m.entries dir.0 name) refl (placing (served_over w.tree m) dir.0 name above file (placed w m dir name above file f)) answers.0 answers.1 answers.2 makes
+lookup_in w m dir name answer later is k o at (Err errno) found answers makes =
+    subst (λ (a : Answer). Worked w (Lookup dir name) a later) (sym answers)
+    (refused w (served_over w.tree m) later (Lookup dir name) errno is k
+    (makes ∙ ap (λ (a : Answer). served_over (tree_after w.tree (enters w.tree (Err errno)) a) (map_after m (Some (dir, name)) (given_out a))) answers) (may_err o at found)) where
+      stale_in : found_in w.tree None name ≡ Err errno → IsStale w (Lookup dir name) → MayAnswer w (Lookup dir name) (Error errno)
+      stale_in e stale = let same : ESTALE ≡ errno = cc in inl (ap Error (sym same), stale)
 
-pub looked : (w : World) (m : MapState) (dir : Number) (name : List ℕ) (answer : Answer) (later : ServedState) → ((n : ℕ) → owed w n ≡ times n w.held) → Knows w.tree w.names w.held m →
-    LooksUp (served_over w.tree m) dir name answer later → Looked w dir name answer later
-looked w m dir name answer later owes knows looks = start_in (file_in m.next w.tree m.entries dir.0) refl looks where
-  -- a number that is not known is not live
-  not_live : file_in m.next w.tree m.entries dir.0 ≡ None → IsLive w dir.0 → ⊥
-  not_live e live = let k = known-file w.tree w.names w.held m knows dir.0 (live-known w.tree w.names w.held m knows dir.0 (live_in live)) in let s : Some k.0 ≡ None = sym k.1 ∙ e in let none : ⊥ = cc in none where
-    live_in : IsLive w dir.0 → (dir.0 ≡ 1) ⊎ (0 < times dir.0 w.held)
-    live_in (inl one) = inl one
-    live_in (inr some) = inr (let e : owed w dir.0 ≡ times dir.0 w.held = owes dir.0 in omega arith)
+      may_err : (o : Option FileId) → IsLocated (served_over w.tree m) dir.0 o → found_in w.tree o name ≡ Err errno → MayAnswer w (Lookup dir name) (Error errno)
+      may_err None nobody e = stale_in e (record { node = dir; goes_to = (0, (let low : 0 < 1 = omega arith in low), refl); not_live = λ live. let f = live-named w m k dir.0 live in nobody f.0 f.1 })
+      may_err (Some above) at' e = inr (subst (λ (r : Result Effect Errno). Answers (numbers_of w) (Lookup dir name) r (Error errno))
+          (sym (ap (λ (x : Option FileId). enters w.tree (found_in w.tree x name)) (k.files dir.0 above at') ∙ ap (λ (r : Result FileId Errno). enters w.tree r) e)) refl)
 
-  start_in : (o : Option FileId) → file_in m.next w.tree m.entries dir.0 ≡ o → LooksFound (served_over w.tree m) dir name (found_in w.tree o name) answer later → Looked w dir name answer later
-  start_in None e h = refused w m dir name answer later ESTALE knows h.0 h.1 (inl (refl, not_live e))
-  start_in (Some above) e h = result_in (found_in w.tree (Some above) name) refl h where
-    known : IsKnown m.entries dir.0
-    known = known-from m.entries dir.0 (known-entry m.next w.tree m.entries dir.0 above e)
+-- a request that no row serves yet
+unserved : (w : World) (m : MapState) (request : Request) (answer : Answer) (later : ServedState) → IsTree w.tree → Knows w.tree w.names (owed w) (served_over w.tree m) →
+    Answers (numbers_of w) request (effect_in w request) (Error ENOSYS) → answer ≡ Error ENOSYS → (answer ≡ Error ENOSYS → later ≡ served_over w.tree m) → Worked w request answer later
+unserved w m request answer later is k may e same =
+    subst (λ (a : Answer). Worked w request a later) (sym e) (refused w (served_over w.tree m) later request ENOSYS is k (same e) (inr may))
 
-    named : file_named w.names dir.0 ≡ Some above
-    named = sym (knows.files dir.0 known) ∙ e
+-- the same over the world's tree
+legal_in : (w : World) (m : MapState) (request : Request) (answer : Answer) (later : ServedState) → IsTree w.tree → Knows w.tree w.names (owed w) (served_over w.tree m) →
+    IsLegal (served_over w.tree m) request answer later → Worked w request answer later
+legal_in w m (Lookup dir name) answer later is k l = lookup_in w m dir name answer later is k (l.files dir.0) (l.locates).0 (found_in w.tree (l.files dir.0) name) refl l.answers l.makes
+legal_in w m request answer later is k l = unserved w m request answer later is k refl l.answers (λ e. l.makes ∙ ap (λ (a : Answer). served_over (tree_after w.tree (Err ENOSYS) a) m) e)
 
-    result_in : (r : Result FileId Errno) → found_in w.tree (Some above) name ≡ r → LooksFound (served_over w.tree m) dir name r answer later → Looked w dir name answer later
-    result_in (Err errno) f g = refused w m dir name answer later errno knows g.0 g.1 (inr (above, named, subst (λ (r : Result FileId Errno). MayAnswerFound w r (Error errno)) (sym f) refl))
-    result_in (Ok file) f g =
-        found_in_place w m dir name above file answer later owes (record { knows = knows; known = known; at = e; child = found-child w.tree above file name f }) f named
-        (entry_at m.entries dir.0 name) refl g
+-- A legal answer is one that the world may give, and what the daemon knows after it is what the world has then.
+pub answers-worked : (w : World) (served later : ServedState) (request : Request) (answer : Answer) → IsTree w.tree → Knows w.tree w.names (owed w) served → IsLegal served request answer later →
+    Worked w request answer later
+answers-worked w served later request answer is k l =
+    let over : served ≡ served_over w.tree served.map = λ i. record served { tree = (k.tree_is) i } in
+    legal_in w served.map request answer later is (subst (λ (s : ServedState). Knows w.tree w.names (owed w) s) over k) (subst (λ (s : ServedState). IsLegal s request answer later) over l)

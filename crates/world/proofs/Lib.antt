@@ -1,15 +1,10 @@
-mod EntryLemmas
-mod FileLemmas
-mod Fitting
-mod Changing
-mod Adding
-mod Pruning
-mod Holding
-mod Looking
 mod Answering
 mod Forgetting
-mod Matching
+mod Quiet
+mod Keeping
+mod Daemons
 mod Events
 mod WholeRun
-pub mod DaemonWrites
 pub mod StepLemmas
+pub mod DaemonWrites
+mod Laws

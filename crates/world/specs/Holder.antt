@@ -1,16 +1,10 @@
 -- What the world's code says of a daemon by its number.
 use Rattle.std.specs.Prelude.{◌≡◌, ℕ, ◌-◌, ◌==◌, slice_get, Option, Some, None, if◌then◌else◌}
-use Rattle.std.specs.Option.{option_and_then}
 use Rattle.eden_base.specs.declared.number.DaemonId.{DaemonId}
 use Rattle.broker_core.specs.declared.seat.Seat.{Seat}
-use Rattle.world.specs.declared.daemon.Daemon.TheVariants.{Serving}
-use Rattle.world.specs.DaemonWork.{served_in}
 use Rattle.fuse_ops.specs.Served.{ServedState}
-use Rattle.world.specs.State.{State, daemon_of}
-
--- what a daemon serves, if there is such a daemon and it does
-abbrev pub served_of : State → DaemonId → Option ServedState
-served_of state daemon = option_and_then served_in (daemon_of state daemon)
+use Rattle.world.specs.declared.daemon.Daemon.TheVariants.{Serving}
+use Rattle.world.specs.State.{State}
 
 -- where a daemon stands in the list of all
 abbrev pub place_of_daemon : DaemonId → Option ℕ

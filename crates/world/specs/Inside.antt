@@ -1,5 +1,5 @@
 -- What the world keeps of its fields, whatever happens.
-use Rattle.std.specs.Prelude.{◌≡◌, ◌≤◌, vec_len, Some, None}
+use Rattle.std.specs.Prelude.{◌≡◌, ◌≤◌, vec_len, Some}
 use Rattle.broker_core.specs.declared.seat.Seat.{Seat}
 use Rattle.world.specs.DaemonWork.{HolderServes}
 use Rattle.world.specs.declared.world.World.TheInside.{Inside}
@@ -7,6 +7,4 @@ use Rattle.world.specs.declared.world.World.TheInside.{Inside}
 -- whoever has the seat serves, and there are no more daemons than may be
 pub record IsConsistent (w : Inside) : Type 0 where
   pub holder_serves : (seat : Seat) → w.broker.seat ≡ Some seat → HolderServes w.daemons.items seat
-  -- a seat that was taken is never left
-  pub never_seated : w.broker.seat ≡ None → w.broker.last ≡ 0
   pub few : vec_len w.daemons ≤ 1024

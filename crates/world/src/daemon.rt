@@ -1,11 +1,12 @@
 //! One daemon of the world.
 ghost use Rattle.std.specs.Prelude.{◌≡◌, vec_len};
 ghost use Rattle.std.specs.Option.{option_copied};
-ghost use Rattle.world.specs.DaemonWork.{is_waiting, IsServing, served_in, DaemonLooks, DaemonForgets, ServesAt, LooksAt, ForgetsAt};
+ghost use Rattle.inode_map.specs.InodeMap.{forgot};
+ghost use Rattle.world.specs.State.{served_in};
+ghost use Rattle.world.specs.DaemonWork.{is_waiting, IsServing, DaemonApplies, ServesAt, AppliesAt, TellsAt};
 
-use broker_core::{Answer, Item};
-use eden_base::{Errno, Name, Number};
 use fuse_ops::Served;
+use fuse_wire::{Answer, Item, Request};
 use inode_map::Forgot;
 use std::alloc::Global;
 
@@ -27,7 +28,7 @@ impl Daemon {
         }
     }
 
-    /// What it serves, if it does.
+    /// Returns what it serves, if it does.
     pub(crate) fn served(&self) -> Option<&Served>
         ensures { option_copied result ≡ served_in self.now }
     {
@@ -37,51 +38,41 @@ impl Daemon {
         }
     }
 
-    /// Answers a look-up, from the numbers and the tree that it serves.
-    pub(crate) fn look_up(&mut self, alloc: Global, dir: Number, name: &Name) -> Answer
+    /// Answers an ask, or applies a forget, from what it serves.
+    fn apply(&mut self, alloc: Global, request: &Request) -> Option<Answer>
         requires serves { IsServing self.old }
-        ensures answer { DaemonLooks self.old dir name.now result self.new }
+        ensures applied { DaemonApplies self.old request.now result self.new }
     {
         match self {
-            Daemon::Waiting => Answer::Error(Errno::ESTALE),
-            Daemon::Serving(served) => served.look_up(alloc, dir, name),
-        }
-    }
-
-    /// Takes back what an item says.
-    pub(crate) fn forget(&mut self, item: Item) -> Forgot
-        requires serves { IsServing self.old }
-        ensures forgets { DaemonForgets self.old item result self.new }
-    {
-        match self {
-            Daemon::Waiting => Forgot::Bad,
-            Daemon::Serving(served) => served.forget(item),
+            Daemon::Waiting => unreachable!(),
+            Daemon::Serving(served) => served.apply(alloc, request),
         }
     }
 }
 
-/// Lets the daemon at a place answer a look-up.
-pub(crate) fn look_up_at(
+/// Lets the daemon at a place answer an ask, or apply a forget.
+pub(crate) fn apply_at(
     daemons: &mut Vec<Daemon>,
     place: usize,
     alloc: Global,
-    dir: Number,
-    name: &Name,
-) -> Answer
+    request: &Request,
+) -> Option<Answer>
     requires serves { ServesAt daemons.old.items place }
-    ensures answer { LooksAt daemons.old.items place dir name.now result daemons.new.items }
+    ensures applied { AppliesAt daemons.old.items place request.now result daemons.new.items }
     ensures len { vec_len daemons.new ≡ vec_len daemons.old }
 {
     let daemon = &mut daemons[place];
-    daemon.look_up(alloc, dir, name)
+    daemon.apply(alloc, request)
 }
 
-/// Lets the daemon at a place take back what an item says.
-pub(crate) fn forget_at(daemons: &mut Vec<Daemon>, place: usize, item: Item) -> Forgot
-    requires serves { ServesAt daemons.old.items place }
-    ensures forgets { ForgetsAt daemons.old.items place item result daemons.new.items }
-    ensures len { vec_len daemons.new ≡ vec_len daemons.old }
+/// Returns what would become of an item at the daemon at a place.
+pub(crate) fn forgot_at(daemons: &[Daemon], place: usize, item: Item) -> Forgot
+    requires serves { ServesAt daemons.now place }
+    ensures tells { TellsAt daemons.now place item result }
 {
-    let daemon = &mut daemons[place];
-    daemon.forget(item)
+    let daemon = &daemons[place];
+    match daemon.served() {
+        Some(served) => served.map().forgot(item.node, item.k),
+        None => unreachable!(),
+    }
 }

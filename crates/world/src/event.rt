@@ -1,6 +1,6 @@
 //! What may happen to the daemons and the mount.
-use broker_core::Request;
 use eden_base::DaemonId;
+use fuse_wire::Request;
 
 /// One thing that happens, atomically.
 #[derive(Drop)]

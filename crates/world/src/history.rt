@@ -3,7 +3,7 @@ ghost use Rattle.std.specs.Prelude.{IfOk};
 ghost use Rattle.world.specs.State.{started};
 ghost use Rattle.std.specs.List.{AllByRecursion};
 ghost use Rattle.world.specs.Step.{Steps};
-ghost use Rattle.world.specs.Agreement.{world_after, IsRunOfMoves, CountsAreOwed, NumbersNameTheirFirstFile, OneDaemonForEachGeneration, IsGoodForget};
+ghost use Rattle.world.specs.Agreement.{world_after, IsRunOfMoves, CountsAreOwed, NumbersNameTheirFirstFile, OneDaemonForEachGeneration, IsGoodForget, RepliesAreAnswered};
 
 use crate::event::Event;
 use crate::outcome::Outcome;
@@ -27,13 +27,16 @@ pub fn run(
     ensures events_are_a_run_of_moves { IfOk result (λ r.
         IsRunOfMoves manifest.now events.now r.1.items r.0) }
 
-    // The seated daemon's counts and numbers are the world's, and each generation was answered by one daemon.
+    // The seated daemon's counts and numbers are the world's; each generation was answered by one daemon, and each
+    // reply was posted by a daemon that the world saw posting.
     ensures counts_are_what_is_owed { IfOk result (λ r.
         CountsAreOwed (world_after manifest.now events.now r.1.items) r.0) }
     ensures numbers_name_their_first_file { IfOk result (λ r.
         NumbersNameTheirFirstFile (world_after manifest.now events.now r.1.items) r.0) }
     ensures one_daemon_for_each_generation { IfOk result (λ r.
         OneDaemonForEachGeneration (world_after manifest.now events.now r.1.items)) }
+    ensures replies_are_answered { IfOk result (λ r.
+        RepliesAreAnswered (world_after manifest.now events.now r.1.items) (started manifest.now limit) events.now r.1.items r.0) }
     ensures no_bad_forget { IfOk result (λ r.
         AllByRecursion (AllByRecursion IsGoodForget) r.1.items) }
 {
@@ -42,7 +45,7 @@ pub fn run(
     Ok((world, outcomes))
 }
 
-/// What came of each event.
+/// Returns what came of each event.
 fn outcomes_of(alloc: Global, world: &mut World, events: &[Event]) -> Result<Vec<Outcome>, NoMemory>
     ensures steps { IfOk result (λ outcomes. Steps world.old events.now outcomes.items world.new) }
 {

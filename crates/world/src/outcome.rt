@@ -4,8 +4,9 @@ ghost use Rattle.world.specs.Words.{refusal_name};
 ghost use Rattle.world.specs.State.{refusal_of_mount, refusal_of_issue};
 
 use arrayvec::ArrayVec;
-use broker_core::{IssueFault, Item, MountFault, Reply};
-use eden_base::{DaemonId, NoMemory};
+use broker_core::{IssueFault, MountFault};
+use eden_base::DaemonId;
+use fuse_wire::{Item, Reply};
 use inode_map::Forgot;
 use std::marker::Model;
 
@@ -24,7 +25,7 @@ pub enum Refusal {
 }
 
 impl Refusal {
-    /// The word that a printed line has for it.
+    /// Returns the word that a printed line has for it.
     pub fn name(self) -> &'static str
         ensures name { result.now ≡ refusal_name self }
     {
@@ -102,7 +103,7 @@ impl Model for Outcome {
 }
 
 impl Outcome {
-    /// Nothing happened.
+    /// Returns that nothing happened.
     pub fn nothing() -> Outcome
         ensures nothing { result ≡ [] }
     {
@@ -111,7 +112,7 @@ impl Outcome {
         }
     }
 
-    /// One thing happened.
+    /// Returns that one thing happened.
     pub fn of(happened: Happened) -> Outcome
         ensures one { result ≡ happened ∷ [] }
     {
@@ -120,14 +121,14 @@ impl Outcome {
         Outcome { happened: all }
     }
 
-    /// The event was refused.
+    /// Returns that the event was refused.
     pub fn refused(refusal: Refusal) -> Outcome
         ensures refused { result ≡ Happened.Refused refusal ∷ [] }
     {
         Outcome::of(Happened::Refused(refusal))
     }
 
-    /// What happened, in its order.
+    /// Returns what happened, in its order.
     pub fn happened(&self) -> &[Happened]
         ensures happened { result.now ≡ self.now }
     {

@@ -1,20 +1,22 @@
 //! All daemons and the kernel's side of their mount.
-ghost use Rattle.std.specs.Prelude.{◌≡◌, ◌-◌, ◌<◌, None, IfOk, MatchOption};
+ghost use Rattle.std.specs.Prelude.{◌≡◌, true, false, None, IfOk, MatchOption};
 ghost use Rattle.std.specs.Option.{option_copied};
 ghost use Rattle.broker_core.specs.Broker.{issue_fault};
-ghost use Rattle.world.specs.State.{started, daemon_of};
+ghost use Rattle.fuse_wire.specs.Ask.{is_ask};
+ghost use Rattle.world.specs.State.{started, served_of};
 ghost use Rattle.world.specs.Step.{Step};
 ghost use Rattle.world.specs.World.{first_world, World as Ideal};
 ghost use Rattle.world.specs.Agreement.{Matches, MovesOn};
-ghost use Rattle.world.specs.Holder.{served_of, place_of_daemon, HolderIsAt};
+ghost use Rattle.world.specs.Holder.{place_of_daemon, HolderIsAt};
 
-use crate::daemon::{Daemon, forget_at, look_up_at};
+use crate::daemon::{Daemon, apply_at, forgot_at};
 use crate::event::Event;
 use crate::outcome::{Happened, Outcome, Refusal};
-use broker_core::{Broker, Item, Reply, Request};
+use broker_core::Broker;
 use checkout::Manifest;
-use eden_base::{DaemonId, Name, NoMemory, Number};
+use eden_base::{DaemonId, NoMemory};
 use fuse_ops::Served;
+use fuse_wire::{Reply, Request};
 use std::alloc::Global;
 use std::marker::Model;
 
@@ -31,11 +33,12 @@ pub struct World {
 impl Model for World {
     ghost use Rattle.std.specs.Coded.{codes};
     ghost use Rattle.checkout.specs.Codes.{tree_code, manifest_code};
+    ghost use Rattle.broker_core.specs.Held.{held_map_code};
     ghost use Rattle.world.specs.State.{State};
 
     ghost Value = { State };
 
-    ghost coded = { Prim.hlevel (codes, tree_code, manifest_code) };
+    ghost coded = { Prim.hlevel (codes, tree_code, manifest_code, held_map_code) };
 
     ghost view = { λ w. record {
       manifest = w.manifest;
@@ -53,13 +56,13 @@ impl World {
     /// How many daemons a world starts at most, those that ended among them.
     pub const MOST_DAEMONS: usize = 1024;
 
-    /// No daemon, and nothing mounted.
+    /// Returns a world without daemons, in which nothing is mounted.
     pub fn new(alloc: Global, manifest: &Manifest, limit: usize) -> Result<World, NoMemory>
         ensures new { IfOk result (λ world. world ≡ started manifest.now limit) }
         ensures matches { IfOk result (Matches (first_world manifest.now)) }
     {
         let manifest = manifest.copy(alloc)?;
-        let broker = Broker::new(alloc)?;
+        let broker = Broker::new(alloc);
         Ok(World {
             alloc,
             manifest,
@@ -69,14 +72,14 @@ impl World {
         })
     }
 
-    /// The kernel's side.
+    /// Returns the kernel's side.
     pub fn broker(&self) -> &Broker
         ensures broker { result.now ≡ self.now.broker }
     {
         &self.broker
     }
 
-    /// What a daemon serves: nothing where it waits, and where there is no such daemon.
+    /// Returns what a daemon serves: nothing where it waits, and where there is no such daemon.
     pub fn served(&self, daemon: DaemonId) -> Option<&Served>
         ensures served { option_copied result ≡ served_of self.now daemon }
     {
@@ -90,12 +93,12 @@ impl World {
 
         // The event's moves may happen in any world that the state matches, and it matches the world after them.
         ensures moves_on { (ideal : Ideal) → Matches ideal self.old
-            → MovesOn ideal event.now result self.new }
+            → MovesOn ideal self.old event.now result self.new }
     {
         self.decide(event)
     }
 
-    /// Each event by its own call.
+    /// Lets each event happen by its own call.
     fn decide(&mut self, event: &Event) -> Outcome
         ensures { Step self.old event.now result self.new }
     {
@@ -122,7 +125,7 @@ impl World {
         Outcome::of(Happened::Started(daemon))
     }
 
-    /// Gives a waiting daemon the seat. What it serves is made before the seat is taken.
+    /// Gives a waiting daemon the seat. Its refusals are looked for before what it serves is made.
     fn mount(&mut self, daemon: DaemonId) -> Outcome
         ensures step { Step self.old (Event.Mount daemon) result self.new }
     {
@@ -135,19 +138,15 @@ impl World {
         if !self.daemons[place].is_waiting() {
             return Outcome::refused(Refusal::WrongPhase);
         }
-        if self.broker.seat().is_some() {
-            return Outcome::refused(Refusal::Seated);
+        if let Some(fault) = self.broker.mount_refusal() {
+            return Outcome::refused(Refusal::from(fault));
         }
         let Ok(served) = Served::new(self.alloc, &self.manifest, self.limit) else {
             return Outcome::refused(Refusal::NoMemory);
         };
-        match self.broker.mount(daemon) {
-            Ok(generation) => {
-                self.daemons[place] = Daemon::Serving(served);
-                Outcome::of(Happened::Mounted(generation))
-            }
-            Err(fault) => Outcome::refused(Refusal::from(fault)),
-        }
+        let generation = self.broker.mount(daemon);
+        self.daemons[place] = Daemon::Serving(served);
+        Outcome::of(Happened::Mounted(generation))
     }
 
     /// Issues the kernel's request, and lets the seated daemon work it off.
@@ -157,51 +156,59 @@ impl World {
         if let Some(fault) = self.broker.refusal(request) {
             return Outcome::refused(Refusal::from(fault));
         }
-        match request {
-            Request::Lookup { dir, name } => self.look_up(*dir, name),
-            Request::Forget(item) => self.forget(*item),
+        let Some(place) = self.holder() else {
+            unreachable!()
+        };
+        if request.is_ask() {
+            self.ask(place, request)
+        } else {
+            self.forget(place, request)
         }
     }
 
-    /// The copy of the name and the room for a number come first: what is refused there changes nothing.
-    fn look_up(&mut self, dir: Number, name: &Name) -> Outcome
-        requires accepted { issue_fault self.old.broker (Request.Lookup dir name.now) ≡ None }
-        ensures step { Step self.old (Event.Do (Request.Lookup dir name.now)) result self.new }
+    /// Lets the daemon at a place answer an ask. The room for a number comes first: what is refused there changes nothing.
+    fn ask(&mut self, place: usize, request: &Request) -> Outcome
+        requires accepted { issue_fault self.old.broker request.now ≡ None }
+        requires asks { is_ask request.now ≡ true }
+        requires holder { HolderIsAt self.old place }
+        ensures step { Step self.old (Event.Do request.now) result self.new }
     {
-        let Ok(copy) = name.copy(self.alloc) else {
+        let Ok(unique) = self.broker.issue(request) else {
             return Outcome::refused(Refusal::NoMemory);
         };
-        let Some(place) = self.holder() else {
-            return Outcome::refused(Refusal::NotMounted);
+        let answer = apply_at(&mut self.daemons, place, self.alloc, request);
+        let Some(unique) = unique else {
+            unreachable!()
         };
-        let unique = match self.broker.issue(Request::Lookup { dir, name: copy }) {
-            Ok(unique) => unique.unwrap(),
-            Err(fault) => return Outcome::refused(Refusal::from(fault)),
+        let Some(answer) = answer else {
+            unreachable!()
         };
-        let answer = look_up_at(&mut self.daemons, place, self.alloc, dir, name);
         let reply = Reply { unique, answer };
         self.broker.settle(&reply);
         Outcome::of(Happened::Answered(reply))
     }
 
-    /// It takes no memory.
-    fn forget(&mut self, item: Item) -> Outcome
-        requires accepted { issue_fault self.old.broker (Request.Forget item) ≡ None }
-        ensures step { Step self.old (Event.Do (Request.Forget item)) result self.new }
+    /// Lets the daemon at a place apply a forget. It takes no memory.
+    fn forget(&mut self, place: usize, request: &Request) -> Outcome
+        requires accepted { issue_fault self.old.broker request.now ≡ None }
+        requires forgets { is_ask request.now ≡ false }
+        requires holder { HolderIsAt self.old place }
+        ensures step { Step self.old (Event.Do request.now) result self.new }
     {
-        let Some(place) = self.holder() else {
-            return Outcome::refused(Refusal::NotMounted);
+        let Request::Forget(item) = request else {
+            unreachable!()
         };
-        match self.broker.issue(Request::Forget(item)) {
-            Ok(_unique) => {
-                let forgot = forget_at(&mut self.daemons, place, item);
-                Outcome::of(Happened::Forgot { item, forgot })
-            }
-            Err(fault) => Outcome::refused(Refusal::from(fault)),
+        let item = *item;
+        let forgot = forgot_at(self.daemons.as_slice(), place, item);
+        match self.broker.issue(request) {
+            Ok(_unique) => {}
+            Err(_no_memory) => unreachable!(),
         }
+        let _answer = apply_at(&mut self.daemons, place, self.alloc, request);
+        Outcome::of(Happened::Forgot { item, forgot })
     }
 
-    /// The place of the daemon that has the seat, which serves.
+    /// Returns the place of the daemon that has the seat, which serves.
     fn holder(&self) -> Option<usize>
         ensures holder { MatchOption result (self.now.broker.seat ≡ None) (HolderIsAt self.now) }
     {
@@ -210,7 +217,7 @@ impl World {
     }
 }
 
-/// The place of a daemon in the list, if there is one so long.
+/// Returns where a daemon stands in the list of all, if the list is as long.
 fn place_of(daemon: DaemonId) -> Option<usize>
     ensures { result ≡ place_of_daemon daemon }
 {

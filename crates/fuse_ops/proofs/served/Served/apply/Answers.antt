@@ -1,0 +1,14 @@
+use Rattle.std.proofs.Common.{◌≡◌, Some, sym, subst}
+use Rattle.fuse_wire.specs.declared.ask.Request.{Request}
+use Rattle.fuse_ops.specs.Served.{Replay}
+use Rattle.fuse_ops.proofs.Replays.{lookup-replay, unserved-replay}
+use Rattle.fuse_ops.proofs.served.Served.apply.Goals as goal
+
+pub returns-in-Lookup : goal.returns-in-Lookup
+returns-in-Lookup c = record {
+  replay = subst (λ (request : Request). Replay c.args.self.now request (Some c.look_up.result) c.look_up.new.self) (sym c.in-Lookup.is)
+      (lookup-replay _ _ _ _ _ c.look_up.ensures.answer);
+}
+
+pub returns-in_default : goal.returns-in_default
+returns-in_default c = record { replay = unserved-replay _ _ c.in_default.not-Lookup c.in_default.not-Forget c.in_default.not-BatchForget }

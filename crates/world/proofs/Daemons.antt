@@ -1,0 +1,68 @@
+-- What the daemons of a state serve after one of them started, mounted or worked.
+use Rattle.std.proofs.Common.{◌≡◌, ℕ, suc, zero, ◌-◌, ◌<◌, Bool, true, false, List, [], ◌∷◌, ◌++◌, Option, Some, None, set, refl, sym, ap, ◌∙◌, subst, arith}
+use Rattle.std.specs.Prelude.{slice_get, slice_set, ◌==◌, if◌then◌else◌}
+use Rattle.std.specs.Option.{option_and_then}
+use Rattle.eden_base.specs.declared.number.DaemonId.{DaemonId}
+use Rattle.broker_core.specs.Broker.{BrokerState}
+use Rattle.broker_core.specs.declared.seat.Seat.{Seat}
+use Rattle.fuse_ops.specs.Served.{ServedState}
+use Rattle.world.specs.declared.daemon.Daemon.{Daemon}
+use Rattle.world.specs.declared.daemon.Daemon.TheVariants.{Waiting, Serving}
+use Rattle.world.specs.World.{World, owed}
+use Rattle.world.specs.Agreement.{Knows, HolderKnows}
+use Rattle.world.specs.State.{State, daemon_of, with_daemon, served_in, served_of, IsSeated}
+
+-- one that waits serves nothing, as if it were not there
+more_in : (ds : List Daemon) (i : ℕ) → option_and_then served_in (slice_get (ds ++ Waiting ∷ []) i) ≡ option_and_then served_in (slice_get ds i)
+more_in [] zero = refl
+more_in [] (suc i) = refl
+more_in (d ∷ ds) zero = refl
+more_in (d ∷ ds) (suc i) = more_in ds i
+
+pub served_of-more : (old : State) (daemon : DaemonId) → served_of (record old { daemons = old.daemons ++ Waiting ∷ [] }) daemon ≡ served_of old daemon
+served_of-more old daemon = in_ (daemon.0 == 0) where
+  in_ : (b : Bool) → option_and_then served_in (if b then None else slice_get (old.daemons ++ Waiting ∷ []) (daemon.0 - 1)) ≡ option_and_then served_in (if b then None else slice_get old.daemons (daemon.0 - 1))
+  in_ true = refl
+  in_ false = more_in old.daemons (daemon.0 - 1)
+
+-- what was written at a daemon's place is there
+set_in : (ds : List Daemon) (i : ℕ) (d later : Daemon) → slice_get ds i ≡ Some d → slice_get (slice_set ds i later) i ≡ Some later
+set_in [] i d later h = absurd (let none : ⊥ = cc in none)
+set_in (x ∷ ds) zero d later h = refl
+set_in (x ∷ ds) (suc i) d later h = set_in ds i d later h
+
+pub served_of-with : (old : State) (broker : BrokerState) (daemon : DaemonId) (d : Daemon) (later : ServedState) → daemon_of old daemon ≡ Some d →
+    served_of (with_daemon (record old { broker = broker }) daemon (Serving later)) daemon ≡ Some later
+served_of-with old broker daemon d later h = in_ (daemon.0 == 0) h where
+  in_ : (b : Bool) → (if b then None else slice_get old.daemons (daemon.0 - 1)) ≡ Some d →
+      option_and_then served_in (if b then None else slice_get (slice_set old.daemons (daemon.0 - 1) (Serving later)) (daemon.0 - 1)) ≡ Some later
+  in_ true e = absurd (let none : ⊥ = cc in none)
+  in_ false e = ap (option_and_then served_in) (set_in old.daemons (daemon.0 - 1) d (Serving later) e)
+
+-- who serves is there
+pub serving-is : (old : State) (daemon : DaemonId) (served : ServedState) → served_of old daemon ≡ Some served → daemon_of old daemon ≡ Some (Serving served)
+serving-is old daemon served h = in_ (daemon_of old daemon) h where
+  daemon_in : (d : Daemon) → served_in d ≡ Some served → Some d ≡ Some (Serving served)
+  daemon_in Waiting e = absurd (let none : ⊥ = cc in none)
+  daemon_in (Serving s) e = let same : s ≡ served = cc in ap (λ (x : ServedState). Some (Serving x)) same
+
+  in_ : (o : Option Daemon) → option_and_then served_in o ≡ Some served → o ≡ Some (Serving served)
+  in_ None e = absurd (let none : ⊥ = cc in none)
+  in_ (Some d) e = daemon_in d e
+
+-- the seat has one holder, and it serves one thing
+pub seated-same : (state : State) (seat other : Seat) (served more : ServedState) → IsSeated state seat served → IsSeated state other more → (seat ≡ other) × (served ≡ more)
+seated-same state seat other served more one two =
+    let s : Some seat ≡ Some other = sym one.has_seat ∙ two.has_seat in
+    let same : seat ≡ other = cc in
+    let m : Some served ≡ Some more = sym one.serves ∙ ap (λ (x : Seat). served_of state x.daemon) same ∙ two.serves in
+    (same, (let is : served ≡ more = cc in is))
+
+-- what the seat's daemon knows, whoever asks
+pub knows-seated : (w : World) (state : State) (seat : Seat) (served : ServedState) → IsSeated state seat served → Knows w.tree w.names (owed w) served → HolderKnows w state
+knows-seated w state seat served at k other has = (served, subst (λ (s : Seat). IsSeated state s served) (let s : Some seat ≡ Some other = sym at.has_seat ∙ has in let same : seat ≡ other = cc in same) at, k)
+
+-- and the other way round
+pub seated-knows : (w : World) (state : State) (seat : Seat) (served : ServedState) → HolderKnows w state → IsSeated state seat served → Knows w.tree w.names (owed w) served
+seated-knows w state seat served knows at = let k = knows seat at.has_seat in
+    subst (λ (s : ServedState). Knows w.tree w.names (owed w) s) (seated-same state seat seat k.0 served k.1 at).1 k.2
