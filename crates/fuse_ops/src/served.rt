@@ -1,8 +1,8 @@
 //! What one daemon serves.
 ghost use Rattle.std.specs.Prelude.{◌≡◌, IfOk};
-ghost use Rattle.fuse_ops.specs.Served.{new_served, file_of, found_in, errno_of, LooksUp};
+ghost use Rattle.fuse_ops.specs.Served.{new_served, errno_of, IsLocated, LooksUp};
 ghost use Rattle.inode_map.specs.InodeMap.{forgot, forgotten};
-ghost use Rattle.fuse_ops.specs.Work.{Finds, Applies};
+ghost use Rattle.fuse_ops.specs.Work.{FindsAt, Applies};
 
 use broker_core::{Answer, Item, Request};
 use checkout::{Manifest, Tree};
@@ -58,9 +58,10 @@ impl Served {
         &self.tree
     }
 
-    /// The file that a number names.
-    pub fn locate(&self, number: Number) -> Option<FileId>
-        ensures file { result ≡ file_of self.now number.0 }
+    /// Finds the file that a number names. It takes no memory.
+    pub fn locate(&mut self, number: Number) -> Option<FileId>
+        ensures located { IsLocated self.old number.0 result }
+        ensures unchanged { self.new ≡ self.old }
     {
         self.map.locate(&self.tree, number)
     }
@@ -93,9 +94,9 @@ impl Served {
     }
 
     /// What the kernel is told of the file under a name in the directory of a number.
-    fn find(&self, dir: Number, name: &Name) -> Result<Attr, Errno>
-        ensures { Finds self.now.tree
-            (found_in self.now.tree (file_of self.now dir.0) name.now) result }
+    fn find(&mut self, dir: Number, name: &Name) -> Result<Attr, Errno>
+        ensures finds { FindsAt self.old dir.0 name.now result }
+        ensures unchanged { self.new ≡ self.old }
     {
         let dir = self.locate(dir).ok_or(Errno::ESTALE)?;
         if self.tree.kind(dir) != Some(Kind::Dir) {

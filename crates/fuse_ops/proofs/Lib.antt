@@ -1,0 +1,6 @@
+pub mod Fits
+pub mod FitsAdded
+pub mod FitsChanged
+pub mod FitsLeft
+pub mod ForgettingLaw
+pub mod GivingLaw
