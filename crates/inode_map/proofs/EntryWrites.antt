@@ -1,5 +1,5 @@
 -- What the code reads at places of the entries, and what it writes there.
-use Rattle.std.proofs.Common.{◌≡◌, ℕ, suc, zero, ◌+◌, ◌-◌, ◌<◌, ◌≤◌, Bool, true, false, not, List, [], ◌∷◌, length, Option, Some, None, get_or, set, refl, sym, ap, ◌∙◌, arith}
+use Rattle.std.proofs.Common.{◌≡◌, ℕ, suc, zero, ◌-◌, ◌<◌, ◌≤◌, Bool, true, false, not, List, [], ◌∷◌, length, Some, None, get_or, set, refl, sym, ap, ◌∙◌, arith}
 use Rattle.std.proofs.lemmas.Bool.Decides.{nat_tests}
 use Rattle.std.proofs.lemmas.List.{get_or_read}
 use Rattle.std.specs.List.Sorted.{IsPartitionPoint, IsPartitionedBy}
@@ -7,7 +7,7 @@ use Rattle.std.specs.Option.{option_map, option_map_or}
 use Rattle.std.specs.Prelude.{◌==◌, nat_le, nat_lt}
 use Rattle.eden_base.proofs.FirstLemmas.{IsFirstPlace-here, first_where-nowhere}
 use Rattle.eden_base.proofs.NumberTests.{eq-true, eq-false}
-use Rattle.eden_base.specs.First.{first_where, IsFirstPlace}
+use Rattle.eden_base.specs.First.{IsFirstPlace}
 use Rattle.eden_base.specs.declared.place.Place.TheVariants.{Unlinked}
 use Rattle.inode_map.specs.EntryPlaces.{Rises, IsParted}
 use Rattle.inode_map.specs.InodeMap.{has_number, entry_of, count_of, is_above, is_of_use, is_useless, lowered, number_after, number_of_kept}
@@ -57,10 +57,10 @@ pub parted-found : (entries : List Kept) (n at : ℕ) (x : Kept) → Rises entri
 parted-found entries n at x rises parted some is same =
     IsFirstPlace-read (has_number n) entries (at - 1) x (let b : at ≤ length entries = parted.bound in omega arith) is (eq-true x.number.0 n same)
     (λ j h. let b : at ≤ length entries = parted.bound in
-        let low : (get_or entries j x).number.0 < (get_or entries (at - 1) x).number.0 = rises j (at - 1) x h (omega arith) in
-        let here : (get_or entries (at - 1) x).number.0 ≡ n = ap (λ (k : Kept). k.number.0) (sym is) ∙ same in
-        let there : get_or entries j x ≡ get_or entries j nobody = get_or_any entries j x nobody (omega arith) in
-        ap (λ (k : Kept). k.number.0 == n) (sym there) ∙ eq-false (get_or entries j x).number.0 n (λ e. omega arith))
+    let low : (get_or entries j x).number.0 < (get_or entries (at - 1) x).number.0 = rises j (at - 1) x h (omega arith) in
+    let here : (get_or entries (at - 1) x).number.0 ≡ n = ap (λ (k : Kept). k.number.0) (sym is) ∙ same in
+    let there : get_or entries j x ≡ get_or entries j nobody = get_or_any entries j x nobody (omega arith) in
+    ap (λ (k : Kept). k.number.0 == n) (sym there) ∙ eq-false (get_or entries j x).number.0 n (λ e. omega arith))
 
 -- no entry has the number where the one before the parting place has not
 pub parted-none : (entries : List Kept) (n at : ℕ) → Rises entries → IsParted entries n at → (0 < at → (get_or entries (at - 1) nobody).number.0 ≡ n → ⊥) → entry_of entries n ≡ None
@@ -83,9 +83,9 @@ parted-none entries n at rises parted other = first_where-nowhere (has_number n)
 pub parted-after : (entries : List Kept) (n at : ℕ) (x : Kept) → IsParted entries n at → at < length entries → x ≡ get_or entries at x → number_after entries n ≡ Some x.number
 parted-after entries n at x parted bound is =
     let place = IsFirstPlace-read (is_above n) entries at x bound is
-            (let a : n < (get_or entries at x).number.0 = parted.above at x (omega arith) bound in
-            let same : x.number.0 ≡ (get_or entries at x).number.0 = ap (λ (k : Kept). k.number.0) is in (let t : nat_lt n x.number.0 ≡ true = grind (arith, nat_tests) in t))
-            (λ j h. let a : (get_or entries j nobody).number.0 ≤ n = parted.below j nobody h in (let t : nat_lt n (get_or entries j nobody).number.0 ≡ false = grind (arith, nat_tests) in t)) in
+    (let a : n < (get_or entries at x).number.0 = parted.above at x (omega arith) bound in
+    let same : x.number.0 ≡ (get_or entries at x).number.0 = ap (λ (k : Kept). k.number.0) is in (let t : nat_lt n x.number.0 ≡ true = grind (arith, nat_tests) in t))
+    (λ j h. let a : (get_or entries j nobody).number.0 ≤ n = parted.below j nobody h in (let t : nat_lt n (get_or entries j nobody).number.0 ≡ false = grind (arith, nat_tests) in t)) in
     ap (option_map number_of_kept) (place.value x ∙ ap Some (sym is))
 
 pub parted-after_none : (entries : List Kept) (n at : ℕ) → IsParted entries n at → length entries ≤ at → number_after entries n ≡ None

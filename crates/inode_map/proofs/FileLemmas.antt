@@ -1,13 +1,12 @@
 -- What a number names, as entries come, change and go.
-use Rattle.std.proofs.Common.{◌≡◌, ℕ, zero, suc, ◌<◌, ◌≤◌, Bool, true, false, List, Option, Some, None, refl, sym, ap, ◌∙◌, subst, inl, inr, ◌⊎◌, arith, length}
-use Rattle.eden_base.proofs.MemberLemmas.{some-same, some-none, length-without_where}
-use Rattle.eden_base.proofs.NumberTests.{eq-or}
+use Rattle.std.proofs.Common.{◌≡◌, ℕ, List, Some, None, sym, ap, ◌∙◌, subst, inl, inr, ◌⊎◌}
+use Rattle.eden_base.proofs.MemberLemmas.{some-same, some-none}
 use Rattle.eden_base.specs.First.{without_where}
 use Rattle.eden_base.specs.declared.number.FileId.{FileId}
 use Rattle.eden_base.specs.declared.number.Number.{Number}
 use Rattle.eden_base.specs.declared.place.Place.{Place}
 use Rattle.eden_base.specs.declared.place.Place.TheVariants.{Linked, Unlinked}
-use Rattle.checkout.specs.Tree.{Tree, child_of, root}
+use Rattle.checkout.specs.Tree.{Tree, child_of}
 use Rattle.inode_map.specs.InodeMap.{has_number, entry_of, IsFileOf, is_root, is_child, is_marked}
 use Rattle.inode_map.specs.declared.inode_map.Kept.{Kept}
 use Rattle.inode_map.proofs.EntryLemmas.{without-other}

@@ -1,5 +1,5 @@
 -- What becomes of a forget, by the count and by what stands in the directory.
-use Rattle.std.proofs.Common.{◌≡◌, ℕ, ◌-◌, ◌<◌, ◌≤◌, Bool, true, false, cond, length, not, ◌||◌, List, Option, Some, None, refl, sym, ap, ◌∙◌, subst, inl, inr, ◌⊎◌, arith}
+use Rattle.std.proofs.Common.{◌≡◌, ℕ, ◌-◌, ◌<◌, ◌≤◌, Bool, true, false, cond, length, not, ◌||◌, List, Option, Some, None, refl, sym, ap, ◌∙◌, inl, inr, ◌⊎◌, arith}
 use Rattle.std.specs.Prelude.{◌==◌, nat_lt, if◌then◌else◌}
 use Rattle.std.specs.List.{list_any}
 use Rattle.std.specs.Option.{option_map, option_map_or}
@@ -7,7 +7,6 @@ use Rattle.std.proofs.lemmas.Bool.Decides.{nat_tests}
 use Rattle.eden_base.proofs.MemberLemmas.{some-or}
 use Rattle.eden_base.proofs.NumberTests.{eq-false}
 use Rattle.inode_map.specs.InodeMap.{MapState, has_number, entry_of, count_of, is_kid_of, is_of_use, is_useless, is_bad_item, lowered, left_of_use, forgot, forgotten, AreNumbers}
-use Rattle.inode_map.specs.declared.inode_map.Forgot.{Forgot}
 use Rattle.inode_map.specs.declared.inode_map.Forgot.TheVariants.{Lowered, Dropped, Bad, Root}
 use Rattle.inode_map.specs.declared.inode_map.Kept.{Kept}
 use Rattle.inode_map.specs.EntryPlaces.{AreOfUseBut}
@@ -101,7 +100,7 @@ lowered-kept map n k are told = record {
 -- what is left of use
 pub struck-kept : (es : List Kept) (next n k : ℕ) → AreKept next es → AreKept next (left_of_use (lowered es n k))
 struck-kept es next n k are = let s = struck-keeps (λ xs. Unit {0}) 2 next (λ xs m numbers useless here. tt) (length (lowered es n k)) (Some n) (lowered es n k) (omega arith)
-        (lowered-numbers es next n k are.numbers) (lowered-others es n k are.of_use) tt in
+    (lowered-numbers es next n k are.numbers) (lowered-others es n k are.of_use) tt in
     record { numbers = s.numbers; of_use = s.of_use }
 
 -- where the number is of use still, none leaves

@@ -1,5 +1,5 @@
 -- The entries after a number was given.
-use Rattle.std.proofs.Common.{◌≡◌, ℕ, ◌+◌, ◌<◌, ◌≤◌, true, List, [], ◌∷◌, ◌++◌, Option, Some, None, get_or, set, refl, sym, ap, ◌∙◌, subst, is_some, inr, arith}
+use Rattle.std.proofs.Common.{◌≡◌, ℕ, ◌+◌, ◌<◌, true, List, [], ◌∷◌, ◌++◌, Option, Some, None, get_or, set, refl, sym, ap, ◌∙◌, subst, is_some, inr, arith}
 use Rattle.eden_base.specs.First.{changed_where, IsFirstPlace}
 use Rattle.eden_base.specs.declared.number.Number.{Number}
 use Rattle.inode_map.specs.EntryPlaces.{AreOfUseBut}

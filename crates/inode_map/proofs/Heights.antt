@@ -1,5 +1,5 @@
 -- How many directories lie above a number: no more than there are entries.
-use Rattle.std.proofs.Common.{◌≡◌, ℕ, zero, suc, ◌<◌, ◌≤◌, List, Some, refl, sym, ap, ◌∙◌, subst, inl, inr, ◌⊎◌, arith, length}
+use Rattle.std.proofs.Common.{◌≡◌, ℕ, zero, suc, ◌<◌, ◌≤◌, List, Some, refl, sym, ap, ◌∙◌, subst, arith, length}
 use Rattle.eden_base.proofs.MemberLemmas.{some-same, length-without_where}
 use Rattle.eden_base.specs.First.{without_where}
 use Rattle.eden_base.specs.declared.number.FileId.{FileId}
@@ -47,8 +47,8 @@ height-without es n k m h at low (in_none _ _ kept file not e l z) =
     in_none m h kept file not (without-other es n m (λ s. let same : h ≡ k = height-same es m h k (in_none m h kept file not e l z) (subst (λ (j : ℕ). HasHeight es j k) (sym s) at) in omega arith) ∙ e) l z
 height-without es n k m h at low (in_dir _ _ kept dir name j not e l up s) =
     in_dir m h kept dir name j not
-        (without-other es n m (λ t. let same : h ≡ k = height-same es m h k (in_dir m h kept dir name j not e l up s) (subst (λ (i : ℕ). HasHeight es i k) (sym t) at) in omega arith) ∙ e) l
-        (height-without es n k dir.0 j at (omega arith) up) s
+    (without-other es n m (λ t. let same : h ≡ k = height-same es m h k (in_dir m h kept dir name j not e l up s) (subst (λ (i : ℕ). HasHeight es i k) (sym t) at) in omega arith) ∙ e) l
+    (height-without es n k dir.0 j at (omega arith) up) s
 
 -- No number comes again above itself, so no more directories lie above one than there are entries.
 pub height-bound : (h : ℕ) (es : List Kept) (n : ℕ) → HasHeight es n h → h ≤ length es
@@ -59,6 +59,6 @@ height-bound (suc h) es n (in_dir _ _ kept dir name k not e l up s) =
     let same : k ≡ h = omega arith in
     let at : HasHeight es dir.0 h = subst (λ (j : ℕ). HasHeight es dir.0 j) same up in
     let rest : h ≤ length (without_where (has_number n) es) = height-bound h (without_where (has_number n) es) dir.0
-            (height-without es n (suc h) dir.0 h (in_dir n (suc h) kept dir name k not e l up s) (omega arith) at) in
+    (height-without es n (suc h) dir.0 h (in_dir n (suc h) kept dir name k not e l up s) (omega arith) at) in
     let long : suc (length (without_where (has_number n) es)) ≡ length es = length-without_where es (has_number n) kept e in
     omega arith

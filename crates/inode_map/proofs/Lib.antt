@@ -6,5 +6,6 @@ pub mod FileLemmas
 pub mod Forgetting
 pub mod Giving
 pub mod Heights
+pub mod Places
 pub mod Striking
 pub mod Walking

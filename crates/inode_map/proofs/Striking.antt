@@ -1,19 +1,16 @@
 -- Striking what is of no use, a number after another: the walk upwards.
-use Rattle.std.proofs.Common.{◌≡◌, ℕ, zero, suc, ◌+◌, ◌<◌, ◌≤◌, Bool, true, false, cond, not, ◌||◌, List, [], ◌∷◌, Option, Some, None, refl, sym, ap, ◌∙◌, subst, inl, inr, ◌⊎◌, arith, length}
+use Rattle.std.proofs.Common.{◌≡◌, ℕ, zero, suc, ◌+◌, Bool, true, false, not, ◌||◌, List, [], ◌∷◌, Option, Some, None, refl, sym, ap, ◌∙◌, subst, inl, inr, ◌⊎◌, arith, length}
 use Rattle.std.specs.Prelude.{◌==◌, nat_lt}
 use Rattle.std.specs.Option.{option_map_or}
 use Rattle.std.specs.List.{filter, list_any}
 use Rattle.std.proofs.lemmas.Bool.Decides.{nat_tests}
-use Rattle.eden_base.proofs.MemberLemmas.{some-same, some-none, some-or, any-without, length-without_where}
-use Rattle.eden_base.proofs.NumberTests.{eq-true, eq-false, true-eq, false-ne, eq-or}
-use Rattle.eden_base.specs.declared.number.Number.{Number}
-use Rattle.eden_base.specs.declared.place.Place.{Place}
-use Rattle.eden_base.specs.declared.place.Place.TheVariants.{Linked, Unlinked}
+use Rattle.eden_base.proofs.MemberLemmas.{length-without_where}
+use Rattle.eden_base.proofs.NumberTests.{eq-true, eq-false, eq-or}
 use Rattle.eden_base.specs.First.{without_where}
-use Rattle.inode_map.specs.EntryPlaces.{AreOfUseBut, dir_of}
-use Rattle.inode_map.specs.InodeMap.{has_number, entry_of, is_kid_of, is_in, is_of_use, is_useless, struck, struck_once, left_of_use, AreNumbers}
+use Rattle.inode_map.specs.EntryPlaces.{AreOfUseBut}
+use Rattle.inode_map.specs.InodeMap.{has_number, entry_of, is_kid_of, is_of_use, is_useless, struck, struck_once, left_of_use, AreNumbers}
 use Rattle.inode_map.specs.declared.inode_map.Kept.{Kept}
-use Rattle.inode_map.proofs.EntryLemmas.{numbers-entry, without-same, without-other, entry_of-number}
+use Rattle.inode_map.proofs.EntryLemmas.{numbers-entry, entry_of-number}
 
 -- an entry that is of no use: it has no count, and nothing stands in it
 pub record IsUseless (es : List Kept) (n : ℕ) (kept : Kept) : Type 0 where

@@ -1,7 +1,4 @@
-use Rattle.std.proofs.Common.{◌≡◌, ap, subst, refl, ◌∙◌, arith, length}
-use Rattle.std.specs.Prelude.{vec_len}
-use Rattle.checkout.specs.Tree.{Tree}
-use Rattle.inode_map.specs.EntryPlaces.{Climbs, StepsUp}
+use Rattle.std.proofs.Common.{ap, refl, ◌∙◌, arith}
 use Rattle.inode_map.specs.InodeMap.{is_root, is_marked}
 use Rattle.inode_map.specs.declared.inode_map.Kept.{Kept}
 use Rattle.inode_map.proofs.Climbing.{Climbs-append, long-no_file, unknown-way, step-read, ne-tested, eq-tested}
@@ -16,17 +13,17 @@ returns-in_err-place-clause-way c = rw c.from_residual.ensures (λ tree file at.
 pub returns-then-len-entries-clause-way : goal.returns-then-len-entries-clause-way
 returns-then-len-entries-clause-way c = λ tree file at.
     let step = step-read c.args.entries.now c.loop-number.number.0 c.in_ok-place.place c.index-entries-place.result c.in-Linked.parent c.in-Linked.name
-            (ne-tested _ _ c.loop-number-test.ensures) c.in_ok-place.ensures c.index-entries-place.is (ap (λ (k : Kept). k.place) c.index-entries-place.is ∙ c.in-Linked.is) in
+    (ne-tested _ _ c.loop-number-test.ensures) c.in_ok-place.ensures c.index-entries-place.is (ap (λ (k : Kept). k.place) c.index-entries-place.is ∙ c.in-Linked.is) in
     long-no_file tree c.args.entries.now c.loop-number.way.items c.args.number.0 c.loop-number.number.0 c.in_ok-place.place c.in-Linked.parent.0 file
     c.loop-number.invariant.climbs step (omega arith) at
 
 pub loop-number-preserved : goal.loop-number-preserved
 loop-number-preserved c =
     let step = step-read c.args.entries.now c.loop-number.number.0 c.in_ok-place.place c.index-entries-place.result c.in-Linked.parent c.in-Linked.name
-            (ne-tested _ _ c.loop-number-test.ensures) c.in_ok-place.ensures c.index-entries-place.is (ap (λ (k : Kept). k.place) c.index-entries-place.is ∙ c.in-Linked.is) in
+    (ne-tested _ _ c.loop-number-test.ensures) c.in_ok-place.ensures c.index-entries-place.is (ap (λ (k : Kept). k.place) c.index-entries-place.is ∙ c.in-Linked.is) in
     record {
       climbs = rw c.push_reserved.ensures.items (Climbs-append c.args.entries.now c.loop-number.way.items c.args.number.0 c.loop-number.number.0 c.in_ok-place.place c.in-Linked.parent.0
-      c.loop-number.invariant.climbs step);
+          c.loop-number.invariant.climbs step);
       long = omega arith;
       capacity = c.push_reserved.ensures.capacity ∙ c.loop-number.invariant.capacity;
     }

@@ -1,4 +1,4 @@
-use Rattle.std.proofs.Common.{◌≡◌, ℕ, ◌≤◌, Some, vec_len}
+use Rattle.std.proofs.Common.{◌≡◌, ◌≤◌, Some, vec_len}
 use Rattle.inode_map.specs.EntryPlaces.{AreOfUseBut, IsNumbered}
 use Rattle.inode_map.specs.InodeMap.{left_of_use}
 use Rattle.inode_map.proofs.entries.prune.Given as goal

@@ -1,9 +1,7 @@
-use Rattle.std.proofs.Common.{◌≡◌, ap, subst, sym, ◌∙◌, arith}
-use Rattle.inode_map.specs.EntryPlaces.{AreOfUseBut, IsNumbered}
-use Rattle.inode_map.specs.InodeMap.{MapState, left_of_use, forgot, forgotten}
+use Rattle.std.proofs.Common.{◌≡◌, subst, sym, arith}
+use Rattle.inode_map.specs.InodeMap.{MapState, forgot, forgotten}
 use Rattle.inode_map.specs.declared.inode_map.Forgot.TheVariants.{Lowered}
-use Rattle.inode_map.specs.declared.inode_map.Kept.{Kept}
-use Rattle.inode_map.proofs.Forgetting.{IsTold, told-lowered, lowered-kept, lowered-numbers, lowered-others, struck-kept, forgotten-lowered}
+use Rattle.inode_map.proofs.Forgetting.{told-lowered, lowered-kept, lowered-numbers, lowered-others, struck-kept, forgotten-lowered}
 use Rattle.inode_map.proofs.Giving.{AreKept}
 use Rattle.inode_map.proofs.inode_map.InodeMap.forget.Goals as goal
 
@@ -16,8 +14,10 @@ invariant_of-self-in-Lowered c =
     record { numbers = now.numbers; numbers_fit = c.self.invariant.numbers_fit; of_use = now.of_use; room = omega (arith, c.self.invariant.room) }
 
 pub prune-requires-clause-numbers : goal.prune-requires-clause-numbers
-prune-requires-clause-numbers c = (c.self.inside.next,
-    rw c.lower-in-Dropped.ensures.lowered (lowered-numbers c.self.inside.entries.items c.self.inside.next c.args.number.0 c.args.k c.self.invariant.numbers))
+prune-requires-clause-numbers c = (
+  c.self.inside.next,
+  rw c.lower-in-Dropped.ensures.lowered (lowered-numbers c.self.inside.entries.items c.self.inside.next c.args.number.0 c.args.k c.self.invariant.numbers),
+)
 
 pub prune-requires-clause-others_of_use : goal.prune-requires-clause-others_of_use
 prune-requires-clause-others_of_use c = rw c.lower-in-Dropped.ensures.lowered (lowered-others c.self.inside.entries.items c.args.number.0 c.args.k c.self.invariant.of_use)

@@ -1,28 +1,26 @@
-use Rattle.std.proofs.Common.{◌≡◌, ◌-◌, ◌<◌, true, false, ap, refl, sym, ◌∙◌, arith}
-use Rattle.std.specs.Prelude.{nat_lt}
-use Rattle.std.proofs.lemmas.Bool.Decides.{nat_tests}
-use Rattle.inode_map.specs.InodeMap.{MapState, count_of, is_kid_of}
+use Rattle.std.proofs.Common.{true, false, ap, refl, sym, ◌∙◌, arith}
+use Rattle.inode_map.specs.InodeMap.{MapState, is_kid_of}
 use Rattle.inode_map.proofs.Forgetting.{forgot-good, counted-more, counted-all}
 use Rattle.inode_map.proofs.inode_map.InodeMap.forgot.Goals as goal
 
 pub returns-then-count-k-2 : goal.returns-then-count-k-2
 returns-then-count-k-2 c = record {
   forgot = sym (forgot-good c.args.self.now c.args.number.0 c.args.k true _ (sym c.if-eq.ensures) c.if-k-eq0.false (omega (arith, c.count-count.ensures.count))
-  (counted-more _ _ (omega (arith, c.count-count.ensures.count))) refl);
+      (counted-more _ _ (omega (arith, c.count-count.ensures.count))) refl);
 }
 
 pub returns-then-has_kids : goal.returns-then-has_kids
 returns-then-has_kids c = record {
   forgot = sym (forgot-good c.args.self.now c.args.number.0 c.args.k false true (sym c.if-eq.ensures) c.if-k-eq0.false (omega (arith, c.count-count.ensures.count))
-  (counted-all _ _ (omega (arith, c.count-count.ensures.count)))
-  (ap (λ (m : MapState). Rattle.std.specs.List.list_any (is_kid_of c.args.number.0) m.entries) (sym c.self.view_is)
-  ∙ ap (λ entries. Rattle.std.specs.List.list_any (is_kid_of c.args.number.0) entries) (sym c.as_slice.ensures.value) ∙ sym c.if-has_kids.ensures));
+      (counted-all _ _ (omega (arith, c.count-count.ensures.count)))
+      (ap (λ (m : MapState). Rattle.std.specs.List.list_any (is_kid_of c.args.number.0) m.entries) (sym c.self.view_is)
+      ∙ ap (λ entries. Rattle.std.specs.List.list_any (is_kid_of c.args.number.0) entries) (sym c.as_slice.ensures.value) ∙ sym c.if-has_kids.ensures));
 }
 
 pub returns : goal.returns
 returns c = record {
   forgot = sym (forgot-good c.args.self.now c.args.number.0 c.args.k false false (sym c.if-eq.ensures) c.if-k-eq0.false (omega (arith, c.count-count.ensures.count))
-  (counted-all _ _ (omega (arith, c.count-count.ensures.count)))
-  (ap (λ (m : MapState). Rattle.std.specs.List.list_any (is_kid_of c.args.number.0) m.entries) (sym c.self.view_is)
-  ∙ ap (λ entries. Rattle.std.specs.List.list_any (is_kid_of c.args.number.0) entries) (sym c.as_slice.ensures.value) ∙ sym c.if-has_kids.ensures));
+      (counted-all _ _ (omega (arith, c.count-count.ensures.count)))
+      (ap (λ (m : MapState). Rattle.std.specs.List.list_any (is_kid_of c.args.number.0) m.entries) (sym c.self.view_is)
+      ∙ ap (λ entries. Rattle.std.specs.List.list_any (is_kid_of c.args.number.0) entries) (sym c.as_slice.ensures.value) ∙ sym c.if-has_kids.ensures));
 }
