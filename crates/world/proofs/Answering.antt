@@ -31,7 +31,7 @@ use Rattle.fuse_ops.specs.Served.{ServedState, IsLocated, numbers_at, number_fau
 use Rattle.fuse_ops.specs.Soundness.{IsSound}
 use Rattle.world.specs.World.{World, file_named, gives, owed, IsLive, IsNumberOf, IsFree, MayNumber, IsAtGreatest, HasNoNumber, MayBeGiven, IsAgainst, numbers_of, effect_in, IsStale, MayAnswer, names_after}
 use Rattle.world.specs.Agreement.{Knows}
-use Rattle.world.proofs.Laws.{giving, placing}
+use Rattle.fuse_ops.proofs.GivingLaw.{gives-well, number-at_place}
 
 -- an answer is one of the world's, and the daemon knows what the world has after it
 pub record Worked (w : World) (request : Request) (answer : Answer) (later : ServedState) : Type 0 where
@@ -215,7 +215,7 @@ given_in w m dir name above file answer later f clear may number (inl t) makes =
 
       gave : Knows w.tree (named w.names n file) (λ j. owed w j + (if n == j then 1 else 0)) later
       gave = subst (λ (s : ServedState). Knows w.tree (named w.names n file) (λ j. owed w j + (if n == j then 1 else 0)) s) (sym made)
-          (gave-knows w m (given m dir name) n file f.knows (giving (served_over w.tree m) dir name above file (placed w m dir name above file f) clear))
+          (gave-knows w m (given m dir name) n file f.knows (gives-well (served_over w.tree m) dir name above file (placed w m dir name above file f) clear))
 
       known : Knows w.tree (names_after w.names (Some t.number) (Some file)) (λ j. owed w j + (if gives j entry then 1 else 0)) later
       known = subst (λ (i : ℕ). Knows w.tree (named w.names i file) (λ j. owed w j + (if i == j then 1 else 0)) later) (sym (t.is_number)) gave
@@ -362,7 +362,7 @@ lookup_in w m dir name answer later is k o at (Ok file) found answers makes = in
   in_ None at' e = absurd (let none : ⊥ = cc in none)
   in_ (Some above) at' e =
       let f : Found w m dir name above file = record { is_tree = is; knows = k; at = at'; found = e } in
-      file_in w m dir name above file answer later f (entry_at m.entries dir.0 name) refl (placing (served_over w.tree m) dir.0 name above file (placed w m dir name above file f)) answers.0 answers.1 answers.2 makes
+      file_in w m dir name above file answer later f (entry_at m.entries dir.0 name) refl (number-at_place (served_over w.tree m) dir.0 name above file (placed w m dir name above file f)) answers.0 answers.1 answers.2 makes
 lookup_in w m dir name answer later is k o at (Err errno) found answers makes =
     subst (λ (a : Answer). Worked w (Lookup dir name) a later) (sym answers)
     (refused w (served_over w.tree m) later (Lookup dir name) errno is k

@@ -45,7 +45,7 @@ use Rattle.world.proofs.Answering.{Worked, answers-worked, knows-along}
 use Rattle.world.proofs.Daemons.{served_of-more, served_of-with, serving-is, knows-seated, seated-knows}
 use Rattle.world.proofs.Forgetting.{Forgotten, forgets-well, less_owed}
 use Rattle.world.proofs.Keeping.{books-mounted, books-asked, books-forgot, answered-mounted, answered-asked, seat-mounted, seat-stays}
-use Rattle.world.proofs.Laws.{new-sound}
+use Rattle.fuse_ops.proofs.GivingLaw.{new-sound}
 use Rattle.world.proofs.Quiet.{quiet_world, quiet_is, quiet-owed, asked_world, asked-after, asked-run, asked-owed, forgot_world, forgot-after, forgot-run, forgot-owed}
 
 -- what makes no move leaves the world

@@ -9,7 +9,7 @@ use Rattle.inode_map.specs.InodeMap.{MapState, count_of, is_bad_item, forgot, fo
 use Rattle.fuse_ops.specs.Gifts.{served_over, Forgets, IsTaken}
 use Rattle.world.specs.World.{file_named}
 use Rattle.world.specs.Agreement.{Knows}
-use Rattle.world.proofs.Laws.{forgetting}
+use Rattle.fuse_ops.proofs.ForgettingLaw.{forgets-well as forgetting}
 
 -- what a forget takes back is owed no more
 abbrev pub less_owed : (ℕ → ℕ) → ℕ → ℕ → ℕ → ℕ

@@ -7,4 +7,3 @@ mod Events
 mod WholeRun
 pub mod StepLemmas
 pub mod DaemonWrites
-mod Laws
