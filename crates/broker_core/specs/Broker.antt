@@ -117,7 +117,7 @@ issued broker request =
 abbrev pub unique_of : BrokerState → Request → Option ℕ
 unique_of broker request = if is_ask request then Some broker.next_unique else None
 
--- the number of an entry is held once more, and takes a room
+-- a number that is given out is held once more, and takes a room
 abbrev pub entered : BrokerState → Number → BrokerState
 entered broker number = record broker { held = raised broker.held number.0; spare = broker.spare - 1 }
 

@@ -216,10 +216,7 @@ impl Broker {
         if let Some(fault) = self.refusal(request) {
             return Err(fault);
         }
-        match self.issue(request) {
-            Ok(unique) => Ok(unique),
-            Err(NoMemory) => Err(IssueFault::NoMemory),
-        }
+        self.issue(request).map_err(|_| IssueFault::NoMemory)
     }
 
     /// Hands a reply to the kernel, which then holds the number of an entry once more. That takes

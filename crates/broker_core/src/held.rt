@@ -40,6 +40,7 @@ impl Model for Held {
 }
 
 impl Held {
+    /// Returns no numbers.
     pub(crate) fn new(alloc: Global) -> Held
         ensures none { result ≡ record { counts = none_held; spare = 0 } }
     {
@@ -58,13 +59,9 @@ impl Held {
         if self.spare > 0 {
             return Ok(());
         }
-        match self.holdings.try_reserve(1) {
-            Ok(()) => {
-                self.spare = 1;
-                Ok(())
-            }
-            Err(_refused) => Err(NoMemory),
-        }
+        self.holdings.try_reserve(1)?;
+        self.spare = 1;
+        Ok(())
     }
 
     /// Holds a number once more, and takes one room for it.
