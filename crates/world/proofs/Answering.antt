@@ -167,9 +167,10 @@ gave-knows w m new n file k g = record {
       let low : 2 ≤ n = g.low in let high : n < new.next = g.high in
       (λ s. (omega arith, omega arith), λ r. subst (λ (i : ℕ). IsSome (file_named (named w.names n file) i)) (sym same) (some-IsSome (file_named (named w.names n file) n) file is.here))
   number_in j (inr d) next =
-      let e = is.others j d in
-      (λ s. let r = (k.numbers j).0 (subst (λ (o : Option FileId). IsSome o) e s) in (r.0, below_in (next_in next) r.1),
-      λ r. subst (λ (o : Option FileId). IsSome o) (sym e) ((k.numbers j).1 (r.0, above_in (next_in next) r.1))) where
+      let e = is.others j d in (
+        λ s. let r = (k.numbers j).0 (subst (λ (o : Option FileId). IsSome o) e s) in (r.0, below_in (next_in next) r.1),
+        λ r. subst (λ (o : Option FileId). IsSome o) (sym e) ((k.numbers j).1 (r.0, above_in (next_in next) r.1)),
+      ) where
         below_in : (new.next ≡ m.next) ⊎ ((n ≡ m.next) × (new.next ≡ m.next + 1)) → j < m.next → j < new.next
         below_in (inl e') l = omega arith
         below_in (inr (is', e')) l = omega arith
@@ -191,13 +192,17 @@ given_in w m dir name above file answer later f clear may number (inr (inr (e, a
     (may_in w m dir name above file (Error ENOMEM) f (None, may, inr (inr (refl, tt)))))
 given_in w m dir name above file answer later f clear may number (inl t) makes =
     subst (λ (a : Answer). Worked w (Lookup dir name) a later) (sym (t.is)) (record {
-      may = may_in w m dir name above file entry f (None, may, inl (record {
-        number = t.number;
-        attr = t.attr;
-        is = refl;
-        is_number = subst (λ (i : ℕ). MayNumber w file i) (sym (t.is_number)) number;
-        is_attr = t.is_attr;
-      }));
+      may = may_in w m dir name above file entry f (
+        None,
+        may,
+        inl (record {
+          number = t.number;
+          attr = t.attr;
+          is = refl;
+          is_number = subst (λ (i : ℕ). MayNumber w file i) (sym (t.is_number)) number;
+          is_attr = t.is_attr;
+        }),
+      );
       is_tree = subst (λ (r : Result Effect Errno). IsTree (tree_after w.tree r entry)) (sym came) f.is_tree;
       knows = subst (λ (r : Result Effect Errno). Knows (tree_after w.tree r entry) (names_after w.names (Some t.number) (file_told r)) (λ j. owed w j + (if gives j entry then 1 else 0)) later) (sym came) known;
     }) where

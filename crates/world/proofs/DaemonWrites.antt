@@ -85,6 +85,10 @@ HolderIsAt-place state seat place has h is =
 pub read-serving : (xs : List Daemon) (place : ℕ) (x : Daemon) (at : ServesAt xs place) → x ≡ get_or xs place x → x ≡ Serving at.served
 read-serving xs place x at is = is ∙ get_or_from_slice_get xs place (Serving at.served) x at.is_there
 
+-- what was read of it is what it serves
+pub read-served : (xs : List Daemon) (place : ℕ) (x : Daemon) (served : ServedState) (at : ServesAt xs place) → x ≡ get_or xs place x → Some served ≡ served_in x → served ≡ at.served
+read-served xs place x served at is e = let same : Some served ≡ Some at.served = e ∙ ap served_in (read-serving xs place x at is) in cc
+
 applies_in : (xs : List Daemon) (place : ℕ) (served : ServedState) (new : Daemon) (request : Request) (answer : Option Answer) → slice_get xs place ≡ Some (Serving served) →
     DaemonApplies (Serving served) request answer new → AppliesAt xs place request answer (set xs place new)
 applies_in xs place served Waiting request answer was h = absurd h

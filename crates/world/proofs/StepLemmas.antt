@@ -1,14 +1,21 @@
 -- What the world's methods did is a step.
-use Rattle.std.proofs.Common.{◌≡◌, ℕ, ◌+◌, ◌-◌, Bool, false, List, [], ◌∷◌, ◌++◌, Option, Some, None, set, refl, sym, ap, ◌∙◌, subst, inl}
+use Rattle.std.proofs.Common.{◌≡◌, ℕ, ◌+◌, ◌-◌, Bool, true, false, if◌then◌else◌, List, [], ◌∷◌, ◌++◌, Option, Some, None, set, refl, sym, ap, ◌∙◌, subst, inl}
 use Rattle.std.specs.Prelude.{slice_get}
-use Rattle.std.specs.Option.{option_map}
+use Rattle.std.specs.Option.{option_map, option_map_or, option_and_then}
 use Rattle.eden_base.specs.declared.number.DaemonId.{DaemonId}
+use Rattle.eden_base.specs.declared.number.Number.{Number}
+use Rattle.fuse_wire.specs.Ask.{is_ask}
+use Rattle.fuse_wire.specs.Given.{given_out}
 use Rattle.fuse_wire.specs.declared.ask.Request.{Request}
+use Rattle.fuse_wire.specs.declared.ask.Request.TheVariants.{Forget}
+use Rattle.fuse_wire.specs.declared.item.Item.{Item}
 use Rattle.fuse_wire.specs.declared.reply.Answer.{Answer}
-use Rattle.broker_core.specs.Broker.{BrokerState, mount_fault, issue_fault, mounted}
+use Rattle.broker_core.specs.Broker.{BrokerState, mount_fault, issue_fault, mounted, asked, forgot, forgotten as item_forgotten, issued, unique_of, entered, settled}
+use Rattle.broker_core.specs.declared.seat.Seat.{Seat}
+use Rattle.inode_map.specs.declared.inode_map.Forgot.{Forgot}
 use Rattle.broker_core.specs.declared.broker.MountFault.{MountFault}
 use Rattle.broker_core.specs.declared.broker.IssueFault.{IssueFault}
-use Rattle.fuse_ops.specs.Served.{ServedState, new_served}
+use Rattle.fuse_ops.specs.Served.{ServedState, new_served, items_of}
 use Rattle.world.specs.declared.daemon.Daemon.{Daemon}
 use Rattle.world.specs.declared.daemon.Daemon.TheVariants.{Waiting, Serving}
 use Rattle.world.specs.declared.event.Event.{Event}
@@ -16,10 +23,10 @@ use Rattle.world.specs.declared.event.Event.TheVariants.{Mount, Do}
 use Rattle.world.specs.declared.outcome.Happened.{Happened}
 use Rattle.world.specs.declared.outcome.Happened.TheVariants as happened
 use Rattle.world.specs.State.{State, daemon_of, with_daemon, served_in, mount_refusal, refusal_of_mount, refusal_of_issue}
-use Rattle.world.specs.Step.{told, done, Does, Mounts, Step, StepBy, Steps}
-use Rattle.world.specs.DaemonWork.{AppliesAt}
+use Rattle.world.specs.Step.{told_of, told, done, Does, Mounts, Step, StepBy, Steps}
+use Rattle.world.specs.DaemonWork.{ServesAt, AppliesAt, TellsAt, HolderServes}
 use Rattle.world.specs.Holder.{place_of_daemon, HolderIsAt}
-use Rattle.world.proofs.DaemonWrites.{place-is, daemon_of-place}
+use Rattle.world.proofs.DaemonWrites.{place-is, daemon_of-place, HolderServes-set}
 
 -- the seated daemon after it went on
 with_holder : (old : State) (broker : BrokerState) (d : DaemonId) (place : ℕ) (daemons : List Daemon) (later : Daemon) → place_of_daemon d ≡ Some place →
@@ -40,12 +47,65 @@ Step-does old request place answer daemons broker outcome fine at applies broke 
       served = applies.served;
       later = applies.later;
       answer = answer;
-      seated = record { has_seat = at.has_seat; serves = ap (λ (o : Option Daemon). Rattle.std.specs.Option.option_and_then served_in o) (daemon_of-place old at.seat.daemon place at.is_there ∙ applies.was) };
+      seated = record { has_seat = at.has_seat; serves = ap (λ (o : Option Daemon). option_and_then served_in o) (daemon_of-place old at.seat.daemon place at.is_there ∙ applies.was) };
       replay = applies.replay;
       tells = tells;
       makes = ap (λ (b : BrokerState). record old { broker = b; daemons = daemons }) broke ∙ with_holder old later at.seat.daemon place daemons (Serving applies.later) at.is_there applies.makes;
     } in
     subst (λ (o : Option IssueFault). StepBy old (Do request) (option_map refusal_of_issue o) outcome (record old { broker = broker; daemons = daemons })) (sym fine) (inl made)
+
+-- what is never there is missing
+pub none-unless : {X : Type 0} (o : Option X) → ((x : X) → o ≡ Some x → ⊥) → o ≡ None
+none-unless None never = refl
+none-unless (Some x) never = absurd (never x refl)
+
+-- neither a request nor an answer moves the seat
+pub issued-seat : (b : BrokerState) (request : Request) → (issued b request).seat ≡ b.seat
+issued-seat b request = in_ (is_ask request) (item_forgotten request) where
+  in_ : (c : Bool) (o : Option Item) → (if c then asked b else option_map_or (forgot b) o b).seat ≡ b.seat
+  in_ true o = refl
+  in_ false None = refl
+  in_ false (Some item) = refl
+
+pub settled-seat : (b : BrokerState) (answer : Answer) → (settled b answer).seat ≡ b.seat
+settled-seat b answer = in_ (given_out answer) where
+  in_ : (o : Option Number) → (option_map_or (entered b) o b).seat ≡ b.seat
+  in_ None = refl
+  in_ (Some number) = refl
+
+-- whoever has the seat serves still
+pub serves-still : (broker new : BrokerState) (daemons later : List Daemon) (place : ℕ) (request : Request) (answer : Option Answer) → AppliesAt daemons place request answer later → new.seat ≡ broker.seat →
+    ((seat : Seat) → broker.seat ≡ Some seat → HolderServes daemons seat) → (seat : Seat) → new.seat ≡ Some seat → HolderServes later seat
+serves-still broker new daemons later place request answer applies same serves seat e =
+    subst (λ (ds : List Daemon). HolderServes ds seat) (sym applies.makes) (HolderServes-set daemons place applies.later seat (serves seat (sym same ∙ e)))
+
+-- the seated daemon serves at its place
+pub ServesAt-holder : (state : State) (place : ℕ) → HolderIsAt state place → ServesAt state.daemons place
+ServesAt-holder state place at = record { served = at.served; is_there = at.serves }
+
+-- an ask that was answered under its unique
+pub Step-asks : (old : State) (request : Request) (place unique : ℕ) (given : Option ℕ) (answer : Answer) (daemons : List Daemon) (issued_to broker : BrokerState) (outcome : List Happened) →
+    issue_fault old.broker request ≡ None → is_ask request ≡ true → HolderIsAt old place → AppliesAt old.daemons place request (Some answer) daemons →
+    given ≡ unique_of old.broker request → given ≡ Some unique → issued_to ≡ issued old.broker request → broker ≡ settled issued_to answer →
+    outcome ≡ happened.Answered (record { unique = unique; answer = answer }) ∷ [] → Step old (Do request) outcome (record old { broker = broker; daemons = daemons })
+Step-asks old request place unique given answer daemons issued_to broker outcome fine ask at applies told_is is issues settles tells =
+    let same : Some unique ≡ Some old.broker.next_unique = sym is ∙ told_is ∙ ap (λ (b : Bool). if b then Some old.broker.next_unique else None) ask in
+    let u : unique ≡ old.broker.next_unique = cc in
+    Step-does old request place (Some answer) daemons broker outcome fine at applies (settles ∙ ap (λ (b : BrokerState). settled b answer) issues)
+    (tells ∙ ap (λ (n : ℕ). happened.Answered (record { unique = n; answer = answer }) ∷ []) u)
+
+-- a forget that was applied
+pub Step-forgets : (old : State) (request : Request) (item : Item) (place : ℕ) (answer : Option Answer) (became : Forgot) (daemons : List Daemon) (broker : BrokerState) (outcome : List Happened) →
+    issue_fault old.broker request ≡ None → is_ask request ≡ false → request ≡ Forget item → HolderIsAt old place → AppliesAt old.daemons place request answer daemons → TellsAt old.daemons place item became →
+    broker ≡ issued old.broker request → outcome ≡ happened.Forgot item became ∷ [] → Step old (Do request) outcome (record old { broker = broker; daemons = daemons })
+Step-forgets old request item place (Some answer) became daemons broker outcome fine ask is at applies tells issues told_is = absurd (let t : is_ask request ≡ true = (applies.replay).0 in let none : true ≡ false = sym t ∙ ask in let x : ⊥ = cc in x)
+Step-forgets old request item place None became daemons broker outcome fine ask is at applies tells issues told_is =
+    let one : Some (Serving tells.served) ≡ Some (Serving applies.served) = sym tells.is_there ∙ applies.was in
+    let same : tells.served ≡ applies.served = cc in
+    Step-does old request place None daemons broker outcome fine at applies issues
+    (told_is ∙ ap (λ (f : Forgot). happened.Forgot item f ∷ []) (tells.tells ∙ ap (λ (s : ServedState). became_of s) same) ∙ sym (ap (λ (r : Request). told_of applies.served (items_of r)) is)) where
+      became_of : ServedState → Forgot
+      became_of s = Rattle.inode_map.specs.InodeMap.forgot s.map item.node.0 item.k
 
 -- a mount by a daemon that waited
 pub Step-mounts : (old : State) (d : DaemonId) (place : ℕ) (served : ServedState) (broker : BrokerState) (outcome : List Happened) → mount_fault old.broker ≡ None →

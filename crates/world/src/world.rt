@@ -177,12 +177,8 @@ impl World {
             return Outcome::refused(Refusal::NoMemory);
         };
         let answer = apply_at(&mut self.daemons, place, self.alloc, request);
-        let Some(unique) = unique else {
-            unreachable!()
-        };
-        let Some(answer) = answer else {
-            unreachable!()
-        };
+        let Some(unique) = unique else { unreachable!() };
+        let Some(answer) = answer else { unreachable!() };
         let reply = Reply { unique, answer };
         self.broker.settle(&reply);
         Outcome::of(Happened::Answered(reply))

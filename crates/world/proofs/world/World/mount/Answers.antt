@@ -1,5 +1,5 @@
-use Rattle.std.proofs.Common.{◌≡◌, ◌<◌, ◌+◌, length, Some, None, subst, sym, ap, ◌∙◌, arith, [], set}
-use Rattle.std.specs.Prelude.{◌∷◌}
+-- Who mounted has the seat and serves.
+use Rattle.std.proofs.Common.{◌≡◌, ◌+◌, ◌<◌, length, set, Some, None, [], ◌∷◌, sym, ap, ◌∙◌, subst, arith}
 use Rattle.broker_core.specs.Broker.{BrokerState}
 use Rattle.broker_core.specs.declared.seat.Seat.{Seat}
 use Rattle.world.specs.declared.daemon.Daemon.TheVariants.{Serving}
@@ -8,30 +8,27 @@ use Rattle.world.specs.declared.outcome.Happened.TheVariants as happened
 use Rattle.world.specs.State.{State}
 use Rattle.world.specs.Step.{Step}
 use Rattle.world.proofs.DaemonWrites.{HolderServes-mounted, waits-read}
-use Rattle.world.proofs.StepLemmas.{Step-mounts}
+use Rattle.world.proofs.StepLemmas.{none-unless, Step-mounts}
 use Rattle.world.proofs.world.World.mount.Goals as goal
 
 pub invariant_of-self : goal.invariant_of-self
 invariant_of-self c =
     let items = c.self.inside.daemons.items in
     let bound : c.in-Some.place < length items = omega (arith, c.if-place-len.false, c.len.ensures, c.self.inside.daemons.ok.0) in
-    let seated : Some (record { generation = c.self.inside.broker.last + 1; daemon = c.args.daemon }) ≡ c.mount.new.self.seat = ap (λ (b : BrokerState). b.seat) (sym c.in-Ok-mount.ensures.mounted) in
+    let seated : Some (record { generation = c.self.inside.broker.last + 1; daemon = c.args.daemon }) ≡ c.mount-generation.new.self.seat = ap (λ (b : BrokerState). b.seat) (sym c.mount-generation.ensures.mounted) in
     record {
       holder_serves = λ seat e. HolderServes-mounted items c.args.daemon c.in-Some.place (c.self.inside.broker.last + 1) c.in-Ok.served seat (sym c.in-Some.ensures) bound (seated ∙ e);
-      never_seated = λ e. absurd (unseated _ (seated ∙ e));
       few = c.self.invariant.few;
-    } where
-      unseated : (seat : Seat) → Some seat ≡ None → ⊥
-      unseated seat e = cc
+    }
 
-pub returns-in-Ok-mount : goal.returns-in-Ok-mount
-returns-in-Ok-mount c =
+pub returns : goal.returns
+returns c =
     let old : State = record { manifest = c.self.inside.manifest; limit = c.self.inside.limit; broker = c.self.inside.broker; daemons = c.self.inside.daemons.items } in
     let bound : c.in-Some.place < length old.daemons = omega (arith, c.if-place-len.false, c.len.ensures, c.self.inside.daemons.ok.0) in
-    let new : State = record old { broker = c.mount.new.self; daemons = set old.daemons c.in-Some.place (Serving c.in-Ok.served) } in
+    let new : State = record old { broker = c.mount-generation.new.self; daemons = set old.daemons c.in-Some.place (Serving c.in-Ok.served) } in
     record {
       step = subst (λ (s : State). Step s (Mount c.args.daemon) c.of.result new) c.self.view_is
-          (Step-mounts old c.args.daemon c.in-Some.place c.in-Ok.served c.mount.new.self c.of.result c.in-Ok-mount.ensures.accepted (sym c.in-Some.ensures)
-          (waits-read old.daemons c.in-Some.place c.index.result.now bound c.if-not-is_waiting.ensures c.index.ensures) c.in-Ok.ensures.new c.in-Ok-mount.ensures.mounted
-          (c.of.ensures.one ∙ ap (λ g. happened.Mounted g ∷ []) c.in-Ok-mount.ensures.generation));
+          (Step-mounts old c.args.daemon c.in-Some.place c.in-Ok.served c.mount-generation.new.self c.of.result (sym c.mount_refusal.ensures.fault ∙ none-unless c.mount_refusal.result c.in_default-mount_refusal.not-Some) (sym c.in-Some.ensures)
+          (waits-read old.daemons c.in-Some.place c.index.result.now bound c.if-not-is_waiting.ensures c.index.ensures) c.in-Ok.ensures.new c.mount-generation.ensures.mounted
+          (c.of.ensures.one ∙ ap (λ g. happened.Mounted g ∷ []) c.mount-generation.ensures.generation));
     }
