@@ -4,3 +4,4 @@ pub mod HeldLaws
 mod Places
 mod Rising
 mod Searching
+pub mod SeatLaws

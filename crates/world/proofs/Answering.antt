@@ -1,36 +1,36 @@
 -- A daemon's legal answer is one that the world may give, and what the daemon knows after it is what the world has then.
-use Rattle.std.proofs.Common.{◌≡◌, ℕ, ◌+◌, ◌<◌, ◌≤◌, Bool, true, false, List, [], ◌∷◌, Option, Some, None, Result, Ok, Err, is_some, refl, sym, ap, ◌∙◌, subst, inl, inr, ◌⊎◌, arith}
-use Rattle.std.specs.Prelude.{◌==◌, ◌↔◌, IsSome, Contains, nat_le, if◌then◌else◌}
-use Rattle.std.specs.Option.{option_map, option_map_or}
+use Rattle.std.proofs.Common.{◌≡◌, ℕ, ◌+◌, ◌<◌, ◌≤◌, Bool, true, false, List, Option, Some, None, Result, Ok, Err, is_some, refl, sym, ap, ◌∙◌, subst, inl, inr, ◌⊎◌, arith}
+use Rattle.std.specs.Prelude.{◌==◌, nat_le, if◌then◌else◌}
+use Rattle.std.specs.Option.{option_map_or}
 use Rattle.std.proofs.lemmas.Bool.Decides.{nat_tests}
 use Rattle.eden_base.specs.Limits.{greatest_count, end_of_numbers}
-use Rattle.eden_base.specs.declared.attr.Attr.{Attr}
 use Rattle.eden_base.specs.declared.attr.Kind.{Kind}
 use Rattle.eden_base.specs.declared.attr.Kind.TheVariants.{Dir, File}
 use Rattle.eden_base.specs.declared.errno.Errno.{Errno}
-use Rattle.eden_base.specs.declared.errno.Errno.TheVariants.{ESTALE, ENOENT, ENOSPC, EOVERFLOW, EIO, ENOMEM, ENOSYS}
+use Rattle.eden_base.specs.declared.errno.Errno.TheVariants.{ESTALE, ENOENT, EIO, ENOMEM, ENOSYS}
 use Rattle.eden_base.specs.declared.number.FileId.{FileId}
 use Rattle.eden_base.specs.declared.number.Number.{Number}
-use Rattle.eden_base.proofs.MemberLemmas.{some-IsSome, some-is}
-use Rattle.eden_base.proofs.NumberTests.{eq-true, eq-false, true-eq, false-ne, eq-or}
+use Rattle.eden_base.proofs.MemberLemmas.{some-IsSome}
+use Rattle.eden_base.proofs.NumberTests.{eq-or}
 use Rattle.checkout.specs.Tree.{Tree, IsTree, child_of, kind_of, root}
 use Rattle.fuse_wire.specs.Given.{given_out}
 use Rattle.fuse_wire.specs.declared.ask.Request.{Request}
-use Rattle.fuse_wire.specs.declared.ask.Request.TheVariants.{Lookup, Getattr, Create, Mkdir, Unlink, Rmdir, Forget, BatchForget, Other}
+use Rattle.fuse_wire.specs.declared.ask.Request.TheVariants.{Lookup}
 use Rattle.fuse_wire.specs.declared.reply.Answer.{Answer}
 use Rattle.fuse_wire.specs.declared.reply.Answer.TheVariants.{Entry, Error}
-use Rattle.inode_map.specs.InodeMap.{MapState, IsFileOf, is_root, entry_of, entry_at, count_of, stands_at, give_fault, give_fault_at, given, number_given}
+use Rattle.inode_map.specs.InodeMap.{MapState, IsFileOf, is_root, entry_of, entry_at, stands_at, give_fault, give_fault_at, given, number_given}
 use Rattle.inode_map.specs.declared.inode_map.GiveFault.{GiveFault}
 use Rattle.inode_map.specs.declared.inode_map.GiveFault.TheVariants.{NoNumber, TooMany, NoMemory}
 use Rattle.inode_map.specs.declared.inode_map.Kept.{Kept}
 use Rattle.inode_map.proofs.EntryLemmas.{entry_of-first, numbers-entry, numbers-bound}
 use Rattle.inode_map.proofs.FileLemmas.{IsFileOf-same, named-known}
 use Rattle.fuse_ops.specs.Answers.{NumberFault, none_left, at_greatest, Effect, found_in, found_in_dir, enters, comes_to, Tells, AnswersCounted, Answers, tree_after, file_told}
-use Rattle.fuse_ops.specs.Gifts.{served_over, Gave, IsPlaced, NumberAtPlace}
-use Rattle.fuse_ops.specs.Served.{ServedState, IsLocated, numbers_at, number_fault, map_after, place_told, IsLegal}
+use Rattle.fuse_ops.specs.Gifts.{served_over, IsPlaced, NumberAtPlace}
+use Rattle.fuse_ops.specs.Served.{ServedState, IsLocated, numbers_at, number_fault, map_after, IsLegal}
 use Rattle.fuse_ops.specs.Soundness.{IsSound}
-use Rattle.world.specs.World.{World, file_named, gives, owed, IsLive, IsNumberOf, IsFree, MayNumber, IsAtGreatest, HasNoNumber, MayBeGiven, IsAgainst, numbers_of, effect_in, IsStale, MayAnswer, names_after}
+use Rattle.world.specs.World.{World, file_named, gives, owed, IsLive, IsNumberOf, MayNumber, IsAtGreatest, MayBeGiven, IsAgainst, numbers_of, effect_in, IsStale, MayAnswer, names_after}
 use Rattle.world.specs.Agreement.{Knows}
+use Rattle.world.proofs.Knowing.{named, knows-along, live-named, number-names, gave-knows}
 use Rattle.fuse_ops.proofs.GivingLaw.{gives-well, number-at_place}
 
 -- an answer is one of the world's, and the daemon knows what the world has after it
@@ -40,10 +40,6 @@ pub record Worked (w : World) (request : Request) (answer : Answer) (later : Ser
   pub knows : Knows (tree_after w.tree (effect_in w request) answer) (names_after w.names (given_out answer) (file_told (effect_in w request)))
       (λ n. owed w n + (if gives n answer then 1 else 0)) later
 
--- what is owed no more and no less is known the same
-pub knows-along : (tree : Tree) (names : List (ℕ × FileId)) (owes other : ℕ → ℕ) (served : ServedState) → ((n : ℕ) → owes n ≡ other n) → Knows tree names owes served → Knows tree names other served
-knows-along tree names owes other served same k = record { tree_is = k.tree_is; counts = λ n d. k.counts n d ∙ same n; files = k.files; sound = k.sound; numbers = k.numbers }
-
 -- an error changes nothing
 refused : (w : World) (served later : ServedState) (request : Request) (errno : Errno) → IsTree w.tree → Knows w.tree w.names (owed w) served → later ≡ served → MayAnswer w request (Error errno) →
     Worked w request (Error errno) later
@@ -52,29 +48,6 @@ refused w served later request errno is k same may = record {
   is_tree = is;
   knows = subst (λ (s : ServedState). Knows w.tree w.names (λ n. owed w n + 0) s) (sym same) (knows-along w.tree w.names (owed w) (λ n. owed w n + 0) served (λ n. omega arith) k);
 }
-
--- the kernel's count of a number is the daemon's
-counted_entry : (es : List Kept) (n : ℕ) → 0 < count_of es n → IsSome (entry_of es n)
-counted_entry es n some = in_ (entry_of es n) refl some where
-  in_ : (o : Option Kept) → entry_of es n ≡ o → 0 < option_map_or (λ (k : Kept). k.count) o 0 → IsSome (entry_of es n)
-  in_ None e h = absurd (omega arith)
-  in_ (Some k) e h = some-IsSome (entry_of es n) k e
-
--- what is live names a file, for the daemon too
-pub live-named : (w : World) (m : MapState) → Knows w.tree w.names (owed w) (served_over w.tree m) → (n : ℕ) → IsLive w n → (file : FileId) × IsFileOf w.tree m.entries n file
-live-named w m k n (inl one) = (root, is_root n root one refl)
-live-named w m k n (inr some) = in_ (eq-or n 1) where
-  in_ : (n ≡ 1) ⊎ (n ≡ 1 → ⊥) → (file : FileId) × IsFileOf w.tree m.entries n file
-  in_ (inl one) = (root, is_root n root one refl)
-  in_ (inr other) = let c : count_of m.entries n ≡ owed w n = k.counts n other in
-      let f = (k.sound).names_a_file n (counted_entry m.entries n (omega arith)) in (f.0, f.1)
-
--- a live number of the file names it for the daemon
-number-names : (w : World) (m : MapState) → Knows w.tree w.names (owed w) (served_over w.tree m) → (n : ℕ) (file : FileId) → IsNumberOf w file n → IsFileOf w.tree m.entries n file
-number-names w m k n file is =
-    let f = live-named w m k n is.live in
-    let same : f.0 ≡ file = (let s : Some f.0 ≡ Some file = sym (k.files n f.0 f.1) ∙ is.named in cc) in
-    subst (λ (x : FileId). IsFileOf w.tree m.entries n x) same f.1
 
 -- a directory's child was found
 found-child : (tree : Tree) (dir file : FileId) (name : List ℕ) → found_in tree (Some dir) name ≡ Ok file → child_of tree dir name ≡ Some file
@@ -106,78 +79,6 @@ comes w m dir name above file f = ap (λ (o : Option FileId). enters w.tree (fou
 may_in : (w : World) (m : MapState) (dir : Number) (name : List ℕ) (above file : FileId) (answer : Answer) → Found w m dir name above file →
     Answers (numbers_of w) (Lookup dir name) (enters w.tree (Ok file)) answer → MayAnswer w (Lookup dir name) answer
 may_in w m dir name above file answer f a = inr (subst (λ (r : Result Effect Errno). Answers (numbers_of w) (Lookup dir name) r answer) (sym (comes w m dir name above file f)) a)
-
--- the names after a number was given out for the file
-abbrev named : List (ℕ × FileId) → ℕ → FileId → List (ℕ × FileId)
-named names n file = if is_some (file_named names n) then names else (n, file) ∷ names
-
--- the names of numbers after it: the number names the file, and each other what it named
-record IsNamed (names : List (ℕ × FileId)) (n : ℕ) (file : FileId) : Type 0 where
-  here : file_named (named names n file) n ≡ Some file
-  others : (m : ℕ) → (m ≡ n → ⊥) → file_named (named names n file) m ≡ file_named names m
-
-is-named : (names : List (ℕ × FileId)) (n : ℕ) (file : FileId) → (file_named names n ≡ None) ⊎ (file_named names n ≡ Some file) → IsNamed names n file
-is-named names n file (inr e) = record { here = rw e e; others = λ m d. rw e refl }
-is-named names n file (inl e) = record {
-  here = rw e (let t : (n == n) ≡ true = eq-true n n refl in rw t refl);
-  others = λ m d. rw e (let t : (n == m) ≡ false = eq-false n m (λ s. d (sym s)) in rw t refl);
-}
-
--- what the daemon knows after it gave the number
-gave-knows : (w : World) (m new : MapState) (n : ℕ) (file : FileId) → Knows w.tree w.names (owed w) (served_over w.tree m) → Gave w.tree m new n file →
-    Knows w.tree (named w.names n file) (λ j. owed w j + (if n == j then 1 else 0)) (served_over w.tree new)
-gave-knows w m new n file k g = record {
-  tree_is = refl;
-  counts = λ j d. count_in j d (n == j) refl;
-  files = λ j other at. file_in j other at (eq-or j n);
-  sound = g.sound;
-  numbers = λ j. number_in j (eq-or j n) g.old_or_next;
-} where
-  old_named : (file_named w.names n ≡ None) ⊎ (file_named w.names n ≡ Some file)
-  old_named = old_in g.old_or_next where
-    old_in : (IsFileOf w.tree m.entries n file × (new.next ≡ m.next)) ⊎ ((n ≡ m.next) × (new.next ≡ m.next + 1)) → (file_named w.names n ≡ None) ⊎ (file_named w.names n ≡ Some file)
-    old_in (inl (at, e)) = inr (k.files n file at)
-    old_in (inr (is, e)) = inl (none_in (file_named w.names n) refl) where
-      none_in : (o : Option FileId) → file_named w.names n ≡ o → o ≡ None
-      none_in None e' = refl
-      none_in (Some x) e' = absurd (let r = (k.numbers n).0 (ap is_some e') in omega (arith, r.1))
-
-  is : IsNamed w.names n file
-  is = is-named w.names n file old_named
-
-  count_in : (j : ℕ) → (j ≡ 1 → ⊥) → (b : Bool) → (n == j) ≡ b → count_of new.entries j ≡ owed w j + (if b then 1 else 0)
-  count_in j d true e = let same : n ≡ j = true-eq n j e in
-      let one : count_of new.entries n ≡ owed w n + 1 = g.raised ∙ ap (λ i. i + 1) (k.counts n (λ s. d (sym same ∙ s))) in
-      subst (λ (i : ℕ). count_of new.entries i ≡ owed w i + 1) same one
-  count_in j d false e = let c : count_of new.entries j ≡ owed w j = g.others_count j (λ s. false-ne n j e (sym s)) ∙ k.counts j d in omega arith
-
-  file_in : (j : ℕ) (other : FileId) → IsFileOf w.tree new.entries j other → (j ≡ n) ⊎ (j ≡ n → ⊥) → file_named (named w.names n file) j ≡ Some other
-  file_in j other at (inl same) =
-      let there : IsFileOf w.tree new.entries n other = subst (λ (i : ℕ). IsFileOf w.tree new.entries i other) same at in
-      subst (λ (i : ℕ). file_named (named w.names n file) i ≡ Some other) (sym same) (is.here ∙ ap Some (IsFileOf-same w.tree new.entries n file other g.names there))
-  file_in j other at (inr d) = is.others j d ∙ k.files j other ((g.others_name j other d).0 at)
-
-  next_in : (IsFileOf w.tree m.entries n file × (new.next ≡ m.next)) ⊎ ((n ≡ m.next) × (new.next ≡ m.next + 1)) → (new.next ≡ m.next) ⊎ ((n ≡ m.next) × (new.next ≡ m.next + 1))
-  next_in (inl (at, e)) = inl e
-  next_in (inr r) = inr r
-
-  number_in : (j : ℕ) → (j ≡ n) ⊎ (j ≡ n → ⊥) → (IsFileOf w.tree m.entries n file × (new.next ≡ m.next)) ⊎ ((n ≡ m.next) × (new.next ≡ m.next + 1)) →
-      IsSome (file_named (named w.names n file) j) ↔ ((1 ≤ j) × (j < new.next))
-  number_in j (inl same) next =
-      let low : 2 ≤ n = g.low in let high : n < new.next = g.high in
-      (λ s. (omega arith, omega arith), λ r. subst (λ (i : ℕ). IsSome (file_named (named w.names n file) i)) (sym same) (some-IsSome (file_named (named w.names n file) n) file is.here))
-  number_in j (inr d) next =
-      let e = is.others j d in (
-        λ s. let r = (k.numbers j).0 (subst (λ (o : Option FileId). IsSome o) e s) in (r.0, below_in (next_in next) r.1),
-        λ r. subst (λ (o : Option FileId). IsSome o) (sym e) ((k.numbers j).1 (r.0, above_in (next_in next) r.1)),
-      ) where
-        below_in : (new.next ≡ m.next) ⊎ ((n ≡ m.next) × (new.next ≡ m.next + 1)) → j < m.next → j < new.next
-        below_in (inl e') l = omega arith
-        below_in (inr (is', e')) l = omega arith
-
-        above_in : (new.next ≡ m.next) ⊎ ((n ≡ m.next) × (new.next ≡ m.next + 1)) → j < new.next → j < m.next
-        above_in (inl e') l = omega arith
-        above_in (inr (is', e')) l = omega (arith, d)
 
 -- the answers for a file whose number may be held once more
 given_in : (w : World) (m : MapState) (dir : Number) (name : List ℕ) (above file : FileId) (answer : Answer) (later : ServedState) → Found w m dir name above file →

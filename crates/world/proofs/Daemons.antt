@@ -1,16 +1,19 @@
 -- What the daemons of a state serve after one of them started, mounted or worked.
-use Rattle.std.proofs.Common.{◌≡◌, ℕ, suc, zero, ◌-◌, ◌<◌, Bool, true, false, List, [], ◌∷◌, ◌++◌, Option, Some, None, set, refl, sym, ap, ◌∙◌, subst, arith}
+use Rattle.std.proofs.Common.{◌≡◌, ℕ, suc, zero, ◌-◌, Bool, true, false, List, [], ◌∷◌, ◌++◌, Option, Some, None, refl, sym, ap, ◌∙◌, subst}
 use Rattle.std.specs.Prelude.{slice_get, slice_set, ◌==◌, if◌then◌else◌}
-use Rattle.std.specs.Option.{option_and_then}
+use Rattle.std.specs.Option.{option_and_then, option_map}
 use Rattle.eden_base.specs.declared.number.DaemonId.{DaemonId}
-use Rattle.broker_core.specs.Broker.{BrokerState}
+use Rattle.checkout.specs.Tree.{IsTree}
+use Rattle.broker_core.specs.Broker.{BrokerState, mount_fault}
+use Rattle.broker_core.proofs.Accepted.{free_to_mount}
+use Rattle.broker_core.specs.declared.broker.MountFault.{MountFault}
 use Rattle.broker_core.specs.declared.seat.Seat.{Seat}
 use Rattle.fuse_ops.specs.Served.{ServedState}
 use Rattle.world.specs.declared.daemon.Daemon.{Daemon}
 use Rattle.world.specs.declared.daemon.Daemon.TheVariants.{Waiting, Serving}
 use Rattle.world.specs.World.{World, owed}
-use Rattle.world.specs.Agreement.{Knows, HolderKnows}
-use Rattle.world.specs.State.{State, daemon_of, with_daemon, served_in, served_of, IsSeated}
+use Rattle.world.specs.Agreement.{Knows, HolderKnows, Books, SeatIsLast, IsQuiet, AnsweredBefore, Matches}
+use Rattle.world.specs.State.{State, mount_refusal, refusal_of_mount, daemon_of, with_daemon, served_in, served_of, IsSeated}
 
 -- one that waits serves nothing, as if it were not there
 more_in : (ds : List Daemon) (i : ℕ) → option_and_then served_in (slice_get (ds ++ Waiting ∷ []) i) ≡ option_and_then served_in (slice_get ds i)
@@ -66,3 +69,27 @@ knows-seated w state seat served at k other has = (served, subst (λ (s : Seat).
 pub seated-knows : (w : World) (state : State) (seat : Seat) (served : ServedState) → HolderKnows w state → IsSeated state seat served → Knows w.tree w.names (owed w) served
 seated-knows w state seat served knows at = let k = knows seat at.has_seat in
     subst (λ (s : ServedState). Knows w.tree w.names (owed w) s) (seated-same state seat seat k.0 served k.1 at).1 k.2
+
+-- the state matches once the seat's daemon went on: what a call of the broker and one of the daemon keep
+pub goes-on : (w new : World) (old : State) (broker : BrokerState) (seat : Seat) (d : Daemon) (later : ServedState) → Matches w old → new.manifest ≡ w.manifest → IsTree new.tree → Books new broker →
+    SeatIsLast new → IsQuiet new → AnsweredBefore new → broker.seat ≡ Some seat → daemon_of old seat.daemon ≡ Some d → Knows new.tree new.names (owed new) later →
+    Matches new (with_daemon (record old { broker = broker }) seat.daemon (Serving later))
+goes-on w new old broker seat d later m manifest is books last quiet answered at there knows = record {
+  manifest = manifest ∙ m.manifest;
+  is_tree = m.is_tree;
+  tree_is_tree = is;
+  books = books;
+  seat_is_last = last;
+  quiet = quiet;
+  answered = answered;
+  knows = knows-seated new _ seat later (record { has_seat = at; serves = served_of-with old broker seat.daemon d later there }) knows;
+}
+
+-- who may mount waits, and nobody has the seat
+pub may_mount : (old : State) (o : Option Daemon) → mount_refusal old o ≡ None → (o ≡ Some Waiting) × (old.broker.seat ≡ None)
+may_mount old None h = absurd (let none : ⊥ = cc in none)
+may_mount old (Some (Serving served)) h = absurd (let none : ⊥ = cc in none)
+may_mount old (Some Waiting) h = (refl, (free_to_mount old.broker (fault_in (mount_fault old.broker) h)).0) where
+  fault_in : (f : Option MountFault) → option_map refusal_of_mount f ≡ None → f ≡ None
+  fault_in None e = refl
+  fault_in (Some f) e = absurd (let none : ⊥ = cc in none)

@@ -1,20 +1,24 @@
 -- Each part of a match, kept by a call of the broker: its books, who answered, and the seat.
-use Rattle.std.proofs.Common.{◌≡◌, ℕ, suc, zero, ◌+◌, ◌-◌, ◌<◌, ◌≤◌, Bool, true, false, List, [], ◌∷◌, length, Option, Some, None, refl, sym, ap, ◌∙◌, subst, inl, inr, ◌⊎◌, arith}
-use Rattle.std.specs.Prelude.{◌==◌, Contains, slice_index, if◌then◌else◌}
+use Rattle.std.proofs.Common.{◌≡◌, ℕ, suc, zero, ◌+◌, ◌-◌, ◌<◌, ◌≤◌, Bool, true, false, ◌&&◌, ◌||◌, List, [], ◌∷◌, Option, Some, None, refl, sym, ap, ◌∙◌, inl, inr, ◌⊎◌, arith}
+use Rattle.std.specs.Prelude.{◌==◌, Contains, nat_lt, if◌then◌else◌}
 use Rattle.std.specs.Option.{option_map_or}
+use Rattle.std.specs.List.{AllByRecursion, list_all}
+use Rattle.std.proofs.lemmas.Bool.Decides.{nat_tests}
+use Rattle.eden_base.proofs.NumberTests.{true-eq}
 use Rattle.eden_base.specs.declared.number.DaemonId.{DaemonId}
 use Rattle.eden_base.specs.declared.number.Number.{Number}
-use Rattle.fuse_wire.specs.Ask.{is_ask}
 use Rattle.fuse_wire.specs.Given.{given_out}
 use Rattle.fuse_wire.specs.declared.ask.Ask.{Ask}
 use Rattle.fuse_wire.specs.declared.ask.Request.{Request}
+use Rattle.fuse_wire.specs.declared.ask.Request.TheVariants.{Forget}
 use Rattle.fuse_wire.specs.declared.item.Item.{Item}
 use Rattle.fuse_wire.specs.declared.reply.Answer.{Answer}
-use Rattle.broker_core.specs.Broker.{BrokerState, mounted, asked, forgot, issued, entered, settled}
-use Rattle.broker_core.specs.Held.{held_count, lowered, raised}
+use Rattle.broker_core.specs.Broker.{BrokerState, may_be_asked, forgotten as item_forgotten, mounted, asked, forgot, entered, settled}
+use Rattle.broker_core.specs.Held.{held_count, raised}
 use Rattle.broker_core.specs.declared.seat.Seat.{Seat}
 use Rattle.broker_core.proofs.HeldLaws.{held_count-raised, held_count-lowered}
-use Rattle.world.specs.World.{World, mount, times, without_times, after}
+use Rattle.fuse_ops.specs.Served.{items_of}
+use Rattle.world.specs.World.{World, mount, MayGoTo, times, after}
 use Rattle.world.specs.Agreement.{Books, AnsweredBefore, SeatIsLast}
 use Rattle.world.proofs.Quiet.{asked_world, forgot_world, times-without}
 
@@ -116,3 +120,24 @@ seat-stays w new seat last at now same = record {
   is_last = λ s e. last.is_last s (at ∙ sym now ∙ e) ∙ sym same;
   empty = λ e. absurd (let n : Some seat ≡ None = sym now ∙ e in let none : ⊥ = cc in none);
 }
+
+-- ---- what may be asked
+
+-- what the kernel may ask, by the broker's books
+pub may_go : (w : World) (b : BrokerState) → Books w b → (numbers : List Number) → list_all (may_be_asked b) numbers ≡ true → AllByRecursion (MayGoTo w) numbers
+may_go w b books [] all = tt
+may_go w b books (n ∷ numbers) all = (go_in (n.0 == 1) (nat_lt 0 (held_count b.held n.0)) refl refl (both (may_be_asked b n) (list_all (may_be_asked b) numbers) all).0, may_go w b books numbers (both (may_be_asked b n) (list_all (may_be_asked b) numbers) all).1) where
+  both : (c d : Bool) → (c && d) ≡ true → (c ≡ true) × (d ≡ true)
+  both true true e = (refl, refl)
+  both true false e = absurd (let none : ⊥ = cc in none)
+  both false d e = absurd (let none : ⊥ = cc in none)
+
+  go_in : (c d : Bool) → (n.0 == 1) ≡ c → nat_lt 0 (held_count b.held n.0) ≡ d → (c || d) ≡ true → MayGoTo w n
+  go_in true d e f t = inl (true-eq n.0 1 e)
+  go_in false true e f t = inr (let h : times n.0 w.held ≡ held_count b.held n.0 = books.held n.0 in let some : 0 < held_count b.held n.0 = grind (arith, nat_tests) in omega arith)
+  go_in false false e f t = absurd (let none : ⊥ = cc in none)
+
+-- what is forgotten is the one item of the request
+pub items-one : (request : Request) (item : Item) → item_forgotten request ≡ Some item → items_of request ≡ item ∷ []
+items-one (Forget other) item e = let same : other ≡ item = cc in ap (λ (i : Item). i ∷ []) same
+items-one request item e = absurd (let none : ⊥ = cc in none)

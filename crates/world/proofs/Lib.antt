@@ -1,3 +1,4 @@
+mod Knowing
 mod Answering
 mod Forgetting
 mod Quiet

@@ -1,16 +1,14 @@
 -- What the world's methods did is a step.
 use Rattle.std.proofs.Common.{◌≡◌, ℕ, ◌+◌, ◌-◌, Bool, true, false, if◌then◌else◌, List, [], ◌∷◌, ◌++◌, Option, Some, None, set, refl, sym, ap, ◌∙◌, subst, inl}
 use Rattle.std.specs.Prelude.{slice_get}
-use Rattle.std.specs.Option.{option_map, option_map_or, option_and_then}
+use Rattle.std.specs.Option.{option_map, option_and_then}
 use Rattle.eden_base.specs.declared.number.DaemonId.{DaemonId}
-use Rattle.eden_base.specs.declared.number.Number.{Number}
 use Rattle.fuse_wire.specs.Ask.{is_ask}
-use Rattle.fuse_wire.specs.Given.{given_out}
 use Rattle.fuse_wire.specs.declared.ask.Request.{Request}
 use Rattle.fuse_wire.specs.declared.ask.Request.TheVariants.{Forget}
 use Rattle.fuse_wire.specs.declared.item.Item.{Item}
 use Rattle.fuse_wire.specs.declared.reply.Answer.{Answer}
-use Rattle.broker_core.specs.Broker.{BrokerState, mount_fault, issue_fault, mounted, asked, forgot, forgotten as item_forgotten, issued, unique_of, entered, settled}
+use Rattle.broker_core.specs.Broker.{BrokerState, mount_fault, issue_fault, mounted, issued, unique_of, settled}
 use Rattle.broker_core.specs.declared.seat.Seat.{Seat}
 use Rattle.inode_map.specs.declared.inode_map.Forgot.{Forgot}
 use Rattle.broker_core.specs.declared.broker.MountFault.{MountFault}
@@ -58,20 +56,6 @@ Step-does old request place answer daemons broker outcome fine at applies broke 
 pub none-unless : {X : Type 0} (o : Option X) → ((x : X) → o ≡ Some x → ⊥) → o ≡ None
 none-unless None never = refl
 none-unless (Some x) never = absurd (never x refl)
-
--- neither a request nor an answer moves the seat
-pub issued-seat : (b : BrokerState) (request : Request) → (issued b request).seat ≡ b.seat
-issued-seat b request = in_ (is_ask request) (item_forgotten request) where
-  in_ : (c : Bool) (o : Option Item) → (if c then asked b else option_map_or (forgot b) o b).seat ≡ b.seat
-  in_ true o = refl
-  in_ false None = refl
-  in_ false (Some item) = refl
-
-pub settled-seat : (b : BrokerState) (answer : Answer) → (settled b answer).seat ≡ b.seat
-settled-seat b answer = in_ (given_out answer) where
-  in_ : (o : Option Number) → (option_map_or (entered b) o b).seat ≡ b.seat
-  in_ None = refl
-  in_ (Some number) = refl
 
 -- whoever has the seat serves still
 pub serves-still : (broker new : BrokerState) (daemons later : List Daemon) (place : ℕ) (request : Request) (answer : Option Answer) → AppliesAt daemons place request answer later → new.seat ≡ broker.seat →

@@ -10,8 +10,7 @@ use Rattle.checkout.specs.Manifest.{Manifest}
 use Rattle.checkout.specs.Tree.{IsTree, tree_of}
 use Rattle.broker_core.proofs.HeldLaws.{held_count-none}
 use Rattle.broker_core.specs.declared.seat.Seat.{Seat}
-use Rattle.fuse_ops.specs.Served.{ServedState}
-use Rattle.world.specs.State.{State, IsSeated, started}
+use Rattle.world.specs.State.{State, started}
 use Rattle.world.specs.Step.{Steps}
 use Rattle.world.specs.World.{World, Move, issue, issue_item, work, work_item, accept, deliver, mount, claim, end, is_asked, is_replied, worked, delivered, first_world, IsRun, after, after_all}
 use Rattle.world.specs.Agreement.{Agrees, CountsAreOwed, NumbersNameTheirFirstFile, Matches, IsGoodForget, IsAnswered, posted_from, posters, moves_of, all_moves}

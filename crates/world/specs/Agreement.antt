@@ -6,7 +6,7 @@ use Rattle.std.specs.List.{AllByRecursion}
 use Rattle.eden_base.specs.declared.number.DaemonId.{DaemonId}
 use Rattle.eden_base.specs.declared.number.FileId.{FileId}
 use Rattle.checkout.specs.Manifest.{Manifest}
-use Rattle.checkout.specs.Tree.{Tree, IsTree, tree_of, root}
+use Rattle.checkout.specs.Tree.{Tree, IsTree, tree_of}
 use Rattle.broker_core.specs.Broker.{BrokerState}
 use Rattle.broker_core.specs.Held.{held_count}
 use Rattle.broker_core.specs.declared.seat.Seat.{Seat}
@@ -15,7 +15,7 @@ use Rattle.fuse_ops.specs.Served.{ServedState}
 use Rattle.fuse_ops.specs.Soundness.{IsSound}
 use Rattle.inode_map.specs.declared.inode_map.Forgot.TheVariants.{Bad, Root}
 use Rattle.world.specs.State.{State, IsSeated}
-use Rattle.world.specs.Step.{Step, Steps}
+use Rattle.world.specs.Step.{Steps}
 use Rattle.world.specs.World.{World, Move, issue, issue_item, work, work_item, accept, deliver, mount, first_world, file_named, times, owed, IsRun, after_all}
 use Rattle.world.specs.declared.event.Event.{Event}
 use Rattle.world.specs.declared.event.Event.TheVariants.{Mount, Do}

@@ -1,8 +1,8 @@
 -- One event: it is refused for the first cause that holds, or made; and a list of them.
-use Rattle.std.specs.Prelude.{◌≡◌, ℕ, ◌+◌, ◌⊎◌, Bool, true, List, [], ◌∷◌, ◌++◌, length, Option, Some, None}
+use Rattle.std.specs.Prelude.{◌≡◌, ◌+◌, ◌⊎◌, true, List, [], ◌∷◌, ◌++◌, length, Option, Some, None}
 use Rattle.std.specs.Option.{option_map_or}
 use Rattle.eden_base.specs.declared.number.DaemonId.{DaemonId}
-use Rattle.broker_core.specs.Broker.{BrokerState, mounted, issued, settled, unique_of}
+use Rattle.broker_core.specs.Broker.{BrokerState, mounted, issued, settled}
 use Rattle.broker_core.specs.declared.seat.Seat.{Seat}
 use Rattle.fuse_wire.specs.Ask.{is_ask}
 use Rattle.fuse_wire.specs.declared.ask.Request.{Request}

@@ -1,5 +1,5 @@
 -- The item is told by what the daemon at the place serves.
-use Rattle.std.proofs.Common.{sym, ap, ◌∙◌}
+use Rattle.std.proofs.Common.{ap, ◌∙◌}
 use Rattle.inode_map.specs.InodeMap.{MapState, forgot}
 use Rattle.fuse_ops.specs.Served.{ServedState}
 use Rattle.world.proofs.DaemonWrites.{read-served}

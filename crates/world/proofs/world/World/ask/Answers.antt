@@ -1,14 +1,12 @@
 -- An ask that was issued and answered is a step.
 use Rattle.std.proofs.Common.{◌≡◌, ◌≤◌, Some, sym, ap, ◌∙◌, subst, arith}
-use Rattle.fuse_wire.specs.declared.reply.Answer.{Answer}
 use Rattle.broker_core.specs.Broker.{BrokerState, issue_fault}
-use Rattle.world.specs.declared.daemon.Daemon.{Daemon}
 use Rattle.world.specs.declared.event.Event.TheVariants.{Do}
-use Rattle.world.specs.DaemonWork.{AppliesAt}
 use Rattle.world.specs.Holder.{HolderIsAt}
 use Rattle.world.specs.State.{State}
 use Rattle.world.specs.Step.{Step}
-use Rattle.world.proofs.StepLemmas.{issued-seat, settled-seat, serves-still, ServesAt-holder, Step-asks}
+use Rattle.broker_core.proofs.SeatLaws.{issued-seat, settled-seat}
+use Rattle.world.proofs.StepLemmas.{serves-still, ServesAt-holder, Step-asks}
 use Rattle.world.proofs.world.World.ask.Goals as goal
 
 pub invariant_of-self : goal.invariant_of-self

@@ -1,5 +1,5 @@
 -- A forget that was issued and applied is a step.
-use Rattle.std.proofs.Common.{◌≡◌, ◌≤◌, List, None, sym, ap, ◌∙◌, subst, arith}
+use Rattle.std.proofs.Common.{◌≡◌, List, None, sym, ap, ◌∙◌, subst, arith}
 use Rattle.broker_core.specs.Broker.{BrokerState, issue_fault}
 use Rattle.world.specs.declared.daemon.Daemon.{Daemon}
 use Rattle.world.specs.declared.event.Event.TheVariants.{Do}
@@ -7,7 +7,8 @@ use Rattle.world.specs.DaemonWork.{ServesAt, TellsAt}
 use Rattle.world.specs.Holder.{HolderIsAt}
 use Rattle.world.specs.State.{State}
 use Rattle.world.specs.Step.{Step}
-use Rattle.world.proofs.StepLemmas.{issued-seat, serves-still, ServesAt-holder, Step-forgets}
+use Rattle.broker_core.proofs.SeatLaws.{issued-seat}
+use Rattle.world.proofs.StepLemmas.{serves-still, ServesAt-holder, Step-forgets}
 use Rattle.world.proofs.world.World.forget.Goals as goal
 
 pub forgot_at-forgot-requires : goal.forgot_at-forgot-requires

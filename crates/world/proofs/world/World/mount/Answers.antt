@@ -1,7 +1,6 @@
 -- Who mounted has the seat and serves.
-use Rattle.std.proofs.Common.{◌≡◌, ◌+◌, ◌<◌, length, set, Some, None, [], ◌∷◌, sym, ap, ◌∙◌, subst, arith}
+use Rattle.std.proofs.Common.{◌≡◌, ◌+◌, ◌<◌, length, set, Some, [], ◌∷◌, sym, ap, ◌∙◌, subst, arith}
 use Rattle.broker_core.specs.Broker.{BrokerState}
-use Rattle.broker_core.specs.declared.seat.Seat.{Seat}
 use Rattle.world.specs.declared.daemon.Daemon.TheVariants.{Serving}
 use Rattle.world.specs.declared.event.Event.TheVariants.{Mount}
 use Rattle.world.specs.declared.outcome.Happened.TheVariants as happened
