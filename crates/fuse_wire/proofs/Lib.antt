@@ -4,6 +4,7 @@ pub mod Forgets
 pub mod Lengths
 pub mod Lines
 pub mod OwnTexts
+pub mod Replies
 pub mod ReplyLaws
 pub mod Requests
 pub mod Written

@@ -16,6 +16,7 @@ mod reply;
 mod reply_reader;
 mod reply_writer;
 mod request_writer;
+mod writer;
 
 pub use ask::{Ask, Request};
 pub use fault::WireFault;
@@ -24,7 +25,7 @@ pub use reading::{read_items, read_request};
 pub use refusal::fault_reply;
 pub use reply::{Answer, Reply};
 pub use reply_reader::read_reply;
-pub use reply_writer::write_reply;
+pub use reply_writer::{MAX_REPLY_LEN, write_reply};
 pub use request_writer::write_request;
 
 #[cfg(test)]
