@@ -32,3 +32,7 @@ pub use request_writer::write_request;
 mod tests;
 #[cfg(test)]
 mod vectors;
+#[cfg(test)]
+mod wide_tests;
+#[cfg(test)]
+mod wide_vectors;
