@@ -1,4 +1,5 @@
 pub mod Bodies
+pub mod Errors
 pub mod Fields
 pub mod Forgets
 pub mod Lengths

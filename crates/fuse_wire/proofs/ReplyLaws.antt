@@ -1,16 +1,12 @@
 -- A reply that was written is read again as itself.
-use Rattle.std.proofs.Common.{◌≡◌, ℕ, ◌+◌, ◌%◌, ◌^◌, ◌<◌, ◌≤◌, ℤ, pos, neg_ℤ, FitsSigned, List, [], ◌++◌, length, drop, Some, refl, sym, ap, subst, ◌∙◌, append_assoc, length-append, arith}
+use Rattle.std.proofs.Common.{◌≡◌, ℕ, ◌+◌, ◌%◌, ◌^◌, ◌<◌, ◌≤◌, ℤ, List, [], ◌++◌, length, drop, Some, refl, sym, ap, subst, ◌∙◌, append_assoc, length-append, arith}
 use Rattle.std.proofs.Math.Bridge.{le_prop}
 use Rattle.std.proofs.lemmas.Bool.Decides.{nat_tests}
-use Rattle.std.specs.Int.{w32}
-use Rattle.std.proofs.lemmas.Int.{ints}
 use Rattle.std.proofs.lemmas.List.{append-nil, drop_at, drop-drop}
 use Rattle.eden_base.specs.declared.attr.Attr.{Attr}
 use Rattle.eden_base.specs.declared.attr.Kind.{Kind}
 use Rattle.eden_base.specs.declared.attr.Kind.TheVariants.{File, Dir}
 use Rattle.eden_base.specs.declared.attr.Perm.{Perm}
-use Rattle.eden_base.specs.declared.errno.Errno.{Errno}
-use Rattle.eden_base.specs.declared.errno.Errno.TheVariants.{ENOENT, EIO, ENOMEM, EEXIST, ENOTDIR, EISDIR, EINVAL, ENOSPC, ENAMETOOLONG, ENOSYS, ENOTEMPTY, EOVERFLOW, ESTALE}
 use Rattle.eden_base.specs.declared.number.Number.{Number}
 use Rattle.fuse_wire.specs.declared.reply.Answer.{Answer}
 use Rattle.fuse_wire.specs.declared.reply.Answer.TheVariants.{Entry, Opened, Attrs, Done, Error}
@@ -18,8 +14,9 @@ use Rattle.fuse_wire.specs.declared.reply.Reply.{Reply}
 use Rattle.fuse_wire.specs.Field.{i32_bytes, u32_bytes, u64_bytes, i32_at, u32_at, u64_at}
 use Rattle.fuse_wire.specs.Mode.{perm_of, type_bits}
 use Rattle.fuse_wire.specs.ReplyReading.{kind_of, number_at, attr_at, answer_at}
-use Rattle.fuse_wire.specs.ReplyText.{errno_number, error_field, mode, attributes, entry, payload, reply_header, reply_text, FitsAttr, FitsAnswer, FitsReply}
+use Rattle.fuse_wire.specs.ReplyText.{error_field, mode, attributes, entry, payload, reply_header, reply_text, FitsAttr, FitsAnswer, FitsReply}
 use Rattle.fuse_wire.specs.RequestText.{zeros}
+use Rattle.fuse_wire.proofs.Errors.{error_fits, failure_is}
 use Rattle.fuse_wire.proofs.Fields.{i32_again, u32_again, u64_again}
 use Rattle.fuse_wire.proofs.Lengths.{lengths, length-i32_bytes, length-u32_bytes, length-u64_bytes, length-zeros, length-reply_header}
 
@@ -111,31 +108,6 @@ payload_fits (Attrs number attr) = grind (arith, lengths)
 payload_fits Done = grind (arith, lengths)
 payload_fits (Error errno) = grind (arith, lengths)
 
-errno_at_most : (errno : Errno) → errno_number errno ≤ 116
-errno_at_most ENOENT = omega arith
-errno_at_most EIO = omega arith
-errno_at_most ENOMEM = omega arith
-errno_at_most EEXIST = omega arith
-errno_at_most ENOTDIR = omega arith
-errno_at_most EISDIR = omega arith
-errno_at_most EINVAL = omega arith
-errno_at_most ENOSPC = omega arith
-errno_at_most ENAMETOOLONG = omega arith
-errno_at_most ENOSYS = omega arith
-errno_at_most ENOTEMPTY = omega arith
-errno_at_most EOVERFLOW = omega arith
-errno_at_most ESTALE = omega arith
-
-negative_fits : (n : ℕ) → n ≤ 116 → FitsSigned w32 (neg_ℤ (pos n))
-negative_fits n le = omega (arith, ints)
-
-pub error_fits : (answer : Answer) → FitsSigned w32 (error_field answer)
-error_fits (Entry number attr) = negative_fits 0 (omega arith)
-error_fits (Opened number attr) = negative_fits 0 (omega arith)
-error_fits (Attrs number attr) = negative_fits 0 (omega arith)
-error_fits Done = negative_fits 0 (omega arith)
-error_fits (Error errno) = negative_fits (errno_number errno) (errno_at_most errno)
-
 pub length-reply_text : (reply : Reply) → length (reply_text reply) ≡ 16 + length (payload reply.answer)
 length-reply_text reply =
     omega (arith, length-append (header_is reply) (payload reply.answer), length-reply_header (16 + length (payload reply.answer)) (error_field reply.answer) reply.unique)
@@ -173,22 +145,6 @@ attributes_at : (bytes before : List ℕ) (number : Number) (attr : Attr) (after
 attributes_at bytes before number attr after n k rest len is fits =
     let there : drop k bytes ≡ attributes number attr ++ after = behind bytes before (attributes number attr ++ after) 16 n k rest len is in
     rw there (attributes_again number attr after fits)
-
-failure_is : (errno : Errno) (bytes : List ℕ) → answer_at (error_field (Error errno)) bytes ≡ Some (Error errno)
-unfolding answer_at
-failure_is ENOENT bytes = refl
-failure_is EIO bytes = refl
-failure_is ENOMEM bytes = refl
-failure_is EEXIST bytes = refl
-failure_is ENOTDIR bytes = refl
-failure_is EISDIR bytes = refl
-failure_is EINVAL bytes = refl
-failure_is ENOSPC bytes = refl
-failure_is ENAMETOOLONG bytes = refl
-failure_is ENOSYS bytes = refl
-failure_is ENOTEMPTY bytes = refl
-failure_is EOVERFLOW bytes = refl
-failure_is ESTALE bytes = refl
 
 answer_is : (answer : Answer) (bytes : List ℕ) → FitsAnswer answer → length bytes ≡ 16 + length (payload answer) → drop 16 bytes ≡ payload answer → answer_at (error_field answer) bytes ≡ Some answer
 unfolding answer_at

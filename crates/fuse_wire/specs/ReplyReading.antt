@@ -89,7 +89,8 @@ reply_with unique None bytes = Err BadBody
 unfoldable pub reply_of : List ℕ → Result Reply WireFault
 reply_of bytes =
     if nat_lt (length bytes) 16 then Err Short
-    else if u32_at bytes == length bytes then reply_with (u64_at (drop 8 bytes)) (answer_at (i32_at (drop 4 bytes)) bytes) bytes
+    else if u32_at bytes == length bytes
+    then reply_with (u64_at (drop 8 bytes)) (answer_at (i32_at (drop 4 bytes)) bytes) bytes
     else Err BadLength
 
 -- the faults of a reply

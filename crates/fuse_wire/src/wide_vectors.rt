@@ -1,6 +1,6 @@
-//! Messages whose bytes tell where each field lies and how wide it is: the bytes of a field differ from one another, and
-//! from those of the other fields. A C compiler laid them out by the structs of `linux/fuse.h` (7.38), on a little-endian
-//! machine.
+//! Messages whose bytes tell where each field lies and how wide it is: the bytes of a field differ from one another,
+//! and from those of the other fields. A C compiler laid them out by the structs of `linux/fuse.h` (7.38), on a
+//! little-endian machine.
 
 /// LOOKUP.
 pub const LOOKUP: [u8; 45] = [
