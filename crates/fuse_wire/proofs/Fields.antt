@@ -1,12 +1,13 @@
 -- A number that was written is read again, and bytes that were read as a number are its bytes.
-use Rattle.std.proofs.Common.{◌≡◌, ℕ, ◌+◌, ◌^◌, ◌<◌, ◌≤◌, List, ◌++◌, length, take, drop, get_or, sym, ap, ◌∙◌, inl, inr, length-take, arith}
-use Rattle.std.specs.Int.{w32, w64, from_le_bytes}
+use Rattle.std.proofs.Common.{◌≡◌, ℕ, ◌+◌, ◌^◌, ◌<◌, ◌≤◌, ℤ, FitsSigned, List, ◌++◌, length, take, drop, get_or, sym, ap, ◌∙◌, inl, inr, length-take, arith}
+use Rattle.std.specs.Int.{w32, w64, from_le_bytes, cast_unsigned, cast_signed}
 use Rattle.std.proofs.lemmas.Bool.{cases_lt}
+use Rattle.std.proofs.lemmas.Int.{ints, to_z-of_z}
 use Rattle.std.proofs.lemmas.List.{take-append-drop, get_or-take, get_or-drop, get_or_past}
 use Rattle.std.proofs.lemmas.Nat.{le_bytes_4, le_bytes_8}
 use Rattle.byteorder.specs.Endian.{little_number}
 use Rattle.byteorder.specs.Numbers.{little_number-reads_back, little_from-append, little_from-lt}
-use Rattle.fuse_wire.specs.Field.{u32_bytes, u64_bytes, u32_at, u64_at}
+use Rattle.fuse_wire.specs.Field.{i32_bytes, u32_bytes, u64_bytes, i32_at, u32_at, u64_at}
 
 -- each is a byte
 abbrev pub AreBytes : List ℕ → Type 0
@@ -31,6 +32,14 @@ u32_again n rest lt = little_number-reads_back 4 n rest lt
 pub u64_again : (n : ℕ) (rest : List ℕ) → n < 2 ^ 64 → u64_at (u64_bytes n ++ rest) ≡ n
 unfolding u64_at u64_bytes
 u64_again n rest lt = little_number-reads_back 8 n rest lt
+
+-- the bits of a signed number fit
+pub bits_below : (n : ℤ) → FitsSigned w32 n → cast_unsigned w32 n < 2 ^ 32
+bits_below n fits = omega (arith, ints)
+
+pub i32_again : (n : ℤ) (rest : List ℕ) → FitsSigned w32 n → i32_at (i32_bytes n ++ rest) ≡ n
+unfolding i32_at i32_bytes
+i32_again n rest fits = ap (cast_signed w32) (u32_again (cast_unsigned w32 n) rest (bits_below n fits)) ∙ to_z-of_z w32 n fits
 
 -- ---- what is read was written
 

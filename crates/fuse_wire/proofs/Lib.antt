@@ -1,10 +1,12 @@
 pub mod Bodies
+pub mod Errors
 pub mod Fields
 pub mod Forgets
 pub mod Given
 pub mod Lengths
 pub mod Lines
 pub mod OwnTexts
+pub mod Replies
 pub mod ReplyLaws
 pub mod Requests
 pub mod Written

@@ -6,6 +6,7 @@ use Rattle.fuse_wire.specs.declared.ask.Ask.{Ask}
 use Rattle.fuse_wire.specs.declared.ask.Request.{Request}
 use Rattle.fuse_wire.specs.declared.ask.Request.TheVariants.{Lookup, Getattr, Create, Mkdir, Unlink, Rmdir, Forget, BatchForget, Other}
 use Rattle.fuse_wire.specs.declared.item.Item.{Item}
+use Rattle.fuse_wire.specs.Mode.{S_IFREG}
 use Rattle.fuse_wire.specs.Reading.{request_of}
 use Rattle.fuse_wire.specs.RequestText.{zeros, nodeid, create_body, mkdir_body, batch_body, body, IsBody, IsNodeid, IsCreateBody, IsMkdirBody, IsBatchBody, IsRequestText, request_text, FitsAsk}
 use Rattle.fuse_wire.proofs.Lengths.{length-zeros}
@@ -14,7 +15,7 @@ use Rattle.fuse_wire.proofs.Requests.{request_again}
 pub create_is_body : (name : List ℕ) (perm : Perm) → IsNameText name → IsCreateBody name perm (create_body name perm)
 create_is_body name perm is = record {
   flags = zeros 4;
-  mode = 32768 + perm.bits;
+  mode = S_IFREG + perm.bits;
   others = zeros 8;
   four = length-zeros 4;
   is_mode = record { in_range = omega (arith, perm.in_range); low = omega (arith, perm.in_range) };

@@ -1,5 +1,5 @@
 -- A reply that was written is read again as itself.
-use Rattle.std.proofs.Common.{◌≡◌, ℕ, ◌+◌, ◌%◌, ◌^◌, ◌<◌, ◌≤◌, List, [], ◌++◌, length, drop, Some, refl, sym, ap, subst, ◌∙◌, append_assoc, length-append, arith}
+use Rattle.std.proofs.Common.{◌≡◌, ℕ, ◌+◌, ◌%◌, ◌^◌, ◌<◌, ◌≤◌, ℤ, List, [], ◌++◌, length, drop, Some, refl, sym, ap, subst, ◌∙◌, append_assoc, length-append, arith}
 use Rattle.std.proofs.Math.Bridge.{le_prop}
 use Rattle.std.proofs.lemmas.Bool.Decides.{nat_tests}
 use Rattle.std.proofs.lemmas.List.{append-nil, drop_at, drop-drop}
@@ -7,19 +7,18 @@ use Rattle.eden_base.specs.declared.attr.Attr.{Attr}
 use Rattle.eden_base.specs.declared.attr.Kind.{Kind}
 use Rattle.eden_base.specs.declared.attr.Kind.TheVariants.{File, Dir}
 use Rattle.eden_base.specs.declared.attr.Perm.{Perm}
-use Rattle.eden_base.specs.declared.errno.Errno.{Errno}
-use Rattle.eden_base.specs.declared.errno.Errno.TheVariants.{ENOENT, EIO, ENOMEM, EEXIST, ENOTDIR, EISDIR, EINVAL, ENOSPC, ENAMETOOLONG, ENOSYS, ENOTEMPTY, EOVERFLOW, ESTALE}
 use Rattle.eden_base.specs.declared.number.Number.{Number}
 use Rattle.fuse_wire.specs.declared.reply.Answer.{Answer}
 use Rattle.fuse_wire.specs.declared.reply.Answer.TheVariants.{Entry, Opened, Attrs, Done, Error}
 use Rattle.fuse_wire.specs.declared.reply.Reply.{Reply}
-use Rattle.fuse_wire.specs.Field.{u32_bytes, u64_bytes, u32_at, u64_at}
+use Rattle.fuse_wire.specs.Field.{i32_bytes, u32_bytes, u64_bytes, i32_at, u32_at, u64_at}
 use Rattle.fuse_wire.specs.Mode.{perm_of, type_bits}
 use Rattle.fuse_wire.specs.ReplyReading.{kind_of, number_at, attr_at, answer_at}
-use Rattle.fuse_wire.specs.ReplyText.{error_word, mode, attributes, entry, payload, reply_header, reply_text, FitsAttr, FitsAnswer, FitsReply}
+use Rattle.fuse_wire.specs.ReplyText.{error_field, mode, attributes, entry, payload, reply_header, reply_text, FitsAttr, FitsAnswer, FitsReply}
 use Rattle.fuse_wire.specs.RequestText.{zeros}
-use Rattle.fuse_wire.proofs.Fields.{u32_again, u64_again}
-use Rattle.fuse_wire.proofs.Lengths.{lengths, length-u32_bytes, length-u64_bytes, length-zeros, length-reply_header}
+use Rattle.fuse_wire.proofs.Errors.{error_fits, failure_is}
+use Rattle.fuse_wire.proofs.Fields.{i32_again, u32_again, u64_again}
+use Rattle.fuse_wire.proofs.Lengths.{lengths, length-i32_bytes, length-u32_bytes, length-u64_bytes, length-zeros, length-reply_header}
 
 -- ---- modes
 
@@ -100,7 +99,7 @@ attributes_again number attr after fits =
 -- ---- whole replies
 
 abbrev header_is : Reply → List ℕ
-header_is reply = reply_header (16 + length (payload reply.answer)) (error_word reply.answer) reply.unique
+header_is reply = reply_header (16 + length (payload reply.answer)) (error_field reply.answer) reply.unique
 
 pub payload_fits : (answer : Answer) → length (payload answer) ≤ 144
 payload_fits (Entry number attr) = grind (arith, lengths)
@@ -109,33 +108,14 @@ payload_fits (Attrs number attr) = grind (arith, lengths)
 payload_fits Done = grind (arith, lengths)
 payload_fits (Error errno) = grind (arith, lengths)
 
-pub error_fits : (answer : Answer) → error_word answer < 2 ^ 32
-error_fits (Entry number attr) = omega arith
-error_fits (Opened number attr) = omega arith
-error_fits (Attrs number attr) = omega arith
-error_fits Done = omega arith
-error_fits (Error ENOENT) = omega arith
-error_fits (Error EIO) = omega arith
-error_fits (Error ENOMEM) = omega arith
-error_fits (Error EEXIST) = omega arith
-error_fits (Error ENOTDIR) = omega arith
-error_fits (Error EISDIR) = omega arith
-error_fits (Error EINVAL) = omega arith
-error_fits (Error ENOSPC) = omega arith
-error_fits (Error ENAMETOOLONG) = omega arith
-error_fits (Error ENOSYS) = omega arith
-error_fits (Error ENOTEMPTY) = omega arith
-error_fits (Error EOVERFLOW) = omega arith
-error_fits (Error ESTALE) = omega arith
-
 pub length-reply_text : (reply : Reply) → length (reply_text reply) ≡ 16 + length (payload reply.answer)
 length-reply_text reply =
-    omega (arith, length-append (header_is reply) (payload reply.answer), length-reply_header (16 + length (payload reply.answer)) (error_word reply.answer) reply.unique)
+    omega (arith, length-append (header_is reply) (payload reply.answer), length-reply_header (16 + length (payload reply.answer)) (error_field reply.answer) reply.unique)
 
 -- the fields of the header
 pub record HeaderIs (reply : Reply) (bytes : List ℕ) : Type 0 where
   pub len : u32_at bytes ≡ 16 + length (payload reply.answer)
-  pub error : u32_at (drop 4 bytes) ≡ error_word reply.answer
+  pub error : i32_at (drop 4 bytes) ≡ error_field reply.answer
   pub unique : u64_at (drop 8 bytes) ≡ reply.unique
   pub rest : drop 16 bytes ≡ payload reply.answer
 
@@ -144,17 +124,17 @@ header_again reply fits =
     let bytes = reply_text reply in
     let rest = payload reply.answer in
     let len = 16 + length rest in
-    let error = error_word reply.answer in
+    let error = error_field reply.answer in
     let r2 = u64_bytes reply.unique ++ rest in
-    let r1 = u32_bytes error ++ r2 in
+    let r1 = i32_bytes error ++ r2 in
     let all : bytes ≡ u32_bytes len ++ r1 = simp append_assoc in
     let at4 : drop 4 bytes ≡ r1 = behind bytes (u32_bytes len) r1 0 4 4 all (length-u32_bytes len) refl in
-    let at8 : drop 8 bytes ≡ r2 = behind bytes (u32_bytes error) r2 4 4 8 at4 (length-u32_bytes error) refl in
+    let at8 : drop 8 bytes ≡ r2 = behind bytes (i32_bytes error) r2 4 4 8 at4 (length-i32_bytes error) refl in
     let at16 : drop 16 bytes ≡ rest = behind bytes (u64_bytes reply.unique) rest 8 8 16 at8 (length-u64_bytes reply.unique) refl in
     let short : len < 2 ^ 32 = omega (arith, payload_fits reply.answer) in
     record {
       len = ap u32_at all ∙ u32_again len r1 short;
-      error = ap u32_at at4 ∙ u32_again error r2 (error_fits reply.answer);
+      error = ap i32_at at4 ∙ i32_again error r2 (error_fits reply.answer);
       unique = ap u64_at at8 ∙ u64_again reply.unique rest fits.0;
       rest = at16;
     }
@@ -166,23 +146,7 @@ attributes_at bytes before number attr after n k rest len is fits =
     let there : drop k bytes ≡ attributes number attr ++ after = behind bytes before (attributes number attr ++ after) 16 n k rest len is in
     rw there (attributes_again number attr after fits)
 
-failure_is : (errno : Errno) (bytes : List ℕ) → answer_at (error_word (Error errno)) bytes ≡ Some (Error errno)
-unfolding answer_at
-failure_is ENOENT bytes = refl
-failure_is EIO bytes = refl
-failure_is ENOMEM bytes = refl
-failure_is EEXIST bytes = refl
-failure_is ENOTDIR bytes = refl
-failure_is EISDIR bytes = refl
-failure_is EINVAL bytes = refl
-failure_is ENOSPC bytes = refl
-failure_is ENAMETOOLONG bytes = refl
-failure_is ENOSYS bytes = refl
-failure_is ENOTEMPTY bytes = refl
-failure_is EOVERFLOW bytes = refl
-failure_is ESTALE bytes = refl
-
-answer_is : (answer : Answer) (bytes : List ℕ) → FitsAnswer answer → length bytes ≡ 16 + length (payload answer) → drop 16 bytes ≡ payload answer → answer_at (error_word answer) bytes ≡ Some answer
+answer_is : (answer : Answer) (bytes : List ℕ) → FitsAnswer answer → length bytes ≡ 16 + length (payload answer) → drop 16 bytes ≡ payload answer → answer_at (error_field answer) bytes ≡ Some answer
 unfolding answer_at
 answer_is (Entry number attr) bytes fits len rest =
     let regrouped : entry number attr ≡ (u64_bytes number.0 ++ zeros 32) ++ (attributes number attr ++ []) = ap (λ (t : List ℕ). (u64_bytes number.0 ++ zeros 32) ++ t) (sym (append-nil (attributes number attr))) in
@@ -214,7 +178,7 @@ pub record ReadAs (reply : Reply) (bytes : List ℕ) : Type 0 where
   pub long : 16 ≤ length bytes
   pub len : u32_at bytes ≡ length bytes
   pub unique : u64_at (drop 8 bytes) ≡ reply.unique
-  pub answer : answer_at (u32_at (drop 4 bytes)) bytes ≡ Some reply.answer
+  pub answer : answer_at (i32_at (drop 4 bytes)) bytes ≡ Some reply.answer
 
 pub reply_again : (reply : Reply) (bytes : List ℕ) → FitsReply reply → bytes ≡ reply_text reply → ReadAs reply bytes
 reply_again reply bytes fits is =
@@ -224,5 +188,5 @@ reply_again reply bytes fits is =
       long = omega arith;
       len = header.len ∙ sym len;
       unique = header.unique;
-      answer = ap (λ (e : ℕ). answer_at e bytes) header.error ∙ answer_is reply.answer bytes fits.1 len header.rest;
+      answer = ap (λ (e : ℤ). answer_at e bytes) header.error ∙ answer_is reply.answer bytes fits.1 len header.rest;
     }

@@ -1,5 +1,7 @@
--- How a reply is read: the fields that vary, at the places that the length of the whole tells.
-use Rattle.std.specs.Prelude.{ℕ, ◌-◌, ◌==◌, nat_lt, List, length, drop, Option, Some, None, if◌then◌else◌}
+-- How a reply is read: the fields that vary, at the places that the length of the whole tells, and then the bytes as a
+-- whole, since a reply has one spelling (linux/fuse.h: fuse_out_header, and the struct of each answer).
+use Rattle.std.specs.Prelude.{ℕ, zero, suc, ◌==◌, nat_lt, ℤ, pos, negsuc, List, length, drop, Option, Some, None, Result, Ok, Err, if◌then◌else◌}
+use Rattle.std.specs.Str.{bytes_eq}
 use Rattle.eden_base.specs.declared.attr.Attr.{Attr}
 use Rattle.eden_base.specs.declared.attr.Kind.{Kind}
 use Rattle.eden_base.specs.declared.attr.Kind.TheVariants.{File, Dir}
@@ -10,12 +12,14 @@ use Rattle.fuse_wire.specs.declared.fault.WireFault.{WireFault}
 use Rattle.fuse_wire.specs.declared.fault.WireFault.TheVariants.{Short, BadLength, BadBody}
 use Rattle.fuse_wire.specs.declared.reply.Answer.{Answer}
 use Rattle.fuse_wire.specs.declared.reply.Answer.TheVariants.{Entry, Opened, Attrs, Done, Error}
-use Rattle.fuse_wire.specs.Field.{u32_at, u64_at}
-use Rattle.fuse_wire.specs.Mode.{perm_of}
+use Rattle.fuse_wire.specs.declared.reply.Reply.{Reply}
+use Rattle.fuse_wire.specs.Field.{i32_at, u32_at, u64_at}
+use Rattle.fuse_wire.specs.Mode.{S_IFREG, perm_of}
+use Rattle.fuse_wire.specs.ReplyText.{reply_text}
 
 -- the error of a number
-abbrev pub errno_of : ℕ → Option Errno
-errno_of n =
+abbrev pub errno_numbered : ℕ → Option Errno
+errno_numbered n =
     if n == 2 then Some ENOENT
     else if n == 5 then Some EIO
     else if n == 12 then Some ENOMEM
@@ -31,14 +35,15 @@ errno_of n =
     else if n == 116 then Some ESTALE
     else None
 
--- what a mode says of its file, if it is one of the two
+-- the kind of a regular file's or a directory's mode; no other mode is spelled so
 abbrev pub kind_of : ℕ → Kind
-kind_of mode = if nat_lt mode 32768 then Dir else File
+kind_of mode = if nat_lt mode S_IFREG then Dir else File
 
--- ino is at 0 in the attributes, size at 8, mode at 60, nlink at 64
+-- the number in attributes; ino is at 0 in them, size at 8, mode at 60, nlink at 64
 abbrev pub number_at : List ℕ → Number
 number_at bytes = record { 0 = u64_at bytes }
 
+-- the attributes but for the number
 unfoldable pub attr_at : List ℕ → Attr
 attr_at bytes = record {
   kind = kind_of (u32_at (drop 60 bytes));
@@ -56,13 +61,37 @@ success_at len bytes =
     else if len == 160 then Some (Opened (number_at (drop 56 bytes)) (attr_at (drop 56 bytes)))
     else None
 
+-- the error of an error field, where its number is negative
+abbrev pub errno_of : ℤ → Option Errno
+errno_of (pos n) = None
+errno_of (negsuc n) = errno_numbered (suc n)
+
+-- the answer of an error
 abbrev pub failure_of : Option Errno → Option Answer
 failure_of (Some errno) = Some (Error errno)
 failure_of None = None
 
--- the one answer whose text the bytes can be, if they are one
-unfoldable pub answer_at : ℕ → List ℕ → Option Answer
-answer_at error bytes = if error == 0 then success_at (length bytes) bytes else failure_of (errno_of (4294967296 - error))
+-- the one answer whose text the bytes can be, by the error field
+unfoldable pub answer_at : ℤ → List ℕ → Option Answer
+answer_at (pos zero) bytes = success_at (length bytes) bytes
+answer_at error bytes = failure_of (errno_of error)
+
+-- a reply, if the bytes are its text
+abbrev pub if_spelled : Reply → List ℕ → Result Reply WireFault
+if_spelled reply bytes = if bytes_eq bytes (reply_text reply) then Ok reply else Err BadBody
+
+-- the reply of a unique and an answer, if the bytes are one
+abbrev pub reply_with : ℕ → Option Answer → List ℕ → Result Reply WireFault
+reply_with unique (Some answer) bytes = if_spelled (record { unique = unique; answer = answer }) bytes
+reply_with unique None bytes = Err BadBody
+
+-- the reply that the bytes are, or their first fault
+unfoldable pub reply_of : List ℕ → Result Reply WireFault
+reply_of bytes =
+    if nat_lt (length bytes) 16 then Err Short
+    else if u32_at bytes == length bytes
+    then reply_with (u64_at (drop 8 bytes)) (answer_at (i32_at (drop 4 bytes)) bytes) bytes
+    else Err BadLength
 
 -- the faults of a reply
 abbrev pub IsReplyFault : WireFault → Type 0

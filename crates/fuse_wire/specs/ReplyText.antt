@@ -1,6 +1,6 @@
 -- The one spelling of a reply (linux/fuse.h: fuse_out_header, fuse_entry_out, fuse_attr_out, fuse_open_out,
 -- fuse_attr). What a daemon does not tell here (times, owners, how long an answer may be kept) is 0.
-use Rattle.std.specs.Prelude.{◌<◌, ◌^◌, ℕ, ◌+◌, ◌-◌, List, [], ◌++◌, length}
+use Rattle.std.specs.Prelude.{◌<◌, ◌^◌, ℕ, ◌+◌, ℤ, pos, neg_ℤ, List, [], ◌++◌, length}
 use Rattle.eden_base.specs.declared.attr.Attr.{Attr}
 use Rattle.eden_base.specs.declared.errno.Errno.{Errno}
 use Rattle.eden_base.specs.declared.errno.Errno.TheVariants.{ENOENT, EIO, ENOMEM, EEXIST, ENOTDIR, EISDIR, EINVAL, ENOSPC, ENAMETOOLONG, ENOSYS, ENOTEMPTY, EOVERFLOW, ESTALE}
@@ -8,7 +8,7 @@ use Rattle.eden_base.specs.declared.number.Number.{Number}
 use Rattle.fuse_wire.specs.declared.reply.Answer.{Answer}
 use Rattle.fuse_wire.specs.declared.reply.Answer.TheVariants.{Entry, Opened, Attrs, Done, Error}
 use Rattle.fuse_wire.specs.declared.reply.Reply.{Reply}
-use Rattle.fuse_wire.specs.Field.{u32_bytes, u64_bytes}
+use Rattle.fuse_wire.specs.Field.{i32_bytes, u32_bytes, u64_bytes}
 use Rattle.fuse_wire.specs.Mode.{type_bits}
 use Rattle.fuse_wire.specs.RequestText.{zeros}
 
@@ -28,10 +28,10 @@ errno_number ENOTEMPTY = 39
 errno_number EOVERFLOW = 75
 errno_number ESTALE = 116
 
--- the error field: 0, or the negative number in two's complement of 32 bits
-abbrev pub error_word : Answer → ℕ
-error_word (Error errno) = 4294967296 - errno_number errno
-error_word answer = 0
+-- the error field: 0, or the negative error number
+abbrev pub error_field : Answer → ℤ
+error_field (Error errno) = neg_ℤ (pos (errno_number errno))
+error_field answer = pos 0
 
 -- the mode of a file
 abbrev pub mode : Attr → ℕ
@@ -56,12 +56,13 @@ payload Done = []
 payload (Error errno) = []
 
 -- the length of the whole, the error, the unique
-abbrev pub reply_header : ℕ → ℕ → ℕ → List ℕ
-reply_header len error unique = u32_bytes len ++ u32_bytes error ++ u64_bytes unique
+abbrev pub reply_header : ℕ → ℤ → ℕ → List ℕ
+reply_header len error unique = u32_bytes len ++ i32_bytes error ++ u64_bytes unique
 
+-- a whole reply: its header, and what follows
 abbrev pub reply_text : Reply → List ℕ
 reply_text reply =
-    reply_header (16 + length (payload reply.answer)) (error_word reply.answer) reply.unique ++ payload reply.answer
+    reply_header (16 + length (payload reply.answer)) (error_field reply.answer) reply.unique ++ payload reply.answer
 
 -- numbers of the sizes that their fields have
 pub record FitsAttr (number : Number) (attr : Attr) : Type 0 where
@@ -69,11 +70,13 @@ pub record FitsAttr (number : Number) (attr : Attr) : Type 0 where
   pub size_fits : attr.size < 2 ^ 64
   pub nlink_fits : attr.nlink < 2 ^ 32
 
+-- and those of an answer
 abbrev pub FitsAnswer : Answer → Type 0
 FitsAnswer (Entry number attr) = FitsAttr number attr
 FitsAnswer (Opened number attr) = FitsAttr number attr
 FitsAnswer (Attrs number attr) = FitsAttr number attr
 FitsAnswer answer = Unit {0}
 
+-- and those of a reply
 abbrev pub FitsReply : Reply → Type 0
 FitsReply reply = (reply.unique < 2 ^ 64) × FitsAnswer reply.answer

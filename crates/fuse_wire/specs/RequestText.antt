@@ -11,6 +11,7 @@ use Rattle.fuse_wire.specs.declared.item.Item.{Item}
 use Rattle.fuse_wire.specs.declared.opcode.Opcode.{Opcode}
 use Rattle.fuse_wire.specs.declared.opcode.Opcode.TheVariants as opcodes
 use Rattle.fuse_wire.specs.Field.{u32_bytes, u64_bytes}
+use Rattle.fuse_wire.specs.Mode.{S_IFREG}
 use Rattle.fuse_wire.specs.Opcode.{code, opcode_of}
 
 -- so many bytes that are 0
@@ -56,7 +57,7 @@ line item = u64_bytes item.node.0 ++ u64_bytes item.k
 
 -- flags, mode, umask and one more word, then the name
 abbrev pub create_body : List ℕ → Perm → List ℕ
-create_body name perm = (zeros 4 ++ u32_bytes (32768 + perm.bits) ++ zeros 8) ++ name_text name
+create_body name perm = (zeros 4 ++ u32_bytes (S_IFREG + perm.bits) ++ zeros 8) ++ name_text name
 
 -- mode and umask, then the name
 abbrev pub mkdir_body : List ℕ → Perm → List ℕ

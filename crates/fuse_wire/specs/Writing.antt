@@ -1,6 +1,18 @@
--- Bytes written into a buffer.
-use Rattle.std.specs.Prelude.{◌≡◌, ℕ, ◌+◌, List, ◌++◌, length, take, drop}
+-- Bytes written into a message, one field after the other.
+use Rattle.std.specs.Prelude.{◌≡◌, ◌≤◌, ℕ, ◌+◌, List, ◌++◌, length, take, drop}
+use Rattle.fuse_wire.specs.declared.writer.Writer.{Writer}
 
--- from a place on these bytes stand in the buffer; the others are as they were
+-- from a place on these bytes stand in the message; the others are as they were
 abbrev pub Writes : List ℕ → List ℕ → ℕ → List ℕ → Type 0
 Writes old new at bytes = new ≡ (take at old ++ bytes) ++ drop (at + length bytes) old
+
+-- so many bytes have room from the next field's place on
+abbrev pub HasRoom : Writer → ℕ → Type 0
+HasRoom writer count = writer.at + count ≤ length writer.bytes.now
+
+-- these bytes are written into the same message, and the next field stands behind them
+pub record Puts (old new : Writer) (bytes : List ℕ) : Type 0 where
+  pub same : new.bytes.ghost_name ≡ old.bytes.ghost_name
+  pub field : Writes old.bytes.now new.bytes.now old.at bytes
+  pub after : new.at ≡ old.at + length bytes
+  pub len : length new.bytes.now ≡ length old.bytes.now

@@ -1,25 +1,25 @@
 //! The error of a reply's header.
-ghost use Rattle.std.specs.Prelude.{◌≡◌, ◌≤◌};
-ghost use Rattle.fuse_wire.specs.ReplyText.{errno_number, error_word};
+ghost use Rattle.std.specs.Prelude.{◌≡◌, ◌≤◌, pos};
+ghost use Rattle.fuse_wire.specs.ReplyText.{errno_number, error_field};
 ghost use Rattle.fuse_wire.specs.ReplyReading.{errno_of};
 
 use crate::Answer;
 use eden_base::Errno;
 
-/// 0, or the negative error number in two's complement.
-pub(crate) fn error_word(answer: &Answer) -> u32
-    ensures { result ≡ error_word answer.now }
+/// Returns the error field of a reply's header: 0, or the negative error number.
+pub(crate) fn error_field(answer: &Answer) -> i32
+    ensures { result ≡ error_field answer.now }
 {
     match answer {
-        Answer::Error(errno) => u32::MAX - errno_number(*errno) + 1,
+        Answer::Error(errno) => -errno_number(*errno),
         _ => 0,
     }
 }
 
-/// The numbers of `errno.h` on Linux.
-fn errno_number(errno: Errno) -> u32
-    ensures number { result ≡ errno_number errno }
-    ensures in_range { (1 ≤ result) × (result ≤ 116) }
+/// Returns an error's number, as `errno.h` has it on Linux.
+fn errno_number(errno: Errno) -> i32
+    ensures number { result ≡ pos (errno_number errno) }
+    ensures at_most { errno_number errno ≤ 116 }
 {
     match errno {
         Errno::ENOENT => 2,
@@ -38,24 +38,24 @@ fn errno_number(errno: Errno) -> u32
     }
 }
 
-/// The error of a number.
-pub(crate) fn errno_of(number: u32) -> Option<Errno>
-    ensures { result ≡ errno_of number }
+/// Returns the error that a reply's error field tells.
+pub(crate) fn errno_of(error: i32) -> Option<Errno>
+    ensures { result ≡ errno_of error }
 {
-    match number {
-        2 => Some(Errno::ENOENT),
-        5 => Some(Errno::EIO),
-        12 => Some(Errno::ENOMEM),
-        17 => Some(Errno::EEXIST),
-        20 => Some(Errno::ENOTDIR),
-        21 => Some(Errno::EISDIR),
-        22 => Some(Errno::EINVAL),
-        28 => Some(Errno::ENOSPC),
-        36 => Some(Errno::ENAMETOOLONG),
-        38 => Some(Errno::ENOSYS),
-        39 => Some(Errno::ENOTEMPTY),
-        75 => Some(Errno::EOVERFLOW),
-        116 => Some(Errno::ESTALE),
+    match error {
+        -2 => Some(Errno::ENOENT),
+        -5 => Some(Errno::EIO),
+        -12 => Some(Errno::ENOMEM),
+        -17 => Some(Errno::EEXIST),
+        -20 => Some(Errno::ENOTDIR),
+        -21 => Some(Errno::EISDIR),
+        -22 => Some(Errno::EINVAL),
+        -28 => Some(Errno::ENOSPC),
+        -36 => Some(Errno::ENAMETOOLONG),
+        -38 => Some(Errno::ENOSYS),
+        -39 => Some(Errno::ENOTEMPTY),
+        -75 => Some(Errno::EOVERFLOW),
+        -116 => Some(Errno::ESTALE),
         _ => None,
     }
 }

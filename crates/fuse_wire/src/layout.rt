@@ -1,85 +1,85 @@
-//! How long the parts of a message are, in bytes, and where they stand.
+//! The lengths of the parts of a message, in bytes, and their places.
 
-/// `struct fuse_in_header`: behind the nodeid, the user, the group, the process and a padding.
+/// The end of `struct fuse_in_header`: uid, gid, pid, padding.
 pub(crate) const SENDER_LEN: usize = 16;
 
-/// CREATE: flags, mode, umask and one more word (`struct fuse_create_in`).
+/// `struct fuse_create_in`: flags, mode, umask, open_flags.
 pub(crate) const CREATE_FIXED: usize = 16;
 
-/// Where in it the mode is.
+/// The place of the mode in `struct fuse_create_in`.
 pub(crate) const CREATE_MODE: usize = 4;
 
-/// Behind it, the umask and that word.
+/// The end of `struct fuse_create_in`, behind the mode: umask, open_flags.
 pub(crate) const CREATE_REST_LEN: usize = 8;
 
-/// MKDIR: mode and umask (`struct fuse_mkdir_in`).
+/// `struct fuse_mkdir_in`: mode, umask.
 pub(crate) const MKDIR_FIXED: usize = 8;
 
-/// Where in it the mode is.
+/// The place of the mode in `struct fuse_mkdir_in`.
 pub(crate) const MKDIR_MODE: usize = 0;
 
-/// Behind it, the umask.
+/// The end of `struct fuse_mkdir_in`, behind the mode: umask.
 pub(crate) const MKDIR_REST_LEN: usize = 4;
 
-/// GETATTR: flags, a padding and a handle (`struct fuse_getattr_in`).
+/// `struct fuse_getattr_in`: getattr_flags, dummy, fh.
 pub(crate) const GETATTR_LEN: usize = 16;
 
-/// FORGET: the count alone.
+/// `struct fuse_forget_in`: nlookup.
 pub(crate) const FORGET_LEN: usize = 8;
 
-/// BATCH_FORGET: how many lines, and a padding.
+/// `struct fuse_batch_forget_in`: count, dummy.
 pub(crate) const BATCH_FIXED: usize = 8;
 
-/// That padding.
+/// The end of `struct fuse_batch_forget_in`, behind the count: dummy.
 pub(crate) const BATCH_REST_LEN: usize = 4;
 
-/// A line of it: a nodeid and a count (`struct fuse_forget_one`).
+/// `struct fuse_forget_one`, a line of a batch: nodeid, nlookup.
 pub(crate) const LINE_LEN: usize = 16;
 
-/// `struct fuse_out_header`: length, error, unique.
+/// `struct fuse_out_header`: len, error, unique.
 pub(crate) const REPLY_HEADER_LEN: usize = 16;
 
-/// `struct fuse_entry_out`.
+/// `struct fuse_entry_out`: nodeid, how long it may be kept, attr.
 pub(crate) const ENTRY_LEN: usize = 128;
 
-/// In it, the generation and how long the entry and its attributes may be kept.
+/// The middle of `struct fuse_entry_out`: generation, and how long the entry and its attributes may be kept.
 pub(crate) const VALID_LEN: usize = 32;
 
-/// `struct fuse_open_out`: a handle and its flags.
+/// `struct fuse_open_out`: fh, open_flags, padding.
 pub(crate) const OPEN_LEN: usize = 16;
 
-/// In `struct fuse_attr_out`, how long the attributes may be kept.
+/// The start of `struct fuse_attr_out`: how long the attributes may be kept.
 pub(crate) const ATTR_VALID_LEN: usize = 16;
 
-/// `struct fuse_attr`.
+/// `struct fuse_attr`, from ino to flags.
 pub(crate) const ATTRIBUTES_LEN: usize = 88;
 
-/// In it, blocks, atime, mtime, ctime and their nanoseconds.
+/// In `struct fuse_attr`: blocks, atime, mtime, ctime and their nanoseconds.
 pub(crate) const BLOCKS_AND_TIMES_LEN: usize = 44;
 
-/// In it, uid, gid and rdev.
+/// In `struct fuse_attr`: uid, gid, rdev.
 pub(crate) const OWNERS_LEN: usize = 12;
 
-/// In it, flags.
+/// In `struct fuse_attr`: flags.
 pub(crate) const FLAGS_LEN: usize = 4;
 
-/// A whole reply without a body.
+/// A whole reply that is `Answer::Done`.
 pub(crate) const DONE_REPLY_LEN: usize = REPLY_HEADER_LEN;
 
-/// A whole reply with attributes alone.
+/// A whole reply that is `Answer::Attrs`.
 pub(crate) const ATTRS_REPLY_LEN: usize = REPLY_HEADER_LEN + ATTR_VALID_LEN + ATTRIBUTES_LEN;
 
-/// Where in it the attributes are.
+/// The place of the attributes in a reply that is `Answer::Attrs`.
 pub(crate) const ATTRS_REPLY_ATTRIBUTES: usize = REPLY_HEADER_LEN + ATTR_VALID_LEN;
 
-/// A whole reply with an entry.
+/// A whole reply that is `Answer::Entry`.
 pub(crate) const ENTRY_REPLY_LEN: usize = REPLY_HEADER_LEN + ENTRY_LEN;
 
-/// A whole reply with an entry and an open file.
+/// A whole reply that is `Answer::Opened`.
 pub(crate) const OPENED_REPLY_LEN: usize = REPLY_HEADER_LEN + ENTRY_LEN + OPEN_LEN;
 
-/// Where in both the attributes are.
+/// The place of the attributes in a reply that is `Answer::Entry` or `Answer::Opened`.
 pub(crate) const ENTRY_REPLY_ATTRIBUTES: usize = REPLY_HEADER_LEN + ENTRY_LEN - ATTRIBUTES_LEN;
 
-/// What a daemon tells as `blksize`.
+/// The `blksize` of each file.
 pub(crate) const BLOCK_SIZE: u32 = 4096;

@@ -20,6 +20,7 @@ mod reply;
 mod reply_reader;
 mod reply_writer;
 mod request_writer;
+mod writer;
 
 pub use ask::{Ask, Request};
 pub use batch::{Batch, BatchRoom};
@@ -30,10 +31,14 @@ pub use reading::{read_items, read_request, read_request_to};
 pub use refusal::fault_reply;
 pub use reply::{Answer, Reply};
 pub use reply_reader::read_reply;
-pub use reply_writer::write_reply;
+pub use reply_writer::{MAX_REPLY_LEN, write_reply};
 pub use request_writer::write_request;
 
 #[cfg(test)]
 mod tests;
 #[cfg(test)]
 mod vectors;
+#[cfg(test)]
+mod wide_tests;
+#[cfg(test)]
+mod wide_vectors;

@@ -5,44 +5,44 @@ ghost use Rattle.fuse_wire.specs.ReplyReading.{kind_of};
 
 use eden_base::{Kind, Perm};
 
-/// The low twelve bits.
+/// The bits of a mode that are permissions.
 const PERM_BITS: u32 = 0o7777;
 
-/// `S_IFREG`.
-const REGULAR: u32 = 0o100000;
+/// The type bits of a regular file.
+const S_IFREG: u32 = 0o100000;
 
-/// `S_IFDIR`.
-const DIRECTORY: u32 = 0o040000;
+/// The type bits of a directory.
+const S_IFDIR: u32 = 0o040000;
 
-/// The permissions of a mode. The bits above say what the file is.
+/// Returns the permissions of a mode.
 pub(crate) fn perm_of(mode: u32) -> Perm
     ensures { result ≡ perm_of mode }
 {
     Perm::of((mode & PERM_BITS) as u16).unwrap()
 }
 
-/// The bits of a mode that say what the file is.
-pub(crate) fn type_bits(kind: Kind) -> u32
+/// Returns the type bits of a kind.
+fn type_bits(kind: Kind) -> u32
     ensures { result ≡ type_bits kind }
 {
     match kind {
-        Kind::File => REGULAR,
-        Kind::Dir => DIRECTORY,
+        Kind::File => S_IFREG,
+        Kind::Dir => S_IFDIR,
     }
 }
 
-/// What a mode says of its file, where it is one of the two.
+/// Returns the kind of a regular file's or a directory's mode; for any other mode one of the two.
 pub(crate) fn kind_of(mode: u32) -> Kind
     ensures { result ≡ kind_of mode }
 {
-    if mode < REGULAR {
+    if mode < S_IFREG {
         Kind::Dir
     } else {
         Kind::File
     }
 }
 
-/// The mode of a file.
+/// Returns a file's mode.
 pub(crate) fn mode_of(kind: Kind, perm: Perm) -> u32
     ensures { result ≡ type_bits kind + perm.bits }
 {

@@ -1,8 +1,8 @@
 //! Replies read from their bytes, on the broker's side.
-ghost use Rattle.std.specs.Prelude.{◌≡◌, ◌≢◌, ◌≤◌, ◌<◌, ◌↔◌, ◌+◌, length, drop, IsTrue, IfOk, IfErr, IsErrOf, Ok};
-ghost use Rattle.fuse_wire.specs.Field.{u32_at};
+ghost use Rattle.std.specs.Prelude.{◌≡◌, ◌≢◌, ◌≤◌, ◌<◌, ◌↔◌, ◌+◌, length, drop, IfOk, IfErr, IsErrOf, Ok};
+ghost use Rattle.fuse_wire.specs.Field.{i32_at, u32_at};
 ghost use Rattle.fuse_wire.specs.ReplyText.{reply_text, FitsReply};
-ghost use Rattle.fuse_wire.specs.ReplyReading.{answer_at, number_at, attr_at, IsReplyFault};
+ghost use Rattle.fuse_wire.specs.ReplyReading.{answer_at, attr_at, if_spelled, number_at, reply_of, IsReplyFault};
 
 use crate::errno::errno_of;
 use crate::layout::{
@@ -10,10 +10,11 @@ use crate::layout::{
     ENTRY_REPLY_ATTRIBUTES, ENTRY_REPLY_LEN, OPENED_REPLY_LEN, REPLY_HEADER_LEN,
 };
 use crate::reader::Reader;
-use crate::{Answer, Reply, WireFault, mode, write_reply};
+use crate::{Answer, MAX_REPLY_LEN, Reply, WireFault, mode, write_reply};
+use byteorder::{ByteOrder, LittleEndian};
 use eden_base::{Attr, Number};
 
-/// The reply that the bytes are. A reply has one spelling: other bytes are `BadBody`. It takes no memory.
+/// Reads a reply. A reply has one spelling: other bytes are `BadBody`. It takes no memory.
 pub fn read_reply(bytes: &[u8]) -> Result<Reply, WireFault>
     ensures text { IfOk result (λ reply. bytes.now ≡ reply_text reply) }
     ensures only { (reply : Reply) → FitsReply reply → bytes.now ≡ reply_text reply
@@ -22,6 +23,16 @@ pub fn read_reply(bytes: &[u8]) -> Result<Reply, WireFault>
     ensures bad_length { IsErrOf result WireFault.BadLength
         ↔ ((16 ≤ length bytes.now) × (u32_at bytes.now ≢ length bytes.now)) }
     ensures no_others { IfErr result IsReplyFault }
+    // Which fault it is.
+    ensures exact { result ≡ reply_of bytes.now }
+{
+    read_spelled(bytes)
+}
+
+/// Reads the header first, then the answer that the rest can be.
+#[tactic(auto, unfolding(crate::specs::ReplyReading::reply_of))]
+fn read_spelled(bytes: &[u8]) -> Result<Reply, WireFault>
+    ensures { result ≡ reply_of bytes.now }
 {
     if bytes.len() < REPLY_HEADER_LEN {
         return Err(WireFault::Short);
@@ -30,42 +41,49 @@ pub fn read_reply(bytes: &[u8]) -> Result<Reply, WireFault>
     if fields.u32() as usize != bytes.len() {
         return Err(WireFault::BadLength);
     }
-    let error = fields.u32();
+    let error = fields.i32();
     let unique = fields.u64();
     let Some(answer) = answer_of(error, bytes) else {
         return Err(WireFault::BadBody);
     };
-    let reply = Reply { unique, answer };
-    if !is_text_of(bytes, &reply) {
+    if_spelled(Reply { unique, answer }, bytes)
+}
+
+impl Reader<'_> {
+    /// Reads a signed field of four bytes.
+    #[tactic(auto, unfolding(crate::specs::Field::i32_at, crate::specs::Field::u32_at))]
+    fn i32(&mut self) -> i32
+        requires { self.old.at + 4 ≤ length self.old.bytes.now }
+        ensures value { result ≡ i32_at (drop self.old.at self.old.bytes.now) }
+        ensures bytes { self.new.bytes.now ≡ self.old.bytes.now }
+        ensures at { self.new.at ≡ self.old.at + 4 }
+    {
+        let value = LittleEndian::read_i32(&self.bytes[self.at..]);
+        self.at += 4;
+        value
+    }
+}
+
+/// Returns the reply, if the bytes are its text.
+#[tactic(auto, using(crate::proofs::Lengths::lengths))]
+fn if_spelled(reply: Reply, bytes: &[u8]) -> Result<Reply, WireFault>
+    ensures { result ≡ if_spelled reply bytes.now }
+{
+    let mut text = [0u8; MAX_REPLY_LEN];
+    let len = write_reply(&reply, &mut text);
+    if bytes != &text[..len] {
         return Err(WireFault::BadBody);
     }
     Ok(reply)
 }
 
-/// Whether the bytes are the spelling of the reply.
-#[tactic(auto, using(crate::proofs::Lengths::lengths))]
-fn is_text_of(bytes: &[u8], reply: &Reply) -> bool
-    ensures { IsTrue result ↔ (bytes.now ≡ reply_text reply.now) }
-{
-    let mut text = [0u8; 160];
-    let len = write_reply(reply, &mut text);
-    are_same(&text[..len], bytes)
-}
-
-/// Whether the two are the same, byte for byte.
-fn are_same(left: &[u8], right: &[u8]) -> bool
-    ensures { IsTrue result ↔ (left.now ≡ right.now) }
-{
-    left == right
-}
-
-/// The one answer whose text the bytes can be, by their length and the fields that vary.
+/// Returns the one answer whose text the bytes can be, by their length and the fields that vary.
 #[tactic(auto, unfolding(crate::specs::ReplyReading::answer_at))]
-fn answer_of(error: u32, bytes: &[u8]) -> Option<Answer>
+fn answer_of(error: i32, bytes: &[u8]) -> Option<Answer>
     ensures { result ≡ answer_at error bytes.now }
 {
     if error != 0 {
-        return errno_of(u32::MAX - error + 1).map(Answer::Error);
+        return errno_of(error).map(Answer::Error);
     }
     match bytes.len() {
         DONE_REPLY_LEN => Some(Answer::Done),
@@ -85,7 +103,7 @@ fn answer_of(error: u32, bytes: &[u8]) -> Option<Answer>
     }
 }
 
-/// The fields of `struct fuse_attr` that vary.
+/// Reads the fields of `struct fuse_attr` that vary.
 #[tactic(auto, unfolding(crate::specs::ReplyReading::attr_at))]
 fn attributes_at(bytes: &[u8], place: usize) -> (Number, Attr)
     requires { place + 88 ≤ length bytes.now }

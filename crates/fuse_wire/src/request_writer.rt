@@ -1,11 +1,11 @@
 //! Requests as bytes, on the broker's side.
-ghost use Rattle.std.specs.Prelude.{All, ◌<◌, ◌^◌, ◌≡◌, ◌≤◌, ◌++◌, ◌∷◌, [], OnOk, IfOk, Ok, length};
+ghost use Rattle.std.specs.Prelude.{All, ◌<◌, ◌^◌, ◌≡◌, ◌≤◌, ◌+◌, ◌++◌, IfOk, Ok, length};
 ghost use Rattle.std.specs.List.{flat_map};
-ghost use Rattle.fuse_wire.specs.Field.{u32_bytes, u64_bytes};
 ghost use Rattle.fuse_wire.specs.Opcode.{code};
-ghost use Rattle.fuse_wire.specs.RequestText.{zeros, opcode, nodeid, IsSendable, name_text, create_body, mkdir_body, batch_body, line, body, header, request_text, IsBody, IsRequestText, FitsBody, FitsItem};
+ghost use Rattle.fuse_wire.specs.RequestText.{zeros, opcode, nodeid, IsSendable, name_text, create_body, mkdir_body, batch_body, line, body, header, request_text, IsBody, IsRequestText, FitsAsk, FitsBody, FitsItem};
 ghost use Rattle.eden_base.specs.Name.{IsNameText};
 ghost use Rattle.fuse_wire.specs.Reading.{request_of};
+ghost use Rattle.fuse_wire.specs.Writing.{HasRoom, Puts};
 
 use crate::header::Header;
 use crate::layout::{
@@ -14,13 +14,12 @@ use crate::layout::{
 };
 use crate::mode::mode_of;
 use crate::opcode::Opcode;
-use crate::{Ask, Batch, Item, Request};
-use byteorder::{ByteOrder, LittleEndian};
+use crate::writer::Writer;
+use crate::{Ask, Item, Request};
 use eden_base::{Kind, Name, NoMemory, Perm};
 use std::alloc::Global;
 
-/// The bytes of a request. What no reader looks at is 0.
-#[tactic(auto, using(std::proofs::Common::append_assoc))]
+/// Writes a request. What no reader looks at is 0. The bytes are all the memory that it takes.
 pub fn write_request(alloc: Global, ask: &Ask) -> Result<Vec<u8>, NoMemory>
     requires { IsSendable ask.now.what }
     ensures text { IfOk result (λ bytes. bytes.items ≡ request_text ask.now) }
@@ -28,35 +27,43 @@ pub fn write_request(alloc: Global, ask: &Ask) -> Result<Vec<u8>, NoMemory>
     ensures read_again { IfOk result (λ bytes. request_of bytes.items ≡ Ok ask.now) }
 {
     let len = Header::LEN + body_len(&ask.what);
-    let code = opcode_of(&ask.what).code();
-    let mut out = Vec::with_capacity(alloc, len)?;
-    put_header(&mut out, len as u32, code, ask.unique, nodeid(&ask.what))?;
-    put_body(&mut out, &ask.what)?;
-    Ok(out)
+    let mut bytes = vec![in alloc; 0; len]?;
+    put_request(bytes.as_mut_slice(), ask);
+    Ok(bytes)
 }
 
-/// The header (`struct fuse_in_header`).
-#[tactic(auto, using(std::proofs::Common::append_assoc))]
-fn put_header(
-    out: &mut Vec<u8>,
-    len: u32,
-    code: u32,
-    unique: u64,
-    node: u64,
-) -> Result<(), NoMemory>
-    ensures header { OnOk result (out.new.items
-        ≡ out.old.items ++ (header len code unique node ++ zeros 16)) }
-    ensures fits { unique < 2 ^ 64 }
+/// Writes a request into a buffer of its length.
+#[tactic(auto, using(crate::proofs::Written::written))]
+fn put_request(bytes: &mut [u8], ask: &Ask)
+    requires short { length bytes.old < 2 ^ 32 }
+    requires len { length bytes.old ≡ 40 + length (body ask.now.what) }
+    ensures text { bytes.new ≡ request_text ask.now }
+    ensures fits { FitsAsk ask.now }
 {
-    put_u32(out, len)?;
-    put_u32(out, code)?;
-    put_u64(out, unique)?;
-    put_u64(out, node)?;
-    put_zeros(out, SENDER_LEN)?;
-    Ok(())
+    let len = bytes.len() as u32;
+    let mut fields = Writer::new(bytes);
+    put_header(&mut fields, len, ask);
+    put_body(&mut fields, &ask.what);
 }
 
-/// The opcode that a request goes by.
+/// Writes the header (`struct fuse_in_header`).
+#[tactic(auto, using(crate::proofs::Written::written))]
+fn put_header(fields: &mut Writer, len: u32, ask: &Ask)
+    requires { HasRoom fields.old 40 }
+    ensures header { Puts fields.old fields.new
+        (header len (code (opcode ask.now.what)) ask.now.unique (nodeid ask.now.what) ++ zeros 16) }
+    ensures unique_fits { ask.now.unique < 2 ^ 64 }
+    ensures opcode_fits { code (opcode ask.now.what) < 2 ^ 32 }
+    ensures nodeid_fits { nodeid ask.now.what < 2 ^ 64 }
+{
+    fields.put_u32(len);
+    fields.put_u32(opcode_of(&ask.what).code());
+    fields.put_u64(ask.unique);
+    fields.put_u64(nodeid(&ask.what));
+    fields.put_zeros(SENDER_LEN);
+}
+
+/// Returns the opcode that a request goes by.
 fn opcode_of(request: &Request) -> Opcode
     ensures { result ≡ opcode request.now }
 {
@@ -73,7 +80,7 @@ fn opcode_of(request: &Request) -> Opcode
     }
 }
 
-/// The nodeid of the header; a batch is of many.
+/// Returns the nodeid of the header, which is 0 for a batch.
 fn nodeid(request: &Request) -> u64
     ensures { result ≡ nodeid request.now }
 {
@@ -89,7 +96,7 @@ fn nodeid(request: &Request) -> u64
     }
 }
 
-/// How long what follows the header is.
+/// Returns how many bytes follow the header.
 #[tactic(auto, using(crate::proofs::Lengths::lengths, crate::proofs::OwnTexts::own_bodies))]
 fn body_len(request: &Request) -> usize
     ensures len { result ≡ length (body request.now) }
@@ -108,7 +115,7 @@ fn body_len(request: &Request) -> usize
     }
 }
 
-/// How long the lines of a batch are.
+/// Returns the length of a batch's lines.
 #[tactic(auto, using(crate::proofs::Lengths::lengths))]
 fn lines_len(items: &[Item]) -> usize
     requires { length items.now ≤ 256 }
@@ -118,7 +125,7 @@ fn lines_len(items: &[Item]) -> usize
     LINE_LEN * items.len()
 }
 
-/// How long a name and its NUL are.
+/// Returns the length of a name and its NUL.
 #[tactic(auto, using(crate::proofs::Lengths::name_is_short))]
 fn name_len(name: &Name) -> usize
     ensures len { result ≡ length (name_text name.now) }
@@ -128,111 +135,90 @@ fn name_len(name: &Name) -> usize
     name.bytes().len() + 1
 }
 
-/// A field of four bytes.
-#[tactic(auto, unfolding(crate::specs::Field::u32_bytes))]
-fn put_u32(out: &mut Vec<u8>, value: u32) -> Result<(), NoMemory>
-    ensures { OnOk result (out.new.items ≡ out.old.items ++ u32_bytes value) }
+/// Writes a name, and NUL.
+#[tactic(auto, using(crate::proofs::Written::written))]
+fn put_name(fields: &mut Writer, name: &Name)
+    requires { HasRoom fields.old (length (name_text name.now)) }
+    ensures { Puts fields.old fields.new (name_text name.now) }
 {
-    let mut field = [0u8; 4];
-    LittleEndian::write_u32(&mut field, value);
-    out.extend_from_slice(&field)?;
-    Ok(())
+    fields.put_slice(name.bytes());
+    fields.put_slice(&[0]);
 }
 
-/// A field of eight bytes.
-#[tactic(auto, unfolding(crate::specs::Field::u64_bytes))]
-fn put_u64(out: &mut Vec<u8>, value: u64) -> Result<(), NoMemory>
-    ensures { OnOk result (out.new.items ≡ out.old.items ++ u64_bytes value) }
-{
-    let mut field = [0u8; 8];
-    LittleEndian::write_u64(&mut field, value);
-    out.extend_from_slice(&field)?;
-    Ok(())
-}
-
-/// Bytes that no reader looks at.
-#[tactic(auto, unfolding(crate::specs::RequestText::zeros))]
-fn put_zeros(out: &mut Vec<u8>, count: usize) -> Result<(), NoMemory>
-    requires { count ≤ 16 }
-    ensures { OnOk result (out.new.items ≡ out.old.items ++ zeros count) }
-{
-    let len = out.len() + count;
-    out.resize(len, 0)?;
-    Ok(())
-}
-
-/// A name, and NUL.
-fn put_name(out: &mut Vec<u8>, name: &Name) -> Result<(), NoMemory>
-    ensures { OnOk result (out.new.items ≡ out.old.items ++ name_text name.now) }
-{
-    out.extend_from_slice(name.bytes())?;
-    out.push(0)?;
-    Ok(())
-}
-
-/// The lines of a batch, in their order.
-fn put_lines(out: &mut Vec<u8>, items: &[Item]) -> Result<(), NoMemory>
-    ensures lines { OnOk result (out.new.items ≡ out.old.items ++ flat_map line items.now) }
-    ensures fits { OnOk result (All FitsItem items.now) }
+/// Writes the lines of a batch, in their order.
+#[tactic(auto, using(crate::proofs::Written::written))]
+fn put_lines(fields: &mut Writer, items: &[Item])
+    requires { HasRoom fields.old (length (flat_map line items.now)) }
+    ensures lines { Puts fields.old fields.new (flat_map line items.now) }
+    ensures fits { All FitsItem items.now }
 {
     for item in items {
-        put_line(out, *item)?;
+        put_line(fields, *item);
     }
-    Ok(())
 }
 
-/// A line of a batch (`struct fuse_forget_one`).
-fn put_line(out: &mut Vec<u8>, item: Item) -> Result<(), NoMemory>
-    ensures line { OnOk result (out.new.items ≡ out.old.items ++ line item) }
+/// Writes a line of a batch (`struct fuse_forget_one`).
+#[tactic(auto, using(crate::proofs::Written::written))]
+fn put_line(fields: &mut Writer, item: Item)
+    requires { HasRoom fields.old 16 }
+    ensures line { Puts fields.old fields.new (line item) }
     ensures fits { FitsItem item }
 {
-    put_u64(out, item.node.0)?;
-    put_u64(out, item.k)?;
-    Ok(())
+    fields.put_u64(item.node.0);
+    fields.put_u64(item.k);
 }
 
-/// What follows the header.
-fn put_body(out: &mut Vec<u8>, request: &Request) -> Result<(), NoMemory>
-    ensures body { OnOk result (out.new.items ≡ out.old.items ++ body request.now) }
-    ensures fits { OnOk result (FitsBody request.now) }
+/// Writes what follows the header.
+#[tactic(auto, using(crate::proofs::Written::written))]
+fn put_body(fields: &mut Writer, request: &Request)
+    requires { HasRoom fields.old (length (body request.now)) }
+    ensures body { Puts fields.old fields.new (body request.now) }
+    ensures fits { FitsBody request.now }
 {
     match request {
         Request::Lookup { name, .. } | Request::Unlink { name, .. } | Request::Rmdir { name, .. } =>
-            put_name(out, name),
-        Request::Create { name, perm, .. } => put_create(out, name, *perm),
-        Request::Mkdir { name, perm, .. } => put_mkdir(out, name, *perm),
-        Request::Getattr { .. } => put_zeros(out, GETATTR_LEN),
-        Request::Forget(item) => put_u64(out, item.k),
-        Request::BatchForget(items) => put_batch(out, items),
-        Request::Other { .. } => Ok(()),
+            put_name(fields, name),
+        Request::Create { name, perm, .. } => put_create(fields, name, *perm),
+        Request::Mkdir { name, perm, .. } => put_mkdir(fields, name, *perm),
+        Request::Getattr { .. } => fields.put_zeros(GETATTR_LEN),
+        Request::Forget(item) => fields.put_u64(item.k),
+        Request::BatchForget(items) => put_batch(fields, items.as_slice()),
+        Request::Other { .. } => {}
     }
 }
 
-/// Flags, mode, umask and one more word, then the name (`struct fuse_create_in`).
-fn put_create(out: &mut Vec<u8>, name: &Name, perm: Perm) -> Result<(), NoMemory>
-    ensures { OnOk result (out.new.items ≡ out.old.items ++ create_body name.now perm) }
+/// Writes flags, mode, umask and one more word, then the name (`struct fuse_create_in`).
+#[tactic(auto, using(crate::proofs::Written::written))]
+fn put_create(fields: &mut Writer, name: &Name, perm: Perm)
+    requires { HasRoom fields.old (length (create_body name.now perm)) }
+    ensures { Puts fields.old fields.new (create_body name.now perm) }
 {
-    put_zeros(out, CREATE_MODE)?;
-    put_u32(out, mode_of(Kind::File, perm))?;
-    put_zeros(out, CREATE_REST_LEN)?;
-    put_name(out, name)
+    fields.put_zeros(CREATE_MODE);
+    fields.put_u32(mode_of(Kind::File, perm));
+    fields.put_zeros(CREATE_REST_LEN);
+    put_name(fields, name);
 }
 
-/// Mode and umask, then the name (`struct fuse_mkdir_in`).
-fn put_mkdir(out: &mut Vec<u8>, name: &Name, perm: Perm) -> Result<(), NoMemory>
-    ensures { OnOk result (out.new.items ≡ out.old.items ++ mkdir_body name.now perm) }
+/// Writes mode and umask, then the name (`struct fuse_mkdir_in`).
+#[tactic(auto, using(crate::proofs::Written::written))]
+fn put_mkdir(fields: &mut Writer, name: &Name, perm: Perm)
+    requires { HasRoom fields.old (length (mkdir_body name.now perm)) }
+    ensures { Puts fields.old fields.new (mkdir_body name.now perm) }
 {
-    put_u32(out, u32::from(perm.bits()))?;
-    put_zeros(out, MKDIR_REST_LEN)?;
-    put_name(out, name)
+    fields.put_u32(u32::from(perm.bits()));
+    fields.put_zeros(MKDIR_REST_LEN);
+    put_name(fields, name);
 }
 
-/// The count and a padding, then the lines (`struct fuse_batch_forget_in`).
-fn put_batch(out: &mut Vec<u8>, items: &Batch) -> Result<(), NoMemory>
-    ensures body { OnOk result (out.new.items ≡ out.old.items ++ batch_body items.now) }
-    ensures fits { OnOk result (All FitsItem items.now) }
+/// Writes the count and a padding, then the lines (`struct fuse_batch_forget_in`).
+#[tactic(auto, using(crate::proofs::Written::written))]
+fn put_batch(fields: &mut Writer, items: &[Item])
+    requires at_most { length items.now ≤ 256 }
+    requires room { HasRoom fields.old (length (batch_body items.now)) }
+    ensures body { Puts fields.old fields.new (batch_body items.now) }
+    ensures fits { All FitsItem items.now }
 {
-    put_u32(out, items.len() as u32)?;
-    put_zeros(out, BATCH_REST_LEN)?;
-    put_lines(out, items.as_slice())
+    fields.put_u32(items.len() as u32);
+    fields.put_zeros(BATCH_REST_LEN);
+    put_lines(fields, items);
 }

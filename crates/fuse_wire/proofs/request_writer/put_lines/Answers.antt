@@ -1,6 +1,13 @@
-use Rattle.fuse_wire.proofs.Lines.{one_written}
+use Rattle.std.proofs.Common.{take, length-take, arith}
+use Rattle.fuse_wire.proofs.Lengths.{length-lines}
+use Rattle.fuse_wire.proofs.Written.{one_written}
 use Rattle.fuse_wire.proofs.request_writer.put_lines.Goals as goal
+
+pub put_line-requires : goal.put_line-requires
+put_line-requires c =
+    let done = take c.loop-item.item-index c.args.items.now in
+    omega (arith, length-lines c.args.items.now, length-lines done, length-take c.loop-item.item-index c.args.items.now, c.loop-item.invariant.lines.after)
 
 pub loop-item-preserved : goal.loop-item-preserved
 loop-item-preserved c =
-    one_written c.args.out.now.items c.loop-item.out.items c.put_line.new.out.items c.args.items.now c.loop-item.item-index _ c.loop-item-test.true c.loop-item.invariant c.in_ok-put_line.ensures.line c.put_line.ensures.fits
+    one_written c.args.fields.now c.loop-item.fields c.put_line.new.fields c.args.items.now c.loop-item.item-index _ (omega arith) c.loop-item-test.true c.loop-item.invariant c.put_line.ensures.line c.put_line.ensures.fits
