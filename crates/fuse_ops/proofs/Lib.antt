@@ -4,3 +4,4 @@ pub mod FitsChanged
 pub mod FitsLeft
 pub mod ForgettingLaw
 pub mod GivingLaw
+pub mod Known

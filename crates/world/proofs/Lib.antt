@@ -1,9 +1,3 @@
-mod EntryLemmas
-mod FileLemmas
-mod Fitting
-mod Changing
-mod Adding
-mod Pruning
 mod Holding
 mod Looking
 mod Answering
