@@ -1,4 +1,4 @@
--- The limits of numbers and of what is counted by them. (libfuse counts lookups in 64 bits; both are this project's own.)
+-- The limits of numbers and of how often one is held. (This project's own; libfuse counts lookups in 64 bits.)
 use Rattle.std.specs.Prelude.{ℕ, ◌-◌, ◌^◌}
 
 -- how often the kernel may hold one number: a count of 32 bits

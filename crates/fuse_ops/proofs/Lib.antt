@@ -4,4 +4,5 @@ pub mod FitsChanged
 pub mod FitsLeft
 pub mod ForgettingLaw
 pub mod GivingLaw
+pub mod Known
 pub mod Replays

@@ -24,7 +24,8 @@ GaveOldOrNext tree old new n file =
 pub record Gave (tree : Tree) (old new : MapState) (n : ℕ) (file : FileId) : Type 0 where
   pub sound : IsSound (served_over tree new)
   pub names : IsFileOf tree new.entries n file
-  pub others_name : (m : ℕ) (other : FileId) → (m ≡ n → ⊥) → IsFileOf tree new.entries m other ↔ IsFileOf tree old.entries m other
+  pub others_name : (m : ℕ) (other : FileId) → (m ≡ n → ⊥) →
+      IsFileOf tree new.entries m other ↔ IsFileOf tree old.entries m other
   pub raised : count_of new.entries n ≡ count_of old.entries n + 1
   pub others_count : (m : ℕ) → (m ≡ n → ⊥) → count_of new.entries m ≡ count_of old.entries m
   pub old_or_next : GaveOldOrNext tree old new n file
@@ -40,7 +41,9 @@ pub record IsPlaced (served : ServedState) (parent : ℕ) (name : List ℕ) (dir
 
 -- the law of giving
 abbrev pub GivingLaw : Type 0
-GivingLaw = (served : ServedState) (parent : Number) (name : List ℕ) (dir file : FileId) → IsPlaced served parent.0 name dir file →
+GivingLaw =
+    (served : ServedState) (parent : Number) (name : List ℕ) (dir file : FileId) →
+    IsPlaced served parent.0 name dir file →
     give_fault served.map parent.0 name ≡ None →
     Gave served.tree served.map (given served.map parent name) (number_given served.map parent.0 name).0 file
 
@@ -51,7 +54,8 @@ NumberAtPlace tree map None file = (m : ℕ) → IsFileOf tree map.entries m fil
 
 -- the file at a place with a number is that number's, and at a place without one it is no number's
 abbrev pub PlaceLaw : Type 0
-PlaceLaw = (served : ServedState) (parent : ℕ) (name : List ℕ) (dir file : FileId) → IsPlaced served parent name dir file →
+PlaceLaw =
+    (served : ServedState) (parent : ℕ) (name : List ℕ) (dir file : FileId) → IsPlaced served parent name dir file →
     NumberAtPlace served.tree served.map (entry_at served.map.entries parent name) file
 
 -- a number was counted k times less: what is no longer of use left, and all else stays
@@ -74,12 +78,15 @@ IsTaken told = (told ≡ Lowered) ⊎ (told ≡ Dropped)
 
 -- the law of forgetting
 abbrev pub ForgettingLaw : Type 0
-ForgettingLaw = (served : ServedState) (n k : ℕ) → IsTree served.tree → IsSound served → (n ≡ 1 → ⊥) → is_bad_item served.map.entries n k ≡ false →
+ForgettingLaw =
+    (served : ServedState) (n k : ℕ) → IsTree served.tree → IsSound served →
+    (n ≡ 1 → ⊥) → is_bad_item served.map.entries n k ≡ false →
     IsTaken (forgot served.map n k) × Forgets served.tree served.map (forgotten served.map n k) n k
 
 -- a bad forget, or the root's, changes neither entries nor the next number
 abbrev pub BadForgetLaw : Type 0
-BadForgetLaw = (served : ServedState) (n k : ℕ) → IsSound served → (n ≡ 1) ⊎ (is_bad_item served.map.entries n k ≡ true) →
+BadForgetLaw =
+    (served : ServedState) (n k : ℕ) → IsSound served → (n ≡ 1) ⊎ (is_bad_item served.map.entries n k ≡ true) →
     KeepsEntries served.tree served.map (forgotten served.map n k)
 
 -- nothing is given yet

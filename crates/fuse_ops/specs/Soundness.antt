@@ -23,12 +23,17 @@ Names served n file = IsFileOf served.tree served.map.entries n file
 pub record IsSound (served : ServedState) : Type 0 where
   pub numbers : AreNumbers 2 served.map.next served.map.entries
   pub numbers_fit : served.map.next ≤ end_of_numbers
-  pub names_a_file : (n : ℕ) → IsSome (entry_of served.map.entries n) → (file : FileId) × Names served n file × IsSome (tree_file served.tree file)
+  pub names_a_file : (n : ℕ) → IsSome (entry_of served.map.entries n) →
+      (file : FileId) × Names served n file × IsSome (tree_file served.tree file)
   pub places_are_apart : (m n : ℕ) (one other : Kept) →
-      entry_of served.map.entries m ≡ Some one → entry_of served.map.entries n ≡ Some other → one.place ≡ other.place → m ≡ n
-  pub files_are_apart : (m n : ℕ) (file : FileId) → IsSome (entry_of served.map.entries m) → IsSome (entry_of served.map.entries n) →
+      entry_of served.map.entries m ≡ Some one → entry_of served.map.entries n ≡ Some other →
+      one.place ≡ other.place → m ≡ n
+  pub files_are_apart : (m n : ℕ) (file : FileId) →
+      IsSome (entry_of served.map.entries m) → IsSome (entry_of served.map.entries n) →
       Names served m file → Names served n file → m ≡ n
-  pub unlinked_alike : (n : ℕ) (kept : Kept) (file : FileId) → entry_of served.map.entries n ≡ Some kept → Names served n file →
+  pub unlinked_alike : (n : ℕ) (kept : Kept) (file : FileId) →
+      entry_of served.map.entries n ≡ Some kept → Names served n file →
       IsUnlinkedPlace kept.place ↔ IsTrue (is_unlinked served.tree file)
-  pub each_of_use : (n : ℕ) (kept : Kept) → entry_of served.map.entries n ≡ Some kept → IsTrue (is_of_use served.map.entries kept)
+  pub each_of_use : (n : ℕ) (kept : Kept) → entry_of served.map.entries n ≡ Some kept →
+      IsTrue (is_of_use served.map.entries kept)
   pub counts_fit : (n : ℕ) (kept : Kept) → entry_of served.map.entries n ≡ Some kept → kept.count ≤ greatest_count

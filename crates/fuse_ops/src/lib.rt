@@ -4,3 +4,6 @@
 mod served;
 
 pub use served::Served;
+
+#[cfg(test)]
+mod map_tests;

@@ -6,9 +6,13 @@ use Rattle.eden_base.specs.declared.number.Number.{Number}
 use Rattle.eden_base.specs.First.{first_where, changed_where, without_where}
 use Rattle.eden_base.proofs.FirstLemmas.{first_where-append, first_where-changed_same, first_where-changed_other, first_where-without_other}
 use Rattle.eden_base.proofs.NumberTests.{eq-true, eq-false, true-eq}
-use Rattle.inode_map.specs.EntryPlaces.{Rises}
 use Rattle.inode_map.specs.InodeMap.{has_number, entry_of, AreNumbers}
 use Rattle.inode_map.specs.declared.inode_map.Kept.{Kept}
+
+-- each number is greater than those before it
+abbrev pub Rises : List Kept → Type 0
+Rises entries =
+    (i j : ℕ) (d : Kept) → i < j → j < length entries → (slice_index_or entries i d).number.0 < (slice_index_or entries j d).number.0
 
 -- an entry has its number
 pub entry_of-number : (es : List Kept) (n : ℕ) (x : Kept) → entry_of es n ≡ Some x → x.number.0 ≡ n

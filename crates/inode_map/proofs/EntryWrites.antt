@@ -9,7 +9,8 @@ use Rattle.eden_base.proofs.FirstLemmas.{IsFirstPlace-here, first_where-nowhere}
 use Rattle.eden_base.proofs.NumberTests.{eq-true, eq-false}
 use Rattle.eden_base.specs.First.{IsFirstPlace}
 use Rattle.eden_base.specs.declared.place.Place.TheVariants.{Unlinked}
-use Rattle.inode_map.specs.EntryPlaces.{Rises, IsParted}
+use Rattle.inode_map.specs.EntryPlaces.{IsParted}
+use Rattle.inode_map.proofs.EntryLemmas.{Rises}
 use Rattle.inode_map.specs.InodeMap.{has_number, entry_of, count_of, is_above, is_of_use, is_useless, lowered, number_after, number_of_kept}
 use Rattle.inode_map.specs.declared.inode_map.Kept.{Kept}
 

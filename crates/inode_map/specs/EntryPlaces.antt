@@ -9,10 +9,6 @@ use Rattle.checkout.specs.Tree.{Tree}
 use Rattle.inode_map.specs.InodeMap.{has_number, entry_of, is_of_use, is_useless, AreNumbers, IsFileOf}
 use Rattle.inode_map.specs.declared.inode_map.Kept.{Kept}
 
--- each number is greater than those before it
-abbrev pub Rises : List Kept → Type 0
-Rises entries = (i j : ℕ) (d : Kept) → i < j → j < length entries → (slice_index_or entries i d).number.0 < (slice_index_or entries j d).number.0
-
 -- the entries are numbers of a map, whichever is its next
 abbrev pub IsNumbered : List Kept → Type 0
 IsNumbered entries = (next : ℕ) × AreNumbers 2 next entries
@@ -25,7 +21,8 @@ pub record IsParted (entries : List Kept) (n at : ℕ) : Type 0 where
 
 -- each number is of use, but for one
 abbrev pub AreOfUseBut : Option ℕ → List Kept → Type 0
-AreOfUseBut but entries = (n : ℕ) (kept : Kept) → entry_of entries n ≡ Some kept → (is_of_use entries kept ≡ true) ⊎ (but ≡ Some n)
+AreOfUseBut but entries =
+    (n : ℕ) (kept : Kept) → entry_of entries n ≡ Some kept → (is_of_use entries kept ≡ true) ⊎ (but ≡ Some n)
 
 -- the directory of a place
 abbrev pub dir_of : Place → Option ℕ

@@ -91,13 +91,14 @@ abbrev pub give_fault_at : MapState → Option Kept → Option GiveFault
 give_fault_at map (Some kept) = if nat_le greatest_count kept.count then Some TooMany else None
 give_fault_at map None = if nat_le end_of_numbers map.next then Some NoNumber else None
 
--- why no number can be given for a place, if none can, want of memory apart
+-- why no number can be given for a place, if none can, but for memory
 abbrev pub give_fault : MapState → ℕ → List ℕ → Option GiveFault
 give_fault map parent name = give_fault_at map (entry_at map.entries parent name)
 
 -- what a place is given: the number that it has, or the next
 abbrev pub number_given : MapState → ℕ → List ℕ → Number
-number_given map parent name = option_map_or number_of_kept (entry_at map.entries parent name) (record { 0 = map.next })
+number_given map parent name =
+    option_map_or number_of_kept (entry_at map.entries parent name) (record { 0 = map.next })
 
 -- counted once more
 abbrev pub once_more : Kept → Kept
@@ -114,9 +115,10 @@ given map parent name =
     then record map { entries = changed_where (stands_at parent.0 name) once_more map.entries }
     else record map { entries = map.entries ++ new_entry map.next parent name ∷ []; next = map.next + 1 }
 
--- a refused gift tells the first fault; want of memory comes for a new number alone, where no other fault does
+-- a refused gift tells the first fault; out of memory comes for a new number alone, where no other fault does
 abbrev pub IsGiveRefusal : MapState → ℕ → List ℕ → GiveFault → Type 0
-IsGiveRefusal map parent name NoMemory = (entry_at map.entries parent name ≡ None) × (give_fault map parent name ≡ None)
+IsGiveRefusal map parent name NoMemory =
+    (entry_at map.entries parent name ≡ None) × (give_fault map parent name ≡ None)
 IsGiveRefusal map parent name fault = give_fault map parent name ≡ Some fault
 
 -- a forget of nothing, or of more than the daemon counts
@@ -142,7 +144,8 @@ forgotten map n k =
     else if is_bad_item map.entries n k then record map { bad_items = min (map.bad_items + 1) (2 ^ 64 - 1) }
     else record map { entries = left_of_use (lowered map.entries n k) }
 
--- the file that a number names in a tree: the root for 1; the child, at its name, of its directory's file; or the file in its mark
+-- the file that a number names in a tree: the root for 1; the child, at its name, of its directory's file; or the
+-- file in its mark
 pub data IsFileOf (tree : Tree) (entries : List Kept) : ℕ → FileId → Type 0 where
   is_root : (n : ℕ) (file : FileId) → n ≡ 1 → file ≡ root → IsFileOf tree entries n file
   is_child : (n : ℕ) (file : FileId) (kept : Kept) (dir : Number) (name : List ℕ) (dir_file : FileId) →

@@ -28,14 +28,6 @@ fn answers(alloc: Global, served: &mut Served, src: &Name, a: &Name) -> bool {
     served.look_up(alloc, Number::ROOT, a) == Answer::Error(Errno::ENOENT)
 }
 
-/// The numbers that names of the root are given, one after another.
-fn given(alloc: Global, map: &mut InodeMap, name: &Name) -> Option<Number> {
-    match map.give(alloc, Number::ROOT, name) {
-        Ok(number) => Some(number),
-        Err(_refused) => None,
-    }
-}
-
 #[test]
 fn answers_the_first_error_or_an_entry(rt: HostRuntime) -> Result<(), Fail> {
     let manifest = Manifest::read(rt.alloc(), TEXT)?;
@@ -50,17 +42,5 @@ fn answers_the_first_error_or_an_entry(rt: HostRuntime) -> Result<(), Fail> {
         _other => Number(0),
     };
     assert!(rt; number == Number(3));
-    Ok(())
-}
-
-#[test]
-fn gives_each_name_one_number(rt: HostRuntime) -> Result<(), Fail> {
-    let a = Name::parse(rt.alloc(), b"a")?;
-    let b = Name::parse(rt.alloc(), b"b")?;
-    let mut map = InodeMap::new(rt.alloc())?;
-    assert!(rt; given(rt.alloc(), &mut map, &a) == Some(Number(2)));
-    assert!(rt; given(rt.alloc(), &mut map, &b) == Some(Number(3)));
-    assert!(rt; given(rt.alloc(), &mut map, &a) == Some(Number(2)));
-    assert!(rt; map.next() == 4);
     Ok(())
 }

@@ -1,0 +1,36 @@
+-- What soundness says of numbers that are counted or name a file.
+use Rattle.std.proofs.Common.{◌≡◌, ℕ, ◌<◌, ◌≤◌, Some, subst, inl, inr, ◌⊎◌, arith}
+use Rattle.std.specs.Prelude.{IsSome}
+use Rattle.eden_base.proofs.MemberLemmas.{some-IsSome}
+use Rattle.eden_base.specs.declared.number.FileId.{FileId}
+use Rattle.checkout.specs.Tree.{Tree, IsTree, file_of as tree_file}
+use Rattle.inode_map.proofs.EntryLemmas.{numbers-bound, numbers-entry}
+use Rattle.inode_map.proofs.FileLemmas.{IsFileOf-same, named-known}
+use Rattle.inode_map.proofs.Forgetting.{counted-entry}
+use Rattle.inode_map.specs.InodeMap.{MapState, entry_of, count_of, IsFileOf}
+use Rattle.inode_map.specs.declared.inode_map.Kept.{Kept}
+use Rattle.fuse_ops.specs.Gifts.{Forgets}
+use Rattle.fuse_ops.specs.Served.{ServedState}
+use Rattle.fuse_ops.specs.Soundness.{IsSound, Names}
+use Rattle.fuse_ops.proofs.Fits.{sound-fits, named-apart}
+
+-- a number that is counted names a file of the tree
+pub counted-file : (served : ServedState) → IsSound served → (n : ℕ) → 0 < count_of served.map.entries n → (file : FileId) × Names served n file × IsSome (tree_file served.tree file)
+counted-file served sound n some = let e = counted-entry served.map.entries n some in sound.names_a_file n (some-IsSome (entry_of served.map.entries n) e.0 e.1)
+
+-- what names a file is the root or was given
+pub named-range : (served : ServedState) → IsSound served → (n : ℕ) (file : FileId) → Names served n file → (1 ≤ n) × (n < served.map.next)
+named-range served sound n file at = in_ (named-known served.tree served.map.entries n file at) where
+  in_ : (n ≡ 1) ⊎ ((k : Kept) × (entry_of served.map.entries n ≡ Some k)) → (1 ≤ n) × (n < served.map.next)
+  in_ (inl one) = let low : 2 ≤ served.map.next = numbers-bound served.map.entries 2 served.map.next sound.numbers in (omega arith, omega arith)
+  in_ (inr (k, e)) = let r = numbers-entry served.map.entries 2 served.map.next n k sound.numbers e in (omega (arith, r.0), r.1)
+
+-- numbers that name one file are one number
+pub same-number : (served : ServedState) → IsTree served.tree → IsSound served → (m n : ℕ) (file : FileId) → Names served m file → Names served n file → m ≡ n
+same-number served is sound m n file a b = named-apart served.tree served.map.next served.map.entries is (sound-fits served sound) m n file a b
+
+-- after a forget, what is counted still names what it named
+pub forgets-keeps : (tree : Tree) (old new : MapState) (n k : ℕ) → Forgets tree old new n k → (m : ℕ) (file : FileId) → 0 < count_of new.entries m → IsFileOf tree old.entries m file → IsFileOf tree new.entries m file
+forgets-keeps tree old new n k forgets m file some at =
+    let g = counted-file (record { map = new; tree = tree }) forgets.sound m some in
+    subst (λ (f : FileId). IsFileOf tree new.entries m f) (IsFileOf-same tree old.entries m g.0 file (forgets.left_name m g.0 g.1) at) g.1

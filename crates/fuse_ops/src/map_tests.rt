@@ -1,0 +1,128 @@
+//! Which numbers an inode map gives, and which files they name in a tree.
+use checkout::{Manifest, ManifestFault, ManifestFaultKind, Tree};
+use eden_base::{FileId, Name, NameFault, NoMemory, Number, Place};
+use inode_map::{Forgot, GiveFault, InodeMap};
+use std::alloc::{AllocError, Global};
+use std::test::Fail;
+
+/// Gives the number of a name, and gives it again where memory was short.
+fn given(alloc: Global, map: &mut InodeMap, parent: Number, name: &Name) -> Option<Number> {
+    match map.give(alloc, parent, name) {
+        Ok(number) => Some(number),
+        Err(GiveFault::NoMemory) => map.give(alloc, parent, name).ok(),
+        Err(_refused) => None,
+    }
+}
+
+/// Gives so many numbers, each to the name in the directory of the one before: the last.
+fn given_below(alloc: Global, map: &mut InodeMap, name: &Name, depth: u64) -> Option<Number> {
+    let mut last = Number::ROOT;
+    for _step in 0..depth {
+        last = given(alloc, map, last, name)?;
+    }
+    Some(last)
+}
+
+#[test]
+fn gives_each_name_one_number(rt: HostRuntime) -> Result<(), Fail> {
+    let a = parsed(rt.alloc(), b"a")?;
+    let b = parsed(rt.alloc(), b"b")?;
+    let mut map = InodeMap::new(rt.alloc())?;
+    assert!(rt; given(rt.alloc(), &mut map, Number::ROOT, &a) == Some(Number(2)));
+    assert!(rt; given(rt.alloc(), &mut map, Number::ROOT, &b) == Some(Number(3)));
+    assert!(rt; given(rt.alloc(), &mut map, Number::ROOT, &a) == Some(Number(2)));
+    assert!(rt; map.next() == 4);
+    Ok(())
+}
+
+/// Parses a name, and parses it again where memory was short.
+fn parsed(alloc: Global, bytes: &[u8]) -> Result<Name, NameFault> {
+    match Name::parse(alloc, bytes) {
+        Err(NameFault::NoMemory) => Name::parse(alloc, bytes),
+        told => told,
+    }
+}
+
+/// Reads a manifest, and reads it again where memory was short.
+fn read(alloc: Global, text: &[u8]) -> Result<Manifest, ManifestFault> {
+    match Manifest::read(alloc, text) {
+        Err(
+            ManifestFault {
+                kind: ManifestFaultKind::NoMemory,
+                ..
+            },
+        ) => Manifest::read(alloc, text),
+        told => told,
+    }
+}
+
+/// Makes a manifest's tree, and makes it again where memory was short.
+fn tree_of(alloc: Global, manifest: &Manifest) -> Result<Tree, NoMemory> {
+    match Tree::of(alloc, manifest) {
+        Err(_refused) => Tree::of(alloc, manifest),
+        told => told,
+    }
+}
+
+/// The text of a hundred directories, each in the one before, made again where memory was short.
+fn nested(alloc: Global) -> Result<Vec<u8>, AllocError> {
+    match nested_so_deep(alloc, 100) {
+        Err(_refused) => nested_so_deep(alloc, 100),
+        told => told,
+    }
+}
+
+/// The text of directories, each in the one before.
+fn nested_so_deep(alloc: Global, depth: usize) -> Result<Vec<u8>, AllocError> {
+    let mut text = Vec::from_slice(alloc, b"commit 0123456789abcdef0123456789abcdef01234567\n")?;
+    let mut path = Vec::from_slice(alloc, b"dir a")?;
+    for _line in 0..depth {
+        text.extend_from_slice(path.as_slice())?;
+        text.push(b'\n')?;
+        path.extend_from_slice(b"/a")?;
+    }
+    Ok(text)
+}
+
+#[test]
+fn finds_each_file_of_a_deep_path(rt: HostRuntime) -> Result<(), Fail> {
+    let text = nested(rt.alloc())?;
+    let manifest = read(rt.alloc(), text.as_slice())?;
+    let tree = tree_of(rt.alloc(), &manifest)?;
+    let a = parsed(rt.alloc(), b"a")?;
+    let mut map = InodeMap::new(rt.alloc())?;
+    let last = given_below(rt.alloc(), &mut map, &a, 101);
+    assert!(rt; last == Some(Number(102)));
+    for id in 1..102u64 {
+        assert!(rt; map.locate(&tree, Number(id)) == Some(FileId(id)));
+    }
+    assert!(rt; map.locate(&tree, Number(102)) == None);
+    assert!(rt; map.locate(&tree, Number(103)) == None);
+    Ok(())
+}
+
+#[test]
+fn goes_over_its_numbers_and_forgets_upwards(rt: HostRuntime) -> Result<(), Fail> {
+    let a = parsed(rt.alloc(), b"a")?;
+    let mut map = InodeMap::new(rt.alloc())?;
+    assert!(rt; given_below(rt.alloc(), &mut map, &a, 3) == Some(Number(4)));
+    assert!(rt; map.after(Number::ROOT) == Some(Number(2)));
+    assert!(rt; map.after(Number(3)) == Some(Number(4)) && map.after(Number(4)) == None);
+    assert!(rt; map.number_for(Number(3), &a) == Some(Number(4)));
+    assert!(rt;
+        matches!(
+            map.entry(Number(4)),
+            Some(Place::Linked {
+                parent: Number(3),
+                ..
+            })
+        )
+    );
+    assert!(rt; map.forget(Number(2), 1) == Forgot::Lowered);
+    assert!(rt; map.forgot(Number(4), 1) == Forgot::Dropped && map.count(Number(4)) == 1);
+    assert!(rt; map.forget(Number(4), 1) == Forgot::Dropped);
+    assert!(rt; map.after(Number::ROOT) == Some(Number(2)) && map.after(Number(3)) == None);
+    assert!(rt; map.forget(Number(3), 1) == Forgot::Dropped);
+    assert!(rt; map.after(Number::ROOT) == None && map.next() == 5);
+    Ok(())
+}
