@@ -66,7 +66,7 @@ impl Name {
         ensures name { IfOk result (λ name. name ≡ bytes.now) }
         ensures accepted { OnOk result (IsNameText bytes.now) }
         ensures refused { IfErr result (λ fault. name_fault bytes.now ≡ Some fault) }
-        ensures no_want { ¬ (result ≡ Err NameFault.NoMemory) }
+        ensures never_out_of_memory { ¬ (result ≡ Err NameFault.NoMemory) }
     {
         match Name::fault(bytes) {
             None => Ok(Name::of_to(room, bytes)),

@@ -2,7 +2,7 @@ pub mod Bodies
 pub mod Errors
 pub mod Fields
 pub mod Forgets
-pub mod Given
+pub mod Lacking
 pub mod Lengths
 pub mod Lines
 pub mod OwnTexts

@@ -4,7 +4,7 @@ use Rattle.eden_base.specs.declared.attr.Perm.{Perm}
 use Rattle.eden_base.specs.Name.{IsNameText}
 use Rattle.fuse_wire.specs.declared.ask.Ask.{Ask}
 use Rattle.fuse_wire.specs.declared.ask.Request.{Request}
-use Rattle.fuse_wire.specs.declared.ask.Request.TheVariants.{Lookup, Getattr, Create, Mkdir, Unlink, Rmdir, Forget, BatchForget, Other}
+use Rattle.fuse_wire.specs.declared.ask.Request.TheVariants.{BatchForget}
 use Rattle.fuse_wire.specs.declared.item.Item.{Item}
 use Rattle.fuse_wire.specs.Mode.{S_IFREG}
 use Rattle.fuse_wire.specs.Reading.{request_of}
@@ -40,15 +40,8 @@ batch_is_body items le = record { others = zeros 4; four = length-zeros 4; at_mo
 pub ruleset own_bodies = (create_is_body, mkdir_is_body, batch_is_body, length-zeros)
 
 own_nodeid : (request : Request) → IsNodeid request (nodeid request)
-own_nodeid (Lookup dir name) = refl
-own_nodeid (Getattr node) = refl
-own_nodeid (Create dir name perm) = refl
-own_nodeid (Mkdir dir name perm) = refl
-own_nodeid (Unlink dir name) = refl
-own_nodeid (Rmdir dir name) = refl
-own_nodeid (Forget item) = refl
 own_nodeid (BatchForget items) = tt
-own_nodeid (Other n node) = refl
+own_nodeid request = refl
 
 pub own_text : (ask : Ask) → length (body ask.what) ≤ 4104 → IsBody ask.what (body ask.what) → IsRequestText ask (request_text ask)
 own_text ask short is = record {

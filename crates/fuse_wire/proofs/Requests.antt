@@ -34,15 +34,8 @@ code-opcode_of n = grind (arith, nat_tests)
 -- the opcode of its number, unless it is another's
 pub opcode_again : (request : Request) (body : List ℕ) → IsBody request body → opcode_of (code (opcode request)) ≡ opcode request
 unfolding opcode_of
-opcode_again (requests.Lookup dir name) body is = refl
-opcode_again (requests.Getattr node) body is = refl
-opcode_again (requests.Create dir name perm) body is = refl
-opcode_again (requests.Mkdir dir name perm) body is = refl
-opcode_again (requests.Unlink dir name) body is = refl
-opcode_again (requests.Rmdir dir name) body is = refl
-opcode_again (requests.Forget item) body is = refl
-opcode_again (requests.BatchForget items) body is = refl
 opcode_again (requests.Other n node) body is = is
+opcode_again request body is = refl
 
 -- ---- bodies
 
@@ -163,15 +156,8 @@ request_found bytes ask are e =
 
 -- the nodeid that is read is that of the request; before a batch it is any
 nodeid_read : (what : Request) (n m : ℕ) (rest : List ℕ) → nodeid what < 2 ^ 64 → IsNodeid what n → m ≡ u64_at (u64_bytes n ++ rest) → IsNodeid what m
-nodeid_read (requests.Lookup dir name) n m rest fits is e = e ∙ u64_again n rest (rw is fits) ∙ is
-nodeid_read (requests.Unlink dir name) n m rest fits is e = e ∙ u64_again n rest (rw is fits) ∙ is
-nodeid_read (requests.Rmdir dir name) n m rest fits is e = e ∙ u64_again n rest (rw is fits) ∙ is
-nodeid_read (requests.Create dir name perm) n m rest fits is e = e ∙ u64_again n rest (rw is fits) ∙ is
-nodeid_read (requests.Mkdir dir name perm) n m rest fits is e = e ∙ u64_again n rest (rw is fits) ∙ is
-nodeid_read (requests.Getattr node) n m rest fits is e = e ∙ u64_again n rest (rw is fits) ∙ is
-nodeid_read (requests.Forget item) n m rest fits is e = e ∙ u64_again n rest (rw is fits) ∙ is
 nodeid_read (requests.BatchForget items) n m rest fits is e = tt
-nodeid_read (requests.Other k node) n m rest fits is e = e ∙ u64_again n rest (rw is fits) ∙ is
+nodeid_read request n m rest fits is e = e ∙ u64_again n rest (rw is fits) ∙ is
 
 pub request_again : (ask : Ask) (bytes : List ℕ) → FitsAsk ask → IsRequestText ask bytes → request_of bytes ≡ Ok ask
 unfolding request_of header_of fields_of
@@ -207,15 +193,8 @@ is_text bytes (Err fault) are given = tt
 
 -- what has a body may be sent
 is_sendable : (what : Request) (body : List ℕ) → IsBody what body → IsSendable what
-is_sendable (requests.Lookup dir name) body is = tt
-is_sendable (requests.Getattr node) body is = tt
-is_sendable (requests.Create dir name perm) body is = tt
-is_sendable (requests.Mkdir dir name perm) body is = tt
-is_sendable (requests.Unlink dir name) body is = tt
-is_sendable (requests.Rmdir dir name) body is = tt
-is_sendable (requests.Forget item) body is = tt
-is_sendable (requests.BatchForget items) body is = tt
 is_sendable (requests.Other n node) body is = is
+is_sendable request body is = tt
 
 pub may_be_sent : (bytes : List ℕ) (r : Result Ask WireFault) → IfOk r (λ ask. IsRequestText ask bytes) → IfOk r (λ ask. IsSendable ask.what)
 may_be_sent bytes (Ok ask) text = is_sendable ask.what text.rest text.is_body

@@ -149,12 +149,15 @@ TakesMemory (requests.Rmdir dir name) = Unit {0}
 TakesMemory (requests.BatchForget items) = Unit {0}
 TakesMemory request = ⊥
 
+-- so does an ask, where its request does
 abbrev pub WantsMemory : Ask → Type 0
 WantsMemory ask = TakesMemory ask.what
 
-abbrev pub IsNamed : {X : Type 0} → X → Type 0
-IsNamed x = Unit {0}
+-- every value takes memory, as a name does
+abbrev pub TakesSome : {X : Type 0} → X → Type 0
+TakesSome x = Unit {0}
 
+-- no value takes memory
 abbrev pub TakesNone : {X : Type 0} → X → Type 0
 TakesNone x = ⊥
 

@@ -1,7 +1,7 @@
 //! Requests read from their bytes.
 ghost use Rattle.std.specs.Prelude.{◌≡◌, ◌≤◌, ◌+◌, ◌*◌, length, IfOk, IfErr, Ok, Err};
 ghost use Rattle.fuse_wire.specs.Opcode.{opcode_of};
-ghost use Rattle.fuse_wire.specs.Reading.{Gives, TakesMemory, WantsMemory, IsNamed, TakesNone, MayLack, name_of, named_with, made_of, forget_of, batch_of, items_at, asked_of, request_of, items_of, items_told, IsForgetOf};
+ghost use Rattle.fuse_wire.specs.Reading.{Gives, TakesMemory, WantsMemory, TakesSome, TakesNone, MayLack, name_of, named_with, made_of, forget_of, batch_of, items_at, asked_of, request_of, items_of, items_told, IsForgetOf};
 ghost use Rattle.fuse_wire.specs.RequestText.{IsRequestText, IsSendable, FitsAsk};
 
 use crate::header::{Header, read_header};
@@ -18,7 +18,7 @@ use std::alloc::Global;
 /// Reads a name, and NUL.
 #[tactic(auto, unfolding(crate::specs::Reading::name_of))]
 fn read_name<M: Memory>(memory: M, body: &[u8]) -> Result<Name, WireFault>
-    ensures { Gives (MayLack M.may_lack IsNamed) result (name_of body.now) }
+    ensures { Gives (MayLack M.may_lack TakesSome) result (name_of body.now) }
 {
     if body.is_empty() {
         return Err(WireFault::BadBody);
@@ -87,7 +87,7 @@ fn items_part(body: &[u8]) -> Result<(usize, &[u8]), WireFault>
 
 /// Reads the items of a BATCH_FORGET.
 fn read_batch<M: Memory>(memory: M, body: &[u8]) -> Result<Batch, WireFault>
-    ensures { Gives (MayLack M.may_lack IsNamed) result (batch_of body.now) }
+    ensures { Gives (MayLack M.may_lack TakesSome) result (batch_of body.now) }
 {
     let (count, items) = items_part(body)?;
     match memory.batch(count, items) {
@@ -190,7 +190,7 @@ pub fn read_request_to(
     ensures sendable { IfOk result (λ ask. IsSendable ask.what) }
     // Which fault it is.
     ensures exact { result ≡ request_of bytes.now }
-    ensures no_want { ¬ (result ≡ Err WireFault.NoMemory) }
+    ensures never_out_of_memory { ¬ (result ≡ Err WireFault.NoMemory) }
 {
     let rooms = Rooms {
         name: room,

@@ -3,18 +3,20 @@
 #![tactic(auto)]
 
 use anyhow::Result;
-use fuse_wire::{Ask, WireFault, read_request};
+use fuse_wire::{Ask, Items, WireFault, read_items, read_request};
 use std::alloc::{AllocError, Global};
 use std::env;
 
 /// How many messages of one form there are, so that no two reads in a row are of the same bytes.
 const MESSAGES: u32 = 64;
 
-const FORMS: [&str; 9] = [
+const FORMS: [&str; 11] = [
     "lookup",
     "getattr",
     "forget",
     "batch",
+    "forget-items",
+    "batch-items",
     "short",
     "bad-length",
     "bad-body",
@@ -26,8 +28,8 @@ const FORMS: [&str; 9] = [
 fn body_of(alloc: Global, form: &str) -> Result<(u8, Vec<u8>), AllocError> {
     match form {
         "getattr" => Ok((3, Vec::from_slice(alloc, &[0; 16])?)),
-        "forget" => Ok((2, Vec::from_slice(alloc, &[1, 0, 0, 0, 0, 0, 0, 0])?)),
-        "batch" => Ok((42, batch(alloc, 0)?)),
+        "forget" | "forget-items" => Ok((2, Vec::from_slice(alloc, &[1, 0, 0, 0, 0, 0, 0, 0])?)),
+        "batch" | "batch-items" => Ok((42, batch(alloc, 0)?)),
         "bad-count" => Ok((42, batch(alloc, 1)?)),
         "bad-body" => Ok((1, Vec::from_slice(alloc, b"src")?)),
         "bad-name" => Ok((1, Vec::from_slice(alloc, b"a/b\0")?)),
@@ -96,6 +98,41 @@ fn uniques(asks: &[Ask]) -> u64 {
     sum
 }
 
+/// Reads the items of one message, as a caller does that no compiler joins with the reader.
+#[inline(never)]
+fn items(text: &[u8]) -> Result<Items, WireFault> {
+    read_items(text)
+}
+
+/// How many of the messages are read as forgets, and how many items they have.
+fn read_all_items(texts: &[Vec<u8>]) -> (usize, u64) {
+    let mut read = 0usize;
+    let mut sum = 0u64;
+    for text in texts {
+        if let Ok(items) = items(text.as_slice()) {
+            read = read.wrapping_add(1);
+            sum = sum.wrapping_add(items.len() as u64);
+        }
+    }
+    (read, sum)
+}
+
+/// How many of the messages are read, and the sum of their uniques or the number of their items.
+fn round(
+    alloc: Global,
+    form: &str,
+    texts: &[Vec<u8>],
+    asks: &mut Vec<Ask>,
+) -> Result<(usize, u64), AllocError> {
+    if form.ends_with("-items") {
+        return Ok(read_all_items(texts));
+    }
+    read_all(alloc, texts, asks)?;
+    let told = (asks.len(), uniques(asks.as_slice()));
+    asks.clear();
+    Ok(told)
+}
+
 /// Says of how many reads of a form how many gave a request.
 fn measure(rt: &HostRuntime, form: &str, rounds: u32) -> Result<()> {
     let texts = messages(rt.alloc(), form)?;
@@ -103,13 +140,12 @@ fn measure(rt: &HostRuntime, form: &str, rounds: u32) -> Result<()> {
     let mut read = 0usize;
     let mut sum = 0u64;
     for _ in 0..rounds {
-        read_all(rt.alloc(), texts.as_slice(), &mut asks)?;
-        read = read.wrapping_add(asks.len());
-        sum = sum.wrapping_add(uniques(asks.as_slice()));
-        asks.clear();
+        let (more, told) = round(rt.alloc(), form, texts.as_slice(), &mut asks)?;
+        read = read.wrapping_add(more);
+        sum = sum.wrapping_add(told);
     }
     let all = u64::from(rounds).wrapping_mul(u64::from(MESSAGES));
-    println!(rt; "{form}: {read} of {all} read, uniques {sum}")?;
+    println!(rt; "{form}: {read} of {all} read, sum {sum}")?;
     Ok(())
 }
 

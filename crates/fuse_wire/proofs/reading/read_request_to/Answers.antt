@@ -1,6 +1,6 @@
 use Rattle.std.proofs.Common.{◌∙◌, arith, false}
 use Rattle.fuse_wire.specs.Reading.{WantsMemory, request_of}
-use Rattle.fuse_wire.proofs.Given.{as_given, by_rooms, no_want}
+use Rattle.fuse_wire.proofs.Lacking.{as_given, by_rooms, not_out_of_memory}
 use Rattle.fuse_wire.proofs.Requests.{is_text, may_be_sent, request_again}
 use Rattle.fuse_wire.proofs.reading.read_request_to.Goals as goal
 
@@ -16,5 +16,5 @@ returns-clause-sendable c = may_be_sent c.args.bytes.now c.read_ask.result (is_t
 pub returns-clause-exact : goal.returns-clause-exact
 returns-clause-exact c = by_rooms WantsMemory c.read_ask.result (request_of c.args.bytes.now) c.read_ask.ensures
 
-pub returns-clause-no_want : goal.returns-clause-no_want
-returns-clause-no_want c = no_want WantsMemory c.read_ask.result (request_of c.args.bytes.now) c.read_ask.ensures
+pub returns-clause-never_out_of_memory : goal.returns-clause-never_out_of_memory
+returns-clause-never_out_of_memory c = not_out_of_memory WantsMemory c.read_ask.result (request_of c.args.bytes.now) c.read_ask.ensures

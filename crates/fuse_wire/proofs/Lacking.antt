@@ -30,12 +30,12 @@ as_given b Takes (Err BadBody) read given = given
 as_given b Takes (Err BadCount) read given = given
 as_given b Takes (Err (BadName name)) read given = given
 
-pub no_want : {X : Type 0} (Takes : X → Type 0) (r read : Result X WireFault) → Gives (MayLack false Takes) r read → ¬ (r ≡ Err NoMemory)
-no_want Takes (Ok x) read given = λ e. cc
-no_want Takes (Err NoMemory) (Ok x) given = λ e. false_not given.0
-no_want Takes (Err NoMemory) (Err fault) given = λ e. given
-no_want Takes (Err Short) read given = λ e. cc
-no_want Takes (Err BadLength) read given = λ e. cc
-no_want Takes (Err BadBody) read given = λ e. cc
-no_want Takes (Err BadCount) read given = λ e. cc
-no_want Takes (Err (BadName name)) read given = λ e. cc
+pub not_out_of_memory : {X : Type 0} (Takes : X → Type 0) (r read : Result X WireFault) → Gives (MayLack false Takes) r read → ¬ (r ≡ Err NoMemory)
+not_out_of_memory Takes (Ok x) read given = λ e. cc
+not_out_of_memory Takes (Err NoMemory) (Ok x) given = λ e. false_not given.0
+not_out_of_memory Takes (Err NoMemory) (Err fault) given = λ e. given
+not_out_of_memory Takes (Err Short) read given = λ e. cc
+not_out_of_memory Takes (Err BadLength) read given = λ e. cc
+not_out_of_memory Takes (Err BadBody) read given = λ e. cc
+not_out_of_memory Takes (Err BadCount) read given = λ e. cc
+not_out_of_memory Takes (Err (BadName name)) read given = λ e. cc
