@@ -5,9 +5,9 @@ use Rattle.std.specs.List.{list_all}
 use Rattle.std.proofs.lemmas.Bool.Decides.{nat_tests}
 use Rattle.fuse_wire.specs.declared.ask.Request.{Request}
 use Rattle.fuse_wire.specs.declared.item.Item.{Item}
-use Rattle.fuse_wire.specs.Ask.{is_ask, nodes}
+use Rattle.fuse_wire.specs.Ask.{is_ask, nodes, item_of}
 use Rattle.broker_core.specs.Held.{held_count}
-use Rattle.broker_core.specs.Broker.{BrokerState, last_generation, last_unique, mount_fault, may_be_asked, is_bad_forget, forgotten, ask_fault, forget_fault, issue_fault}
+use Rattle.broker_core.specs.Broker.{BrokerState, last_generation, last_unique, mount_fault, may_be_asked, is_bad_forget, ask_fault, forget_fault, issue_fault}
 use Rattle.broker_core.specs.declared.seat.Seat.{Seat}
 use Rattle.broker_core.specs.declared.broker.MountFault.TheVariants.{Seated, LastGeneration}
 use Rattle.broker_core.specs.declared.broker.IssueFault.TheVariants.{NotMounted, NotHeld, BadForget, Full}
@@ -38,7 +38,7 @@ accepted-ask broker request h ask =
     let asked_of = passed (not (list_all (may_be_asked broker) (nodes request))) NotHeld _ fault in
     let full = passed (nat_lt last_unique broker.next_unique) Full None asked_of.1 in
     (held (list_all (may_be_asked broker) (nodes request)) asked_of.0, grind (arith, nat_tests, full.0)) where
-      asked : (b : Bool) → b ≡ true → cond b (ask_fault broker request) (forget_fault broker (forgotten request)) ≡ None → ask_fault broker request ≡ None
+      asked : (b : Bool) → b ≡ true → cond b (ask_fault broker request) (forget_fault broker (item_of request)) ≡ None → ask_fault broker request ≡ None
       asked b e g = rw e at g
 
       held : (b : Bool) → not b ≡ false → b ≡ true
@@ -47,14 +47,14 @@ accepted-ask broker request h ask =
 
 -- the item of a forget that is accepted
 pub record IsAcceptedItem (broker : BrokerState) (request : Request) (item : Item) : Type 0 where
-  pub is : forgotten request ≡ Some item
+  pub is : item_of request ≡ Some item
   pub not_root : item.node.0 ≢ 1
   pub some : 1 ≤ item.k
   pub held : item.k ≤ held_count broker.held item.node.0
 
 pub accepted-forget : (broker : BrokerState) (request : Request) → issue_fault broker request ≡ None → is_ask request ≡ false → (item : Item) × IsAcceptedItem broker request item
-accepted-forget broker request h ask = of_item (forgotten request) refl (forgot (is_ask request) ask (passed (is_none broker.seat) NotMounted _ h).1) where
-  forgot : (b : Bool) → b ≡ false → cond b (ask_fault broker request) (forget_fault broker (forgotten request)) ≡ None → forget_fault broker (forgotten request) ≡ None
+accepted-forget broker request h ask = of_item (item_of request) refl (forgot (is_ask request) ask (passed (is_none broker.seat) NotMounted _ h).1) where
+  forgot : (b : Bool) → b ≡ false → cond b (ask_fault broker request) (forget_fault broker (item_of request)) ≡ None → forget_fault broker (item_of request) ≡ None
   forgot b e g = rw e at g
 
   parts : (a b c : Bool) → (a || b || c) ≡ false → (a ≡ false) × (b ≡ false) × (c ≡ false)
@@ -62,7 +62,7 @@ accepted-forget broker request h ask = of_item (forgotten request) refl (forgot 
   parts false true c e = absurd (let none : ⊥ = cc in none)
   parts false false c e = (refl, refl, e)
 
-  of_item : (o : Option Item) → forgotten request ≡ o → forget_fault broker o ≡ None → (item : Item) × IsAcceptedItem broker request item
+  of_item : (o : Option Item) → item_of request ≡ o → forget_fault broker o ≡ None → (item : Item) × IsAcceptedItem broker request item
   of_item None is g = absurd (let none : ⊥ = cc in none)
   of_item (Some item) is g =
       let good = parts (item.node.0 == 1) (item.k == 0) (nat_lt (held_count broker.held item.node.0) item.k) (passed (is_bad_forget broker item) BadForget None g).0 in (

@@ -8,10 +8,9 @@ use Rattle.std.specs.Coded.{Coded, code_by, coded×, coded_option, coded_ℕ}
 use Rattle.eden_base.specs.declared.number.Number.{Number}
 use Rattle.eden_base.specs.declared.number.DaemonId.{DaemonId}
 use Rattle.fuse_wire.specs.declared.ask.Request.{Request}
-use Rattle.fuse_wire.specs.declared.ask.Request.TheVariants.{Forget}
 use Rattle.fuse_wire.specs.declared.item.Item.{Item}
 use Rattle.fuse_wire.specs.declared.reply.Answer.{Answer}
-use Rattle.fuse_wire.specs.Ask.{is_ask, nodes}
+use Rattle.fuse_wire.specs.Ask.{is_ask, nodes, item_of}
 use Rattle.fuse_wire.specs.Given.{given_out}
 use Rattle.broker_core.specs.Held.{HeldMap, held_map_code, held_count, none_held, raised, lowered}
 use Rattle.broker_core.specs.declared.seat.Seat.{Seat}
@@ -63,11 +62,6 @@ abbrev pub mounted : BrokerState → DaemonId → BrokerState
 mounted broker daemon =
     record broker { seat = Some (record { generation = broker.last + 1; daemon = daemon }); last = broker.last + 1 }
 
--- the item of a forget; a batch is none, since the kernel's side hands single items in
-abbrev pub forgotten : Request → Option Item
-forgotten (Forget item) = Some item
-forgotten request = None
-
 -- the root, or a number that the kernel holds
 abbrev pub may_be_asked : BrokerState → Number → Bool
 may_be_asked broker number = number.0 == 1 || nat_lt 0 (held_count broker.held number.0)
@@ -83,7 +77,7 @@ ask_fault broker request =
     else if nat_lt last_unique broker.next_unique then Some Full
     else None
 
--- why a forget is refused, if it is
+-- why a forget is refused, if it is: a batch is, since the kernel's side hands single items in
 abbrev pub forget_fault : BrokerState → Option Item → Option IssueFault
 forget_fault broker None = Some BadForget
 forget_fault broker (Some item) = if is_bad_forget broker item then Some BadForget else None
@@ -93,7 +87,7 @@ abbrev pub issue_fault : BrokerState → Request → Option IssueFault
 issue_fault broker request =
     if is_none broker.seat then Some NotMounted
     else if is_ask request then ask_fault broker request
-    else forget_fault broker (forgotten request)
+    else forget_fault broker (item_of request)
 
 -- a refused request has the first fault; out of memory comes to an ask alone, and where no other fault does
 abbrev pub IsIssueRefusal : BrokerState → Request → IssueFault → Type 0
@@ -111,7 +105,7 @@ forgot broker item = record broker { held = lowered broker.held item.node.0 item
 -- after an accepted request
 abbrev pub issued : BrokerState → Request → BrokerState
 issued broker request =
-    if is_ask request then asked broker else option_map_or (forgot broker) (forgotten request) broker
+    if is_ask request then asked broker else option_map_or (forgot broker) (item_of request) broker
 
 -- the unique that an ask gets; a forget gets none
 abbrev pub unique_of : BrokerState → Request → Option ℕ

@@ -3,7 +3,7 @@ ghost use Rattle.std.specs.Prelude.{◌≡◌, ◌+◌, ◌≤◌, ◌≢◌, Bo
 ghost use Rattle.std.specs.List.{list_all};
 ghost use Rattle.fuse_wire.specs.Ask.{is_ask};
 ghost use Rattle.broker_core.specs.Held.{held_count, IsLeastHeldAfter};
-ghost use Rattle.broker_core.specs.Broker.{mount_fault, issue_fault, ask_fault, forget_fault, forgotten, may_be_asked, mounted, issued, unique_of, settled, new_broker, IsIssueRefusal, HasRoomFor};
+ghost use Rattle.broker_core.specs.Broker.{mount_fault, issue_fault, ask_fault, forget_fault, may_be_asked, mounted, issued, unique_of, settled, new_broker, IsIssueRefusal, HasRoomFor};
 
 use crate::Seat;
 use crate::held::Held;
@@ -78,15 +78,15 @@ impl Broker {
     pub const LAST_UNIQUE: u64 = (1 << 63) - 1;
 
     /// Returns a mount before any daemon serves it.
-    pub fn new(alloc: Global) -> Broker
-        ensures new { result ≡ new_broker }
+    pub fn new(alloc: Global) -> Result<Broker, NoMemory>
+        ensures new { IfOk result (λ broker. broker ≡ new_broker) }
     {
-        Broker {
+        Ok(Broker {
             seat: None,
             last: 0,
             held: Held::new(alloc),
             next_unique: 1,
-        }
+        })
     }
 
     /// Returns why no daemon can mount.
@@ -138,7 +138,7 @@ impl Broker {
         if request.is_ask() {
             return self.ask_refusal(request);
         }
-        self.forget_refusal(forgotten(request))
+        self.forget_refusal(request.item())
     }
 
     fn ask_refusal(&self, request: &Request) -> Option<IssueFault>
@@ -197,7 +197,7 @@ impl Broker {
             self.next_unique += 1;
             return Ok(Some(unique));
         }
-        match forgotten(request) {
+        match request.item() {
             Some(item) => self.held.lower(item.node, item.k),
             None => unreachable!(),
         }
@@ -250,16 +250,6 @@ impl Broker {
         ensures seat { result ≡ self.now.seat }
     {
         self.seat
-    }
-}
-
-/// Returns what a forget of one item forgets.
-fn forgotten(request: &Request) -> Option<Item>
-    ensures { result ≡ forgotten request.now }
-{
-    match request {
-        Request::Forget(item) => Some(*item),
-        _ => None,
     }
 }
 

@@ -1,5 +1,5 @@
 -- What `apply` does is a step of the replay.
-use Rattle.std.proofs.Common.{◌≡◌, ℕ, Bool, true, false, List, [], ◌∷◌, Option, Some, None, Result, Ok, Err, refl, sym, ap, ◌∙◌, subst, inl, inr}
+use Rattle.std.proofs.Common.{◌≡◌, ℕ, List, Some, None, Result, Ok, Err, refl, sym, ap, ◌∙◌, inl, inr}
 use Rattle.eden_base.specs.declared.errno.Errno.{Errno}
 use Rattle.eden_base.specs.declared.errno.Errno.TheVariants.{ENOSYS}
 use Rattle.eden_base.specs.declared.number.FileId.{FileId}
@@ -13,8 +13,8 @@ use Rattle.fuse_wire.specs.declared.reply.Answer.TheVariants.{Entry, Opened, Att
 use Rattle.inode_map.specs.InodeMap.{IsGiveRefusal}
 use Rattle.inode_map.specs.declared.inode_map.GiveFault.{GiveFault}
 use Rattle.inode_map.specs.declared.inode_map.GiveFault.TheVariants.{NoNumber, TooMany, NoMemory}
-use Rattle.fuse_ops.specs.Answers.{Effect, none_left, at_greatest, found_in, enters, Answers, tree_after}
-use Rattle.fuse_ops.specs.Served.{ServedState, numbers_at, number_fault, map_after, IsLegal, Replay}
+use Rattle.fuse_ops.specs.Answers.{none_left, at_greatest, found_in, enters, Answers, tree_after}
+use Rattle.fuse_ops.specs.Served.{ServedState, numbers_at, number_fault, map_after, Replay}
 use Rattle.fuse_ops.specs.Work.{errno_of, GivesEntry, GivesFound, LooksUp}
 
 -- the state after an answer to a lookup that came to this

@@ -1,14 +1,15 @@
 -- What a daemon serves: its numbers and the tree of its checkout, and one step of it by a request and its answer.
-use Rattle.std.specs.Prelude.{◌≡◌, ℕ, Bool, true, false, List, [], ◌∷◌, MatchOption, Option, Some, None}
+-- (EdenFS's documents on inode lifetime; libfuse's rules for lookup counts, `fuse_lowlevel.h`.)
+use Rattle.std.specs.Prelude.{◌≡◌, ℕ, true, false, List, [], ◌∷◌, MatchOption, Option, Some, None}
 use Rattle.std.specs.List.{AllByRecursion}
 use Rattle.eden_base.specs.declared.number.FileId.{FileId}
 use Rattle.eden_base.specs.declared.number.Number.{Number}
 use Rattle.checkout.specs.Manifest.{Manifest}
 use Rattle.checkout.specs.Tree.{Tree, tree_of}
-use Rattle.fuse_wire.specs.Ask.{is_ask}
+use Rattle.fuse_wire.specs.Ask.{is_ask, items_of}
 use Rattle.fuse_wire.specs.Given.{given_out}
 use Rattle.fuse_wire.specs.declared.ask.Request.{Request}
-use Rattle.fuse_wire.specs.declared.ask.Request.TheVariants.{Lookup, Forget, BatchForget}
+use Rattle.fuse_wire.specs.declared.ask.Request.TheVariants.{Lookup}
 use Rattle.fuse_wire.specs.declared.item.Item.{Item}
 use Rattle.fuse_wire.specs.declared.reply.Answer.{Answer}
 use Rattle.inode_map.specs.InodeMap.{MapState, IsFileOf, new_map, entry_at, give_fault, given, number_given, forgotten}
@@ -70,12 +71,6 @@ pub record IsLegal (old : ServedState) (request : Request) (answer : Answer) (ne
     map = map_after old.map (place_told request) (given_out answer);
     tree = tree_after old.tree (comes_to old.tree files request) answer;
   }
-
--- the items of a forget
-abbrev pub items_of : Request → List Item
-items_of (Forget item) = item ∷ []
-items_of (BatchForget items) = items
-items_of request = []
 
 -- each item by itself, in order
 abbrev pub forgotten_all : MapState → List Item → MapState

@@ -10,3 +10,4 @@ pub mod Replies
 pub mod ReplyLaws
 pub mod Requests
 pub mod Written
+pub mod ItemLaws

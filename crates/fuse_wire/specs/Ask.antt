@@ -1,8 +1,9 @@
 -- What a layer above has to know of a request: the kernel waits for no reply to a forget (linux/fuse.h), and asks only
 -- on numbers that it holds. A kind of request is a row in each.
-use Rattle.std.specs.Prelude.{Bool, true, false, List, [], ◌∷◌}
+use Rattle.std.specs.Prelude.{Bool, true, false, List, [], ◌∷◌, Option, Some, None}
 use Rattle.eden_base.specs.declared.number.Number.{Number}
 use Rattle.fuse_wire.specs.declared.ask.Request.{Request}
+use Rattle.fuse_wire.specs.declared.item.Item.{Item}
 use Rattle.fuse_wire.specs.declared.ask.Request.TheVariants.{Lookup, Getattr, Create, Mkdir, Unlink, Rmdir, Forget, BatchForget, Other}
 
 -- the request is answered
@@ -22,3 +23,14 @@ nodes (Rmdir dir name) = dir ∷ []
 nodes (Forget item) = []
 nodes (BatchForget items) = []
 nodes (Other opcode node) = node ∷ []
+
+-- the item of a FORGET; a batch has none of its own
+abbrev pub item_of : Request → Option Item
+item_of (Forget item) = Some item
+item_of request = None
+
+-- the items of a forget of either form
+abbrev pub items_of : Request → List Item
+items_of (Forget item) = item ∷ []
+items_of (BatchForget items) = items
+items_of request = []

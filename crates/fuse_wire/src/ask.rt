@@ -1,6 +1,6 @@
 //! What the kernel asks.
 ghost use Rattle.std.specs.Prelude.{◌≡◌, IfOk};
-ghost use Rattle.fuse_wire.specs.Ask.{is_ask, nodes};
+ghost use Rattle.fuse_wire.specs.Ask.{is_ask, nodes, item_of};
 
 use crate::{Batch, BatchRoom, Item, Nodes};
 use eden_base::{Name, NameRoom, NoMemory, Number, Perm};
@@ -134,6 +134,16 @@ impl Request {
             | Request::Rmdir { dir, .. } => Nodes::one(*dir),
             Request::Getattr { node } | Request::Other { node, .. } => Nodes::one(*node),
             Request::Forget(_) | Request::BatchForget(_) => Nodes::none(),
+        }
+    }
+
+    /// Returns the item of a FORGET; a batch has none of its own.
+    pub fn item(&self) -> Option<Item>
+        ensures item { result ≡ item_of self.now }
+    {
+        match self {
+            Request::Forget(item) => Some(*item),
+            _ => None,
         }
     }
 }

@@ -6,12 +6,13 @@ use Rattle.std.specs.List.{AllByRecursion, list_all}
 use Rattle.eden_base.specs.declared.number.DaemonId.{DaemonId}
 use Rattle.checkout.specs.Manifest.{Manifest}
 use Rattle.checkout.specs.Tree.{IsTree, tree_of}
-use Rattle.fuse_wire.specs.Ask.{is_ask, nodes}
+use Rattle.fuse_wire.specs.Ask.{is_ask, nodes, item_of, items_of}
+use Rattle.fuse_wire.proofs.ItemLaws.{items-one}
 use Rattle.fuse_wire.specs.declared.ask.Ask.{Ask}
 use Rattle.fuse_wire.specs.declared.ask.Request.{Request}
 use Rattle.fuse_wire.specs.declared.item.Item.{Item}
 use Rattle.fuse_wire.specs.declared.reply.Answer.{Answer}
-use Rattle.broker_core.specs.Broker.{last_unique, issue_fault, mounted, asked, settled, forgot as broker_forgot, may_be_asked, forgotten as item_forgotten}
+use Rattle.broker_core.specs.Broker.{last_unique, issue_fault, mounted, asked, settled, forgot as broker_forgot, may_be_asked}
 use Rattle.broker_core.specs.declared.broker.IssueFault.{IssueFault}
 use Rattle.broker_core.specs.declared.seat.Seat.{Seat}
 use Rattle.broker_core.proofs.SeatLaws.{settled-seat}
@@ -19,7 +20,7 @@ use Rattle.broker_core.proofs.Accepted.{accepted-ask, IsAcceptedItem, accepted-f
 use Rattle.inode_map.specs.InodeMap.{forgot, forgotten}
 use Rattle.inode_map.specs.declared.inode_map.Forgot.{Forgot}
 use Rattle.fuse_ops.specs.Gifts.{IsTaken}
-use Rattle.fuse_ops.specs.Served.{ServedState, new_served, items_of, forgotten_all, IsLegal, Replay}
+use Rattle.fuse_ops.specs.Served.{ServedState, new_served, forgotten_all, IsLegal, Replay}
 use Rattle.world.specs.World.{World, Move, issue, mount, gives, times, owed, IsRun, after, after_all}
 use Rattle.world.specs.Agreement.{Knows, IsGoodForget, IsAnswered, posted_from, Matches, MovesOn, moves_of}
 use Rattle.world.specs.State.{State, fault, refusal_of_issue, daemon_of, with_daemon, IsSeated}
@@ -35,7 +36,7 @@ use Rattle.world.proofs.Answering.{Worked, answers-worked}
 use Rattle.world.proofs.Daemons.{may_mount, served_of-more, serving-is, seated-knows, goes-on}
 use Rattle.world.proofs.Forgetting.{Forgotten, forgets-well, less_owed}
 use Rattle.world.proofs.Knowing.{knows-along, new-knows}
-use Rattle.world.proofs.Keeping.{may_go, items-one, books-mounted, books-asked, books-forgot, answered-mounted, answered-asked, seat-mounted, seat-stays}
+use Rattle.world.proofs.Keeping.{may_go, books-mounted, books-asked, books-forgot, answered-mounted, answered-asked, seat-mounted, seat-stays}
 use Rattle.world.proofs.Quiet.{quiet_world, quiet_is, quiet-owed, asked_world, asked-after, asked-run, asked-owed, forgot_world, forgot-after, forgot-run, forgot-owed}
 
 -- what makes no move leaves the world
@@ -172,11 +173,11 @@ does-seated : (v : World) (old : State) (request : Request) (seat : Seat) (serve
     new ≡ with_daemon (record old { broker = done old.broker request answer }) seat.daemon (Serving later) → MovesOn (quiet_world v seat) old (Do request) outcome new
 does-seated v old request seat served later (Some answer) outcome new m clear at (is, legal) tells makes = subst (λ (o : List Happened). MovesOn (quiet_world v seat) old (Do request) o new) (sym tells)
     (asks-matched v old seat served later request answer new m clear is at legal
-    (makes ∙ ap (λ (b : Bool). with_daemon (record old { broker = settled (if b then asked old.broker else option_map_or (broker_forgot old.broker) (item_forgotten request) old.broker) answer }) seat.daemon (Serving later)) is))
+    (makes ∙ ap (λ (b : Bool). with_daemon (record old { broker = settled (if b then asked old.broker else option_map_or (broker_forgot old.broker) (item_of request) old.broker) answer }) seat.daemon (Serving later)) is))
 does-seated v old request seat served later None outcome new m clear at (is, same) tells makes =
     subst (λ (o : List Happened). MovesOn (quiet_world v seat) old (Do request) o new) (sym (tells ∙ ap (told_of served) one))
     (forgets-matched v old seat served request item new m accepted.1 at
-    (makes ∙ ap (λ (b : Bool). with_daemon (record old { broker = if b then asked old.broker else option_map_or (broker_forgot old.broker) (item_forgotten request) old.broker }) seat.daemon (Serving later)) is
+    (makes ∙ ap (λ (b : Bool). with_daemon (record old { broker = if b then asked old.broker else option_map_or (broker_forgot old.broker) (item_of request) old.broker }) seat.daemon (Serving later)) is
     ∙ ap (λ (o : Option Item). with_daemon (record old { broker = option_map_or (broker_forgot old.broker) o old.broker }) seat.daemon (Serving later)) (accepted.1).is
     ∙ ap (λ (s : ServedState). with_daemon (record old { broker = broker_forgot old.broker item }) seat.daemon (Serving s)) (same ∙ ap (λ (items : List Item). record served { map = forgotten_all served.map items }) one))) where
       accepted : (item : Item) × IsAcceptedItem old.broker request item

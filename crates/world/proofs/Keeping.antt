@@ -10,14 +10,12 @@ use Rattle.eden_base.specs.declared.number.Number.{Number}
 use Rattle.fuse_wire.specs.Given.{given_out}
 use Rattle.fuse_wire.specs.declared.ask.Ask.{Ask}
 use Rattle.fuse_wire.specs.declared.ask.Request.{Request}
-use Rattle.fuse_wire.specs.declared.ask.Request.TheVariants.{Forget}
 use Rattle.fuse_wire.specs.declared.item.Item.{Item}
 use Rattle.fuse_wire.specs.declared.reply.Answer.{Answer}
-use Rattle.broker_core.specs.Broker.{BrokerState, may_be_asked, forgotten as item_forgotten, mounted, asked, forgot, entered, settled}
+use Rattle.broker_core.specs.Broker.{BrokerState, may_be_asked, mounted, asked, forgot, entered, settled}
 use Rattle.broker_core.specs.Held.{held_count, raised}
 use Rattle.broker_core.specs.declared.seat.Seat.{Seat}
 use Rattle.broker_core.proofs.HeldLaws.{held_count-raised, held_count-lowered}
-use Rattle.fuse_ops.specs.Served.{items_of}
 use Rattle.world.specs.World.{World, mount, MayGoTo, times, after}
 use Rattle.world.specs.Agreement.{Books, AnsweredBefore, SeatIsLast}
 use Rattle.world.proofs.Quiet.{asked_world, forgot_world, times-without}
@@ -136,8 +134,3 @@ may_go w b books (n ∷ numbers) all = (go_in (n.0 == 1) (nat_lt 0 (held_count b
   go_in true d e f t = inl (true-eq n.0 1 e)
   go_in false true e f t = inr (let h : times n.0 w.held ≡ held_count b.held n.0 = books.held n.0 in let some : 0 < held_count b.held n.0 = grind (arith, nat_tests) in omega arith)
   go_in false false e f t = absurd (let none : ⊥ = cc in none)
-
--- what is forgotten is the one item of the request
-pub items-one : (request : Request) (item : Item) → item_forgotten request ≡ Some item → items_of request ≡ item ∷ []
-items-one (Forget other) item e = let same : other ≡ item = cc in ap (λ (i : Item). i ∷ []) same
-items-one request item e = absurd (let none : ⊥ = cc in none)

@@ -3,9 +3,9 @@ use Rattle.std.proofs.Common.{◌≡◌, ℕ, ◌+◌, ◌-◌, Bool, true, fals
 use Rattle.std.specs.Prelude.{slice_get}
 use Rattle.std.specs.Option.{option_map, option_and_then}
 use Rattle.eden_base.specs.declared.number.DaemonId.{DaemonId}
-use Rattle.fuse_wire.specs.Ask.{is_ask}
+use Rattle.fuse_wire.specs.Ask.{is_ask, item_of, items_of}
 use Rattle.fuse_wire.specs.declared.ask.Request.{Request}
-use Rattle.fuse_wire.specs.declared.ask.Request.TheVariants.{Forget}
+use Rattle.fuse_wire.proofs.ItemLaws.{items-one}
 use Rattle.fuse_wire.specs.declared.item.Item.{Item}
 use Rattle.fuse_wire.specs.declared.reply.Answer.{Answer}
 use Rattle.broker_core.specs.Broker.{BrokerState, mount_fault, issue_fault, mounted, issued, unique_of, settled}
@@ -13,7 +13,7 @@ use Rattle.broker_core.specs.declared.seat.Seat.{Seat}
 use Rattle.inode_map.specs.declared.inode_map.Forgot.{Forgot}
 use Rattle.broker_core.specs.declared.broker.MountFault.{MountFault}
 use Rattle.broker_core.specs.declared.broker.IssueFault.{IssueFault}
-use Rattle.fuse_ops.specs.Served.{ServedState, new_served, items_of}
+use Rattle.fuse_ops.specs.Served.{ServedState, new_served}
 use Rattle.world.specs.declared.daemon.Daemon.{Daemon}
 use Rattle.world.specs.declared.daemon.Daemon.TheVariants.{Waiting, Serving}
 use Rattle.world.specs.declared.event.Event.{Event}
@@ -80,14 +80,14 @@ Step-asks old request place unique given answer daemons issued_to broker outcome
 
 -- a forget that was applied
 pub Step-forgets : (old : State) (request : Request) (item : Item) (place : ℕ) (answer : Option Answer) (became : Forgot) (daemons : List Daemon) (broker : BrokerState) (outcome : List Happened) →
-    issue_fault old.broker request ≡ None → is_ask request ≡ false → request ≡ Forget item → HolderIsAt old place → AppliesAt old.daemons place request answer daemons → TellsAt old.daemons place item became →
+    issue_fault old.broker request ≡ None → is_ask request ≡ false → item_of request ≡ Some item → HolderIsAt old place → AppliesAt old.daemons place request answer daemons → TellsAt old.daemons place item became →
     broker ≡ issued old.broker request → outcome ≡ happened.Forgot item became ∷ [] → Step old (Do request) outcome (record old { broker = broker; daemons = daemons })
 Step-forgets old request item place (Some answer) became daemons broker outcome fine ask is at applies tells issues told_is = absurd (let t : is_ask request ≡ true = (applies.replay).0 in let none : true ≡ false = sym t ∙ ask in let x : ⊥ = cc in x)
 Step-forgets old request item place None became daemons broker outcome fine ask is at applies tells issues told_is =
     let one : Some (Serving tells.served) ≡ Some (Serving applies.served) = sym tells.is_there ∙ applies.was in
     let same : tells.served ≡ applies.served = cc in
     Step-does old request place None daemons broker outcome fine at applies issues
-    (told_is ∙ ap (λ (f : Forgot). happened.Forgot item f ∷ []) (tells.tells ∙ ap (λ (s : ServedState). became_of s) same) ∙ sym (ap (λ (r : Request). told_of applies.served (items_of r)) is)) where
+    (told_is ∙ ap (λ (f : Forgot). happened.Forgot item f ∷ []) (tells.tells ∙ ap (λ (s : ServedState). became_of s) same) ∙ sym (ap (told_of applies.served) (items-one request item is))) where
       became_of : ServedState → Forgot
       became_of s = Rattle.inode_map.specs.InodeMap.forgot s.map item.node.0 item.k
 

@@ -4,12 +4,12 @@ use Rattle.std.specs.Option.{option_map_or}
 use Rattle.eden_base.specs.declared.number.DaemonId.{DaemonId}
 use Rattle.broker_core.specs.Broker.{BrokerState, mounted, issued, settled}
 use Rattle.broker_core.specs.declared.seat.Seat.{Seat}
-use Rattle.fuse_wire.specs.Ask.{is_ask}
+use Rattle.fuse_wire.specs.Ask.{is_ask, items_of}
 use Rattle.fuse_wire.specs.declared.ask.Request.{Request}
 use Rattle.fuse_wire.specs.declared.item.Item.{Item}
 use Rattle.fuse_wire.specs.declared.reply.Answer.{Answer}
 use Rattle.inode_map.specs.InodeMap.{forgot}
-use Rattle.fuse_ops.specs.Served.{ServedState, new_served, items_of, Replay}
+use Rattle.fuse_ops.specs.Served.{ServedState, new_served, Replay}
 use Rattle.world.specs.State.{State, IsSeated, with_daemon, fault}
 use Rattle.world.specs.declared.daemon.Daemon.TheVariants.{Waiting, Serving}
 use Rattle.world.specs.declared.event.Event.{Event}

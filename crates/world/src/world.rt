@@ -62,7 +62,7 @@ impl World {
         ensures matches { IfOk result (Matches (first_world manifest.now)) }
     {
         let manifest = manifest.copy(alloc)?;
-        let broker = Broker::new(alloc);
+        let broker = Broker::new(alloc)?;
         Ok(World {
             alloc,
             manifest,
@@ -191,10 +191,9 @@ impl World {
         requires holder { HolderIsAt self.old place }
         ensures step { Step self.old (Event.Do request.now) result self.new }
     {
-        let Request::Forget(item) = request else {
+        let Some(item) = request.item() else {
             unreachable!()
         };
-        let item = *item;
         let forgot = forgot_at(self.daemons.as_slice(), place, item);
         match self.broker.issue(request) {
             Ok(_unique) => {}

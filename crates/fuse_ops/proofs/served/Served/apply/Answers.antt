@@ -1,4 +1,4 @@
-use Rattle.std.proofs.Common.{◌≡◌, Some, sym, subst}
+use Rattle.std.proofs.Common.{Some, sym, subst}
 use Rattle.fuse_wire.specs.declared.ask.Request.{Request}
 use Rattle.fuse_ops.specs.Served.{Replay}
 use Rattle.fuse_ops.proofs.Replays.{lookup-replay, unserved-replay}

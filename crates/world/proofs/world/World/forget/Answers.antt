@@ -37,8 +37,8 @@ returns c =
     let new : State = record state { broker = c.issue.new.self; daemons = c.apply_at-answer.new.daemons.items } in
     record {
       step = subst (λ (s : State). Step s (Do c.args.request.now) c.of.result new) c.self.view_is
-          (Step-forgets state c.args.request.now c.in-Forget.item c.args.place c.apply_at-answer.result c.forgot_at-forgot.result c.apply_at-answer.new.daemons.items c.issue.new.self c.of.result
-          (subst (λ (s : State). issue_fault s.broker c.args.request.now ≡ None) (sym c.self.view_is) c.requires.accepted) c.requires.forgets c.in-Forget.is
+          (Step-forgets state c.args.request.now c.in-Some.item c.args.place c.apply_at-answer.result c.forgot_at-forgot.result c.apply_at-answer.new.daemons.items c.issue.new.self c.of.result
+          (subst (λ (s : State). issue_fault s.broker c.args.request.now ≡ None) (sym c.self.view_is) c.requires.accepted) c.requires.forgets (sym c.item.ensures.item ∙ c.in-Some.is)
           (subst (λ (s : State). HolderIsAt s c.args.place) (sym c.self.view_is) c.requires.holder)
-          c.apply_at-answer.ensures.applied (subst (λ (ds : List Daemon). TellsAt ds c.args.place c.in-Forget.item c.forgot_at-forgot.result) c.as_slice.ensures.value c.forgot_at-forgot.ensures.tells) c.in-Ok.ensures.issued c.of.ensures.one);
+          c.apply_at-answer.ensures.applied (subst (λ (ds : List Daemon). TellsAt ds c.args.place c.in-Some.item c.forgot_at-forgot.result) c.as_slice.ensures.value c.forgot_at-forgot.ensures.tells) c.in-Ok.ensures.issued c.of.ensures.one);
     }
