@@ -17,9 +17,9 @@ use Rattle.fuse_wire.specs.declared.item.Item.{Item}
 use Rattle.fuse_wire.specs.Field.{u32_bytes, u64_bytes, u32_at, u64_at}
 use Rattle.fuse_wire.specs.Mode.{perm_of}
 use Rattle.fuse_wire.specs.Reading.{◌>>=◌, checked, name_of, made_of, items_at, batch_of, forget_of}
-use Rattle.fuse_wire.specs.RequestText.{name_text, line, IsCreateBody, IsMkdirBody, IsBatchBody, FitsItem}
+use Rattle.fuse_wire.specs.RequestText.{name_text, item_text, IsCreateBody, IsMkdirBody, IsBatchBody, FitsItem}
 use Rattle.fuse_wire.proofs.Fields.{AreBytes, AreBytes-drop, u32_again, u64_again, u32_below, u32_front, u64_front}
-use Rattle.fuse_wire.proofs.Lengths.{length-u32_bytes, length-u64_bytes, length-lines}
+use Rattle.fuse_wire.proofs.Lengths.{length-u32_bytes, length-u64_bytes, length-items}
 use Rattle.fuse_wire.proofs.ReplyLaws.{behind, perm_ext}
 
 -- ---- steps that did not fail
@@ -222,34 +222,34 @@ forget_again item fits =
     let made : ℕ → Item = λ n. record { node = item.node; k = n } in
     rw (length-u64_bytes item.k) (ap (λ (n : ℕ). done (made n)) k)
 
-pub lines_found : (n : ℕ) (bytes : List ℕ) → AreBytes bytes → length bytes ≡ 16 * n → (flat_map line (items_at n bytes) ≡ bytes) × (length (items_at n bytes) ≡ n)
+pub items_found : (n : ℕ) (bytes : List ℕ) → AreBytes bytes → length bytes ≡ 16 * n → (flat_map item_text (items_at n bytes) ≡ bytes) × (length (items_at n bytes) ≡ n)
 unfolding items_at
-lines_found zero bytes are len = let none : bytes ≡ [] = nil_from_length bytes (omega arith) in (sym none, refl)
-lines_found (suc n) bytes are len =
+items_found zero bytes are len = let none : bytes ≡ [] = nil_from_length bytes (omega arith) in (sym none, refl)
+items_found (suc n) bytes are len =
     let first : Item = record { node = record { 0 = u64_at bytes }; k = u64_at (drop 8 bytes) } in
-    let ih = lines_found n (drop 16 bytes) (AreBytes-drop 16 bytes are) (omega (arith, length-drop 16 bytes)) in
+    let ih = items_found n (drop 16 bytes) (AreBytes-drop 16 bytes are) (omega (arith, length-drop 16 bytes)) in
     let node = u64_front bytes are (omega arith) in
     let k = u64_front (drop 8 bytes) (AreBytes-drop 8 bytes are) (omega (arith, length-drop 8 bytes)) in
     let k' : u64_bytes (u64_at (drop 8 bytes)) ++ drop 16 bytes ≡ drop 8 bytes = ap (λ (d : List ℕ). u64_bytes (u64_at (drop 8 bytes)) ++ d) (sym (drop-drop 8 8 bytes)) ∙ k in
-    let whole : line first ++ drop 16 bytes ≡ bytes =
+    let whole : item_text first ++ drop 16 bytes ≡ bytes =
     append_assoc (u64_bytes (u64_at bytes)) (u64_bytes (u64_at (drop 8 bytes))) (drop 16 bytes) ∙ ap (λ (d : List ℕ). u64_bytes (u64_at bytes) ++ d) k' ∙ node in
-    (flat_map-cons line first (items_at n (drop 16 bytes)) ∙ ap (λ (d : List ℕ). line first ++ d) ih.0 ∙ whole, ap suc ih.1)
+    (flat_map-cons item_text first (items_at n (drop 16 bytes)) ∙ ap (λ (d : List ℕ). item_text first ++ d) ih.0 ∙ whole, ap suc ih.1)
 
-pub lines_again : (items : List Item) → AllByRecursion FitsItem items → items_at (length items) (flat_map line items) ≡ items
+pub items_again : (items : List Item) → AllByRecursion FitsItem items → items_at (length items) (flat_map item_text items) ≡ items
 unfolding items_at
-lines_again [] fits = refl
-lines_again (item ∷ items) fits =
-    let bytes = flat_map line (item ∷ items) in
-    let rest = flat_map line items in
+items_again [] fits = refl
+items_again (item ∷ items) fits =
+    let bytes = flat_map item_text (item ∷ items) in
+    let rest = flat_map item_text items in
     let r1 = u64_bytes item.k ++ rest in
-    let all : bytes ≡ u64_bytes item.node.0 ++ r1 = flat_map-cons line item items ∙ append_assoc (u64_bytes item.node.0) (u64_bytes item.k) rest in
+    let all : bytes ≡ u64_bytes item.node.0 ++ r1 = flat_map-cons item_text item items ∙ append_assoc (u64_bytes item.node.0) (u64_bytes item.k) rest in
     let at8 : drop 8 bytes ≡ r1 = behind bytes (u64_bytes item.node.0) r1 0 8 8 all (length-u64_bytes item.node.0) refl in
     let at16 : drop 16 bytes ≡ rest = behind bytes (u64_bytes item.k) rest 8 8 16 at8 (length-u64_bytes item.k) refl in
     let node : u64_at bytes ≡ item.node.0 = ap u64_at all ∙ u64_again item.node.0 r1 fits.0.node_fits in
     let k : u64_at (drop 8 bytes) ≡ item.k = ap u64_at at8 ∙ u64_again item.k rest fits.0.k_fits in
     let made : ℕ → ℕ → List ℕ → List Item = λ m n bs. record { node = record { 0 = m }; k = n } ∷ items_at (length items) bs in
     ap (λ (m : ℕ). made m (u64_at (drop 8 bytes)) (drop 16 bytes)) node ∙ ap (λ (n : ℕ). made item.node.0 n (drop 16 bytes)) k ∙ ap (λ (bs : List ℕ). made item.node.0 item.k bs) at16
-    ∙ ap (λ (is : List Item). item ∷ is) (lines_again items fits.1)
+    ∙ ap (λ (is : List Item). item ∷ is) (items_again items fits.1)
 
 pub batch_found : (body : List ℕ) (items : List Item) → AreBytes body → batch_of body ≡ Ok items → IsBatchBody items body
 unfolding batch_of
@@ -261,7 +261,7 @@ batch_found body items are e =
     let at_most : count ≤ 256 = ltb-false _ _ tests.0 in
     let len : length body ≡ 8 + 16 * count = eqb-true _ _ (not_false (eqb (length body) (8 + 16 * count)) tests.1) in
     let same : items_at count (drop 8 body) ≡ items = ok_is (items_at count (drop 8 body)) items h.1 in
-    let lines = lines_found count (drop 8 body) (AreBytes-drop 8 body are) (omega (arith, length-drop 8 body)) in
+    let lines = items_found count (drop 8 body) (AreBytes-drop 8 body are) (omega (arith, length-drop 8 body)) in
     let many : count ≡ length items = sym lines.1 ∙ ap length same in
     let word = u32_front body are (omega arith) in
     let last : take 4 (drop 4 body) ++ drop 8 body ≡ drop 4 body = parted body 4 4 in
@@ -271,22 +271,22 @@ batch_found body items are e =
       others = take 4 (drop 4 body);
       four = omega (arith, length-take 4 (drop 4 body), length-drop 4 body);
       at_most = omega arith;
-      parts = sym whole ∙ ap (λ (d : List ℕ). (u32_bytes count ++ take 4 (drop 4 body)) ++ d) (sym lines.0 ∙ ap (flat_map line) same) ∙ ap (λ (n : ℕ). (u32_bytes n ++ take 4 (drop 4 body)) ++ flat_map line items) many;
+      parts = sym whole ∙ ap (λ (d : List ℕ). (u32_bytes count ++ take 4 (drop 4 body)) ++ d) (sym lines.0 ∙ ap (flat_map item_text) same) ∙ ap (λ (n : ℕ). (u32_bytes n ++ take 4 (drop 4 body)) ++ flat_map item_text items) many;
     }
 
 pub batch_again : (body : List ℕ) (items : List Item) → All FitsItem items → IsBatchBody items body → batch_of body ≡ Ok items
 unfolding batch_of
 batch_again body items fits is =
     let n = length items in
-    let rest = flat_map line items in
+    let rest = flat_map item_text items in
     let r1 = is.others ++ rest in
     let all : body ≡ u32_bytes n ++ r1 = is.parts ∙ append_assoc (u32_bytes n) is.others rest in
     let at4 : drop 4 body ≡ r1 = behind body (u32_bytes n) r1 0 4 4 all (length-u32_bytes n) refl in
     let at8 : drop 8 body ≡ rest = behind body is.others rest 4 4 8 at4 is.four refl in
     let count : u32_at body ≡ n = ap u32_at all ∙ u32_again n r1 (omega (arith, is.at_most)) in
-    let len : length body ≡ 8 + 16 * n = ap length all ∙ omega (arith, length-append (u32_bytes n) r1, length-append is.others rest, length-u32_bytes n, is.four, length-lines items) in
+    let len : length body ≡ 8 + 16 * n = ap length all ∙ omega (arith, length-append (u32_bytes n) r1, length-append is.others rest, length-u32_bytes n, is.four, length-items items) in
     let long : ltb (length body) 8 ≡ false = le-ltb _ _ (omega arith) in
     let small : ltb 256 n ≡ false = le-ltb _ _ is.at_most in
     let exact : eqb (length body) (8 + 16 * n) ≡ true = yes_eq _ _ len in
-    let items_are : items_at n (drop 8 body) ≡ items = ap (items_at n) at8 ∙ lines_again items (recursion_from_All FitsItem items fits) in
+    let items_are : items_at n (drop 8 body) ≡ items = ap (items_at n) at8 ∙ items_again items (recursion_from_All FitsItem items fits) in
     rw (count, long, small, exact, items_are) refl

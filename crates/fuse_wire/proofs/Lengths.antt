@@ -8,7 +8,7 @@ use Rattle.eden_base.specs.Name.{IsNameText}
 use Rattle.fuse_wire.specs.declared.item.Item.{Item}
 use Rattle.fuse_wire.specs.Field.{i32_bytes, u32_bytes, u64_bytes}
 use Rattle.fuse_wire.specs.ReplyText.{reply_header}
-use Rattle.fuse_wire.specs.RequestText.{zeros, line}
+use Rattle.fuse_wire.specs.RequestText.{zeros, item_text}
 
 pub length-u32_bytes : (n : ℕ) → length (u32_bytes n) ≡ 4
 unfolding u32_bytes
@@ -26,10 +26,10 @@ pub length-zeros : (n : ℕ) → length (zeros n) ≡ n
 unfolding zeros
 length-zeros n = length-replicate n 0
 
-pub length-lines : (items : List Item) → length (flat_map line items) ≡ 16 * length items
-length-lines [] = refl
-length-lines (item ∷ items) =
-    ap length (flat_map-cons line item items) ∙ omega (arith, length-append (line item) (flat_map line items), length-append (u64_bytes item.node.0) (u64_bytes item.k), length-u64_bytes item.node.0, length-u64_bytes item.k, length-lines items)
+pub length-items : (items : List Item) → length (flat_map item_text items) ≡ 16 * length items
+length-items [] = refl
+length-items (item ∷ items) =
+    ap length (flat_map-cons item_text item items) ∙ omega (arith, length-append (item_text item) (flat_map item_text items), length-append (u64_bytes item.node.0) (u64_bytes item.k), length-u64_bytes item.node.0, length-u64_bytes item.k, length-items items)
 
 -- a name has at most 255 bytes
 pub name_is_short : (name : List ℕ) → IsNameText name → length name ≤ 255
@@ -39,4 +39,4 @@ pub length-reply_header : (len : ℕ) (error : ℤ) (unique : ℕ) → length (r
 length-reply_header len error unique =
     omega (arith, length-append (u32_bytes len ++ i32_bytes error) (u64_bytes unique), length-append (u32_bytes len) (i32_bytes error), length-u32_bytes len, length-i32_bytes error, length-u64_bytes unique)
 
-pub ruleset lengths = (length-u32_bytes, length-i32_bytes, length-u64_bytes, length-zeros, length-lines, length-append)
+pub ruleset lengths = (length-u32_bytes, length-i32_bytes, length-u64_bytes, length-zeros, length-items, length-append)

@@ -4,7 +4,7 @@ pub mod Fields
 pub mod Forgets
 pub mod Lacking
 pub mod Lengths
-pub mod Lines
+pub mod ItemsRead
 pub mod OwnTexts
 pub mod Replies
 pub mod ReplyLaws

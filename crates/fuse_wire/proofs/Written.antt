@@ -7,7 +7,7 @@ use Rattle.std.proofs.lemmas.List.Concat.{flat_map-cons, flat_map-append}
 use Rattle.std.proofs.lemmas.List.Elements.{All-push}
 use Rattle.fuse_wire.specs.declared.item.Item.{Item}
 use Rattle.fuse_wire.specs.declared.writer.Writer.{Writer}
-use Rattle.fuse_wire.specs.RequestText.{line, FitsItem}
+use Rattle.fuse_wire.specs.RequestText.{item_text, FitsItem}
 use Rattle.fuse_wire.specs.Writing.{Writes, Puts}
 use Rattle.fuse_wire.proofs.Lengths.{lengths}
 
@@ -48,22 +48,22 @@ whole old new bytes first is put =
 
 pub ruleset written = (puts_nothing, Puts-then, lengths)
 
--- these lines were written behind what was there
+-- these items were written behind what was there
 pub record AreWritten (before now : Writer) (items : List Item) : Type 0 where
-  pub lines : Puts before now (flat_map line items)
+  pub lines : Puts before now (flat_map item_text items)
   pub fit : All FitsItem items
 
 pub none_written : (writer : Writer) → AreWritten writer writer []
 none_written writer = record { lines = puts_nothing writer; fit = λ k d lt. absurd (omega arith) }
 
--- one line more
+-- one item more
 pub one_written : (before mid new : Writer) (items : List Item) (i : ℕ) (d : Item) → before.at ≤ length before.bytes.now → i < length items → AreWritten before mid (take i items)
-    → Puts mid new (line (get_or items i d)) → FitsItem (get_or items i d) → AreWritten before new (take (i + 1) items)
+    → Puts mid new (item_text (get_or items i d)) → FitsItem (get_or items i d) → AreWritten before new (take (i + 1) items)
 one_written before mid new items i d in_range lt were put fits =
     let item = get_or items i d in
     let more : take (i + 1) items ≡ take i items ++ item ∷ [] = grind (arith, common_steps) in
-    let written : flat_map line (take i items ++ item ∷ []) ≡ flat_map line (take i items) ++ line item = flat_map-append line (take i items) (item ∷ []) ∙ ap (λ (l : List ℕ). flat_map line (take i items) ++ l) (flat_map-cons line item [] ∙ append-nil (line item)) in
+    let written : flat_map item_text (take i items ++ item ∷ []) ≡ flat_map item_text (take i items) ++ item_text item = flat_map-append item_text (take i items) (item ∷ []) ∙ ap (λ (l : List ℕ). flat_map item_text (take i items) ++ l) (flat_map-cons item_text item [] ∙ append-nil (item_text item)) in
     rw more (record {
-      lines = rw written (Puts-then before mid new (flat_map line (take i items)) (line item) put were.lines in_range);
+      lines = rw written (Puts-then before mid new (flat_map item_text (take i items)) (item_text item) put were.lines in_range);
       fit = All-push FitsItem (take i items) item were.fit fits;
     })

@@ -51,9 +51,9 @@ IsSendable request = Unit {0}
 abbrev pub name_text : List ℕ → List ℕ
 name_text name = name ++ 0 ∷ []
 
--- one line of a batch
-abbrev pub line : Item → List ℕ
-line item = u64_bytes item.node.0 ++ u64_bytes item.k
+-- one item of a batch
+abbrev pub item_text : Item → List ℕ
+item_text item = u64_bytes item.node.0 ++ u64_bytes item.k
 
 -- flags, mode, umask and one more word, then the name
 abbrev pub create_body : List ℕ → Perm → List ℕ
@@ -63,9 +63,9 @@ create_body name perm = (zeros 4 ++ u32_bytes (S_IFREG + perm.bits) ++ zeros 8) 
 abbrev pub mkdir_body : List ℕ → Perm → List ℕ
 mkdir_body name perm = (u32_bytes perm.bits ++ zeros 4) ++ name_text name
 
--- the count and four bytes, then the lines
+-- the count and four bytes, then the items
 abbrev pub batch_body : List Item → List ℕ
-batch_body items = (u32_bytes (length items) ++ zeros 4) ++ flat_map line items
+batch_body items = (u32_bytes (length items) ++ zeros 4) ++ flat_map item_text items
 
 abbrev pub body : Request → List ℕ
 body (Lookup dir name) = name_text name
@@ -113,12 +113,12 @@ pub record IsMkdirBody (name : List ℕ) (perm : Perm) (bytes : List ℕ) : Type
   pub is_name : IsNameText name
   pub parts : bytes ≡ (u32_bytes mode ++ others) ++ name_text name
 
--- BATCH_FORGET: the count, four bytes that are ignored, the lines
+-- BATCH_FORGET: the count, four bytes that are ignored, the items
 pub record IsBatchBody (items : List Item) (bytes : List ℕ) : Type 0 where
   pub others : List ℕ
   pub four : length others ≡ 4
   pub at_most : length items ≤ 256
-  pub parts : bytes ≡ (u32_bytes (length items) ++ others) ++ flat_map line items
+  pub parts : bytes ≡ (u32_bytes (length items) ++ others) ++ flat_map item_text items
 
 abbrev pub IsBody : Request → List ℕ → Type 0
 IsBody (Lookup dir name) bytes = IsNameText name × (bytes ≡ name_text name)

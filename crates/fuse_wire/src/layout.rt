@@ -33,8 +33,8 @@ pub(crate) const BATCH_FIXED: usize = 8;
 /// The end of `struct fuse_batch_forget_in`, behind the count: dummy.
 pub(crate) const BATCH_REST_LEN: usize = 4;
 
-/// `struct fuse_forget_one`, a line of a batch: nodeid, nlookup.
-pub(crate) const LINE_LEN: usize = 16;
+/// `struct fuse_forget_one`, an item of a batch: nodeid, nlookup.
+pub(crate) const ITEM_LEN: usize = 16;
 
 /// `struct fuse_out_header`: len, error, unique.
 pub(crate) const REPLY_HEADER_LEN: usize = 16;

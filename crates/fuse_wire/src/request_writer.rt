@@ -2,7 +2,7 @@
 ghost use Rattle.std.specs.Prelude.{All, ◌<◌, ◌^◌, ◌≡◌, ◌≤◌, ◌+◌, ◌++◌, IfOk, Ok, length};
 ghost use Rattle.std.specs.List.{flat_map};
 ghost use Rattle.fuse_wire.specs.Opcode.{code};
-ghost use Rattle.fuse_wire.specs.RequestText.{zeros, opcode, nodeid, IsSendable, name_text, create_body, mkdir_body, batch_body, line, body, header, request_text, IsBody, IsRequestText, FitsAsk, FitsBody, FitsItem};
+ghost use Rattle.fuse_wire.specs.RequestText.{zeros, opcode, nodeid, IsSendable, name_text, create_body, mkdir_body, batch_body, item_text, body, header, request_text, IsBody, IsRequestText, FitsAsk, FitsBody, FitsItem};
 ghost use Rattle.eden_base.specs.Name.{IsNameText};
 ghost use Rattle.fuse_wire.specs.Reading.{request_of};
 ghost use Rattle.fuse_wire.specs.Writing.{HasRoom, Puts};
@@ -10,7 +10,7 @@ ghost use Rattle.fuse_wire.specs.Writing.{HasRoom, Puts};
 use crate::header::Header;
 use crate::layout::{
     BATCH_FIXED, BATCH_REST_LEN, CREATE_FIXED, CREATE_MODE, CREATE_REST_LEN, FORGET_LEN,
-    GETATTR_LEN, LINE_LEN, MKDIR_FIXED, MKDIR_REST_LEN, SENDER_LEN,
+    GETATTR_LEN, ITEM_LEN, MKDIR_FIXED, MKDIR_REST_LEN, SENDER_LEN,
 };
 use crate::mode::mode_of;
 use crate::opcode::Opcode;
@@ -110,19 +110,19 @@ fn body_len(request: &Request) -> usize
         Request::Mkdir { name, .. } => MKDIR_FIXED + name_len(name),
         Request::Getattr { .. } => GETATTR_LEN,
         Request::Forget(_) => FORGET_LEN,
-        Request::BatchForget(items) => BATCH_FIXED + lines_len(items.as_slice()),
+        Request::BatchForget(items) => BATCH_FIXED + items_len(items.as_slice()),
         Request::Other { .. } => 0,
     }
 }
 
-/// Returns the length of a batch's lines.
+/// Returns the length of a batch's items.
 #[tactic(auto, using(crate::proofs::Lengths::lengths))]
-fn lines_len(items: &[Item]) -> usize
+fn items_len(items: &[Item]) -> usize
     requires { length items.now ≤ 256 }
-    ensures len { result ≡ length (flat_map line items.now) }
+    ensures len { result ≡ length (flat_map item_text items.now) }
     ensures at_most { result ≤ 4096 }
 {
-    LINE_LEN * items.len()
+    ITEM_LEN * items.len()
 }
 
 /// Returns the length of a name and its NUL.
@@ -145,23 +145,23 @@ fn put_name(fields: &mut Writer, name: &Name)
     fields.put_slice(&[0]);
 }
 
-/// Writes the lines of a batch, in their order.
+/// Writes the items of a batch, in their order.
 #[tactic(auto, using(crate::proofs::Written::written))]
-fn put_lines(fields: &mut Writer, items: &[Item])
-    requires { HasRoom fields.old (length (flat_map line items.now)) }
-    ensures lines { Puts fields.old fields.new (flat_map line items.now) }
+fn put_items(fields: &mut Writer, items: &[Item])
+    requires { HasRoom fields.old (length (flat_map item_text items.now)) }
+    ensures lines { Puts fields.old fields.new (flat_map item_text items.now) }
     ensures fits { All FitsItem items.now }
 {
     for item in items {
-        put_line(fields, *item);
+        put_item(fields, *item);
     }
 }
 
-/// Writes a line of a batch (`struct fuse_forget_one`).
+/// Writes an item of a batch (`struct fuse_forget_one`).
 #[tactic(auto, using(crate::proofs::Written::written))]
-fn put_line(fields: &mut Writer, item: Item)
+fn put_item(fields: &mut Writer, item: Item)
     requires { HasRoom fields.old 16 }
-    ensures line { Puts fields.old fields.new (line item) }
+    ensures item { Puts fields.old fields.new (item_text item) }
     ensures fits { FitsItem item }
 {
     fields.put_u64(item.node.0);
@@ -210,7 +210,7 @@ fn put_mkdir(fields: &mut Writer, name: &Name, perm: Perm)
     put_name(fields, name);
 }
 
-/// Writes the count and a padding, then the lines (`struct fuse_batch_forget_in`).
+/// Writes the count and a padding, then the items (`struct fuse_batch_forget_in`).
 #[tactic(auto, using(crate::proofs::Written::written))]
 fn put_batch(fields: &mut Writer, items: &[Item])
     requires at_most { length items.now ≤ 256 }
@@ -220,5 +220,5 @@ fn put_batch(fields: &mut Writer, items: &[Item])
 {
     fields.put_u32(items.len() as u32);
     fields.put_zeros(BATCH_REST_LEN);
-    put_lines(fields, items);
+    put_items(fields, items);
 }

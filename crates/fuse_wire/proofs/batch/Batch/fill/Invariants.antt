@@ -1,5 +1,5 @@
 use Rattle.std.proofs.Common.{◌≡◌, ◌≤◌, ◌*◌, vec_len, vec_capacity}
-use Rattle.fuse_wire.proofs.Lines.{AreRead}
+use Rattle.fuse_wire.proofs.ItemsRead.{AreRead}
 use Rattle.fuse_wire.proofs.batch.Batch.fill.Given as goal
 
 abbrev pub invariant-loop : goal.invariant-loop

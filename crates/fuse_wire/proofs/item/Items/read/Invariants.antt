@@ -1,5 +1,5 @@
 use Rattle.std.proofs.Common.{◌≡◌, ◌*◌}
-use Rattle.fuse_wire.proofs.Lines.{AreRead}
+use Rattle.fuse_wire.proofs.ItemsRead.{AreRead}
 use Rattle.fuse_wire.proofs.item.Items.read.Given as goal
 
 abbrev pub invariant-loop : goal.invariant-loop

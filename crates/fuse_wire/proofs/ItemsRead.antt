@@ -1,10 +1,10 @@
--- The lines of a batch, read one after the other.
+-- The items of a batch, read one after the other.
 use Rattle.std.proofs.Common.{◌≡◌, ℕ, suc, ◌+◌, ◌-◌, ◌*◌, ◌<◌, ◌≤◌, List, [], ◌∷◌, ◌++◌, length, drop, sym, ap, ◌∙◌, append_assoc, length-append, arith}
 use Rattle.std.proofs.lemmas.List.{append-nil, drop-drop}
 use Rattle.fuse_wire.specs.declared.item.Item.{Item}
 use Rattle.fuse_wire.specs.Reading.{item_at, items_at}
 
--- so many lines of all are read, and the others follow
+-- so many items of all are read, and the others follow
 pub record AreRead (items : List Item) (done count : ℕ) (lines : List ℕ) : Type 0 where
   pub many : length items ≡ done
   pub whole : items ++ items_at (count - done) (drop (16 * done) lines) ≡ items_at count lines
