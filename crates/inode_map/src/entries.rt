@@ -137,7 +137,7 @@ pub(crate) fn prune(entries: &mut Vec<Kept>, number: Number)
 
 /// Climbs from a number to the root or to a number without a name, and keeps the places on the way: the file there.
 /// A way of more steps than there are entries goes in a circle.
-pub(crate) fn climb(entries: &[Kept], way: &mut Vec<usize>, number: Number) -> Option<FileId>
+fn climb(entries: &[Kept], way: &mut Vec<usize>, number: Number) -> Option<FileId>
     requires numbers { IsNumbered entries.now }
     requires room { length entries.now ≤ vec_capacity way.old }
     ensures way { MatchOption result
@@ -163,20 +163,21 @@ pub(crate) fn climb(entries: &[Kept], way: &mut Vec<usize>, number: Number) -> O
     Some(FileId::ROOT)
 }
 
-/// Comes down a way by the names on it: the file at its foot.
-pub(crate) fn descend(
+/// Finds the file of a number: climbs its way, and comes down again by the names on it.
+pub(crate) fn locate(
     entries: &[Kept],
     way: &mut Vec<usize>,
     tree: &Tree,
-    top: FileId,
     number: Number,
 ) -> Option<FileId>
-    requires { IsWay entries.now number.0 way.old.items top }
+    requires numbers { IsNumbered entries.now }
+    requires room { length entries.now ≤ vec_capacity way.old }
     ensures found { MatchOption result
         ((file : FileId) → IsFileOf tree.now entries.now number.0 file → ⊥)
         (IsFileOf tree.now entries.now number.0) }
     ensures capacity { vec_capacity way.new ≡ vec_capacity way.old }
 {
+    let top = climb(entries, way, number)?;
     let mut file = top;
     while let Some(place) = way.pop() {
         let Place::Linked { name, .. } = &entries[place].place else {

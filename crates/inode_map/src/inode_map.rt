@@ -6,7 +6,7 @@ ghost use Rattle.eden_base.specs.declared.number.Number.{Number};
 ghost use Rattle.inode_map.specs.Words.{forgot_name};
 ghost use Rattle.inode_map.specs.InodeMap.{new_map, entry_of, entry_at, count_of, number_after, number_of_kept, place_of_kept, give_fault, number_given, given, IsGiveRefusal, is_bad_item, forgot, forgotten, IsFileOf, AreNumbers};
 
-use crate::entries::{climb, descend, has_kids, lower, place_above, place_at, place_of, prune};
+use crate::entries::{has_kids, locate, lower, place_above, place_at, place_of, prune};
 use checkout::Tree;
 use eden_base::{END_OF_NUMBERS, FileId, GREATEST_COUNT, Name, NoMemory, Number, Place};
 use std::alloc::{AllocError, Global};
@@ -159,8 +159,7 @@ impl InodeMap {
             (IsFileOf tree.now self.old.entries number.0) }
         ensures unchanged { self.new ≡ self.old }
     {
-        let top = climb(self.entries.as_slice(), &mut self.way, number)?;
-        descend(self.entries.as_slice(), &mut self.way, tree, top, number)
+        locate(self.entries.as_slice(), &mut self.way, tree, number)
     }
 
     /// Gives the number of a name in a directory, which is then held once more: the one that it has, or the next.

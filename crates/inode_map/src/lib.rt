@@ -4,4 +4,4 @@
 mod entries;
 mod inode_map;
 
-pub use inode_map::{Forgot, GiveFault, InodeMap, Kept};
+pub use inode_map::{Forgot, GiveFault, InodeMap};
