@@ -1,4 +1,5 @@
-//! What a daemon remembers for the kernel: the numbers that it gave, what each names, and how often the kernel holds it.
+//! What a daemon remembers for the kernel: the numbers that it gave, what each names, and how often the kernel holds
+//! it.
 #![tactic(auto)]
 
 mod entries;
