@@ -5,3 +5,4 @@ pub mod FitsLeft
 pub mod ForgettingLaw
 pub mod GivingLaw
 pub mod Known
+pub mod PlaceNumbers
