@@ -5,4 +5,5 @@ pub mod FitsLeft
 pub mod ForgettingLaw
 pub mod GivingLaw
 pub mod Known
+pub mod PlaceNumbers
 pub mod Replays

@@ -1,18 +1,18 @@
 //! The entries of an inode map.
-ghost use Rattle.std.specs.Prelude.{◌≡◌, ◌<◌, ◌≤◌, Bool, true, false, None, not, length, vec_len, vec_capacity, MatchOption, OnOk};
+ghost use Rattle.std.specs.Prelude.{◌≡◌, ◌≤◌, false, None, length, vec_len, vec_capacity, MatchOption};
 ghost use Rattle.std.specs.Option.{option_map};
 ghost use Rattle.std.specs.List.{list_any};
 ghost use Rattle.checkout.specs.Tree.{Tree};
 ghost use Rattle.eden_base.specs.First.{first_where, IsFirstPlace};
 ghost use Rattle.eden_base.specs.declared.number.Number.{Number};
-ghost use Rattle.inode_map.specs.InodeMap.{has_number, stands_at, is_in, is_place, is_kid_of, is_above, is_of_use, is_useless, is_bad_item, lowered, left_of_use, IsFileOf};
+ghost use Rattle.inode_map.specs.InodeMap.{has_number, stands_at, is_in, is_place, is_kid_of, is_useless, is_bad_item, lowered, left_of_use, IsFileOf};
 ghost use Rattle.inode_map.specs.EntryPlaces.{IsNumbered, IsParted, AreOfUseBut, IsUselessPlace, dir_of, IsWay};
 
 use crate::inode_map::Kept;
 use checkout::Tree;
 use eden_base::{FileId, Name, Number, Place};
 
-/// The place of the first entry whose number is greater, or the end.
+/// Returns the place of the first entry whose number is greater, or the end.
 pub(crate) fn place_above(entries: &[Kept], number: Number) -> usize
     requires { IsNumbered entries.now }
     ensures { IsParted entries.now number.0 result }
@@ -20,7 +20,7 @@ pub(crate) fn place_above(entries: &[Kept], number: Number) -> usize
     entries.partition_point(|kept| kept.number.0 <= number.0)
 }
 
-/// The place of a number in the list.
+/// Returns the place of a number in the list.
 pub(crate) fn place_of(entries: &[Kept], number: Number) -> Option<usize>
     requires { IsNumbered entries.now }
     ensures { let is_it = has_number number.0 in
@@ -37,7 +37,7 @@ pub(crate) fn place_of(entries: &[Kept], number: Number) -> Option<usize>
     Some(place)
 }
 
-/// The place of the entry that stands under a name in a directory.
+/// Returns the place of the entry that stands under a name in a directory.
 pub(crate) fn place_at(entries: &[Kept], parent: Number, name: &Name) -> Option<usize>
     ensures { let is_it = stands_at parent.0 name.now in
         MatchOption result (first_where is_it entries.now ≡ None) (IsFirstPlace is_it entries.now) }
@@ -80,7 +80,7 @@ pub(crate) fn has_kids(entries: &[Kept], parent: Number) -> bool
     entries.iter().any(|kept| is_in(&kept.place, parent))
 }
 
-/// The directory of a place, unless its name was taken away.
+/// Returns the directory of a place, unless its name was taken away.
 fn dir_of(place: &Place) -> Option<Number>
     ensures { option_map (λ (dir : Number). dir.0) result ≡ dir_of place.now }
 {
@@ -90,7 +90,7 @@ fn dir_of(place: &Place) -> Option<Number>
     }
 }
 
-/// The place of a number that is of no use.
+/// Returns the place of a number that is of no use.
 fn useless_place(entries: &[Kept], number: Number) -> Option<usize>
     requires { IsNumbered entries.now }
     ensures { MatchOption result (is_useless entries.now number.0 ≡ false)
@@ -135,9 +135,9 @@ pub(crate) fn prune(entries: &mut Vec<Kept>, number: Number)
     }
 }
 
-/// Climbs from a number to the root or to a number without a name, and keeps the places on the way: the file there.
-/// A way of more steps than there are entries goes in a circle.
-pub(crate) fn climb(entries: &[Kept], way: &mut Vec<usize>, number: Number) -> Option<FileId>
+/// Climbs from a number to the root or to a number without a name, keeps the places on the way, and returns the file
+/// there. A way of more steps than there are entries goes in a circle.
+fn climb(entries: &[Kept], way: &mut Vec<usize>, number: Number) -> Option<FileId>
     requires numbers { IsNumbered entries.now }
     requires room { length entries.now ≤ vec_capacity way.old }
     ensures way { MatchOption result
@@ -163,20 +163,21 @@ pub(crate) fn climb(entries: &[Kept], way: &mut Vec<usize>, number: Number) -> O
     Some(FileId::ROOT)
 }
 
-/// Comes down a way by the names on it: the file at its foot.
-pub(crate) fn descend(
+/// Finds the file of a number: climbs its way, and comes down again by the names on it.
+pub(crate) fn locate(
     entries: &[Kept],
     way: &mut Vec<usize>,
     tree: &Tree,
-    top: FileId,
     number: Number,
 ) -> Option<FileId>
-    requires { IsWay entries.now number.0 way.old.items top }
+    requires numbers { IsNumbered entries.now }
+    requires room { length entries.now ≤ vec_capacity way.old }
     ensures found { MatchOption result
         ((file : FileId) → IsFileOf tree.now entries.now number.0 file → ⊥)
         (IsFileOf tree.now entries.now number.0) }
     ensures capacity { vec_capacity way.new ≡ vec_capacity way.old }
 {
+    let top = climb(entries, way, number)?;
     let mut file = top;
     while let Some(place) = way.pop() {
         let Place::Linked { name, .. } = &entries[place].place else {

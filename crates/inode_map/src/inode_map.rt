@@ -1,12 +1,12 @@
 //! What a daemon remembers for the kernel.
-ghost use Rattle.std.specs.Prelude.{◌≡◌, ◌+◌, ◌<◌, ◌≤◌, ◌^◌, None, Some, vec_capacity, MatchOption, IfOk, IfErr, OnOk, OnErr};
+ghost use Rattle.std.specs.Prelude.{◌≡◌, ◌+◌, ◌<◌, ◌≤◌, ◌^◌, None, vec_capacity, MatchOption, IfOk, IfErr, OnOk, OnErr};
 ghost use Rattle.std.specs.Option.{option_map, option_copied};
 ghost use Rattle.eden_base.specs.declared.number.FileId.{FileId};
 ghost use Rattle.eden_base.specs.declared.number.Number.{Number};
 ghost use Rattle.inode_map.specs.Words.{forgot_name};
-ghost use Rattle.inode_map.specs.InodeMap.{new_map, entry_of, entry_at, count_of, number_after, number_of_kept, place_of_kept, give_fault, number_given, given, IsGiveRefusal, is_bad_item, forgot, forgotten, IsFileOf, AreNumbers};
+ghost use Rattle.inode_map.specs.InodeMap.{new_map, entry_of, entry_at, count_of, number_after, number_of_kept, place_of_kept, give_fault, number_given, given, IsGiveRefusal, forgot, forgotten, IsFileOf, AreNumbers};
 
-use crate::entries::{climb, descend, has_kids, lower, place_above, place_at, place_of, prune};
+use crate::entries::{has_kids, locate, lower, place_above, place_at, place_of, prune};
 use checkout::Tree;
 use eden_base::{END_OF_NUMBERS, FileId, GREATEST_COUNT, Name, NoMemory, Number, Place};
 use std::alloc::{AllocError, Global};
@@ -36,7 +36,7 @@ pub enum Forgot {
 }
 
 impl Forgot {
-    /// The word that a printed line has for it.
+    /// Returns the word that a printed line has for it.
     pub fn name(self) -> &'static str
         ensures name { result.now ≡ forgot_name self }
     {
@@ -60,7 +60,7 @@ pub enum GiveFault {
     NoMemory,
 }
 
-/// Given numbers by rising number, the next one, and how many bad forgets came. The way is the room for a walk.
+/// Given numbers by rising number, the next one, and how many bad forgets came; and the room for a walk.
 #[derive(Drop)]
 pub struct InodeMap {
     entries: Vec<Kept>,
@@ -159,8 +159,7 @@ impl InodeMap {
             (IsFileOf tree.now self.old.entries number.0) }
         ensures unchanged { self.new ≡ self.old }
     {
-        let top = climb(self.entries.as_slice(), &mut self.way, number)?;
-        descend(self.entries.as_slice(), &mut self.way, tree, top, number)
+        locate(self.entries.as_slice(), &mut self.way, tree, number)
     }
 
     /// Gives the number of a name in a directory, which is then held once more: the one that it has, or the next.

@@ -2,7 +2,7 @@ use Rattle.std.proofs.Common.{◌≡◌, ℕ, vec_len}
 use Rattle.std.specs.Prelude.{vec_capacity}
 use Rattle.inode_map.specs.EntryPlaces.{Climbs}
 use Rattle.inode_map.specs.InodeMap.{IsFileOf}
-use Rattle.inode_map.proofs.entries.descend.Given as goal
+use Rattle.inode_map.proofs.entries.locate.Given as goal
 
 -- what is left of the way leads to a number of the file
 abbrev pub invariant-loop-place : goal.invariant-loop-place

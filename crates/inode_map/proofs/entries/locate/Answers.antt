@@ -2,7 +2,7 @@ use Rattle.std.proofs.Common.{◌<◌, ap, sym, ◌∙◌, length, rules}
 use Rattle.checkout.specs.Tree.{child_of}
 use Rattle.inode_map.specs.declared.inode_map.Kept.{Kept}
 use Rattle.inode_map.proofs.Climbing.{Climbs-split, step-down, no-child-no_file, step-name, step-no_mark}
-use Rattle.inode_map.proofs.entries.descend.Goals as goal
+use Rattle.inode_map.proofs.entries.locate.Goals as goal
 
 pub offset_bounds-entries-place : goal.offset_bounds-entries-place
 offset_bounds-entries-place c =
@@ -30,7 +30,7 @@ returns-in_err-file-clause-found c =
     (rw c.in-Some.ensures.items at c.loop-place.invariant.climbs) in
     let name = step-name c.args.entries.now split.0 c.in-Some.place c.loop-place.invariant.top c.index-entries-place.result c.in-Linked.parent c.in-Linked.name split.2 c.index-entries-place.is
     (ap (λ (k : Kept). k.place) c.index-entries-place.is ∙ c.in-Linked.is) in
-    rw c.from_residual.ensures (λ file at. no-child-no_file c.args.tree.now c.args.entries.now c.pop.new.self.items c.args.number.0 split.0 c.in-Some.place c.loop-place.invariant.top
+    rw c.from_residual-in_err-file.ensures (λ file at. no-child-no_file c.args.tree.now c.args.entries.now c.pop.new.self.items c.args.number.0 split.0 c.in-Some.place c.loop-place.invariant.top
     c.loop-place.file file split.1 split.2 c.loop-place.invariant.at (ap (λ m. child_of c.args.tree.now c.loop-place.file m) name ∙ sym c.in_err-file.ensures.child) at)
 
 pub loop-place-preserved : goal.loop-place-preserved
