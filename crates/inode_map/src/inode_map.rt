@@ -29,7 +29,7 @@ pub enum Forgot {
     Lowered,
     /// The number is of no use any more, and left, with each directory above it that is of none.
     Dropped,
-    /// The number is unknown, or is held less often than the forget says; nothing changed.
+    /// The number is unknown, or is held less often than the forget says, or the forget takes back nothing: `bad_items` counts it, and nothing else changes.
     Bad,
     /// The root is held always; nothing changed.
     Root,
