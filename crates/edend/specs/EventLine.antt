@@ -1,8 +1,8 @@
 -- The lines of a script that say what happens: a command, and its words, parted by one space each. A name is the last
--- word, and runs to the end of the line.
+-- word, and runs to the end of the line. (This project's own.)
 use Rattle.std.specs.Prelude.{ℕ, List, Option, Some, None, codes, option_map, option_and_then, is_none, if◌then◌else◌}
-use Rattle.broker_core.specs.declared.request.Request.{Request}
-use Rattle.broker_core.specs.declared.request.Request.TheVariants.{Lookup, Forget}
+use Rattle.fuse_wire.specs.declared.ask.Request.{Request}
+use Rattle.fuse_wire.specs.declared.ask.Request.TheVariants.{Lookup, Forget}
 use Rattle.world.specs.declared.event.Event.{Event}
 use Rattle.world.specs.declared.event.Event.TheVariants.{Start, Mount, Do, Show}
 use Rattle.eden_base.specs.Name.{name_fault}
@@ -10,13 +10,14 @@ use Rattle.edend.specs.Number.{number_of}
 use Rattle.eden_base.specs.Text.{cut}
 use Rattle.edend.specs.Words.{is_word}
 
--- the look-up of a name in a directory
+-- the lookup of a name in a directory
 abbrev pub lookup_in : List ℕ → ℕ → Option Request
 lookup_in name dir = if is_none (name_fault name) then Some (Lookup (record { 0 = dir }) name) else None
 
 -- `N NAME`
 abbrev pub lookup_of : List ℕ → Option Request
-lookup_of words = option_and_then (λ (parts : List ℕ × List ℕ). option_and_then (lookup_in parts.1) (number_of parts.0)) (cut 32 words)
+lookup_of words =
+    option_and_then (λ (parts : List ℕ × List ℕ). option_and_then (lookup_in parts.1) (number_of parts.0)) (cut 32 words)
 
 -- the forget of a number, so many times
 abbrev pub forget_both : Option ℕ → Option ℕ → Option Request
@@ -25,7 +26,8 @@ forget_both _ _ = None
 
 -- `N K`
 abbrev pub forget_of : List ℕ → Option Request
-forget_of words = option_and_then (λ (parts : List ℕ × List ℕ). forget_both (number_of parts.0) (number_of parts.1)) (cut 32 words)
+forget_of words =
+    option_and_then (λ (parts : List ℕ × List ℕ). forget_both (number_of parts.0) (number_of parts.1)) (cut 32 words)
 
 -- a request, by its first word
 abbrev pub request_by : List ℕ → List ℕ → Option Request

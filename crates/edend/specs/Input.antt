@@ -1,4 +1,4 @@
--- What one read of a script takes from its reader.
+-- What one read of a script takes from its reader. (This project's own.)
 use Rattle.std.specs.Prelude.{◌≡◌, ℕ, List, ◌++◌, ⊤, Option, Some, None}
 
 -- the bytes that were read and those that are left stay what they were together, where the reader's are known

@@ -1,4 +1,4 @@
--- The lines of a text, and the line `--` that parts a script.
+-- The lines of a text, and the line `--` that parts a script. (This project's own.)
 use Rattle.std.specs.Prelude.{◌≡◌, ℕ, ◌+◌, ◌==◌, Bool, true, List, [], ◌∷◌, length, map, take, drop, Option, Some, None, is_none, position, codes, if◌then◌else◌}
 use Rattle.std.specs.List.{onto_first, before_first, after_first}
 use Rattle.world.specs.declared.event.Event.{Event}

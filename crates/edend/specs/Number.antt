@@ -1,4 +1,5 @@
--- Decimal numbers of 64 bits, as a script writes them: digits alone, of which the first may be zeros.
+-- Decimal numbers of 64 bits, as a script writes them: digits alone, of which the first may be zeros. (This project's
+-- own.)
 use Rattle.std.specs.Prelude.{ℕ, ◌+◌, ◌-◌, ◌*◌, ◌^◌, ◌&&◌, nat_lt, List, [], ◌∷◌, Option, Some, None, option_and_then, if◌then◌else◌}
 use Rattle.std.specs.Char.{is_ascii_digit}
 

@@ -1,19 +1,20 @@
--- What each event prints, and what `show` prints of the world.
-use Rattle.std.specs.Prelude.{ℕ, ◌-◌, ◌^◌, false, List, [], ◌∷◌, ◌++◌, length, codes, slice_get, Option, Some, None}
-use Rattle.std.specs.Fmt.{decimal, digits, padded_integral, format_spec}
+-- What each event prints, and what `show` prints of the world. (This project's own.)
+use Rattle.std.specs.Prelude.{ℕ, ◌+◌, ◌-◌, ◌/◌, ◌%◌, List, [], ◌∷◌, ◌++◌, length, codes, slice_get, Option, Some, None}
+use Rattle.std.specs.Fmt.{decimal}
 use Rattle.std.specs.Option.{option_and_then}
 use Rattle.eden_base.specs.Words.{errno_name, kind_name}
 use Rattle.eden_base.specs.declared.attr.Attr.{Attr}
 use Rattle.eden_base.specs.declared.number.Number.{Number}
 use Rattle.eden_base.specs.declared.place.Place.{Place}
 use Rattle.eden_base.specs.declared.place.Place.TheVariants.{Linked, Unlinked}
-use Rattle.broker_core.specs.Broker.{BrokerState, held_count}
-use Rattle.broker_core.specs.declared.request.Answer.{Answer}
-use Rattle.broker_core.specs.declared.request.Answer.TheVariants.{Entry, Error}
+use Rattle.broker_core.specs.Broker.{BrokerState}
+use Rattle.broker_core.specs.Held.{held_count}
 use Rattle.broker_core.specs.declared.seat.Seat.{Seat}
-use Rattle.world.specs.Holder.{served_of}
 use Rattle.fuse_ops.specs.Served.{ServedState}
-use Rattle.world.specs.State.{State}
+use Rattle.fuse_wire.specs.declared.reply.Answer.{Answer}
+use Rattle.fuse_wire.specs.declared.reply.Answer.TheVariants.{Entry, Opened, Attrs, Done, Error}
+use Rattle.fuse_wire.specs.declared.reply.Reply.{Reply}
+use Rattle.world.specs.State.{State, served_of}
 use Rattle.inode_map.specs.Words.{forgot_name}
 use Rattle.world.specs.Words.{refusal_name}
 use Rattle.world.specs.declared.event.Event.{Event}
@@ -28,28 +29,41 @@ line [] = 10 ∷ []
 line (word ∷ []) = word ++ 10 ∷ []
 line (word ∷ next ∷ more) = word ++ 32 ∷ line (next ∷ more)
 
--- octal digits, with zeros in front where there are fewer than four: `{:04o}`
+-- words, each with a space behind it
+abbrev pub spaced : List (List ℕ) → List ℕ
+spaced [] = []
+spaced (word ∷ more) = word ++ 32 ∷ spaced more
+
+-- the last digit of a number in base eight
+abbrev pub octal_digit : ℕ → ℕ
+octal_digit n = 48 + n % 8
+
+-- the last four of its digits, each a division by eight further than the one behind it
 abbrev pub octal : ℕ → List ℕ
-octal n = padded_integral (format_spec 32 0 4 4 (2 ^ 64 - 1)) false [] (digits 8 false n)
+octal n = octal_digit (n / 8 / 8 / 8) ∷ octal_digit (n / 8 / 8) ∷ octal_digit (n / 8) ∷ octal_digit n ∷ []
 
--- a kind's word
+-- `WORD N KIND PERM SIZE NLINK`
+abbrev pub file_words : List ℕ → Number → Attr → List (List ℕ)
+file_words word number attr =
+    word ∷ decimal number.0 ∷ kind_name attr.kind ∷ octal attr.perm.bits ∷ decimal attr.size ∷ decimal attr.nlink ∷ []
 
--- `answer U entry N KIND PERM SIZE NLINK`
-abbrev pub entry_line : ℕ → Number → Attr → List ℕ
-entry_line unique number attr =
-    line (codes "answer" ∷ decimal unique ∷ codes "entry" ∷ decimal number.0 ∷ kind_name attr.kind ∷ octal attr.perm.bits
-    ∷ decimal attr.size ∷ decimal attr.nlink ∷ [])
+-- an answer, by its kind
+abbrev pub answer_words : Answer → List (List ℕ)
+answer_words (Entry number attr) = file_words (codes "entry") number attr
+answer_words (Opened number attr) = file_words (codes "opened") number attr
+answer_words (Attrs number attr) = file_words (codes "attr") number attr
+answer_words Done = codes "done" ∷ []
+answer_words (Error errno) = codes "error" ∷ errno_name errno ∷ []
 
--- the same, or `answer U error ERRNO`
-abbrev pub answer_line : ℕ → Answer → List ℕ
-answer_line unique (Entry number attr) = entry_line unique number attr
-answer_line unique (Error errno) = line (codes "answer" ∷ decimal unique ∷ codes "error" ∷ errno_name errno ∷ [])
+-- `answer U` and the answer
+abbrev pub reply_line : Reply → List ℕ
+reply_line reply = spaced (codes "answer" ∷ decimal reply.unique ∷ []) ++ line (answer_words reply.answer)
 
 -- the line of what happened
 abbrev pub line_of : Happened → List ℕ
 line_of (Started daemon) = line (codes "daemon" ∷ decimal daemon.0 ∷ [])
 line_of (Mounted generation) = line (codes "mounted" ∷ decimal generation ∷ [])
-line_of (Answered reply) = answer_line reply.unique reply.answer
+line_of (Answered reply) = reply_line reply
 line_of (Forgot item forgot) = line (codes "forgot" ∷ forgot_name forgot ∷ [])
 line_of (Refused refusal) = line (codes "refused" ∷ refusal_name refusal ∷ [])
 
@@ -63,11 +77,6 @@ abbrev pub kept_words : BrokerState → Kept → List (List ℕ)
 kept_words broker kept =
     codes "number" ∷ decimal kept.number.0 ∷ codes "held" ∷ decimal (held_count broker.held kept.number.0)
     ∷ codes "up" ∷ codes "0" ∷ codes "down" ∷ codes "0" ∷ codes "count" ∷ decimal kept.count ∷ []
-
--- words, each with a space behind it
-abbrev pub spaced : List (List ℕ) → List ℕ
-spaced [] = []
-spaced (word ∷ more) = word ++ 32 ∷ spaced more
 
 -- `number N held H up 0 down 0 count C` and the place
 abbrev pub kept_line : BrokerState → Kept → List ℕ
@@ -95,7 +104,8 @@ seat_lines state _ _ = no_seat
 
 -- what `show` prints
 abbrev pub world_lines : State → List ℕ
-world_lines state = seat_lines state state.broker.seat (option_and_then (λ (seat : Seat). served_of state seat.daemon) state.broker.seat)
+world_lines state =
+    seat_lines state state.broker.seat (option_and_then (λ (seat : Seat). served_of state seat.daemon) state.broker.seat)
 
 -- the line of the last thing that happened, if anything did
 abbrev pub last_line : Option Happened → List ℕ

@@ -1,5 +1,5 @@
--- Why a script is refused: the first of no line `--`, a bad manifest, and a bad line behind it.
-use Rattle.std.specs.Prelude.{◌≡◌, ℕ, ◌+◌, ◌<◌, Bool, true, false, List, length, ⊤, Some, None, Ok, Err, option_map}
+-- Why a script is refused: the first of no line `--`, a bad manifest, and a bad line behind it. (This project's own.)
+use Rattle.std.specs.Prelude.{◌≡◌, ℕ, ◌+◌, ◌<◌, ◌≤◌, Bool, true, false, List, length, ⊤, Some, None, Ok, Err, option_map}
 use Rattle.checkout.specs.Manifest.{Manifest}
 use Rattle.checkout.specs.declared.fault.ManifestFault.{ManifestFault}
 use Rattle.checkout.specs.declared.fault.ManifestFaultKind.{ManifestFaultKind}
@@ -48,12 +48,16 @@ abbrev pub comes_first : Fault → Bool
 comes_first CannotWrite = false
 comes_first _ = true
 
+-- why a script that was read whole is refused; a longer one is `too long`, whatever it says
+abbrev pub IsShortRefusal : List ℕ → Fault → Type 0
+IsShortRefusal script fault = (length script ≤ 1048576) × IsScriptRefusal script fault
+
 -- why a script was not run to its end
 abbrev pub IsRunRefusal : List ℕ → Fault → Type 0
 IsRunRefusal script CannotRead = ⊤
 IsRunRefusal script TooLong = 1048576 < length script
-IsRunRefusal script CannotWrite = IsGood script
-IsRunRefusal script NoEvents = IsScriptRefusal script NoEvents
-IsRunRefusal script (BadManifest fault) = IsScriptRefusal script (BadManifest fault)
-IsRunRefusal script (BadLine line) = IsScriptRefusal script (BadLine line)
+IsRunRefusal script NoEvents = IsShortRefusal script NoEvents
+IsRunRefusal script (BadManifest fault) = IsShortRefusal script (BadManifest fault)
+IsRunRefusal script (BadLine line) = IsShortRefusal script (BadLine line)
 IsRunRefusal script NoMemory = ⊤
+IsRunRefusal script CannotWrite = IsGood script

@@ -1,4 +1,4 @@
--- The words of a line.
+-- The words of a line. (This project's own.)
 use Rattle.std.specs.Prelude.{ℕ, Bool, List, nat_eq}
 use Rattle.std.specs.Cmp.Lexicographic.{pointwise}
 

@@ -11,8 +11,8 @@ const WORLD: &str = "world";
 
 const SCRIPT: &str = "SCRIPT";
 
-/// The script that the words name: `-` is standard input, and is meant where they name none. The first word is the
-/// program's name.
+/// Returns the script that the words name: `-` is standard input, and is meant where they name none. The first word is
+/// the program's name.
 pub fn script_of<'a>(alloc: Global, words: &'a [String]) -> Result<&'a str, Error>
     ensures script { IfOk result (λ script.
         script.now ≡ script_named (map string_bytes words.now)) }
@@ -29,6 +29,7 @@ pub fn script_of<'a>(alloc: Global, words: &'a [String]) -> Result<&'a str, Erro
     }
 }
 
+/// Returns the words that the program takes, as `clap` reads them.
 fn edend_command<'a>(alloc: Global) -> Result<Command<'a>, AllocError>
     ensures { IfOk result (λ command. app_of command ≡ edend_app) }
 {

@@ -3,12 +3,12 @@ ghost use Rattle.std.specs.Prelude.{◌≡◌, IfOk};
 ghost use Rattle.edend.specs.EventLine.{event_of, mount_of, do_of, request_of, lookup_of, forget_of};
 
 use crate::number::number;
-use broker_core::{Item, Request};
 use eden_base::{DaemonId, Name, NameFault, NoMemory, Number, cut};
+use fuse_wire::{Item, Request};
 use std::alloc::Global;
 use world::Event;
 
-/// The event that a line says, without its LF; none where the line is bad.
+/// Reads the event that a line says, without its LF; none where the line is bad.
 pub fn read_event(alloc: Global, line: &[u8]) -> Result<Option<Event>, NoMemory>
     ensures event { IfOk result (λ event. event ≡ event_of line.now) }
 {
@@ -30,6 +30,7 @@ pub fn read_event(alloc: Global, line: &[u8]) -> Result<Option<Event>, NoMemory>
     Ok(None)
 }
 
+/// Reads the daemon that mounts.
 fn read_mount(words: &[u8]) -> Option<Event>
     ensures { result ≡ mount_of words.now }
 {
@@ -37,6 +38,7 @@ fn read_mount(words: &[u8]) -> Option<Event>
     Some(Event::Mount(DaemonId(daemon)))
 }
 
+/// Reads what the kernel asks or forgets.
 fn read_do(alloc: Global, words: &[u8]) -> Result<Option<Event>, NoMemory>
     ensures { IfOk result (λ event. event ≡ do_of words.now) }
 {
@@ -46,7 +48,7 @@ fn read_do(alloc: Global, words: &[u8]) -> Result<Option<Event>, NoMemory>
     }
 }
 
-/// The request that words say.
+/// Reads the request that words say.
 fn read_request(alloc: Global, words: &[u8]) -> Result<Option<Request>, NoMemory>
     ensures { IfOk result (λ request. request ≡ request_of words.now) }
 {
@@ -62,7 +64,7 @@ fn read_request(alloc: Global, words: &[u8]) -> Result<Option<Request>, NoMemory
     Ok(None)
 }
 
-/// A directory's number, and a name that runs to the end of the line.
+/// Reads a directory's number, and a name that runs to the end of the line.
 fn read_lookup(alloc: Global, words: &[u8]) -> Result<Option<Request>, NoMemory>
     ensures { IfOk result (λ request. request ≡ lookup_of words.now) }
 {
@@ -82,7 +84,7 @@ fn read_lookup(alloc: Global, words: &[u8]) -> Result<Option<Request>, NoMemory>
     }
 }
 
-/// A number, and how many look-ups the forget takes back.
+/// Reads a number, and how many lookups the forget takes back.
 fn read_forget(words: &[u8]) -> Option<Request>
     ensures { result ≡ forget_of words.now }
 {

@@ -16,7 +16,7 @@ pub const MAX_READS: usize = 2_097_152;
 
 const CHUNK: usize = 16_384;
 
-/// All bytes of a reader. No read is made once the script is known to be too long.
+/// Reads all bytes of a reader. No read is made once the script is known to be too long.
 pub fn read_whole<R: Read>(alloc: Global, reader: &mut R) -> Result<Vec<u8>, Fault>
     ensures len { IfOk result (λ bytes. length bytes.items ≤ MAX_LEN) }
     ensures whole { IfOk result (λ bytes.

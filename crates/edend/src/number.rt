@@ -2,7 +2,7 @@
 ghost use Rattle.std.specs.Prelude.{◌≡◌};
 ghost use Rattle.edend.specs.Number.{number_of, with_digit};
 
-/// The number that decimal digits write, where they write one of 64 bits. Zeros may stand in front, and a sign may not.
+/// Reads the number that decimal digits write, where it fits 64 bits. Zeros may stand in front, and a sign may not.
 pub fn number(digits: &[u8]) -> Option<u64>
     ensures { result ≡ number_of digits.now }
 {
@@ -16,7 +16,7 @@ pub fn number(digits: &[u8]) -> Option<u64>
     Some(value)
 }
 
-/// The number with one more digit.
+/// Returns the number with one more digit.
 fn with_digit(value: u64, byte: u8) -> Option<u64>
     ensures { result ≡ with_digit value byte }
 {

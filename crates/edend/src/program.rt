@@ -29,6 +29,7 @@ pub fn run_program<R: Files + Input + Print + Eprint + Env + AllocGlobal>(rt: &R
     }
 }
 
+/// Returns the words that the program was started with.
 fn words_of<R: Env + AllocGlobal>(rt: &R) -> io::Result<Vec<String>> {
     let words = env::args(rt)?.collect(rt.alloc())?;
     Ok(words)
@@ -51,7 +52,7 @@ fn run_script<R: Files + Input + Print + AllocGlobal>(rt: &R, path: &str) -> Res
     }
 }
 
-/// How a script's run ends. A fault is printed.
+/// Ends a script's run. A fault is printed.
 fn end_run(rt: &impl Print, run: Result<(), Fault>) -> ExitCode
     ensures status { exit_status result ≡ status_of_run run }
 {

@@ -21,7 +21,7 @@ pub struct Script {
 }
 
 impl Script {
-    /// The script that bytes write.
+    /// Reads the script that bytes write.
     pub fn read(alloc: Global, bytes: &[u8]) -> Result<Script, Fault>
         ensures manifest { IfOk result (λ script. SaysManifest bytes.now (Ok script.manifest)) }
         ensures events { IfOk result (λ script. SaysEvents bytes.now script.events.items) }
@@ -45,7 +45,7 @@ struct Parts<'a> {
     first: usize,
 }
 
-/// The parts of a script, if it has a line `--`.
+/// Parts a script at its first line `--`, if it has one.
 fn split(script: &[u8]) -> Option<Parts<'_>>
     ensures parts { MatchOption result (lines_behind (lines_of script.now) ≡ None)
         (λ parts. IsSplit script.now parts.manifest.now parts.events.now parts.first) }
@@ -69,7 +69,7 @@ fn split(script: &[u8]) -> Option<Parts<'_>>
     None
 }
 
-/// The events of all lines of a text, of which the first has this number in the script.
+/// Reads the events of all lines of a text, of which the first has this number in the script.
 fn read_events(alloc: Global, text: &[u8], first: usize) -> Result<Vec<Event>, Fault>
     requires room { first + length text.now < 2 ^ 64 }
     ensures events { IfOk result (λ events.

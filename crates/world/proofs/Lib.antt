@@ -5,6 +5,6 @@ mod Quiet
 mod Keeping
 mod Daemons
 mod Events
-mod WholeRun
+pub mod WholeRun
 pub mod StepLemmas
 pub mod DaemonWrites

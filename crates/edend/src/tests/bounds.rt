@@ -1,6 +1,5 @@
 //! Scripts at the bounds of their length and of their manifest's.
 use super::prints;
-use crate::input::MAX_LEN;
 use std::alloc::{AllocError, Global};
 
 const HEAD: &[u8] = b"commit 0123456789abcdef0123456789abcdef01234567\n";
@@ -51,7 +50,7 @@ fn takes_65536_lines_of_a_manifest_and_no_more(rt: HostRuntime) -> Result<(), Al
 #[test]
 fn takes_1048576_bytes_and_no_more(rt: HostRuntime) -> Result<(), AllocError> {
     let longest = shows(rt.alloc(), 209_705)?;
-    assert_eq!(rt; longest.len().saturating_add(HEAD.len()), MAX_LEN);
+    assert_eq!(rt; longest.len().saturating_add(HEAD.len()), 1_048_576);
     let mut lines = Vec::new(rt.alloc());
     for _ in 0..209_705 {
         lines.extend_from_slice(b"seat none\n".as_slice())?;

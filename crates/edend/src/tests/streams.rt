@@ -3,7 +3,6 @@ ghost use Rattle.std.specs.Prelude.{IfOk};
 ghost use Rattle.std.specs.Counts.{IsPrefixLen};
 
 use super::MANIFEST;
-use crate::input::MAX_READS;
 use crate::{DEFAULT_LIMIT, Fault, run_world};
 use std::io::{self, BufWriter, ErrorKind, Read, Write};
 
@@ -59,7 +58,7 @@ const ENDS: [(AfterText, Result<(), Fault>, usize); 4] = [
     (AfterText::Ends, Ok(()), 230),
     (AfterText::Fails, Err(Fault::CannotRead), 230),
     (AfterText::GivesLf, Err(Fault::TooLong), 293),
-    (AfterText::IsInterrupted, Err(Fault::CannotRead), MAX_READS),
+    (AfterText::IsInterrupted, Err(Fault::CannotRead), 2_097_152),
 ];
 
 #[test]
