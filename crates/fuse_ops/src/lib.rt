@@ -4,6 +4,3 @@
 mod served;
 
 pub use served::Served;
-
-#[cfg(test)]
-mod map_tests;

@@ -6,3 +6,6 @@ mod entries;
 mod inode_map;
 
 pub use inode_map::{Forgot, GiveFault, InodeMap};
+
+#[cfg(test)]
+mod tests;

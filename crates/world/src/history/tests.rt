@@ -1,8 +1,10 @@
 //! Worked examples of whole lists of events.
 use super::*;
-use crate::{Forgot, Happened, Refusal};
-use broker_core::{Answer, Item, Reply, Request, Seat};
-use eden_base::{Attr, DaemonId, Errno, FileId, Kind, Name, Number, Perm};
+use crate::{Happened, Refusal};
+use broker_core::Seat;
+use eden_base::{Attr, DaemonId, Errno, Kind, Name, Number, Perm, Place};
+use fuse_wire::{Answer, Batch, Item, Reply, Request};
+use inode_map::{Forgot, InodeMap};
 use std::test::Fail;
 
 const TEXT: &[u8] =
@@ -15,15 +17,36 @@ const DIRECTORY: Attr = Attr {
     nlink: 2,
 };
 
-/// Where the name wants memory, nothing is asked.
-fn look_up(alloc: Global, dir: u64, name: &[u8]) -> Event {
-    match Name::parse(alloc, name) {
-        Ok(name) => Event::Do(Request::Lookup {
-            dir: Number(dir),
-            name,
-        }),
-        Err(_refused) => Event::Show,
+const FILE: Attr = Attr {
+    kind: Kind::File,
+    perm: Perm { bits: 0o644 },
+    size: 12,
+    nlink: 1,
+};
+
+/// A name, made again where memory was refused.
+fn name(alloc: Global, bytes: &[u8]) -> Result<Name, Fail> {
+    match Name::parse(alloc, bytes) {
+        Ok(name) => Ok(name),
+        Err(_refused) => Ok(Name::parse(alloc, bytes)?),
     }
+}
+
+fn manifest(alloc: Global) -> Result<Manifest, Fail> {
+    match Manifest::read(alloc, TEXT) {
+        Ok(manifest) => Ok(manifest),
+        Err(_refused) => Ok(Manifest::read(alloc, TEXT)?),
+    }
+}
+
+fn look_up(alloc: Global, dir: u64, bytes: &[u8]) -> Result<Event, Fail> {
+    let name = name(alloc, bytes)?;
+    let dir = Number(dir);
+    Ok(Event::Do(Request::Lookup { dir, name }))
+}
+
+fn getattr(node: u64) -> Event {
+    Event::Do(Request::Getattr { node: Number(node) })
 }
 
 fn forget(node: u64, k: u64) -> Event {
@@ -35,6 +58,14 @@ fn item(node: u64, k: u64) -> Item {
         node: Number(node),
         k,
     }
+}
+
+fn forget_both(alloc: Global, items: &[Item; 2]) -> Result<Event, Fail> {
+    let batch = match Batch::of(alloc, items) {
+        Ok(batch) => batch,
+        Err(NoMemory) => Batch::of(alloc, items)?,
+    };
+    Ok(Event::Do(Request::BatchForget(batch)))
 }
 
 fn forgot(node: u64, k: u64, forgot: Forgot) -> Option<Happened> {
@@ -82,39 +113,44 @@ fn are(outcomes: &[Outcome], expected: &[Option<Happened>]) -> bool {
     true
 }
 
-/// The world after events that had these outcomes, where memory was ample.
-fn after(alloc: Global, events: &[Event], expected: &[Option<Happened>]) -> Option<World> {
-    let manifest = match Manifest::read(alloc, TEXT) {
-        Ok(manifest) => manifest,
-        Err(_refused) => return None,
-    };
-    match run(alloc, &manifest, 8, events) {
-        Ok((world, outcomes)) => {
-            if are(&outcomes, expected) {
-                return Some(world);
-            }
-            None
+/// The world after events that had these outcomes, in the first run or, as where memory was refused, in the second.
+fn after(alloc: Global, events: &[Event], expected: &[Option<Happened>]) -> Result<World, Fail> {
+    let manifest = manifest(alloc)?;
+    if let Ok((world, outcomes)) = run(alloc, &manifest, 8, events) {
+        if are(&outcomes, expected) {
+            return Ok(world);
         }
-        Err(NoMemory) => None,
+    }
+    let (world, outcomes) = run(alloc, &manifest, 8, events)?;
+    if are(&outcomes, expected) {
+        return Ok(world);
+    }
+    Err("other outcomes")?
+}
+
+/// Whether a map's only number names `src` and is held once, and this one is given next.
+fn keeps_src_alone(map: &InodeMap, number: Number, next: u64) -> bool {
+    if map.after(Number(0)) != Some(number) || map.after(number).is_some() {
+        return false;
+    }
+    if map.count(number) != 1 || map.bad_items() != 0 || map.next() != next {
+        return false;
+    }
+    match map.entry(number) {
+        Some(Place::Linked { parent, name }) => {
+            *parent == Number::ROOT && name.bytes() == b"src".as_slice()
+        }
+        _other => false,
     }
 }
 
 /// Whether daemon 1 keeps this number of `src` alone, the kernel holds it once, and that one is given next.
 fn keeps_alone(world: &World, number: u64, next: u64) -> bool {
-    let served = match world.served(DaemonId(1)) {
-        Some(served) => served,
-        None => return false,
+    let Some(served) = world.served(DaemonId(1)) else {
+        return false;
     };
-    if served.map().kept().len() != 1 || served.map().bad_items() != 0 {
-        return false;
-    }
-    if served.map().count(Number(number)) != 1 || world.broker().held(Number(number)) != 1 {
-        return false;
-    }
-    if served.locate(Number(number)) != Some(FileId(2)) {
-        return false;
-    }
-    served.map().next() == next
+    let number = Number(number);
+    keeps_src_alone(served.map(), number, next) && world.broker().held(number) == 1
 }
 
 /// What an event did, or, where it wanted memory, what it did when it came again.
@@ -128,14 +164,15 @@ fn made(world: &mut World, event: &Event) -> Option<Happened> {
 
 #[test]
 fn gives_a_new_number_once_the_kernel_forgot_the_old_one(rt: HostRuntime) -> Result<(), Fail> {
+    let alloc = rt.alloc();
     let events = [
         Event::Start,
         Event::Mount(DaemonId(1)),
-        look_up(rt.alloc(), 1, b"src"),
-        look_up(rt.alloc(), 1, b"src"),
+        look_up(alloc, 1, b"src")?,
+        look_up(alloc, 1, b"src")?,
         Event::Show,
         forget(2, 2),
-        look_up(rt.alloc(), 1, b"src"),
+        look_up(alloc, 1, b"src")?,
     ];
     let expected = [
         Some(Happened::Started(DaemonId(1))),
@@ -146,64 +183,60 @@ fn gives_a_new_number_once_the_kernel_forgot_the_old_one(rt: HostRuntime) -> Res
         forgot(2, 2, Forgot::Dropped),
         entry(3, 3, DIRECTORY),
     ];
-    let world = after(rt.alloc(), &events, &expected).ok_or("other outcomes")?;
+    let world = after(alloc, &events, &expected)?;
     assert!(rt; keeps_alone(&world, 3, 4));
     let seat = Seat {
         generation: 1,
         daemon: DaemonId(1),
     };
-    assert!(rt; world.broker().seat() == Some(seat));
+    assert_eq!(rt; world.broker().seat(), Some(seat));
     Ok(())
 }
 
 #[test]
 fn keeps_a_directory_until_what_it_holds_is_forgotten(rt: HostRuntime) -> Result<(), Fail> {
-    let file = Attr {
-        kind: Kind::File,
-        perm: Perm::of(0o644).ok_or("a mode")?,
-        size: 12,
-        nlink: 1,
-    };
+    let alloc = rt.alloc();
     let events = [
         Event::Start,
         Event::Mount(DaemonId(1)),
-        look_up(rt.alloc(), 1, b"src"),
-        look_up(rt.alloc(), 2, b"a"),
+        look_up(alloc, 1, b"src")?,
+        look_up(alloc, 2, b"a")?,
         forget(2, 1),
-        look_up(rt.alloc(), 3, b"x"),
-        look_up(rt.alloc(), 1, b"missing"),
+        look_up(alloc, 3, b"x")?,
+        look_up(alloc, 1, b"missing")?,
         forget(3, 1),
-        look_up(rt.alloc(), 1, b"src"),
+        look_up(alloc, 1, b"src")?,
     ];
     let expected = [
         Some(Happened::Started(DaemonId(1))),
         Some(Happened::Mounted(1)),
         entry(1, 2, DIRECTORY),
-        entry(2, 3, file),
+        entry(2, 3, FILE),
         forgot(2, 1, Forgot::Lowered),
         error(3, Errno::ENOTDIR),
         error(4, Errno::ENOENT),
         forgot(3, 1, Forgot::Dropped),
         entry(5, 4, DIRECTORY),
     ];
-    let world = after(rt.alloc(), &events, &expected).ok_or("other outcomes")?;
+    let world = after(alloc, &events, &expected)?;
     assert!(rt; keeps_alone(&world, 4, 5));
     Ok(())
 }
 
 #[test]
 fn refuses_events_for_the_first_cause(rt: HostRuntime) -> Result<(), Fail> {
+    let alloc = rt.alloc();
     let events = [
         Event::Mount(DaemonId(1)),
         Event::Mount(DaemonId(0)),
-        look_up(rt.alloc(), 1, b"src"),
+        look_up(alloc, 1, b"src")?,
         forget(1, 0),
         Event::Start,
         Event::Start,
         Event::Mount(DaemonId(2)),
         Event::Mount(DaemonId(1)),
         Event::Mount(DaemonId(2)),
-        look_up(rt.alloc(), 2, b"a"),
+        look_up(alloc, 2, b"a")?,
         forget(1, 1),
         forget(2, 1),
     ];
@@ -221,31 +254,52 @@ fn refuses_events_for_the_first_cause(rt: HostRuntime) -> Result<(), Fail> {
         refused(Refusal::BadForget),
         refused(Refusal::BadForget),
     ];
-    let world = after(rt.alloc(), &events, &expected).ok_or("other outcomes")?;
+    let world = after(alloc, &events, &expected)?;
     assert!(rt; world.served(DaemonId(1)).is_none() && world.served(DaemonId(3)).is_none());
     Ok(())
 }
 
-/// Passes also where one allocation is refused, as `rt try --test --fail-alloc N` does: a refused event changes
-/// nothing and is made when it comes again; a look-up may also be answered ENOMEM, and gives no number then.
+#[test]
+fn answers_enosys_and_takes_no_batch(rt: HostRuntime) -> Result<(), Fail> {
+    let alloc = rt.alloc();
+    let events = [
+        Event::Start,
+        Event::Mount(DaemonId(1)),
+        look_up(alloc, 1, b"src")?,
+        forget_both(alloc, &[item(2, 1), item(2, 1)])?,
+        getattr(1),
+        getattr(3),
+        look_up(alloc, 1, b"missing")?,
+    ];
+    let expected = [
+        Some(Happened::Started(DaemonId(1))),
+        Some(Happened::Mounted(1)),
+        entry(1, 2, DIRECTORY),
+        refused(Refusal::BadForget),
+        error(2, Errno::ENOSYS),
+        refused(Refusal::NotHeld),
+        error(3, Errno::ENOENT),
+    ];
+    let world = after(alloc, &events, &expected)?;
+    assert!(rt; keeps_alone(&world, 2, 3));
+    Ok(())
+}
+
+/// Passes also where one allocation is refused: a refused event changes nothing and is made when it comes again; a
+/// lookup may also be answered ENOMEM, and gives no number then.
 #[test]
 fn goes_on_after_memory_was_refused(rt: HostRuntime) -> Result<(), Fail> {
-    let manifest = match Manifest::read(rt.alloc(), TEXT) {
-        Ok(manifest) => manifest,
-        Err(_refused) => Manifest::read(rt.alloc(), TEXT)?,
-    };
-    let mut world = match World::new(rt.alloc(), &manifest, 8) {
+    let alloc = rt.alloc();
+    let manifest = manifest(alloc)?;
+    let mut world = match World::new(alloc, &manifest, 8) {
         Ok(world) => world,
-        Err(NoMemory) => World::new(rt.alloc(), &manifest, 8)?,
+        Err(NoMemory) => World::new(alloc, &manifest, 8)?,
     };
-    let ask = match look_up(rt.alloc(), 1, b"src") {
-        Event::Show => look_up(rt.alloc(), 1, b"src"),
-        ask => ask,
-    };
+    let ask = look_up(alloc, 1, b"src")?;
     let started = made(&mut world, &Event::Start);
-    assert!(rt; started == Some(Happened::Started(DaemonId(1))));
+    assert_eq!(rt; started, Some(Happened::Started(DaemonId(1))));
     let mounted = made(&mut world, &Event::Mount(DaemonId(1)));
-    assert!(rt; mounted == Some(Happened::Mounted(1)));
+    assert_eq!(rt; mounted, Some(Happened::Mounted(1)));
     let asked = made(&mut world, &ask);
     assert!(rt; asked == entry(1, 2, DIRECTORY) || asked == entry(2, 2, DIRECTORY));
     assert!(rt; keeps_alone(&world, 2, 3));

@@ -1,7 +1,7 @@
 //! Which numbers an inode map gives, and which files they name in a tree.
+use crate::{Forgot, GiveFault, InodeMap};
 use checkout::{Manifest, ManifestFault, ManifestFaultKind, Tree};
 use eden_base::{FileId, Name, NameFault, NoMemory, Number, Place};
-use inode_map::{Forgot, GiveFault, InodeMap};
 use std::alloc::{AllocError, Global};
 use std::test::Fail;
 
