@@ -1,6 +1,8 @@
 -- What soundness says of numbers that are counted or name a file.
-use Rattle.std.proofs.Common.{◌≡◌, ℕ, ◌<◌, ◌≤◌, Some, subst, inl, inr, ◌⊎◌, arith}
+use Rattle.std.proofs.Common.{◌≡◌, ℕ, ◌<◌, ◌≤◌, Option, Some, None, refl, subst, inl, inr, ◌⊎◌, arith}
 use Rattle.std.specs.Prelude.{IsSome}
+use Rattle.std.specs.Option.{option_map_or}
+use Rattle.eden_base.specs.Limits.{greatest_count}
 use Rattle.eden_base.proofs.MemberLemmas.{some-IsSome}
 use Rattle.eden_base.specs.declared.number.FileId.{FileId}
 use Rattle.checkout.specs.Tree.{Tree, IsTree, file_of as tree_file}
@@ -34,3 +36,10 @@ pub forgets-keeps : (tree : Tree) (old new : MapState) (n k : ℕ) → Forgets t
 forgets-keeps tree old new n k forgets m file some at =
     let g = counted-file (record { map = new; tree = tree }) forgets.sound m some in
     subst (λ (f : FileId). IsFileOf tree new.entries m f) (IsFileOf-same tree old.entries m g.0 file (forgets.left_name m g.0 g.1) at) g.1
+
+-- no count is above the greatest
+pub count-fits : (served : ServedState) → IsSound served → (n : ℕ) → count_of served.map.entries n ≤ greatest_count
+count-fits served sound n = in_ (entry_of served.map.entries n) refl where
+  in_ : (o : Option Kept) → entry_of served.map.entries n ≡ o → option_map_or (λ (kept : Kept). kept.count) o 0 ≤ greatest_count
+  in_ None e = omega arith
+  in_ (Some kept) e = sound.counts_fit n kept e

@@ -10,7 +10,6 @@ use Rattle.eden_base.specs.declared.errno.Errno.{Errno}
 use Rattle.eden_base.specs.declared.errno.Errno.TheVariants.{ESTALE, ENOENT, EIO, ENOMEM, ENOSYS}
 use Rattle.eden_base.specs.declared.number.FileId.{FileId}
 use Rattle.eden_base.specs.declared.number.Number.{Number}
-use Rattle.eden_base.proofs.MemberLemmas.{some-IsSome}
 use Rattle.eden_base.proofs.NumberTests.{eq-or}
 use Rattle.checkout.specs.Tree.{Tree, IsTree, child_of, kind_of, root}
 use Rattle.fuse_wire.specs.Given.{given_out}
@@ -18,20 +17,21 @@ use Rattle.fuse_wire.specs.declared.ask.Request.{Request}
 use Rattle.fuse_wire.specs.declared.ask.Request.TheVariants.{Lookup}
 use Rattle.fuse_wire.specs.declared.reply.Answer.{Answer}
 use Rattle.fuse_wire.specs.declared.reply.Answer.TheVariants.{Entry, Error}
-use Rattle.inode_map.specs.InodeMap.{MapState, IsFileOf, is_root, entry_of, entry_at, stands_at, give_fault, give_fault_at, given, number_given}
+use Rattle.inode_map.specs.InodeMap.{MapState, IsFileOf, is_root, entry_at, count_of, give_fault, given, number_given}
 use Rattle.inode_map.specs.declared.inode_map.GiveFault.{GiveFault}
 use Rattle.inode_map.specs.declared.inode_map.GiveFault.TheVariants.{NoNumber, TooMany, NoMemory}
-use Rattle.inode_map.specs.declared.inode_map.Kept.{Kept}
-use Rattle.inode_map.proofs.EntryLemmas.{entry_of-first, numbers-entry, numbers-bound}
-use Rattle.inode_map.proofs.FileLemmas.{IsFileOf-same, named-known}
+use Rattle.inode_map.proofs.EntryLemmas.{numbers-bound}
+use Rattle.inode_map.proofs.FileLemmas.{IsFileOf-same}
 use Rattle.fuse_ops.specs.Answers.{NumberFault, none_left, at_greatest, Effect, found_in, found_in_dir, enters, comes_to, Tells, AnswersCounted, Answers, tree_after, file_told}
-use Rattle.fuse_ops.specs.Gifts.{served_over, IsPlaced, NumberAtPlace}
+use Rattle.fuse_ops.specs.Gifts.{served_over, IsPlaced}
 use Rattle.fuse_ops.specs.Served.{ServedState, IsLocated, numbers_at, number_fault, map_after, IsLegal}
 use Rattle.fuse_ops.specs.Soundness.{IsSound}
 use Rattle.world.specs.World.{World, file_named, gives, owed, IsLive, IsNumberOf, MayNumber, IsAtGreatest, MayBeGiven, IsAgainst, numbers_of, effect_in, IsStale, MayAnswer, names_after}
 use Rattle.world.specs.Agreement.{Knows}
 use Rattle.world.proofs.Knowing.{named, knows-along, live-named, number-names, gave-knows}
-use Rattle.fuse_ops.proofs.GivingLaw.{gives-well, number-at_place}
+use Rattle.fuse_ops.proofs.GivingLaw.{gives-well}
+use Rattle.fuse_ops.proofs.Known.{same-number, named-range, count-fits}
+use Rattle.fuse_ops.proofs.PlaceNumbers.{given-number, fault-held, next-number, fault-free, named-or-free}
 
 -- an answer is one of the world's, and the daemon knows what the world has after it
 pub record Worked (w : World) (request : Request) (answer : Answer) (later : ServedState) : Type 0 where
@@ -136,20 +136,9 @@ full_in w m dir name above file answer later fault f against e makes =
     (makes ∙ ap (λ (a : Answer). served_over (tree_after w.tree (enters w.tree (Ok file)) a) (map_after m (Some (dir, name)) (given_out a))) e)
     (may_in w m dir name above file (Error (Rattle.fuse_ops.specs.Answers.number_errno fault)) f (Some fault, against, refl)))
 
--- the file that was found is not the root
-found-no_root : (w : World) (m : MapState) (dir : Number) (name : List ℕ) (above file : FileId) → Found w m dir name above file → file.0 ≡ 1 → ⊥
-found-no_root w m dir name above file f one = let low : 1 < file.0 = (f.is_tree).root_has_no_link above name file (found-child w.tree above file name f.found) in omega arith
-
--- a live number of the file is the one whose entry names it
-number-same : (w : World) (m : MapState) (dir : Number) (name : List ℕ) (above file : FileId) (k : ℕ) (kept : Kept) → Found w m dir name above file →
-    entry_of m.entries k ≡ Some kept → IsFileOf w.tree m.entries k file → (j : ℕ) → IsNumberOf w file j → j ≡ k
-number-same w m dir name above file k kept f entry names j is = in_ (named-known w.tree m.entries j file there) where
-  there : IsFileOf w.tree m.entries j file
-  there = number-names w m f.knows j file is
-
-  in_ : (j ≡ 1) ⊎ ((x : Kept) × (entry_of m.entries j ≡ Some x)) → j ≡ k
-  in_ (inl one) = absurd (found-no_root w m dir name above file f (ap (λ (x : FileId). x.0) (IsFileOf-same w.tree m.entries j file root there (is_root j root one refl))))
-  in_ (inr (x, e)) = ((f.knows).sound).files_are_apart j k file (some-IsSome (entry_of m.entries j) x e) (some-IsSome (entry_of m.entries k) kept entry) there names
+-- a live number of the file is the one that names it
+number-same : (w : World) (m : MapState) (dir : Number) (name : List ℕ) (above file : FileId) (k : ℕ) → Found w m dir name above file → IsFileOf w.tree m.entries k file → (j : ℕ) → IsNumberOf w file j → j ≡ k
+number-same w m dir name above file k f names j is = same-number (served_over w.tree m) f.is_tree (f.knows).sound j k file (number-names w m f.knows j file is) names
 
 -- what stands against a place's number is answered, and else the number is given
 by_fault : (w : World) (m : MapState) (dir : Number) (name : List ℕ) (above file : FileId) (answer : Answer) (later : ServedState) (told : Option GiveFault) → Found w m dir name above file →
@@ -169,72 +158,69 @@ Asked : World → MapState → Number → List ℕ → FileId → FileId → Ans
 Asked w m dir name above file answer later = (fault : Option NumberFault) → fault ≡ number_fault (give_fault m dir.0 name) → AnswersCounted (numbers_at m (Some (dir, name))) (Lookup dir name) w.tree file fault answer →
     later ≡ served_over (tree_after w.tree (enters w.tree (Ok file)) answer) (map_after m (Some (dir, name)) (given_out answer)) → Worked w (Lookup dir name) answer later
 
--- a place with a number: it may be given out once more, or is counted as often as may be
-old_in : (w : World) (m : MapState) (dir : Number) (name : List ℕ) (above file : FileId) (answer : Answer) (later : ServedState) (kept : Kept) → Found w m dir name above file →
-    entry_at m.entries dir.0 name ≡ Some kept → IsFileOf w.tree m.entries kept.number.0 file → Asked w m dir name above file answer later
+-- a file that a number names: it may be given out once more, or is counted as often as may be
+held_in : (w : World) (m : MapState) (dir : Number) (name : List ℕ) (above file : FileId) (answer : Answer) (later : ServedState) (k : ℕ) → Found w m dir name above file →
+    IsFileOf w.tree m.entries k file → Asked w m dir name above file answer later
 unfolding Asked
-old_in w m dir name above file answer later kept f at names = in_ (nat_le greatest_count kept.count) refl where
-  k : ℕ
-  k = kept.number.0
-
+held_in w m dir name above file answer later k f names = in_ (nat_le greatest_count (count_of m.entries k)) refl where
   sound : IsSound (served_over w.tree m)
   sound = (f.knows).sound
 
-  entry : entry_of m.entries k ≡ Some kept
-  entry = entry_of-first m.entries 2 m.next (stands_at dir.0 name) kept sound.numbers at
+  place : IsPlaced (served_over w.tree m) dir.0 name above file
+  place = placed w m dir name above file f
 
-  bounds : (2 ≤ k) × (k < m.next)
-  bounds = numbers-entry m.entries 2 m.next k kept sound.numbers entry
+  range : (1 ≤ k) × (k < m.next)
+  range = named-range (served_over w.tree m) sound k file names
 
-  counted : owed w k ≡ kept.count
-  counted = sym ((f.knows).counts k (λ one. let low : 2 ≤ k = bounds.0 in omega arith)) ∙ ap (λ (o : Option Kept). option_map_or (λ (x : Kept). x.count) o 0) entry
+  not_root : k ≡ 1 → ⊥
+  not_root one =
+      let there : root ≡ file = IsFileOf-same w.tree m.entries k root file (is_root k root one refl) names in
+      let same : root.0 ≡ file.0 = ap (λ (x : FileId). x.0) there in
+      let low : 1 < file.0 = (f.is_tree).root_has_no_link above name file (found-child w.tree above file name f.found) in omega arith
+
+  counted : owed w k ≡ count_of m.entries k
+  counted = sym ((f.knows).counts k not_root)
 
   named_so : file_named w.names k ≡ Some file
   named_so = (f.knows).files k file names
-
-  is_it : (number_given m dir.0 name).0 ≡ k
-  is_it = ap (λ (o : Option Kept). (option_map_or (λ (x : Kept). x.number) o (record { 0 = m.next })).0) at
 
   may : MayNumber w file k
   may = live_in (eq-or (owed w k) 0) where
     live_in : (owed w k ≡ 0) ⊎ (owed w k ≡ 0 → ⊥) → MayNumber w file k
     live_in (inr some) = inl (record { live = inr (omega (arith, some)); named = named_so })
     live_in (inl none) = inr (record {
-      no_number = λ j is. live_is j is (number-same w m dir name above file k kept f entry names j is) is.live;
-      low = bounds.0;
-      high = let fit : m.next ≤ end_of_numbers = sound.numbers_fit in let below : k < m.next = bounds.1 in omega arith;
+      no_number = λ j is. live_is j (number-same w m dir name above file k f names j is) is.live;
+      low = let low : 1 ≤ k = range.0 in omega (arith, not_root);
+      high = let fit : m.next ≤ end_of_numbers = sound.numbers_fit in let below : k < m.next = range.1 in omega arith;
       named = inr named_so;
     }) where
-      live_is : (j : ℕ) → IsNumberOf w file j → j ≡ k → IsLive w j → ⊥
-      live_is j is same (inl one) = let low : 2 ≤ k = bounds.0 in omega arith
-      live_is j is same (inr some) = let none' : owed w j ≡ 0 = ap (owed w) same ∙ none in omega arith
+      live_is : (j : ℕ) → j ≡ k → IsLive w j → ⊥
+      live_is j same (inl one) = not_root (sym same ∙ one)
+      live_is j same (inr some) = let none' : owed w j ≡ 0 = ap (owed w) same ∙ none in omega arith
 
-  in_ : (b : Bool) → nat_le greatest_count kept.count ≡ b → Asked w m dir name above file answer later
-  in_ true e = by_fault w m dir name above file answer later (Some TooMany) f (ap (give_fault_at m) at ∙ ap (λ (b : Bool). if b then Some TooMany else None) e)
+  in_ : (b : Bool) → nat_le greatest_count (count_of m.entries k) ≡ b → Asked w m dir name above file answer later
+  in_ true e = by_fault w m dir name above file answer later (Some TooMany) f (fault-held _ _ _ _ _ place k names ∙ ap (λ (b : Bool). if b then Some TooMany else None) e)
       (k, record { number = record { live = inr some; named = named_so }; greatest = most }) (λ h. absurd (let none : ⊥ = cc in none)) (λ h. let none : ⊥ = cc in none) where
         most : owed w k ≡ greatest_count
-        most = let l : greatest_count ≤ kept.count = grind (arith, nat_tests) in let h : kept.count ≤ greatest_count = sound.counts_fit k kept entry in let c : owed w k ≡ kept.count = counted in omega arith
+        most = let l : greatest_count ≤ count_of m.entries k = grind (arith, nat_tests) in let h : count_of m.entries k ≤ greatest_count = count-fits (served_over w.tree m) sound k in let c : owed w k ≡ count_of m.entries k = counted in omega arith
 
         some : 0 < owed w k
         some = let c : owed w k ≡ greatest_count = most in omega arith
-  in_ false e = by_fault w m dir name above file answer later None f (ap (give_fault_at m) at ∙ ap (λ (b : Bool). if b then Some TooMany else None) e)
-      (record { number = k; may = may; not_greatest = λ j is. less j is (number-same w m dir name above file k kept f entry names j is.number) }) (λ h. subst (λ (i : ℕ). MayNumber w file i) (sym is_it) may) (λ h. let none : ⊥ = cc in none) where
+  in_ false e = by_fault w m dir name above file answer later None f (fault-held _ _ _ _ _ place k names ∙ ap (λ (b : Bool). if b then Some TooMany else None) e)
+      (record { number = k; may = may; not_greatest = λ j is. less j is (number-same w m dir name above file k f names j is.number) }) (λ h. subst (λ (i : ℕ). MayNumber w file i) (sym (given-number _ _ _ _ _ place k names)) may) (λ h. let none : ⊥ = cc in none) where
         less : (j : ℕ) → IsAtGreatest w file j → j ≡ k → ⊥
-        less j is same = let l : kept.count < greatest_count = grind (arith, nat_tests) in let g : owed w j ≡ greatest_count = is.greatest in let c : owed w j ≡ kept.count = ap (owed w) same ∙ counted in omega arith
+        less j is same = let l : count_of m.entries k < greatest_count = grind (arith, nat_tests) in let g : owed w j ≡ greatest_count = is.greatest in let c : owed w j ≡ count_of m.entries k = ap (owed w) same ∙ counted in omega arith
 
--- a place without a number: the next one is given, or none is left
+-- a file that no number names: the next one is given, or none is left
 new_in : (w : World) (m : MapState) (dir : Number) (name : List ℕ) (above file : FileId) (answer : Answer) (later : ServedState) → Found w m dir name above file →
-    entry_at m.entries dir.0 name ≡ None → ((j : ℕ) → IsFileOf w.tree m.entries j file → ⊥) → Asked w m dir name above file answer later
+    ((j : ℕ) → IsFileOf w.tree m.entries j file → ⊥) → Asked w m dir name above file answer later
 unfolding Asked
-new_in w m dir name above file answer later f at nobody = in_ (nat_le end_of_numbers m.next) refl where
-  sound : IsSound (served_over w.tree m)
-  sound = (f.knows).sound
+new_in w m dir name above file answer later f nobody = in_ (nat_le end_of_numbers m.next) refl where
+  place : IsPlaced (served_over w.tree m) dir.0 name above file
+  place = placed w m dir name above file f
 
   no_number : (j : ℕ) → IsNumberOf w file j → ⊥
   no_number j is = nobody j (number-names w m f.knows j file is)
-
-  is_it : (number_given m dir.0 name).0 ≡ m.next
-  is_it = ap (λ (o : Option Kept). (option_map_or (λ (x : Kept). x.number) o (record { 0 = m.next })).0) at
 
   not_named : file_named w.names m.next ≡ None
   not_named = none_in (file_named w.names m.next) refl where
@@ -243,19 +229,19 @@ new_in w m dir name above file answer later f at nobody = in_ (nat_le end_of_num
     none_in (Some x) e = absurd (let r = ((f.knows).numbers m.next).0 (ap is_some e) in omega (arith, r.1))
 
   in_ : (b : Bool) → nat_le end_of_numbers m.next ≡ b → Asked w m dir name above file answer later
-  in_ true e = by_fault w m dir name above file answer later (Some NoNumber) f (ap (give_fault_at m) at ∙ ap (λ (b : Bool). if b then Some NoNumber else None) e)
+  in_ true e = by_fault w m dir name above file answer later (Some NoNumber) f (fault-free _ _ _ _ _ place nobody ∙ ap (λ (b : Bool). if b then Some NoNumber else None) e)
       (record { no_number = no_number; none_left = λ n low high. ((f.knows).numbers n).1 (omega arith, (let l : end_of_numbers ≤ m.next = grind (arith, nat_tests) in omega arith)) })
       (λ h. absurd (let none : ⊥ = cc in none)) (λ h. let none : ⊥ = cc in none)
-  in_ false e = by_fault w m dir name above file answer later None f (ap (give_fault_at m) at ∙ ap (λ (b : Bool). if b then Some NoNumber else None) e)
-      (record { number = m.next; may = may; not_greatest = λ j is. no_number j is.number }) (λ h. subst (λ (i : ℕ). MayNumber w file i) (sym is_it) may) (λ h. let none : ⊥ = cc in none) where
+  in_ false e = by_fault w m dir name above file answer later None f (fault-free _ _ _ _ _ place nobody ∙ ap (λ (b : Bool). if b then Some NoNumber else None) e)
+      (record { number = m.next; may = may; not_greatest = λ j is. no_number j is.number }) (λ h. subst (λ (i : ℕ). MayNumber w file i) (sym (next-number _ _ _ _ _ place nobody)) may) (λ h. let none : ⊥ = cc in none) where
         may : MayNumber w file m.next
-        may = inr (record { no_number = no_number; low = numbers-bound m.entries 2 m.next sound.numbers; high = grind (arith, nat_tests); named = inl not_named })
+        may = inr (record { no_number = no_number; low = numbers-bound m.entries 2 m.next ((f.knows).sound).numbers; high = grind (arith, nat_tests); named = inl not_named })
 
 -- a lookup that found a file
 file_in : (w : World) (m : MapState) (dir : Number) (name : List ℕ) (above file : FileId) (answer : Answer) (later : ServedState) → Found w m dir name above file →
-    (entry : Option Kept) → entry_at m.entries dir.0 name ≡ entry → NumberAtPlace w.tree m entry file → Asked w m dir name above file answer later
-file_in w m dir name above file answer later f (Some kept) at names = old_in w m dir name above file answer later kept f at names
-file_in w m dir name above file answer later f None at nobody = new_in w m dir name above file answer later f at nobody
+    ((n : ℕ) × IsFileOf w.tree m.entries n file) ⊎ ((n : ℕ) → IsFileOf w.tree m.entries n file → ⊥) → Asked w m dir name above file answer later
+file_in w m dir name above file answer later f (inl (k, names)) = held_in w m dir name above file answer later k f names
+file_in w m dir name above file answer later f (inr nobody) = new_in w m dir name above file answer later f nobody
 
 -- a lookup, by what its directory's number names and what the name gives there
 lookup_in : (w : World) (m : MapState) (dir : Number) (name : List ℕ) (answer : Answer) (later : ServedState) → IsTree w.tree → Knows w.tree w.names (owed w) (served_over w.tree m) →
@@ -268,7 +254,7 @@ lookup_in w m dir name answer later is k o at (Ok file) found answers makes = in
   in_ None at' e = absurd (let none : ⊥ = cc in none)
   in_ (Some above) at' e =
       let f : Found w m dir name above file = record { is_tree = is; knows = k; at = at'; found = e } in
-      file_in w m dir name above file answer later f (entry_at m.entries dir.0 name) refl (number-at_place (served_over w.tree m) dir.0 name above file (placed w m dir name above file f)) answers.0 answers.1 answers.2 makes
+      file_in w m dir name above file answer later f (named-or-free _ _ _ _ _ (placed w m dir name above file f)) answers.0 answers.1 answers.2 makes
 lookup_in w m dir name answer later is k o at (Err errno) found answers makes =
     subst (λ (a : Answer). Worked w (Lookup dir name) a later) (sym answers)
     (refused w (served_over w.tree m) later (Lookup dir name) errno is k

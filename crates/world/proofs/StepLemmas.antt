@@ -3,7 +3,7 @@ use Rattle.std.proofs.Common.{◌≡◌, ℕ, ◌+◌, ◌-◌, Bool, true, fals
 use Rattle.std.specs.Prelude.{slice_get}
 use Rattle.std.specs.Option.{option_map, option_and_then}
 use Rattle.eden_base.specs.declared.number.DaemonId.{DaemonId}
-use Rattle.fuse_wire.specs.Ask.{is_ask, item_of, items_of}
+use Rattle.fuse_wire.specs.Ask.{is_ask, item_of}
 use Rattle.fuse_wire.specs.declared.ask.Request.{Request}
 use Rattle.fuse_wire.proofs.ItemLaws.{items-one}
 use Rattle.fuse_wire.specs.declared.item.Item.{Item}
