@@ -130,7 +130,6 @@ pub record IsTree (tree : Tree) : Type 0 where
   -- no file stands twice
   pub links_are_apart : (dir other_dir : FileId) (name other_name : List ℕ) (file : FileId) →
       child_of tree dir name ≡ Some file → child_of tree other_dir other_name ≡ Some file → (dir ≡ other_dir) × (name ≡ other_name)
-  pub linked_is_linked : (dir : FileId) (name : List ℕ) (file : FileId) → child_of tree dir name ≡ Some file → is_linked tree file ≡ true
   -- each linked file is reached from the root
   pub links_are_reached : (dir : FileId) (name : List ℕ) (file : FileId) → child_of tree dir name ≡ Some file →
       (path : List (List ℕ)) × (file_at tree root path ≡ Some file)
