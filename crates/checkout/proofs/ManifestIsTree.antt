@@ -11,10 +11,8 @@ use Rattle.eden_base.specs.declared.number.FileId.{FileId}
 use Rattle.checkout.specs.Manifest.{File, Line, Manifest, IsDirBefore, IsManifest}
 use Rattle.checkout.specs.Tree.{Tree, files_from, root, tree_of, kind_of, child_of, file_at, is_linked, is_unlinked, nlink_of, nlink_of_kind, attr_of, attr_of_linked, IsTree}
 use Rattle.checkout.proofs.LinkLaws.{linked_from_child}
-use Rattle.checkout.proofs.ManifestTree.{file_with, same_id, IsLinkOf, line_of_link, AreApart, link_of_line, root_of_files, file_of_line, id_of_file, line_at}
-
-pub apart_lines : (m : Manifest) → IsManifest m → AreApart m.lines
-apart_lines m h = record { apart = λ i j a b lt at_i at_j. (h.each i a at_i).place_is_new j b lt at_j }
+use Rattle.checkout.proofs.MoreLines.{apart}
+use Rattle.checkout.proofs.ManifestTree.{file_with, same_id, IsLinkOf, line_of_link, link_of_line, root_of_files, file_of_line, id_of_file, line_at}
 
 file_at-append : (tree : Tree) (dir : FileId) (path more : List (List ℕ)) → file_at tree dir (path ++ more) ≡ option_and_then (λ (f : FileId). file_at tree f more) (file_at tree dir path)
 file_at-append tree dir [] more = refl
@@ -41,7 +39,7 @@ module _ (m : Manifest) (is : IsManifest m) where
   dir_kind dir i (inr (j, above, lt, e, here, kind)) = kind_of_line j above here dir e ∙ ap (λ k. Some k) kind
 
   child_of_line : (i : ℕ) (line : Line) → slice_get m.lines i ≡ Some line → child_of tree line.dir line.name ≡ Some (file_with (2 + i))
-  child_of_line i line here = link_of_line m.lines 2 i line (apart_lines m is) here
+  child_of_line i line here = link_of_line m.lines 2 i line (apart m.lines is.lines) here
 
   -- a line is reached by its name, after a path to its directory
   reached_below : (i : ℕ) (line : Line) → slice_get m.lines i ≡ Some line → (path : List (List ℕ)) → file_at tree root path ≡ Some line.dir → file_at tree root (path ++ line.name ∷ []) ≡ Some (file_with (2 + i))
@@ -53,7 +51,7 @@ module _ (m : Manifest) (is : IsManifest m) where
   reached : (n i : ℕ) (line : Line) → i < n → slice_get m.lines i ≡ Some line → (path : List (List ℕ)) × (file_at tree root path ≡ Some (file_with (2 + i)))
   reached zero i line lt here = absurd (omega arith)
   reached (suc n) i line lt here =
-      elim ((is.each i line here).dir_before) [
+      elim ((is.lines.each i line here).dir_before) [
         | inl e ↦ (line.name ∷ [], reached_below i line here [] (ap (λ f. Some f) (same_id root line.dir (sym e))))
         | inr w ↦
             let r = reached n w.0 w.1 (omega (arith, w.2)) w.4 in
@@ -72,11 +70,11 @@ module _ (m : Manifest) (is : IsManifest m) where
   tree_of-IsTree = record {
     root_is_dir = root_kind;
     ids_below_next = λ file h. below_next file.0 _ refl h;
-    next_fits = omega (arith, is.few);
+    next_fits = omega (arith, is.lines.few);
     has_manifest_files = λ file f h. h;
     others_are_later = λ file f h. inl h;
     links_give_files = λ dir name file h. let r = file_is dir name file h in some-IsSome _ r.line.file (ap (get (files_from 2 m.lines)) r.file_is ∙ file_of_line 2 r.place m.lines r.line r.here);
-    links_stand_in_dirs = λ dir name file h. let r = file_is dir name file h in ap (kind_of tree) (same_id dir r.line.dir (sym r.dir_is)) ∙ dir_kind r.line.dir r.place ((is.each r.place r.line r.here).dir_before);
+    links_stand_in_dirs = λ dir name file h. let r = file_is dir name file h in ap (kind_of tree) (same_id dir r.line.dir (sym r.dir_is)) ∙ dir_kind r.line.dir r.place ((is.lines.each r.place r.line r.here).dir_before);
     root_has_no_link = λ dir name file h. let r = file_is dir name file h in omega (arith, r.file_is);
     links_are_apart = λ dir other name other_name file h g.
         let r = file_is dir name file h in
