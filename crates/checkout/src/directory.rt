@@ -9,7 +9,7 @@ use std::alloc::Global;
 use std::collections::BTreeMap;
 use std::marker::Model;
 
-/// A look-up by bytes takes no memory, as the names are kept as bytes.
+/// A lookup by bytes takes no memory, as the names are kept as bytes.
 #[derive(Drop)]
 pub struct Directory {
     files: BTreeMap<Vec<u8>, FileId>,
