@@ -1,4 +1,4 @@
--- Look-ups in the indexes, as look-ups in the maps that they hold.
+-- Lookups in the indexes, as lookups in the maps that they hold.
 use Rattle.std.proofs.Common.{◌≡◌, ◌==◌, length, arith, eq-eqb, ℕ, Bool, true, false, cond, subst, List, [], ◌∷◌, ◌++◌, Option, Some, None, refl, sym, ap, ◌∙◌}
 use Rattle.std.specs.Ordering.{nat_cmp, is_eq, eq_by_cmp, ordering_then, match_ordering}
 use Rattle.std.specs.declared.cmp.Ordering.{Ordering}
@@ -70,7 +70,7 @@ find-in_directory d dir name (e ∷ es) =
       | Greater ↦ λ h. h
     ] rest
 
--- a look-up in two lists is one in the second where the first has nothing
+-- a lookup in two lists is one in the second where the first has nothing
 find-append : {K X : Type 0} (R : K → K → Ordering) (q : K) (es fs : List (K × X)) → find R q (es ++ fs) ≡ option_or (find R q es) (find R q fs)
 find-append R q [] fs = refl
 find-append {X = X} R q (e ∷ es) fs =

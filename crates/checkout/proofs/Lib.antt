@@ -1,4 +1,5 @@
 pub mod FlatLemmas
+pub mod LinkLaws
 pub mod ManifestIsTree
 pub mod ManifestTree
 pub mod MapLemmas

@@ -1,18 +1,18 @@
 -- What a manifest says is a tree.
-use Rattle.std.proofs.Common.{◌≡◌, ℕ, zero, suc, ◌+◌, ◌<◌, ◌-◌, Bool, true, false, not, ◌&&◌, ◌==◌, if◌then◌else◌, List, [], ◌∷◌, ◌++◌, length, Option, Some, None, IsSome, refl, sym, ap, ◌∙◌, inl, inr, arith, nat_eq, eq-eqb}
+use Rattle.std.proofs.Common.{◌≡◌, ℕ, zero, suc, ◌+◌, ◌<◌, ◌-◌, Bool, false, not, ◌&&◌, ◌==◌, if◌then◌else◌, List, [], ◌∷◌, ◌++◌, length, Option, Some, None, IsSome, refl, sym, ap, ◌∙◌, inl, inr, arith, eq-eqb}
+use Rattle.std.proofs.Math.Bool.{and-false}
 use Rattle.std.specs.List.{slice_get}
 use Rattle.std.specs.Option.{option_map, option_and_then}
 use Rattle.std.specs.FinMap.{get}
+use Rattle.eden_base.proofs.MemberLemmas.{some-IsSome}
 use Rattle.eden_base.specs.declared.attr.Attr.{Attr}
 use Rattle.eden_base.specs.declared.attr.Kind.TheVariants.{Dir}
 use Rattle.eden_base.specs.declared.number.FileId.{FileId}
 use Rattle.checkout.specs.Manifest.{File, Line, Manifest, IsDirBefore, IsManifest}
-use Rattle.checkout.specs.Tree.{Tree, files_from, links_from, root, tree_of, kind_of, child_of, file_at, is_linked, is_unlinked, nlink_of, nlink_of_kind, attr_of, attr_of_linked, IsTree}
-use Rattle.checkout.proofs.MapLemmas.{list_any-entries}
-use Rattle.checkout.proofs.ManifestTree.{file_with, same_id, IsLinkOf, line_of_link, AreApart, link_of_line, root_of_files, file_of_line, id_of_file, line_at}
-
-pub apart_lines : (m : Manifest) → IsManifest m → AreApart m.lines
-apart_lines m h = record { apart = λ i j a b lt at_i at_j. (h.each i a at_i).place_is_new j b lt at_j }
+use Rattle.checkout.specs.Tree.{Tree, files_from, root, tree_of, kind_of, child_of, file_at, is_linked, is_unlinked, nlink_of, nlink_of_kind, attr_of, attr_of_linked, IsTree}
+use Rattle.checkout.proofs.LinkLaws.{linked_from_child}
+use Rattle.checkout.proofs.MoreLines.{apart}
+use Rattle.checkout.proofs.ManifestTree.{file_with, same_id, IsLinkOf, line_of_link, link_of_line, root_of_files, file_of_line, id_of_file, line_at}
 
 file_at-append : (tree : Tree) (dir : FileId) (path more : List (List ℕ)) → file_at tree dir (path ++ more) ≡ option_and_then (λ (f : FileId). file_at tree f more) (file_at tree dir path)
 file_at-append tree dir [] more = refl
@@ -39,7 +39,7 @@ module _ (m : Manifest) (is : IsManifest m) where
   dir_kind dir i (inr (j, above, lt, e, here, kind)) = kind_of_line j above here dir e ∙ ap (λ k. Some k) kind
 
   child_of_line : (i : ℕ) (line : Line) → slice_get m.lines i ≡ Some line → child_of tree line.dir line.name ≡ Some (file_with (2 + i))
-  child_of_line i line here = link_of_line m.lines 2 i line (apart_lines m is) here
+  child_of_line i line here = link_of_line m.lines 2 i line (apart m.lines is.lines) here
 
   -- a line is reached by its name, after a path to its directory
   reached_below : (i : ℕ) (line : Line) → slice_get m.lines i ≡ Some line → (path : List (List ℕ)) → file_at tree root path ≡ Some line.dir → file_at tree root (path ++ line.name ∷ []) ≡ Some (file_with (2 + i))
@@ -51,7 +51,7 @@ module _ (m : Manifest) (is : IsManifest m) where
   reached : (n i : ℕ) (line : Line) → i < n → slice_get m.lines i ≡ Some line → (path : List (List ℕ)) × (file_at tree root path ≡ Some (file_with (2 + i)))
   reached zero i line lt here = absurd (omega arith)
   reached (suc n) i line lt here =
-      elim ((is.each i line here).dir_before) [
+      elim ((is.lines.each i line here).dir_before) [
         | inl e ↦ (line.name ∷ [], reached_below i line here [] (ap (λ f. Some f) (same_id root line.dir (sym e))))
         | inr w ↦
             let r = reached n w.0 w.1 (omega (arith, w.2)) w.4 in
@@ -62,9 +62,6 @@ module _ (m : Manifest) (is : IsManifest m) where
   file_is : (dir : FileId) (name : List ℕ) (file : FileId) → child_of tree dir name ≡ Some file → IsLinkOf m.lines 2 dir.0 name file
   file_is dir name file h = line_of_link m.lines 2 dir.0 name file h
 
-  is_some_from : {X : Type 0} (o : Option X) (x : X) → o ≡ Some x → IsSome o
-  is_some_from o x e = rw e refl
-
   below_next : (q : ℕ) (o : Option File) → get (files_from 2 m.lines) q ≡ o → IsSome o → q < length m.lines + 2
   below_next q None e h = cc
   below_next q (Some f) e h = elim (id_of_file 2 m.lines q f e) [ inl one ↦ omega (arith, one) | inr lt ↦ omega (arith, lt.1) ]
@@ -73,11 +70,11 @@ module _ (m : Manifest) (is : IsManifest m) where
   tree_of-IsTree = record {
     root_is_dir = root_kind;
     ids_below_next = λ file h. below_next file.0 _ refl h;
-    next_fits = omega (arith, is.few);
+    next_fits = omega (arith, is.lines.few);
     has_manifest_files = λ file f h. h;
     others_are_later = λ file f h. inl h;
-    links_give_files = λ dir name file h. let r = file_is dir name file h in is_some_from _ r.line.file (ap (get (files_from 2 m.lines)) r.file_is ∙ file_of_line 2 r.place m.lines r.line r.here);
-    links_stand_in_dirs = λ dir name file h. let r = file_is dir name file h in ap (kind_of tree) (same_id dir r.line.dir (sym r.dir_is)) ∙ dir_kind r.line.dir r.place ((is.each r.place r.line r.here).dir_before);
+    links_give_files = λ dir name file h. let r = file_is dir name file h in some-IsSome _ r.line.file (ap (get (files_from 2 m.lines)) r.file_is ∙ file_of_line 2 r.place m.lines r.line r.here);
+    links_stand_in_dirs = λ dir name file h. let r = file_is dir name file h in ap (kind_of tree) (same_id dir r.line.dir (sym r.dir_is)) ∙ dir_kind r.line.dir r.place ((is.lines.each r.place r.line r.here).dir_before);
     root_has_no_link = λ dir name file h. let r = file_is dir name file h in omega (arith, r.file_is);
     links_are_apart = λ dir other name other_name file h g.
         let r = file_is dir name file h in
@@ -85,16 +82,11 @@ module _ (m : Manifest) (is : IsManifest m) where
         let at : r.place ≡ s.place = omega (arith, r.file_is, s.file_is) in
         let line : r.line ≡ s.line = let e = ap (slice_get m.lines) at in cc (r.here, s.here) in
         (same_id dir other (sym r.dir_is ∙ ap (λ (x : Line). x.dir.0) line ∙ s.dir_is), sym r.name_is ∙ ap (λ (x : Line). x.name) line ∙ s.name_is);
-    linked_is_linked = λ dir name file h. list_any-entries (λ (f : FileId). nat_eq f.0 file.0) (links_from 2 m.lines) (dir.0, name) file h (eq-eqb file.0 file.0 refl);
     links_are_reached = λ dir name file h.
         let r = file_is dir name file h in
         let p = reached (suc r.place) r.place r.line (omega arith) r.here in
         (p.0, p.1 ∙ ap (λ f. Some f) (same_id (file_with (2 + r.place)) file (sym r.file_is)));
   }
-
-and-false : (b : Bool) → (b && false) ≡ false
-and-false true = refl
-and-false false = refl
 
 -- every file of a manifest's tree is the root or linked
 no_file_is_unlinked : (m : Manifest) → IsManifest m → (file : FileId) (f : File) → get (files_from 2 m.lines) file.0 ≡ Some f → is_unlinked (tree_of m) file ≡ false
@@ -105,7 +97,7 @@ no_file_is_unlinked m is file f h =
           let at = line_at m.lines (file.0 - 2) (omega (arith, w.0, w.1)) in
           let id : (file_with (2 + (file.0 - 2))).0 ≡ file.0 = omega (arith, w.0) in
           let child = child_of_line m is (file.0 - 2) at.0 at.1 ∙ ap (λ g. Some g) (same_id (file_with (2 + (file.0 - 2))) file id) in
-          ap (λ b. not (file.0 == 1) && not b) ((tree_of-IsTree m is).linked_is_linked at.0.dir at.0.name file child) ∙ and-false (not (file.0 == 1))
+          ap (λ b. not (file.0 == 1) && not b) (linked_from_child (tree_of m) at.0.dir at.0.name file child) ∙ and-false (not (file.0 == 1))
     ]
 
 abbrev attr_with : File → ℕ → Attr

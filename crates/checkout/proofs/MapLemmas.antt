@@ -1,17 +1,22 @@
--- Look-ups in a finite map after an insertion, and its entries.
-use Rattle.std.proofs.Common.{◌≡◌, Bool, true, false, cond, ◌||◌, List, [], ◌∷◌, length, Some, refl, sym, ap, ◌∙◌, ◌⊎◌, inl, inr}
+-- Lookups in a finite map after an insertion, and its entries.
+use Rattle.std.proofs.Common.{◌≡◌, Bool, true, false, cond, ◌&&◌, ◌||◌, T, List, [], ◌∷◌, length, Some, refl, sym, ap, ◌∙◌, ◌⊎◌, inl, inr}
+use Rattle.std.proofs.Math.Bool.{or-true}
 use Rattle.std.specs.List.{list_any}
-use Rattle.std.specs.Ordering.{is_eq, eq_by_cmp}
+use Rattle.std.specs.Ordering.{is_eq, is_lt, eq_by_cmp, ordering_reverse}
 use Rattle.std.specs.declared.cmp.Ordering.{Ordering}
 use Rattle.std.specs.declared.cmp.Ordering.TheVariants.{Less, Equal, Greater}
 use Rattle.std.specs.Cmp.{IsTotalOrder, tied_itself}
-use Rattle.std.specs.FinMap.{FinMap, entries, get, insert, find, empty, get-entries, get-insert, empty_of_len, len-entries, IsAntisymmetric}
+use Rattle.std.specs.FinMap.{FinMap, entries, entries_sorted, get, insert, find, empty, get-entries, get-insert, empty_of_len, len-entries, IsAntisymmetric}
+use Rattle.std.specs.FinMap.Entries.{below_all, is_sorted}
+
+tie : (o : Ordering) → is_eq o ≡ true → o ≡ Equal
+tie Less h = absurd (cc)
+tie Equal h = refl
+tie Greater h = absurd (cc)
 
 -- a key that ties is the key, in an order that tells keys apart
 tied : {K : Type 0} {R : K → K → Ordering} → IsAntisymmetric R → (x y : K) (o : Ordering) → R x y ≡ o → is_eq o ≡ true → x ≡ y
-tied same x y Less e h = cc
-tied same x y Equal e h = same x y e
-tied same x y Greater e h = cc
+tied same x y o e h = same x y (e ∙ tie o h)
 
 -- what a map has after an insertion is what was inserted, or what it had
 pub get-insert_cases : {K X : Type 0} {R : K → K → Ordering} (o : IsTotalOrder R) → IsAntisymmetric R → (m : FinMap R X) (k : K) (v : X) (q : K) (w : X) → get (insert m k v) q ≡ Some w → ((q ≡ k) × (v ≡ w)) ⊎ (get m q ≡ Some w)
@@ -30,10 +35,6 @@ get-insert_other {K} {X} {R} o same m k v q other =
       | true ↦ λ e. absurd (other (tied same q k (R q k) refl e))
       | false ↦ λ e. refl
     ] refl)
-
-or-true : (b : Bool) → (b || true) ≡ true
-or-true true = refl
-or-true false = refl
 
 -- a value that is found is among the entries
 list_any-find : {K X : Type 0} (R : K → K → Ordering) (p : X → Bool) (q : K) (es : List (K × X)) (v : X) → find R q es ≡ Some v → p v ≡ true → list_any (λ (e : K × X). p e.1) es ≡ true
@@ -81,6 +82,46 @@ found_key {K} {X} {R} o p (e ∷ es) h =
 
 pub key_from_any : {K X : Type 0} {R : K → K → Ordering} (o : IsTotalOrder R) (p : K → Bool) (m : FinMap R X) → list_any (λ (e : K × X). p e.0) (entries m) ≡ true → (k : K) × (v : X) × (get m k ≡ Some v) × (p k ≡ true)
 key_from_any o p m h = let r = found_key o p (entries m) h in (r.key, r.value, get-entries m r.key ∙ r.found, r.passes)
+
+both_hold : (a b : Bool) → T (a && b) → T a × T b
+both_hold true b h = (tt, h)
+both_hold false b h = absurd h
+
+no_tie_below : (o : Ordering) → T (is_lt o) → is_eq (ordering_reverse o) ≡ false
+no_tie_below Less h = refl
+no_tie_below Equal h = absurd h
+no_tie_below Greater h = absurd h
+
+-- a key that is found behind another doesn't tie with it
+no_tie_behind : {K X : Type 0} {R : K → K → Ordering} (o : IsTotalOrder R) (x q : K) (es : List (K × X)) (v : X) → T (below_all R x es) → find R q es ≡ Some v → eq_by_cmp R q x ≡ false
+no_tie_behind o x q [] v below h = absurd (cc)
+no_tie_behind {K} {X} {R} o x q (e ∷ es) v below h =
+    let w = both_hold (is_lt (R x e.0)) (below_all R x es) below in
+    elim (eq_by_cmp R q e.0) as (λ b. eq_by_cmp R q e.0 ≡ b → cond b (Some e.1) (find R q es) ≡ Some v → eq_by_cmp R q x ≡ false) [
+      | true ↦ λ t _. ap is_eq (o.congr q e.0 x (tie (R q e.0) t) ∙ o.antisymm e.0 x) ∙ no_tie_below (R x e.0) w.0
+      | false ↦ λ _ g. no_tie_behind o x q es v w.1 g
+    ] refl h
+
+-- a value among entries whose keys rise is found at its key
+pub record IsFoundValue {K X : Type 0} (R : K → K → Ordering) (p : X → Bool) (es : List (K × X)) : Type 0 where
+  pub key : K
+  pub value : X
+  pub found : find R key es ≡ Some value
+  pub passes : p value ≡ true
+
+found_value : {K X : Type 0} {R : K → K → Ordering} (o : IsTotalOrder R) (p : X → Bool) (es : List (K × X)) → T (is_sorted R es) → list_any (λ (e : K × X). p e.1) es ≡ true → IsFoundValue R p es
+found_value o p [] rise h = absurd (cc)
+found_value {K} {X} {R} o p (e ∷ es) rise h =
+    let w = both_hold (below_all R e.0 es) (is_sorted R es) rise in
+    elim (p e.1) as (λ b. p e.1 ≡ b → (b || list_any (λ (x : K × X). p x.1) es) ≡ true → IsFoundValue R p (e ∷ es)) [
+      | true ↦ λ t g. record { key = e.0; value = e.1; found = ap (λ r. cond (is_eq r) (Some e.1) (find R e.0 es)) (tied_itself o e.0); passes = t }
+      | false ↦ λ t g.
+          let r = found_value o p es w.1 g in
+          record { key = r.key; value = r.value; found = ap (λ b. cond b (Some e.1) (find R r.key es)) (no_tie_behind o e.0 r.key es r.value w.0 r.found) ∙ r.found; passes = r.passes }
+    ] refl h
+
+pub value_from_any : {K X : Type 0} {R : K → K → Ordering} (o : IsTotalOrder R) (p : X → Bool) (m : FinMap R X) → list_any (λ (e : K × X). p e.1) (entries m) ≡ true → (k : K) × (v : X) × (get m k ≡ Some v) × (p v ≡ true)
+value_from_any o p m h = let r = found_value o p (entries m) (entries_sorted m) h in (r.key, r.value, get-entries m r.key ∙ r.found, r.passes)
 
 -- a map with entries finds the first of them
 pub empty_or_found : {K X : Type 0} {R : K → K → Ordering} (o : IsTotalOrder R) (m : FinMap R X) → (m ≡ empty) ⊎ ((k : K) × (v : X) × (get m k ≡ Some v))

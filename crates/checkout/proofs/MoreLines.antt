@@ -1,10 +1,13 @@
 -- Lines with one more at their end.
-use Rattle.std.proofs.Common.{◌≡◌, ℕ, zero, suc, ◌+◌, ◌^◌, ◌<◌, List, [], ◌∷◌, ◌++◌, length, Some, None, refl, sym, ap, ◌∙◌, ◌⊎◌, inl, inr, arith}
+use Rattle.std.proofs.Common.{◌≡◌, ℕ, zero, suc, ◌≤◌, ◌<◌, List, [], ◌∷◌, ◌++◌, length, Some, None, refl, sym, ap, ◌∙◌, ◌⊎◌, inl, inr, arith}
+use Rattle.std.proofs.lemmas.List.{length_push}
+use Rattle.std.proofs.lemmas.Option.{slice_get_within}
 use Rattle.std.specs.List.{slice_get}
 use Rattle.std.specs.FinMap.{get}
+use Rattle.eden_base.specs.Limits.{greatest_size}
 use Rattle.eden_base.specs.Name.{IsNameText}
 use Rattle.eden_base.specs.declared.number.FileId.{FileId}
-use Rattle.checkout.specs.Manifest.{Line, IsDirBefore, AreLines}
+use Rattle.checkout.specs.Manifest.{Line, IsDirBefore, AreLines, most_lines}
 use Rattle.checkout.specs.Tree.{links_from}
 use Rattle.checkout.proofs.ManifestTree.{AreApart, link_of_line}
 
@@ -23,23 +26,14 @@ slice_get-front [] l i x h = absurd (cc)
 slice_get-front (y ∷ ys) l zero x h = h
 slice_get-front (y ∷ ys) l (suc i) x h = slice_get-front ys l i x h
 
-slice_get-below : (lines : List Line) (i : ℕ) (x : Line) → slice_get lines i ≡ Some x → i < length lines
-slice_get-below [] i x h = absurd (cc)
-slice_get-below (y ∷ ys) zero x h = omega arith
-slice_get-below (y ∷ ys) (suc i) x h = let lt = slice_get-below ys i x h in omega arith
-
-length-push : (lines : List Line) (l : Line) → length (lines ++ l ∷ []) ≡ length lines + 1
-length-push [] l = refl
-length-push (y ∷ ys) l = let e = length-push ys l in omega arith
-
 dir_before-front : (lines : List Line) (l : Line) (i : ℕ) (dir : FileId) → IsDirBefore lines i dir → IsDirBefore (lines ++ l ∷ []) i dir
 dir_before-front lines l i dir (inl e) = inl e
 dir_before-front lines l i dir (inr w) = inr (w.0, w.1, w.2, w.3, slice_get-front lines l w.0 w.1 w.4, w.5)
 
 -- a line at a new place, in a directory that is there
-pub AreLines-push : (lines : List Line) (l : Line) → AreLines lines → length lines < 65535 → l.file.size < 2 ^ 63 → IsNameText l.name → IsDirBefore lines (length lines) l.dir → get (links_from 2 lines) (l.dir.0, l.name) ≡ None → AreLines (lines ++ l ∷ [])
+pub AreLines-push : (lines : List Line) (l : Line) → AreLines lines → length lines < most_lines → l.file.size ≤ greatest_size → IsNameText l.name → IsDirBefore lines (length lines) l.dir → get (links_from 2 lines) (l.dir.0, l.name) ≡ None → AreLines (lines ++ l ∷ [])
 AreLines-push lines l are few size name dir new = record {
-  few = let e = length-push lines l in omega arith;
+  few = let e = length_push lines l in omega arith;
   each = λ i x here. elim (slice_get-push lines l i x here) [
     | inl at ↦ let old = are.each i x at in record {
       name = old.name;
@@ -47,7 +41,7 @@ AreLines-push lines l are few size name dir new = record {
       dir_before = dir_before-front lines l i x.dir old.dir_before;
       place_is_new = λ j other lt there. elim (slice_get-push lines l j other there) [
         | inl before ↦ old.place_is_new j other lt before
-        | inr w ↦ absurd (let b = slice_get-below lines i x at in omega (arith, w.0))
+        | inr w ↦ absurd (let b = slice_get_within lines i x at in omega (arith, w.0))
       ];
     }
     | inr last ↦ let e : x ≡ l = sym last.1 in record {

@@ -1,5 +1,6 @@
 -- The first faulty line.
 use Rattle.std.proofs.Common.{◌≡◌, ℕ, suc, ◌+◌, ◌<◌, ◌≤◌, List, [], ◌∷◌, ◌++◌, length, Some, Result, Ok, Err, IsOk, IfErr, IsOkAnd, refl, sym, ap, ◌∙◌, arith}
+use Rattle.std.proofs.lemmas.List.{length_push}
 use Rattle.checkout.specs.declared.fault.ManifestFault.{ManifestFault}
 use Rattle.checkout.specs.declared.fault.ManifestFaultKind.{ManifestFaultKind}
 use Rattle.checkout.specs.declared.fault.ManifestFaultKind.TheVariants.{NoCommit, BadLine, BadMode, BadSize, BadPath, NoParent, Twice, TooManyLines, NoMemory}
@@ -67,14 +68,10 @@ read_on-taken lines n text rest new h =
       | Err fault ↦ λ e. absurd e
     ] h)
 
-length-push : (lines : List Line) (l : Line) → length (lines ++ l ∷ []) ≡ length lines + 1
-length-push [] l = refl
-length-push (y ∷ ys) l = let e = length-push ys l in omega arith
-
 pub length_taken : (lines : List Line) (text : List ℕ) (new : List Line) → IsOkAnd (line_of_text lines text) (λ (line : Line). new ≡ lines ++ line ∷ []) → length lines + 2 + 1 ≡ length new + 2
 length_taken lines text new h =
     elim (line_of_text lines text) as (λ r. IsOkAnd r (λ (line : Line). new ≡ lines ++ line ∷ []) → length lines + 2 + 1 ≡ length new + 2) [
-      | Ok line ↦ λ e. let l = ap length e in let p = length-push lines line in omega arith
+      | Ok line ↦ λ e. let l = ap length e in let p = length_push lines line in omega arith
       | Err fault ↦ λ e. absurd e
     ] h
 

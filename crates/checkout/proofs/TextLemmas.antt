@@ -1,9 +1,9 @@
 -- Parts of texts, and the numbers of digits.
-use Rattle.std.proofs.Common.{◌≡◌, ℕ, zero, suc, ◌+◌, ◌-◌, ◌*◌, ◌<◌, ◌≤◌, ◌==◌, true, false, not, cond, nat_lt, List, [], ◌∷◌, length, take, drop, fold, Option, Some, None, if◌then◌else◌, refl, ap, subst, ◌∙◌, arith, min, get_or, IfSome, IsSome}
-use Rattle.std.proofs.Math.Bridge.{le_prop}
+use Rattle.std.proofs.Common.{◌≡◌, ℕ, zero, suc, ◌+◌, ◌-◌, ◌*◌, ◌<◌, ◌≤◌, ◌==◌, true, false, not, cond, nat_lt, List, [], ◌∷◌, length, take, drop, fold, Option, Some, None, if◌then◌else◌, refl, ap, ◌∙◌, arith, min, get_or, IfSome, IsSome}
 use Rattle.std.specs.Option.{option_map}
 use Rattle.std.specs.List.{position_or_len}
 use Rattle.std.proofs.lemmas.Bool.Decides.{nat_tests}
+use Rattle.eden_base.proofs.PermLemmas.{same_perm}
 use Rattle.eden_base.specs.declared.attr.Perm.{Perm}
 use Rattle.eden_base.specs.Text.{cut}
 use Rattle.checkout.specs.Text.{parts, in_first, front, last, decimal, is_octal, mode_of, perm_of}
@@ -79,11 +79,6 @@ grows_tenfold (d ∷ ds) (suc i) n h = grows_tenfold ds i (digit_after n d) (ome
 -- a digit more makes the number at least ten times as large
 pub decimal-tenfold : (ds : List ℕ) (i : ℕ) → i < length ds → 10 * decimal (take i ds) ≤ decimal ds
 decimal-tenfold ds i h = grows_tenfold ds i 0 h
-
--- permissions are their bits
-pub same_perm : (p q : Perm) → p.bits ≡ q.bits → p ≡ q
-same_perm p q e =
-    subst (λ (n : ℕ). (h : n ≤ 4095) → p ≡ record { bits = n; in_range = h }) e (λ h. ap (λ (w : p.bits ≤ 4095). record { bits = p.bits; in_range = w }) (le_prop p.in_range h)) q.in_range
 
 octal_bounds : (d : ℕ) → is_octal d ≡ true → (48 ≤ d) × (d ≤ 55)
 octal_bounds d h = (grind (arith, nat_tests), grind (arith, nat_tests))

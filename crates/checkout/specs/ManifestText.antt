@@ -1,6 +1,6 @@
 -- The text of a manifest, line by line. (This project's own format. A commit is named by the twenty bytes of a hash,
 -- as in Git and EdenFS.)
-use Rattle.std.specs.Prelude.{◌≡◌, ℕ, ◌+◌, ◌<◌, ◌≤◌, not, nat_lt, List, [], ◌∷◌, ◌++◌, length, codes, Option, Some, None, is_none, is_some, Result, Ok, Err, IsOk, IfErr, unwrap_or, if◌then◌else◌}
+use Rattle.std.specs.Prelude.{◌≡◌, ℕ, ◌+◌, ◌<◌, ◌≤◌, not, nat_le, List, [], ◌∷◌, ◌++◌, length, codes, Option, Some, None, is_none, is_some, Result, Ok, Err, IsOk, IfErr, unwrap_or, if◌then◌else◌}
 use Rattle.std.specs.Option.{option_map, option_and_then, option_or}
 use Rattle.std.specs.Result.{result_ok}
 use Rattle.std.specs.List.{list_all}
@@ -12,7 +12,7 @@ use Rattle.eden_base.specs.declared.number.FileId.{FileId}
 use Rattle.checkout.specs.declared.fault.ManifestFault.{ManifestFault}
 use Rattle.checkout.specs.declared.fault.ManifestFaultKind.{ManifestFaultKind}
 use Rattle.checkout.specs.declared.fault.ManifestFaultKind.TheVariants.{NoCommit, BadLine, BadMode, BadSize, BadPath, NoParent, Twice, TooManyLines, NoMemory}
-use Rattle.checkout.specs.Manifest.{Line, Manifest}
+use Rattle.checkout.specs.Manifest.{Line, Manifest, most_lines}
 use Rattle.checkout.specs.Names.{is_name}
 use Rattle.eden_base.specs.Text.{cut}
 use Rattle.checkout.specs.Text.{after, parts, front, last, mode_of, size_of}
@@ -81,7 +81,7 @@ place_fault lines path =
     if not (list_all is_name (names_of path)) then Some BadPath
     else if is_none (parent_of lines path) then Some NoParent
     else if is_some (child_of (tree_so_far lines) (unwrap_or (parent_of lines path) root) (last (names_of path))) then Some Twice
-    else if nat_lt 65534 (length lines) then Some TooManyLines
+    else if nat_le most_lines (length lines) then Some TooManyLines
     else None
 
 -- the line that an entry makes after these lines
@@ -142,12 +142,12 @@ manifest_of_lines (first ∷ rest) = after_commit (commit_of first) rest
 abbrev pub manifest_of : List ℕ → Result Manifest ManifestFault
 manifest_of text = manifest_of_lines (lines_of text)
 
--- a refused line tells its first fault; want of memory comes for lines without one
+-- a refused line tells its first fault; out of memory comes for lines without one
 abbrev pub IsLineRefusal : Result Line ManifestFaultKind → ManifestFaultKind → Type 0
 IsLineRefusal line NoMemory = IsOk line
 IsLineRefusal line fault = line ≡ Err fault
 
--- a refused text tells its first fault; want of memory comes at a line that has none, nor any before it
+-- a refused text tells its first fault; out of memory comes at a line that has none, nor any before it
 abbrev pub IsRefusal : {T : Type 0} → Result T ManifestFault → ℕ → ManifestFaultKind → Type 0
 IsRefusal said line NoMemory = IfErr said (λ first. line < first.line)
 IsRefusal said line fault = said ≡ Err (fault_at line fault)
@@ -156,7 +156,7 @@ IsRefusal said line fault = said ≡ Err (fault_at line fault)
 abbrev pub IsManifestRefusal : List ℕ → ManifestFault → Type 0
 IsManifestRefusal text fault = IsRefusal (manifest_of text) fault.line fault.kind
 
--- where a fault stands among so many lines, the last of which LF doesn't end: want of memory comes for lines that are
+-- where a fault stands among so many lines, the last of which LF doesn't end: out of memory comes for lines that are
 -- ended, and not for the commit's
 abbrev pub IsAmongLines : ℕ → ℕ → ManifestFaultKind → Type 0
 IsAmongLines count line NoMemory = (1 < line) × (line < count)

@@ -1,8 +1,9 @@
 -- Texts in parts, and the numbers that digits write.
-use Rattle.std.specs.Prelude.{ℕ, ◌+◌, ◌-◌, ◌*◌, ◌^◌, ◌==◌, ◌&&◌, min, not, Bool, false, nat_le, nat_lt, nat_eq, List, [], ◌∷◌, length, take, drop, fold, Option, Some, None, if◌then◌else◌}
+use Rattle.std.specs.Prelude.{ℕ, ◌+◌, ◌-◌, ◌*◌, ◌==◌, ◌&&◌, min, not, Bool, false, nat_le, nat_eq, List, [], ◌∷◌, length, take, drop, fold, Option, Some, None, if◌then◌else◌}
 use Rattle.std.specs.List.{list_all}
 use Rattle.std.specs.Cmp.Lexicographic.{pointwise}
 use Rattle.std.proofs.Math.Nat.{min-le_right}
+use Rattle.eden_base.specs.Limits.{greatest_size}
 use Rattle.eden_base.specs.declared.attr.Perm.{Perm}
 
 -- what follows a front, where the text has it
@@ -58,11 +59,11 @@ has_leading_zero [] = false
 has_leading_zero (d ∷ []) = false
 has_leading_zero (d ∷ e ∷ more) = d == 48
 
--- some decimal digits without a leading zero, for a number below 2^63
+-- some decimal digits without a leading zero, for a size that a file may have
 abbrev pub size_of : List ℕ → Option ℕ
 size_of digits =
     if length digits == 0 then None
     else if has_leading_zero digits then None
     else if not (list_all is_decimal digits) then None
-    else if nat_lt (decimal digits) (2 ^ 63) then Some (decimal digits)
+    else if nat_le (decimal digits) greatest_size then Some (decimal digits)
     else None

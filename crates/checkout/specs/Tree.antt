@@ -1,13 +1,14 @@
 -- The tree of a checkout: its files, the names that lead to them, and the file that would be made next. Files are
 -- never taken out of it while a mount lasts. (EdenFS's documents on inodes and the overlay; the next file is this
 -- project's own.)
-use Rattle.std.specs.Prelude.{◌≡◌, ℕ, ◌+◌, ◌^◌, ◌<◌, ◌≤◌, ◌⊎◌, Bool, true, false, ◌&&◌, ◌==◌, not, List, [], ◌∷◌, length, Option, Some, None, IsSome, if◌then◌else◌}
+use Rattle.std.specs.Prelude.{◌≡◌, ℕ, ◌+◌, ◌<◌, ◌≤◌, ◌⊎◌, Bool, true, false, ◌&&◌, ◌==◌, not, List, [], ◌∷◌, length, Option, Some, None, IsSome, if◌then◌else◌}
 use Rattle.std.specs.Option.{option_map, option_and_then}
 use Rattle.std.specs.List.{list_any}
 use Rattle.std.specs.Ordering.{nat_cmp, ordering_then}
 use Rattle.std.specs.Cmp.Lexicographic.{slice_cmp}
 use Rattle.std.specs.declared.cmp.Ordering.{Ordering}
 use Rattle.std.specs.FinMap.{FinMap, get, insert, empty, entries}
+use Rattle.eden_base.specs.Limits.{end_of_files}
 use Rattle.eden_base.specs.declared.attr.Attr.{Attr}
 use Rattle.eden_base.specs.declared.attr.Kind.{Kind}
 use Rattle.eden_base.specs.declared.attr.Kind.TheVariants.{Dir, File as RegularFile}
@@ -118,7 +119,7 @@ tree_of manifest = record {
 pub record IsTree (tree : Tree) : Type 0 where
   pub root_is_dir : kind_of tree root ≡ Some Dir
   pub ids_below_next : (file : FileId) → IsSome (file_of tree file) → file.0 < tree.next_file
-  pub next_fits : tree.next_file < 2 ^ 63
+  pub next_fits : tree.next_file ≤ end_of_files
   -- the manifest's files are as they stand there, and the root with them
   pub has_manifest_files : (file : FileId) (f : File) → file_of (tree_of tree.manifest) file ≡ Some f → file_of tree file ≡ Some f
   -- all others came later, and are empty
@@ -130,7 +131,6 @@ pub record IsTree (tree : Tree) : Type 0 where
   -- no file stands twice
   pub links_are_apart : (dir other_dir : FileId) (name other_name : List ℕ) (file : FileId) →
       child_of tree dir name ≡ Some file → child_of tree other_dir other_name ≡ Some file → (dir ≡ other_dir) × (name ≡ other_name)
-  pub linked_is_linked : (dir : FileId) (name : List ℕ) (file : FileId) → child_of tree dir name ≡ Some file → is_linked tree file ≡ true
   -- each linked file is reached from the root
   pub links_are_reached : (dir : FileId) (name : List ℕ) (file : FileId) → child_of tree dir name ≡ Some file →
       (path : List (List ℕ)) × (file_at tree root path ≡ Some file)

@@ -23,7 +23,7 @@ pub trait Backing {
     /// How often it failed.
     ghost failed: { Self → ℕ };
 
-    /// Of a file that the store holds.
+    /// Returns the attributes of a file that the store holds.
     fn attr(&mut self, file: FileId) -> Result<Attr, BackingFault>
         requires held { IsSome (content self.old file) }
         ensures attr { IfOk result (λ attr. content self.old file ≡ Some attr) }
@@ -32,7 +32,7 @@ pub trait Backing {
         ensures answered { OnOk result (failed self.new ≡ failed self.old) }
         ensures failed { OnErr result (failed self.old < failed self.new) };
 
-    /// How often it failed.
+    /// Returns how often it failed.
     fn failures(&self) -> u64
         ensures failures { result ≡ failed self.now };
 }
@@ -55,14 +55,14 @@ impl<'a> Model for ManifestBacking<'a> {
 }
 
 impl<'a> ManifestBacking<'a> {
-    /// The backing that tells what this manifest says.
+    /// Returns the backing that tells what this manifest says.
     pub fn of(manifest: &'a Manifest) -> ManifestBacking<'a>
         ensures manifest { result ≡ manifest.now }
     {
         ManifestBacking { manifest }
     }
 
-    /// The attributes of a file that the manifest has.
+    /// Returns the attributes of a file that the manifest has.
     fn attr_said(&self, file: FileId) -> Option<Attr>
         ensures { result ≡ attr_of (tree_of self.now) file }
     {
@@ -87,7 +87,7 @@ impl Backing for ManifestBacking<'_> {
     {
         match self.attr_said(file) {
             Some(attr) => Ok(attr),
-            None => Err(BackingFault),
+            None => unreachable!(),
         }
     }
 

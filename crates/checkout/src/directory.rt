@@ -9,7 +9,7 @@ use std::alloc::Global;
 use std::collections::BTreeMap;
 use std::marker::Model;
 
-/// A look-up by bytes takes no memory, as the names are kept as bytes.
+/// A lookup by bytes takes no memory, as the names are kept as bytes.
 #[derive(Drop)]
 pub struct Directory {
     files: BTreeMap<Vec<u8>, FileId>,
@@ -31,7 +31,7 @@ impl Model for Directory {
 }
 
 impl Directory {
-    /// A directory with nothing in it.
+    /// Returns a directory with nothing in it.
     pub fn new(alloc: Global) -> Directory
         ensures { result ≡ empty }
     {
@@ -40,7 +40,7 @@ impl Directory {
         }
     }
 
-    /// The file under a name.
+    /// Returns the file under a name.
     pub fn get(&self, name: &[u8]) -> Option<FileId>
         ensures { result ≡ get self.now name.now }
     {

@@ -1,5 +1,6 @@
 //! What one line of a manifest says.
-ghost use Rattle.std.specs.Prelude.{◌≡◌, ◌<◌, ◌^◌, IfErr, IfOk, Some};
+ghost use Rattle.std.specs.Prelude.{◌≡◌, ◌≤◌, IfErr, IfOk, Some};
+ghost use Rattle.eden_base.specs.Limits.{greatest_size};
 ghost use Rattle.checkout.specs.ManifestText.{dir_entry, entry_of, file_entry, entry_fault};
 
 use crate::ManifestFaultKind;
@@ -16,7 +17,7 @@ pub struct Entry<'a> {
 }
 
 impl<'a> Entry<'a> {
-    /// What a line says, without its LF.
+    /// Reads a line, without its LF.
     pub fn read(line: &'a [u8]) -> Result<Entry<'a>, ManifestFaultKind>
         ensures entry { IfOk result (λ e. entry_of line.now ≡ Some (record {
           kind = e.kind;
@@ -24,7 +25,7 @@ impl<'a> Entry<'a> {
           size = Some e.size;
           path = e.path.now;
         })) }
-        ensures small { IfOk result (λ e. e.size < 2 ^ 63) }
+        ensures small { IfOk result (λ e. e.size ≤ greatest_size) }
         ensures refused { IfErr result (λ fault. entry_fault (entry_of line.now) ≡ Some fault) }
     {
         if let Some(path) = after(b"dir ".as_slice(), line) {
@@ -41,7 +42,7 @@ impl<'a> Entry<'a> {
         Err(ManifestFaultKind::BadLine)
     }
 
-    /// Of `MODE SIZE PATH`.
+    /// Reads `MODE SIZE PATH`.
     fn of_file(rest: &'a [u8]) -> Result<Entry<'a>, ManifestFaultKind>
         ensures entry { IfOk result (λ e. file_entry rest.now ≡ Some (record {
           kind = e.kind;
@@ -49,7 +50,7 @@ impl<'a> Entry<'a> {
           size = Some e.size;
           path = e.path.now;
         })) }
-        ensures small { IfOk result (λ e. e.size < 2 ^ 63) }
+        ensures small { IfOk result (λ e. e.size ≤ greatest_size) }
         ensures refused { IfErr result (λ fault. entry_fault (file_entry rest.now) ≡ Some fault) }
     {
         let Some((mode, rest)) = cut(rest, b' ') else {

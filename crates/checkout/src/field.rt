@@ -1,13 +1,14 @@
 //! The fields of a manifest's line.
-ghost use Rattle.std.specs.Prelude.{◌≡◌, ◌<◌, ◌+◌, ◌-◌, ◌^◌, IfSome, IsTrue, length, nat_lt, if◌then◌else◌};
+ghost use Rattle.std.specs.Prelude.{◌≡◌, ◌≤◌, ◌+◌, ◌-◌, IfSome, IsTrue, length, nat_le, if◌then◌else◌};
 ghost use Rattle.std.specs.Option.{SomeIff, option_copied};
 ghost use Rattle.std.specs.List.{list_all};
+ghost use Rattle.eden_base.specs.Limits.{greatest_size};
 ghost use Rattle.checkout.specs.Text.{after, parts, mode_of, size_of, is_octal, has_leading_zero, is_decimal, decimal};
 ghost use Rattle.checkout.specs.Names.{is_name};
 
-use eden_base::{Name, Perm, cut};
+use eden_base::{GREATEST_SIZE, Name, Perm, cut};
 
-/// What follows a front, if the text has it.
+/// Returns what follows a front, if the text has it.
 pub fn after<'a>(front: &[u8], text: &'a [u8]) -> Option<&'a [u8]>
     ensures { option_copied result ≡ after front.now text.now }
 {
@@ -35,7 +36,7 @@ pub fn is_path(path: &[u8]) -> bool
     is_name(rest)
 }
 
-/// The permissions of four octal digits.
+/// Returns the permissions of four octal digits.
 pub fn mode_of(digits: &[u8]) -> Option<Perm>
     ensures { result ≡ mode_of digits.now }
 {
@@ -51,7 +52,7 @@ pub fn mode_of(digits: &[u8]) -> Option<Perm>
     }
 }
 
-/// The value of an octal digit.
+/// Returns the value of an octal digit.
 fn octal(digit: u8) -> Option<u16>
     ensures { SomeIff result (IsTrue (is_octal digit)) (digit - 48) }
 {
@@ -61,10 +62,10 @@ fn octal(digit: u8) -> Option<u16>
     }
 }
 
-/// The number below 2^63 that decimal digits write without a leading zero.
+/// Returns the size that decimal digits write without a leading zero, if a file may have it.
 pub fn size_of(digits: &[u8]) -> Option<u64>
     ensures size { result ≡ size_of digits.now }
-    ensures small { IfSome result (λ n. n < 2 ^ 63) }
+    ensures small { IfSome result (λ n. n ≤ greatest_size) }
 {
     if digits.is_empty() {
         return None;
@@ -95,21 +96,20 @@ fn is_decimal(digits: &[u8]) -> bool
     digits.iter().all(|d| *d >= b'0' && *d <= b'9')
 }
 
-/// The number of these digits, if it is below 2^63.
+/// Returns the number of these digits, if it is a file's size.
 fn value_of(digits: &[u8]) -> Option<u64>
     ensures value { result
-        ≡ (if nat_lt (decimal digits.now) (2 ^ 63) then Some (decimal digits.now) else None) }
-    ensures small { IfSome result (λ n. n < 2 ^ 63) }
+        ≡ (if nat_le (decimal digits.now) greatest_size then Some (decimal digits.now) else None) }
+    ensures small { IfSome result (λ n. n ≤ greatest_size) }
 {
     let mut value: u64 = 0;
     for digit in digits {
-        // a tenth of 2^63 - 1
-        if value > 922337203685477580 {
+        if value > GREATEST_SIZE / 10 {
             return None;
         }
         value = value * 10 + digit.saturating_sub(b'0') as u64;
     }
-    if value > 9223372036854775807 {
+    if value > GREATEST_SIZE {
         return None;
     }
     Some(value)

@@ -36,7 +36,7 @@ impl Model for Line {
 }
 
 impl Line {
-    /// What a daemon tells the kernel of the file while its name leads to it.
+    /// Returns what a daemon tells the kernel of the file while its name leads to it.
     pub fn attr(&self) -> Attr
         ensures attr { result ≡ attr_of_linked self.now.file }
     {
@@ -52,7 +52,7 @@ impl Line {
         }
     }
 
-    /// The same line, in memory of its own.
+    /// Returns the same line, in memory of its own.
     pub fn copy(&self, alloc: Global) -> Result<Line, NoMemory>
         ensures copy { IfOk result (λ line. line ≡ self.now) }
     {
@@ -67,7 +67,7 @@ impl Line {
     }
 }
 
-/// The line of a file among these, of which the first is of file 2; the root has none.
+/// Returns the line of a file among these, of which the first is of file 2; the root has none.
 fn line_of(lines: &[Line], file: FileId) -> Option<&Line>
     ensures { option_copied result ≡ line_of lines.now file }
 {
@@ -77,7 +77,7 @@ fn line_of(lines: &[Line], file: FileId) -> Option<&Line>
     lines.get((file.0 - 2) as usize)
 }
 
-/// The kind of a file of these lines, or of the root.
+/// Returns the kind of a file of these lines, or of the root.
 pub fn kind_of(lines: &[Line], file: FileId) -> Option<Kind>
     ensures { result ≡ option_map (λ (f : File). f.kind) (get (files_from 2 lines.now) file.0) }
 {
@@ -88,7 +88,7 @@ pub fn kind_of(lines: &[Line], file: FileId) -> Option<Kind>
     Some(line.kind)
 }
 
-/// What a daemon tells the kernel of a file of these lines, or of the root, while the names lead to them.
+/// Returns what a daemon tells the kernel of a file of these lines, or of the root, while the names lead to them.
 pub fn attr_of(lines: &[Line], file: FileId) -> Option<Attr>
     ensures { result ≡ option_map attr_of_linked (get (files_from 2 lines.now) file.0) }
 {

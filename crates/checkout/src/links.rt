@@ -35,7 +35,7 @@ impl Model for Links {
 }
 
 impl Links {
-    /// No links.
+    /// Returns an index without links.
     pub fn new(alloc: Global) -> Links
         ensures { result ≡ empty }
     {
@@ -44,7 +44,7 @@ impl Links {
         }
     }
 
-    /// The file under a name in a directory.
+    /// Returns the file under a name in a directory.
     pub fn get(&self, dir: FileId, name: &[u8]) -> Option<FileId>
         ensures { result ≡ get self.now (dir.0, name.now) }
     {

@@ -34,8 +34,8 @@ impl Model for Manifest {
 impl Manifest {
     ghost use Rattle.checkout.specs.Tree.{IsTree, tree_of};
 
-    /// A line is `commit ` and forty hexadecimal digits; then come lines `dir PATH` and `file MODE SIZE PATH`. Each is
-    /// ended by LF.
+    /// Reads a line `commit ` with forty hexadecimal digits, and then lines `dir PATH` and `file MODE SIZE PATH`. Each
+    /// is ended by LF.
     pub fn read(alloc: Global, bytes: &[u8]) -> Result<Manifest, ManifestFault>
         ensures manifest { IfOk result (λ manifest. manifest_of bytes.now ≡ Ok manifest) }
         ensures is_manifest { IfOk result IsManifest }
@@ -50,7 +50,7 @@ impl Manifest {
         Ok(Manifest { commit, lines })
     }
 
-    /// The name of the commit, as Git and EdenFS have it: twenty bytes of a hash.
+    /// Returns the name of the commit, as Git and EdenFS have it: twenty bytes of a hash.
     pub fn commit(&self) -> [u8; 20]
         ensures commit { result ≡ self.now.commit }
         ensures is_manifest { IsManifest self.now }
@@ -58,7 +58,7 @@ impl Manifest {
         self.commit
     }
 
-    /// The line of the file with id 2, and so on.
+    /// Returns the lines: that of the file with id 2, and so on.
     pub fn lines(&self) -> &[Line]
         ensures lines { result.now ≡ self.now.lines }
         ensures is_manifest { IsManifest self.now }
@@ -66,7 +66,7 @@ impl Manifest {
         self.lines.as_slice()
     }
 
-    /// The same manifest, in memory of its own. Its lines make a tree.
+    /// Returns the same manifest, in memory of its own. Its lines make a tree.
     pub fn copy(&self, alloc: Global) -> Result<Manifest, NoMemory>
         ensures copy { IfOk result (λ copy. copy ≡ self.now) }
         ensures is_manifest { IfOk result IsManifest }
@@ -80,7 +80,7 @@ impl Manifest {
     }
 }
 
-/// The commit, and what comes after its line.
+/// Reads the commit; returns it with what comes after its line.
 fn read_commit(bytes: &[u8]) -> Result<([u8; 20], &[u8]), ManifestFaultKind>
     ensures commit { IfOk result (λ p.
         manifest_of bytes.now ≡ with_commit p.0 (read_on [] 2 (lines_of p.1.now))) }
@@ -101,7 +101,7 @@ fn read_commit(bytes: &[u8]) -> Result<([u8; 20], &[u8]), ManifestFaultKind>
     }
 }
 
-/// The commit that the first line names.
+/// Returns the commit that the first line names.
 fn commit_of(line: &[u8]) -> Option<[u8; 20]>
     ensures { result ≡ commit_of line.now }
 {
@@ -113,7 +113,7 @@ fn commit_of(line: &[u8]) -> Option<[u8; 20]>
     }
 }
 
-/// The lines after the first.
+/// Reads the lines after the first.
 fn read_lines(alloc: Global, bytes: &[u8]) -> Result<Reading, ManifestFault>
     ensures lines { IfOk result (λ lines. read_on [] 2 (lines_of bytes.now) ≡ Ok lines) }
     ensures refused { IfErr result (λ fault.
@@ -139,7 +139,7 @@ fn read_lines(alloc: Global, bytes: &[u8]) -> Result<Reading, ManifestFault>
     Ok(reading)
 }
 
-/// The lines, each in memory of its own.
+/// Copies the lines, each into memory of its own.
 fn copy_lines(alloc: Global, lines: &[Line]) -> Result<Vec<Line>, NoMemory>
     ensures { IfOk result (λ copies. copies.items ≡ lines.now) }
 {

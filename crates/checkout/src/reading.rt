@@ -1,7 +1,8 @@
 //! The lines of a manifest that were read so far.
-ghost use Rattle.std.specs.Prelude.{◌≡◌, [], ◌∷◌, ◌++◌, ◌<◌, ◌≤◌, ◌^◌, IfErr, IfOk, IsOkAnd, MatchOption, OnOk, length, Some, None};
+ghost use Rattle.std.specs.Prelude.{◌≡◌, [], ◌∷◌, ◌++◌, ◌<◌, ◌≤◌, IfErr, IfOk, IsOkAnd, MatchOption, OnOk, length, Some, None};
 ghost use Rattle.std.specs.FinMap.{get};
-ghost use Rattle.checkout.specs.Manifest.{AreLines, IsDirBefore};
+ghost use Rattle.eden_base.specs.Limits.{greatest_size};
+ghost use Rattle.checkout.specs.Manifest.{AreLines, IsDirBefore, most_lines};
 ghost use Rattle.checkout.specs.ManifestText.{line_of_text, IsLineRefusal, parent_of, place_fault, names_of, tree_so_far};
 ghost use Rattle.checkout.specs.Text.{front, last};
 ghost use Rattle.checkout.specs.Tree.{file_at, links_from, root};
@@ -38,10 +39,10 @@ impl Model for Reading {
 }
 
 impl Reading {
-    /// Of a manifest, the first line apart.
+    /// How many lines may follow the commit's.
     const MAX_LINES: usize = 65535;
 
-    /// Before the first line behind the commit.
+    /// Returns a reading without lines.
     pub fn new(alloc: Global) -> Reading
         ensures { result ≡ [] }
     {
@@ -51,15 +52,15 @@ impl Reading {
         }
     }
 
-    /// How many lines there are.
+    /// Returns how many lines were read.
     pub fn len(&self) -> usize
         ensures len { result ≡ length self.now }
-        ensures few { result ≤ 65535 }
+        ensures few { result ≤ most_lines }
     {
         self.lines.len()
     }
 
-    /// The lines that were read.
+    /// Returns the lines that were read.
     pub fn into_lines(self) -> Vec<Line>
         ensures lines { result.items ≡ self }
         ensures are_lines { AreLines result.items }
@@ -91,7 +92,7 @@ impl Reading {
         }
     }
 
-    /// The directory and the name that a path ends in, where the next line may stand.
+    /// Returns the directory and the name that a path ends in, where the next line may stand.
     fn place<'a>(&self, path: &'a [u8]) -> Result<(FileId, &'a [u8]), ManifestFaultKind>
         ensures fits { OnOk result (place_fault self.now path.now ≡ None) }
         ensures dir { IfOk result (λ p. parent_of self.now path.now ≡ Some p.0) }
@@ -118,7 +119,7 @@ impl Reading {
         Ok((dir, name))
     }
 
-    /// The file that all but the last name of a path lead to, and that name.
+    /// Returns the file that all but the last name of a path lead to, and that name.
     fn walk<'a>(&self, path: &'a [u8]) -> Option<(FileId, &'a [u8])>
         ensures { let found = file_at (tree_so_far self.now) root (front (names_of path.now)) in
             MatchOption result (found ≡ None) (λ p.
@@ -133,10 +134,10 @@ impl Reading {
         Some((dir, rest))
     }
 
-    /// A line at a new place.
+    /// Adds a line at a new place.
     fn push(&mut self, alloc: Global, line: Line) -> Result<(), NoMemory>
-        requires room { length self.old < 65535 }
-        requires size { line.file.size < 2 ^ 63 }
+        requires room { length self.old < most_lines }
+        requires size { line.file.size ≤ greatest_size }
         requires dir { IsDirBefore self.old (length self.old) line.dir }
         requires new { get (links_from 2 self.old) (line.dir.0, line.name) ≡ None }
         ensures { IfOk result (λ _. self.new ≡ self.old ++ line ∷ []) }

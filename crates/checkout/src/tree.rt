@@ -37,7 +37,7 @@ impl Model for Tree {
 }
 
 impl Tree {
-    /// The tree that the manifest says, before any request.
+    /// Makes the tree that the manifest says, before any request.
     pub fn of(alloc: Global, manifest: &Manifest) -> Result<Tree, NoMemory>
         ensures tree { IfOk result (λ tree. tree ≡ tree_of manifest.now) }
         ensures is_tree { IfOk result IsTree }
@@ -47,7 +47,7 @@ impl Tree {
         Ok(Tree { manifest, links })
     }
 
-    /// The name of the manifest's commit.
+    /// Returns the name of the manifest's commit.
     pub fn commit(&self) -> [u8; 20]
         ensures commit { result ≡ self.now.manifest.commit }
         ensures is_tree { IsTree self.now }
@@ -55,14 +55,14 @@ impl Tree {
         self.manifest.commit()
     }
 
-    /// Whether the tree has the file, as a directory or not.
+    /// Returns the kind of a file of the tree; nothing where the tree doesn't have it.
     pub fn kind(&self, file: FileId) -> Option<Kind>
         ensures kind { result ≡ kind_of self.now file }
     {
         kind_of(self.manifest.lines(), file)
     }
 
-    /// What a daemon tells the kernel of a file of the tree.
+    /// Returns what a daemon tells the kernel of a file of the tree.
     pub fn attr(&self, file: FileId) -> Option<Attr>
         ensures attr { result ≡ attr_of self.now file }
     {
@@ -80,7 +80,7 @@ impl Tree {
         }
     }
 
-    /// The file under a name in a directory.
+    /// Returns the file under a name in a directory.
     pub fn child(&self, dir: FileId, name: &Name) -> Option<FileId>
         ensures child { result ≡ child_of self.now dir name.now }
     {
@@ -88,7 +88,7 @@ impl Tree {
     }
 }
 
-/// The names that the lines of a manifest give.
+/// Makes the index of the names that the lines of a manifest give.
 fn links_of(alloc: Global, manifest: &Manifest) -> Result<Links, NoMemory>
     ensures { IfOk result (λ links. links ≡ links_from 2 manifest.now.lines) }
 {

@@ -86,15 +86,16 @@ pub without_where-none : {X : Type 0} (p : X → Bool) (xs : List X) → first_w
 without_where-none p [] h = refl
 without_where-none p (x ∷ xs) h = without_in p x xs (p x) h (without_where-none p xs)
 
-each_kept : {X : Type 0} (P Q : X → Type 0) (xs : List X) → AllByRecursion P xs → ((y : X) → P y → Q y) → AllByRecursion Q xs
-each_kept P Q [] each keeps = tt
-each_kept P Q (x ∷ xs) each keeps = (keeps x each.0, each_kept P Q xs each.1 keeps)
+-- what each member has, by what it had
+pub Each-kept : {X : Type 0} (P Q : X → Type 0) (xs : List X) → AllByRecursion P xs → ((y : X) → P y → Q y) → AllByRecursion Q xs
+Each-kept P Q [] each keeps = tt
+Each-kept P Q (x ∷ xs) each keeps = (keeps x each.0, Each-kept P Q xs each.1 keeps)
 
 each_in : {X : Type 0} (p : X → Bool) (change : X → X) (P Q : X → Type 0) (x : X) (xs : List X) (b : Bool) → p x ≡ b → AllByRecursion P (x ∷ xs) →
     ((y : X) → P y → Q y) → ((y : X) → cond b (Some x) (first_where p xs) ≡ Some y → P y → Q (change y)) →
     (((y : X) → first_where p xs ≡ Some y → P y → Q (change y)) → AllByRecursion Q (changed_where p change xs)) →
     AllByRecursion Q (cond b (change x ∷ xs) (x ∷ changed_where p change xs))
-each_in p change P Q x xs true e each keeps made rest = (made x refl each.0, each_kept P Q xs each.1 keeps)
+each_in p change P Q x xs true e each keeps made rest = (made x refl each.0, Each-kept P Q xs each.1 keeps)
 each_in p change P Q x xs false e each keeps made rest = (keeps x each.0, rest made)
 
 -- what a change makes of the members
@@ -111,9 +112,6 @@ without_each P x xs ys false here each rest = (here, rest)
 pub Each-without_where : {X : Type 0} (p : X → Bool) (P : X → Type 0) (xs : List X) → AllByRecursion P xs → AllByRecursion P (without_where p xs)
 Each-without_where p P [] each = tt
 Each-without_where p P (x ∷ xs) each = without_each P x xs (without_where p xs) (p x) each.0 each.1 (Each-without_where p P xs each.1)
-
-pub Each-kept : {X : Type 0} (P Q : X → Type 0) (xs : List X) → AllByRecursion P xs → ((y : X) → P y → Q y) → AllByRecursion Q xs
-Each-kept P Q xs each keeps = each_kept P Q xs each keeps
 
 pub Each-append : {X : Type 0} (P : X → Type 0) (xs ys : List X) → AllByRecursion P xs → AllByRecursion P ys → AllByRecursion P (xs ++ ys)
 Each-append P [] ys each more = more

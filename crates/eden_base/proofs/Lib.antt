@@ -1,3 +1,4 @@
 pub mod FirstLemmas
 pub mod MemberLemmas
 pub mod NumberTests
+pub mod PermLemmas

@@ -1,5 +1,6 @@
 -- What tests say of the members of a list, after one was changed, taken out or added.
 use Rattle.std.proofs.Common.{◌≡◌, suc, Bool, true, false, cond, ◌||◌, List, [], ◌∷◌, ◌++◌, Option, Some, None, refl, sym, ap, ◌∙◌, subst, length, inl, inr, ◌⊎◌}
+use Rattle.std.proofs.Math.Bool.{or-true}
 use Rattle.std.specs.Prelude.{IsSome}
 use Rattle.std.specs.List.{list_any}
 use Rattle.eden_base.specs.First.{first_where, changed_where, without_where}
@@ -38,10 +39,7 @@ any-first (y ∷ xs) p q x h t = first_in y xs p q x (p y) h t (any-first xs p q
   first_in : {X : Type 0} (y : X) (xs : List X) (p q : X → Bool) (x : X) → (b : Bool) → cond b (Some y) (first_where p xs) ≡ Some x → q x ≡ true →
       (first_where p xs ≡ Some x → q x ≡ true → list_any q xs ≡ true) → list_any q (y ∷ xs) ≡ true
   first_in y xs p q x true h t rest = let same : x ≡ y = cc in let here : q y ≡ true = subst (λ z. q z ≡ true) same t in rw here refl
-  first_in y xs p q x false h t rest = rw (rest h t) (or_true (q y)) where
-    or_true : (b : Bool) → (b || true) ≡ true
-    or_true true = refl
-    or_true false = refl
+  first_in y xs p q x false h t rest = rw (rest h t) (or-true (q y))
 
 -- a test that no member passes fails at each that is found
 pub first-none : {X : Type 0} (xs : List X) (p q : X → Bool) (x : X) → first_where q xs ≡ None → first_where p xs ≡ Some x → q x ≡ false

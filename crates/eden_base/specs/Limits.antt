@@ -1,4 +1,5 @@
--- The limits of numbers and of how often one is held. (This project's own; libfuse counts lookups in 64 bits.)
+-- The limits of numbers, of how often one is held, of files and of their sizes. (This project's own; libfuse counts
+-- lookups in 64 bits. A size is an `off_t`, which has a sign.)
 use Rattle.std.specs.Prelude.{ℕ, ◌-◌, ◌^◌}
 
 -- how often the kernel may hold one number: a count of 32 bits
@@ -8,3 +9,11 @@ greatest_count = 2 ^ 32 - 1
 -- the number after the last that may be given
 abbrev pub end_of_numbers : ℕ
 end_of_numbers = 2 ^ 63 - 1
+
+-- the file id after the last that may be given
+abbrev pub end_of_files : ℕ
+end_of_files = 2 ^ 63 - 1
+
+-- how many bytes a file may have
+abbrev pub greatest_size : ℕ
+greatest_size = 2 ^ 63 - 1

@@ -29,7 +29,7 @@ name_fault bytes =
 abbrev pub IsNameText : List ℕ → Type 0
 IsNameText bytes = name_fault bytes ≡ None
 
--- a refused parse tells the first fault; want of memory comes for names alone
+-- a refused parse tells the first fault; out of memory comes for names alone
 abbrev pub IsNameRefusal : List ℕ → NameFault → Type 0
 IsNameRefusal bytes NoMemory = IsNameText bytes
 IsNameRefusal bytes fault = name_fault bytes ≡ Some fault

@@ -10,7 +10,7 @@ pub enum Kind {
 }
 
 impl Kind {
-    /// Its word in manifests and printed lines.
+    /// Returns its word in manifests and printed lines.
     pub fn name(self) -> &'static str
         ensures name { result.now ≡ kind_name self }
     {
@@ -35,7 +35,7 @@ impl Perm {
     /// What every directory of a manifest has: 0o755.
     pub const DIRECTORY: Perm = Perm { bits: 493 };
 
-    /// The permissions of these bits, unless a bit above the twelfth is set.
+    /// Returns the permissions of these bits, unless a bit above the twelfth is set.
     pub fn of(bits: u16) -> Option<Perm>
         ensures perm { IfSome result (λ perm. perm.bits ≡ bits) }
         ensures in_range { IsSome result ↔ (bits ≤ 4095) }
@@ -47,7 +47,7 @@ impl Perm {
         }
     }
 
-    /// The bits that `of` was given.
+    /// Returns the bits that `of` was given.
     pub fn bits(self) -> u16
         ensures bits { result ≡ self.bits }
         ensures in_range { result ≤ 4095 }

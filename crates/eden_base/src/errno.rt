@@ -34,7 +34,7 @@ pub enum Errno {
 }
 
 impl Errno {
-    /// Its name in `errno.h`.
+    /// Returns its name in `errno.h`.
     pub fn name(self) -> &'static str
         ensures name { result.now ≡ errno_name self }
     {

@@ -13,7 +13,7 @@ mod text;
 
 pub use attr::{Attr, Kind, Perm};
 pub use errno::Errno;
-pub use limits::{END_OF_NUMBERS, GREATEST_COUNT};
+pub use limits::{END_OF_NUMBERS, GREATEST_COUNT, GREATEST_SIZE};
 pub use memory::NoMemory;
 pub use name::{Name, NameFault};
 pub use name_room::NameRoom;

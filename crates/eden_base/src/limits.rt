@@ -1,7 +1,10 @@
-//! The limits of numbers and of what is counted by them.
+//! The limits of numbers, of what is counted by them, and of sizes.
 
 /// How often the kernel may hold one number: a count of 32 bits.
 pub const GREATEST_COUNT: u64 = (1 << 32) - 1;
 
 /// The number after the last that may be given.
 pub const END_OF_NUMBERS: u64 = (1 << 63) - 1;
+
+/// How many bytes a file may have: an offset in it is a number of 64 bits with a sign.
+pub const GREATEST_SIZE: u64 = (1 << 63) - 1;

@@ -1,4 +1,4 @@
-//! Want of memory, where it is the only way to fail.
+//! Out of memory, where that is the only way to fail.
 use std::alloc::{AllocError, AllocFailed};
 use thiserror::Error;
 

@@ -30,13 +30,13 @@ impl Model for Name {
 /// Why bytes are no name. The first that holds is told, in this order.
 #[derive(Clone, Copy, Debug, PartialEq, Eq, Error)]
 pub enum NameFault {
-    #[error("a name has at least one byte")]
+    #[error("the name is empty")]
     Empty,
-    #[error("a name has at most 255 bytes")]
+    #[error("the name is longer than 255 bytes")]
     TooLong,
-    #[error("a name has no slash and no NUL")]
+    #[error("the name has a slash or a NUL")]
     BadByte,
-    #[error("`.` and `..` are no names of entries")]
+    #[error("the name is `.` or `..`")]
     Dots,
     #[error("out of memory")]
     NoMemory,
@@ -95,7 +95,7 @@ impl Name {
         Name { bytes: taken }
     }
 
-    /// The first fault of bytes as a name, want of memory apart: none where they are one.
+    /// Returns the first fault of bytes as a name, memory apart: none where they are one.
     pub fn fault(bytes: &[u8]) -> Option<NameFault>
         ensures fault { result ≡ name_fault bytes.now }
     {
@@ -114,7 +114,7 @@ impl Name {
         None
     }
 
-    /// The bytes as they were parsed: they need be no text.
+    /// Returns the bytes as they were parsed: they need be no text.
     pub fn bytes(&self) -> &[u8]
         ensures bytes { result.now ≡ self.now }
         ensures is_name { IsNameText result.now }

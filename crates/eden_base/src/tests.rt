@@ -4,7 +4,7 @@ use super::*;
 use std::alloc::Global;
 use std::test::Fail;
 
-/// `Name::parse`, and once more where memory was refused.
+/// Calls `Name::parse`, and once more where memory was refused.
 fn parse(alloc: Global, bytes: &[u8]) -> Result<Name, NameFault> {
     match Name::parse(alloc, bytes) {
         Ok(name) => Ok(name),
@@ -13,7 +13,7 @@ fn parse(alloc: Global, bytes: &[u8]) -> Result<Name, NameFault> {
     }
 }
 
-/// `Name::copy`, and once more where memory was refused.
+/// Calls `Name::copy`, and once more where memory was refused.
 fn copy(alloc: Global, name: &Name) -> Result<Name, NoMemory> {
     match name.copy(alloc) {
         Ok(copy) => Ok(copy),
@@ -21,7 +21,7 @@ fn copy(alloc: Global, name: &Name) -> Result<Name, NoMemory> {
     }
 }
 
-/// `NameRoom::new`, and once more where memory was refused.
+/// Calls `NameRoom::new`, and once more where memory was refused.
 fn room(alloc: Global) -> Result<NameRoom, NoMemory> {
     match NameRoom::new(alloc) {
         Ok(room) => Ok(room),
@@ -29,7 +29,7 @@ fn room(alloc: Global) -> Result<NameRoom, NoMemory> {
     }
 }
 
-/// The fault of bytes that are no name.
+/// Returns the fault of bytes that are no name.
 fn fault_of(alloc: Global, bytes: &[u8]) -> Option<NameFault> {
     match Name::parse(alloc, bytes) {
         Ok(_) => None,

@@ -3,7 +3,7 @@ ghost use Rattle.std.specs.Prelude.{◌≡◌, ◌<◌, ◌==◌, IfSome, length
 ghost use Rattle.std.specs.Option.{option_map};
 ghost use Rattle.eden_base.specs.Text.{cut};
 
-/// What stands before and after the first of this byte; nothing where there is none.
+/// Returns what stands before and after the first of this byte; nothing where there is none.
 pub fn cut(bytes: &[u8], byte: u8) -> Option<(&[u8], &[u8])>
     ensures parts { option_map (λ p. (p.0.now, p.1.now)) result ≡ cut byte bytes.now }
     ensures shorter { IfSome result (λ p. length p.1.now < length bytes.now) }
@@ -12,7 +12,7 @@ pub fn cut(bytes: &[u8], byte: u8) -> Option<(&[u8], &[u8])>
     Some((&bytes[..place], &bytes[place + 1..]))
 }
 
-/// Where the first of this byte stands.
+/// Returns where the first of this byte stands.
 fn first_of(bytes: &[u8], byte: u8) -> Option<usize>
     ensures place { result ≡ position (λ b. b == byte) bytes.now }
     ensures within { IfSome result (λ i. i < length bytes.now) }

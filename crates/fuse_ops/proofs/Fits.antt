@@ -6,6 +6,7 @@ use Rattle.eden_base.proofs.NumberTests.{eq-true}
 use Rattle.eden_base.specs.Limits.{greatest_count, end_of_numbers}
 use Rattle.eden_base.specs.declared.number.FileId.{FileId}
 use Rattle.eden_base.specs.declared.place.Place.TheVariants.{Linked, Unlinked}
+use Rattle.checkout.proofs.LinkLaws.{linked_from_child}
 use Rattle.checkout.specs.Tree.{Tree, IsTree, child_of, root, file_of as tree_file, is_unlinked, is_linked}
 use Rattle.inode_map.proofs.EntryLemmas.{numbers-entry, entry_of-first}
 use Rattle.inode_map.proofs.FileLemmas.{IsFileOf-same, named-known}
@@ -95,7 +96,7 @@ pub entry-place : (tree : Tree) (next : ℕ) (es : List Kept) → IsTree tree �
     IsFileOf tree es parent dir → child_of tree dir name ≡ Some file → entry_of es n ≡ Some kept → IsFileOf tree es n file → kept.place ≡ Linked (record { 0 = parent }) name
 entry-place tree next es is fits n parent kept dir file name at child e (is_root _ _ one same) = absurd (not-one es next n kept fits.numbers e one)
 entry-place tree next es is fits n parent kept dir file name at child e (is_marked _ _ kept' not e' l) =
-    absurd (linked_is_not_unlinked tree file (is.linked_is_linked dir name file child) (marked-unlinked tree next es fits n kept' file e' l (is_marked n file kept' not e' l)))
+    absurd (linked_is_not_unlinked tree file (linked_from_child tree dir name file child) (marked-unlinked tree next es fits n kept' file e' l (is_marked n file kept' not e' l)))
 entry-place tree next es is fits n parent kept dir file name at child e (is_child _ _ kept' above named above_file not e' l up c) =
     let one = is.links_are_apart above_file dir named name file c child in
     let same : above.0 ≡ parent = named-apart tree next es is fits above.0 parent dir (subst (λ (f : FileId). IsFileOf tree es above.0 f) one.0 up) at in

@@ -6,6 +6,7 @@ use Rattle.eden_base.specs.Limits.{greatest_count, end_of_numbers}
 use Rattle.eden_base.specs.declared.number.FileId.{FileId}
 use Rattle.eden_base.specs.declared.number.Number.{Number}
 use Rattle.eden_base.specs.declared.place.Place.TheVariants.{Linked}
+use Rattle.checkout.proofs.LinkLaws.{linked_from_child}
 use Rattle.checkout.specs.Tree.{Tree, IsTree, child_of, root, is_unlinked, file_of as tree_file}
 use Rattle.inode_map.proofs.Changing.{new_or_old, append-extends}
 use Rattle.inode_map.proofs.EntryLemmas.{append-same, numbers-append, numbers-bound}
@@ -92,7 +93,7 @@ module _ (tree : Tree) (next : ℕ) (es : List Kept) (parent : Number) (name : L
       IsUnlinkedPlace now.place ↔ (is_unlinked tree f ≡ true)
   unlinked_in n now f (inl (a, e)) g = (
     λ p. absurd (let q : ⊥ = subst (λ (k : Kept). IsUnlinkedPlace k.place) e p in q),
-    λ u. absurd (linked_is_not_unlinked tree file (is.linked_is_linked dir name file place.child) (subst (λ (k : FileId). is_unlinked tree k ≡ true) (here n f a g) u)),
+    λ u. absurd (linked_is_not_unlinked tree file (linked_from_child tree dir name file place.child) (subst (λ (k : FileId). is_unlinked tree k ≡ true) (here n f a g) u)),
   )
   unlinked_in n now f (inr e) g = fits.unlinked_alike n now f e (back n now f e g)
 

@@ -6,7 +6,7 @@ use Rattle.eden_base.specs.declared.attr.Perm.{Perm}
 use Rattle.checkout.specs.Text.{after}
 use Rattle.checkout.specs.Tree.{dir_perm}
 use Rattle.checkout.specs.ManifestText.{Entry, dir_entry, file_entry}
-use Rattle.checkout.proofs.TextLemmas.{same_perm}
+use Rattle.eden_base.proofs.PermLemmas.{same_perm}
 use Rattle.checkout.proofs.entry.Entry.read.Goals as goal
 
 abbrev dir_with : List ℕ → Perm → Entry

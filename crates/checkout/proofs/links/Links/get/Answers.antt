@@ -1,4 +1,4 @@
--- The file is in the directory that the first look-up finds.
+-- The file is in the directory that the first lookup finds.
 use Rattle.std.proofs.Common.{ap, sym, ◌∙◌}
 use Rattle.checkout.proofs.FlatLemmas.{get-in_directories, in_it}
 use Rattle.checkout.proofs.links.Links.get.Goals as goal
