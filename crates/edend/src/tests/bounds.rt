@@ -31,11 +31,21 @@ fn shows(alloc: Global, lines: usize) -> Result<Vec<u8>, AllocError> {
     Ok(text)
 }
 
+/// What so many of these lines print.
+fn no_seats(alloc: Global, lines: usize) -> Result<Vec<u8>, AllocError> {
+    let mut text = Vec::new(alloc);
+    for _ in 0..lines {
+        text.extend_from_slice(b"seat none\n".as_slice())?;
+    }
+    Ok(text)
+}
+
 #[test]
 fn takes_65536_lines_of_a_manifest_and_no_more(rt: HostRuntime) -> Result<(), AllocError> {
-    let most = manifest_of(rt.alloc(), 65_536)?;
+    let alloc = rt.alloc();
+    let most = manifest_of(alloc, 65_536).or_else(|_| manifest_of(alloc, 65_536))?;
     assert!(rt; prints(rt.alloc(), most.as_slice(), b"--\nstart\n", b"daemon 1\n"));
-    let more = manifest_of(rt.alloc(), 65_537)?;
+    let more = manifest_of(alloc, 65_537).or_else(|_| manifest_of(alloc, 65_537))?;
     assert!(rt;
         prints(
             rt.alloc(),
@@ -49,14 +59,12 @@ fn takes_65536_lines_of_a_manifest_and_no_more(rt: HostRuntime) -> Result<(), Al
 
 #[test]
 fn takes_1048576_bytes_and_no_more(rt: HostRuntime) -> Result<(), AllocError> {
-    let longest = shows(rt.alloc(), 209_705)?;
+    let alloc = rt.alloc();
+    let longest = shows(alloc, 209_705).or_else(|_| shows(alloc, 209_705))?;
     assert_eq!(rt; longest.len().saturating_add(HEAD.len()), 1_048_576);
-    let mut lines = Vec::new(rt.alloc());
-    for _ in 0..209_705 {
-        lines.extend_from_slice(b"seat none\n".as_slice())?;
-    }
+    let lines = no_seats(alloc, 209_705).or_else(|_| no_seats(alloc, 209_705))?;
     assert!(rt; prints(rt.alloc(), HEAD, longest.as_slice(), lines.as_slice()));
-    let longer = shows(rt.alloc(), 209_706)?;
+    let longer = shows(alloc, 209_706).or_else(|_| shows(alloc, 209_706))?;
     assert!(rt; prints(rt.alloc(), HEAD, longer.as_slice(), b"fault: too long\n"));
     Ok(())
 }
