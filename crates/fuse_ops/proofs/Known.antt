@@ -31,12 +31,6 @@ named-range served sound n file at = in_ (named-known served.tree served.map.ent
 pub same-number : (served : ServedState) → IsTree served.tree → IsSound served → (m n : ℕ) (file : FileId) → Names served m file → Names served n file → m ≡ n
 same-number served is sound m n file a b = named-apart served.tree served.map.next served.map.entries is (sound-fits served sound) m n file a b
 
--- after a forget, what is counted still names what it named
-pub forgets-keeps : (tree : Tree) (old new : MapState) (n k : ℕ) → Forgets tree old new n k → (m : ℕ) (file : FileId) → 0 < count_of new.entries m → IsFileOf tree old.entries m file → IsFileOf tree new.entries m file
-forgets-keeps tree old new n k forgets m file some at =
-    let g = counted-file (record { map = new; tree = tree }) forgets.sound m some in
-    subst (λ (f : FileId). IsFileOf tree new.entries m f) (IsFileOf-same tree old.entries m g.0 file (forgets.left_name m g.0 g.1) at) g.1
-
 -- no count is above the greatest
 pub count-fits : (served : ServedState) → IsSound served → (n : ℕ) → count_of served.map.entries n ≤ greatest_count
 count-fits served sound n = in_ (entry_of served.map.entries n) refl where
