@@ -20,7 +20,8 @@ use Rattle.fuse_wire.specs.Reading.{◌>>=◌, checked, name_of, made_of, items_
 use Rattle.fuse_wire.specs.RequestText.{name_text, item_text, IsCreateBody, IsMkdirBody, IsBatchBody, FitsItem}
 use Rattle.fuse_wire.proofs.Fields.{AreBytes, AreBytes-drop, u32_again, u64_again, u32_below, u32_front, u64_front}
 use Rattle.fuse_wire.proofs.Lengths.{length-u32_bytes, length-u64_bytes, length-items}
-use Rattle.fuse_wire.proofs.ReplyLaws.{behind, perm_ext}
+use Rattle.fuse_wire.proofs.ReplyLaws.{behind}
+use Rattle.eden_base.proofs.PermLemmas.{same_perm}
 
 -- ---- steps that did not fail
 
@@ -130,7 +131,7 @@ unfolding made_of
 made_again fixed place body name perm is =
     let long : ltb (length body) fixed ≡ false = le-ltb _ _ is.long in
     let read : name_of (drop fixed body) ≡ Ok name = ap name_of is.rest ∙ name_again name is.is_name in
-    let perms : perm_of (u32_at (drop place body)) ≡ perm = perm_ext (perm_of (u32_at (drop place body))) perm is.low in
+    let perms : perm_of (u32_at (drop place body)) ≡ perm = same_perm (perm_of (u32_at (drop place body))) perm is.low in
     let made : (name_of (drop fixed body) >>= λ n. Ok (n, perm_of (u32_at (drop place body)))) ≡ Ok (name, perm_of (u32_at (drop place body))) = rw read refl in
     rw long (made ∙ ap (λ (p : Perm). done (pair name p)) perms)
 

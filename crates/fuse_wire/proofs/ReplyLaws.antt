@@ -1,6 +1,5 @@
 -- A reply that was written is read again as itself.
 use Rattle.std.proofs.Common.{◌≡◌, ℕ, ◌+◌, ◌%◌, ◌^◌, ◌<◌, ◌≤◌, ℤ, List, [], ◌++◌, length, drop, Some, refl, sym, ap, subst, ◌∙◌, append_assoc, length-append, arith}
-use Rattle.std.proofs.Math.Bridge.{le_prop}
 use Rattle.std.proofs.lemmas.Bool.Decides.{nat_tests}
 use Rattle.std.proofs.lemmas.List.{append-nil, drop_at, drop-drop}
 use Rattle.eden_base.specs.declared.attr.Attr.{Attr}
@@ -17,19 +16,11 @@ use Rattle.fuse_wire.specs.ReplyReading.{kind_of, number_at, attr_at, answer_at}
 use Rattle.fuse_wire.specs.ReplyText.{error_field, mode, attributes, entry, payload, reply_header, reply_text, FitsAttr, FitsAnswer, FitsReply}
 use Rattle.fuse_wire.specs.RequestText.{zeros}
 use Rattle.fuse_wire.proofs.Errors.{error_fits, failure_is}
+use Rattle.eden_base.proofs.PermLemmas.{same_perm}
 use Rattle.fuse_wire.proofs.Fields.{i32_again, u32_again, u64_again}
 use Rattle.fuse_wire.proofs.Lengths.{lengths, length-i32_bytes, length-u32_bytes, length-u64_bytes, length-zeros, length-reply_header}
 
 -- ---- modes
-
-abbrev made_perm : (b : ℕ) → b ≤ 4095 → Perm
-made_perm b le = record { bits = b; in_range = le }
-
--- permissions are their bits
-pub perm_ext : (p q : Perm) → p.bits ≡ q.bits → p ≡ q
-perm_ext p q e =
-    let P : ℕ → Type 0 = λ b. (le : b ≤ 4095) → p ≡ made_perm b le in
-    subst P e (λ le. ap (made_perm p.bits) (le_prop p.in_range le)) q.in_range
 
 kind_of_sum : (kind : Kind) (bits : ℕ) → bits ≤ 4095 → kind_of (type_bits kind + bits) ≡ kind
 kind_of_sum File bits le = grind (arith, nat_tests)
@@ -43,7 +34,7 @@ pub kind_again : (attr : Attr) → kind_of (mode attr) ≡ attr.kind
 kind_again attr = kind_of_sum attr.kind attr.perm.bits attr.perm.in_range
 
 pub perm_again : (attr : Attr) → perm_of (mode attr) ≡ attr.perm
-perm_again attr = perm_ext (perm_of (mode attr)) attr.perm (low_of_sum attr.kind attr.perm.bits attr.perm.in_range)
+perm_again attr = same_perm (perm_of (mode attr)) attr.perm (low_of_sum attr.kind attr.perm.bits attr.perm.in_range)
 
 pub mode_fits : (attr : Attr) → mode attr < 2 ^ 32
 mode_fits attr = mode_of_fits attr.kind attr.perm.bits attr.perm.in_range where

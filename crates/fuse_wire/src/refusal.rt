@@ -32,7 +32,7 @@ fn is_forget(opcode: Opcode) -> bool
     matches!(opcode, Opcode::Forget | Opcode::BatchForget)
 }
 
-/// What the program that asked is told.
+/// Returns the error that the program which asked is told.
 fn errno_of_fault(fault: &WireFault) -> Errno
     ensures { result ≡ errno_of_fault fault.now }
 {

@@ -65,7 +65,7 @@ fn sought_files(alloc: Global) -> Result<Vec<Sought>> {
     Ok(files)
 }
 
-/// How many of the files the tree has.
+/// Counts the files that the tree has.
 fn found_of(tree: &Tree, files: &[Sought]) -> u32 {
     let mut found = 0u32;
     for file in files {

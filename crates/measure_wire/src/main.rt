@@ -104,7 +104,7 @@ fn items(text: &[u8]) -> Result<Items, WireFault> {
     read_items(text)
 }
 
-/// How many of the messages are read as forgets, and how many items they have.
+/// Counts the messages that are read as forgets, and their items.
 fn read_all_items(texts: &[Vec<u8>]) -> (usize, u64) {
     let mut read = 0usize;
     let mut sum = 0u64;
@@ -117,7 +117,7 @@ fn read_all_items(texts: &[Vec<u8>]) -> (usize, u64) {
     (read, sum)
 }
 
-/// How many of the messages are read, and the sum of their uniques or the number of their items.
+/// Counts the messages that are read, and sums their uniques or the number of their items.
 fn round(
     alloc: Global,
     form: &str,
