@@ -1,17 +1,16 @@
 -- What soundness says of numbers that are counted or name a file.
-use Rattle.std.proofs.Common.{◌≡◌, ℕ, ◌<◌, ◌≤◌, Option, Some, None, refl, subst, inl, inr, ◌⊎◌, arith}
+use Rattle.std.proofs.Common.{◌≡◌, ℕ, ◌<◌, ◌≤◌, Option, Some, None, refl, inl, inr, ◌⊎◌, arith}
 use Rattle.std.specs.Prelude.{IsSome}
 use Rattle.std.specs.Option.{option_map_or}
 use Rattle.eden_base.specs.Limits.{greatest_count}
 use Rattle.eden_base.proofs.MemberLemmas.{some-IsSome}
 use Rattle.eden_base.specs.declared.number.FileId.{FileId}
-use Rattle.checkout.specs.Tree.{Tree, IsTree, file_of as tree_file}
+use Rattle.checkout.specs.Tree.{IsTree, file_of as tree_file}
 use Rattle.inode_map.proofs.EntryLemmas.{numbers-bound, numbers-entry}
-use Rattle.inode_map.proofs.FileLemmas.{IsFileOf-same, named-known}
+use Rattle.inode_map.proofs.FileLemmas.{named-known}
 use Rattle.inode_map.proofs.Forgetting.{counted-entry}
-use Rattle.inode_map.specs.InodeMap.{MapState, entry_of, count_of, IsFileOf}
+use Rattle.inode_map.specs.InodeMap.{entry_of, count_of}
 use Rattle.inode_map.specs.declared.inode_map.Kept.{Kept}
-use Rattle.fuse_ops.specs.Gifts.{Forgets}
 use Rattle.fuse_ops.specs.Served.{ServedState}
 use Rattle.fuse_ops.specs.Soundness.{IsSound, Names}
 use Rattle.fuse_ops.proofs.Fits.{sound-fits, named-apart}

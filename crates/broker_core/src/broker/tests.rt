@@ -15,7 +15,7 @@ const FILE: Attr = Attr {
 
 /// A broker whose daemon 1 serves at generation 1.
 fn served(alloc: Global) -> Result<Broker, Fail> {
-    let mut broker = Broker::new(alloc);
+    let mut broker = Broker::new(alloc)?;
     broker.try_mount(DaemonId(1))?;
     Ok(broker)
 }
@@ -62,7 +62,7 @@ fn entry(number: u64) -> Answer {
 
 #[test]
 fn serves_one_daemon(rt: HostRuntime) -> Result<(), Fail> {
-    let mut broker = Broker::new(rt.alloc());
+    let mut broker = Broker::new(rt.alloc())?;
     assert_eq!(rt; broker.seat(), None);
     assert_eq!(rt; broker.try_issue(&getattr(1)), Err(IssueFault::NotMounted));
     assert_eq!(rt;
@@ -85,7 +85,7 @@ fn serves_one_daemon(rt: HostRuntime) -> Result<(), Fail> {
 
 #[test]
 fn makes_what_was_tested_before(rt: HostRuntime) -> Result<(), Fail> {
-    let mut broker = Broker::new(rt.alloc());
+    let mut broker = Broker::new(rt.alloc())?;
     if let Some(fault) = broker.mount_refusal() {
         return Err(fault)?;
     }
