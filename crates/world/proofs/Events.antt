@@ -37,23 +37,7 @@ use Rattle.world.proofs.Daemons.{may_mount, served_of-more, serving-is, seated-k
 use Rattle.world.proofs.Forgetting.{Forgotten, forgets-well, less_owed}
 use Rattle.world.proofs.Knowing.{knows-along, new-knows}
 use Rattle.world.proofs.Keeping.{may_go, books-mounted, books-asked, books-forgot, answered-mounted, answered-asked, seat-mounted, seat-stays}
-use Rattle.world.proofs.Quiet.{quiet_world, quiet_is, quiet-owed, asked_world, asked-after, asked-run, asked-owed, forgot_world, forgot-after, forgot-run, forgot-owed}
-
--- what makes no move leaves the world
-unmoved : (w : World) (old : State) (event : Event) (outcome : List Happened) (new : State) → moves_of w event outcome ≡ [] → AllByRecursion IsGoodForget outcome →
-    posted_from old outcome ≡ None → Matches w new → MovesOn w old event outcome new
-unmoved w old event outcome new none good nobody m = record {
-  run = subst (λ (ms : List Move). IsRun w ms) (sym none) tt;
-  matches = subst (λ (ms : List Move). Matches (after_all w ms) new) (sym none) m;
-  forgets = good;
-  answered = subst (λ (o : Option Seat). IsAnswered (after_all w (moves_of w event outcome)) o) (sym nobody) tt;
-}
-
-refused_moves : (w : World) (event : Event) (r : Refusal) → moves_of w event (happened.Refused r ∷ []) ≡ []
-refused_moves w Start r = refl
-refused_moves w (Mount d) r = refl
-refused_moves w (Do request) r = refl
-refused_moves w Show r = refl
+use Rattle.world.proofs.Quiet.{unmoved, refused_moves, quiet_world, quiet_is, quiet-owed, asked_world, asked-after, asked-run, asked-owed, forgot_world, forgot-after, forgot-run, forgot-owed}
 
 refuses-matched : (w : World) (old : State) (event : Event) (r : Refusal) (outcome : List Happened) (new : State) → Matches w old → Refuses old r outcome new → MovesOn w old event outcome new
 refuses-matched w old event r outcome new m (is, same) = subst (λ (o : List Happened). MovesOn w old event o new) (sym is)

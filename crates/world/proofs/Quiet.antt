@@ -1,7 +1,9 @@
--- A request that is done in a world in which nothing is under way: its moves may happen, and what they make of the world.
-use Rattle.std.proofs.Common.{◌≡◌, ℕ, ◌+◌, ◌-◌, ◌≤◌, Bool, true, false, ◌&&◌, List, [], ◌∷◌, Option, Some, None, refl, sym, ap, ◌∙◌, arith}
+-- What makes no move, and a request that is done in a world in which nothing is under way: its moves may happen, and what
+-- they make of the world.
+use Rattle.std.proofs.Common.{◌≡◌, ℕ, ◌+◌, ◌-◌, ◌≤◌, Bool, true, false, ◌&&◌, List, [], ◌∷◌, Option, Some, None, refl, sym, ap, ◌∙◌, subst, arith}
 use Rattle.std.specs.Prelude.{◌==◌, if◌then◌else◌}
 use Rattle.std.specs.Option.{option_map_or}
+use Rattle.std.specs.List.{AllByRecursion}
 use Rattle.eden_base.specs.declared.number.Number.{Number}
 use Rattle.eden_base.proofs.NumberTests.{eq-true, true-eq, false-ne}
 use Rattle.fuse_wire.specs.Given.{given_out}
@@ -11,7 +13,13 @@ use Rattle.fuse_wire.specs.declared.reply.Answer.{Answer}
 use Rattle.fuse_ops.specs.Answers.{tree_after, file_told}
 use Rattle.broker_core.specs.declared.seat.Seat.{Seat}
 use Rattle.world.specs.World.{World, Move, issue, issue_item, work, work_item, accept, deliver, times, without_times, gives, owed, MayIssue, MayForget, MayAnswer, effect_in, names_after, held_after, IsRun, after, after_all}
-use Rattle.world.specs.Agreement.{IsQuiet}
+use Rattle.world.specs.Agreement.{IsQuiet, IsGoodForget, IsAnswered, posted_from, Matches, MovesOn, moves_of}
+use Rattle.world.specs.State.{State}
+use Rattle.world.specs.declared.event.Event.{Event}
+use Rattle.world.specs.declared.event.Event.TheVariants.{Start, Mount, Do, Show}
+use Rattle.world.specs.declared.outcome.Happened.{Happened}
+use Rattle.world.specs.declared.outcome.Happened.TheVariants as happened
+use Rattle.world.specs.declared.outcome.Refusal.{Refusal}
 
 -- a world with this seat in which nothing is under way
 abbrev pub quiet_world : World → Seat → World
@@ -110,3 +118,19 @@ forgot-owed w seat item j = in_ (item.node.0 == j) (times j (without_times item.
   in_ : (b : Bool) (x : ℕ) → x ≡ (if b then times j w.held - item.k else times j w.held) → (if b then times j w.held + 0 + 0 - item.k else times j w.held + 0 + 0) ≡ x + 0 + 0
   in_ true x e = omega arith
   in_ false x e = omega arith
+
+-- what makes no move leaves the world
+pub unmoved : (w : World) (old : State) (event : Event) (outcome : List Happened) (new : State) → moves_of w event outcome ≡ [] → AllByRecursion IsGoodForget outcome →
+    posted_from old outcome ≡ None → Matches w new → MovesOn w old event outcome new
+unmoved w old event outcome new none good nobody m = record {
+  run = subst (λ (ms : List Move). IsRun w ms) (sym none) tt;
+  matches = subst (λ (ms : List Move). Matches (after_all w ms) new) (sym none) m;
+  forgets = good;
+  answered = subst (λ (o : Option Seat). IsAnswered (after_all w (moves_of w event outcome)) o) (sym nobody) tt;
+}
+
+pub refused_moves : (w : World) (event : Event) (r : Refusal) → moves_of w event (happened.Refused r ∷ []) ≡ []
+refused_moves w Start r = refl
+refused_moves w (Mount d) r = refl
+refused_moves w (Do request) r = refl
+refused_moves w Show r = refl
