@@ -59,7 +59,7 @@ impl<T> Nodes<T> {
         })
     }
 
-    /// How many values there are.
+    /// Returns how many values there are.
     pub fn len(&self) -> usize
         ensures len { result ≡ length self.now.entries }
         ensures sound { IsSound self.now }
@@ -67,7 +67,7 @@ impl<T> Nodes<T> {
         self.len as usize
     }
 
-    /// How many values there may be.
+    /// Returns how many values there may be.
     pub fn capacity(&self) -> usize
         ensures capacity { result ≡ self.now.capacity }
     {
