@@ -19,7 +19,7 @@ fn given(alloc: Global, map: &mut InodeMap, parent: Number, name: &Name) -> Opti
 #[test]
 fn walks_a_path_of_fifty_thousand_directories(rt: HostRuntime) -> Result<(), Fail> {
     let a = Name::parse(rt.alloc(), b"a")?;
-    let mut map = InodeMap::new(rt.alloc())?;
+    let mut map = InodeMap::new(rt.alloc(), 1)?;
     let mut last = Number::ROOT;
     for _step in 0..DEPTH {
         last = given(rt.alloc(), &mut map, last, &a).unwrap_or(Number::ROOT);

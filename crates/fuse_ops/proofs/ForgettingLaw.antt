@@ -11,7 +11,7 @@ use Rattle.inode_map.proofs.Changing.{changed-extended, count_of-entry, count-ch
 use Rattle.inode_map.proofs.FileLemmas.{IsFileOf-extended}
 use Rattle.inode_map.proofs.Forgetting.{less, less-keeps, counted-entry, lowered-others}
 use Rattle.inode_map.proofs.Walking.{IsStruck, struck-keeps}
-use Rattle.inode_map.specs.InodeMap.{has_number, entry_of, count_of, is_useless, is_bad_item, lowered, left_of_use, forgotten, IsFileOf}
+use Rattle.inode_map.specs.InodeMap.{has_number, entry_of, count_of, is_useless, is_bad_item, lowered, left_of_use, left_with, forgotten, IsFileOf}
 use Rattle.inode_map.specs.declared.inode_map.Forgot.TheVariants.{Lowered, Dropped}
 use Rattle.inode_map.specs.declared.inode_map.Kept.{Kept}
 use Rattle.fuse_ops.specs.Gifts.{served_over, Forgets, IsTaken, ForgettingLaw, KeepsEntries, BadForgetLaw}
@@ -43,9 +43,9 @@ one-left tree next old es n useless l = record {
 }
 
 forgets-entries : (served : ServedState) (n k : ℕ) → IsSound served → 1 ≤ k → k ≤ count_of served.map.entries n →
-    Forgets served.tree served.map (record served.map { entries = left_of_use (lowered served.map.entries n k) }) n k
+    Forgets served.tree served.map (left_with (left_of_use (lowered served.map.entries n k)) served.map) n k
 forgets-entries served n k sound some few = record {
-  sound = fits-sound (served_over served.tree (record served.map { entries = left_of_use (lowered served.map.entries n k) })) left.kept.fits left.of_use;
+  sound = fits-sound (served_over served.tree (left_with (left_of_use (lowered served.map.entries n k)) served.map)) left.kept.fits left.of_use;
   lowered = left.kept.counts n ∙ count-changed_same served.map.entries n (less k) entry.0 (less-keeps k) entry.1 ∙ ap (λ c. c - k) (sym (count_of-entry served.map.entries n entry.0 entry.1));
   others_count = λ m d. left.kept.counts m ∙ count-changed_other served.map.entries n m (less k) (less-keeps k) d;
   left_name = λ m file at. IsFileOf-extended served.tree (lowered served.map.entries n k) served.map.entries m file (changed-extended served.map.entries n (less k) (less-keeps k)) (left.kept.names m file at);

@@ -24,7 +24,7 @@ use Rattle.fuse_ops.proofs.FitsAdded.{IsNewPlace, fits-added, new-file, old-file
 
 -- nothing is given yet
 pub new-sound : NewLaw
-new-sound tree is = record {
+new-sound tree limit is = record {
   numbers = omega arith;
   numbers_fit = omega arith;
   names_a_file = λ n some. absurd (let none : ⊥ = cc in none);
@@ -103,9 +103,9 @@ gives-again served parent name dir file kept place e few =
 
 -- the place gets the next number
 gives-next : (served : ServedState) (parent : Number) (name : List ℕ) (dir file : FileId) → IsPlaced served parent.0 name dir file → entry_at served.map.entries parent.0 name ≡ None → served.map.next < end_of_numbers →
-    Gave served.tree served.map (record served.map { entries = served.map.entries ++ new_entry served.map.next parent name ∷ []; next = served.map.next + 1 }) served.map.next file
+    Gave served.tree served.map (record served.map { entries = served.map.entries ++ new_entry served.map.next parent name ∷ []; next = served.map.next + 1; spare = 0 }) served.map.next file
 gives-next served parent name dir file place e low = record {
-  sound = fits-sound (served_over tree (record served.map { entries = new; next = next + 1 })) (fits-added tree next es parent name dir file place.is_tree fits goes)
+  sound = fits-sound (served_over tree (record served.map { entries = new; next = next + 1; spare = 0 })) (fits-added tree next es parent name dir file place.is_tree fits goes)
       (added-of_use es next (new_entry next parent name) refl none (lit< tt) (sound-of_use served place.sound));
   names = new-file tree next es parent name dir file place.is_tree fits goes;
   others_name = λ m other d. (other-file tree next es parent name dir file place.is_tree fits goes m other d, old-file tree next es parent name dir file place.is_tree fits goes m other);
@@ -141,7 +141,7 @@ pub gives-well : GivingLaw
 gives-well served parent name dir file place accepted = in_ (entry_at served.map.entries parent.0 name) refl accepted where
   in_ : (o : Option Kept) → entry_at served.map.entries parent.0 name ≡ o → give_fault_at served.map o ≡ None →
       Gave served.tree served.map (if is_some o then record served.map { entries = changed_where (stands_at parent.0 name) once_more served.map.entries }
-      else record served.map { entries = served.map.entries ++ new_entry served.map.next parent name ∷ []; next = served.map.next + 1 })
+      else record served.map { entries = served.map.entries ++ new_entry served.map.next parent name ∷ []; next = served.map.next + 1; spare = 0 })
       (option_map_or number_of_kept o (record { 0 = served.map.next })).0 file
   in_ (Some kept) e free = gives-again served parent.0 name dir file kept place e (below_greatest kept free)
   in_ None e free = gives-next served parent name dir file place e (below_end served.map.next free)

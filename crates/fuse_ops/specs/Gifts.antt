@@ -91,4 +91,4 @@ BadForgetLaw =
 
 -- nothing is given yet
 abbrev pub NewLaw : Type 0
-NewLaw = (tree : Tree) → IsTree tree → IsSound (served_over tree new_map)
+NewLaw = (tree : Tree) (limit : ℕ) → IsTree tree → IsSound (served_over tree (new_map limit))

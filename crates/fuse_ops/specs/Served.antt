@@ -1,6 +1,6 @@
 -- What a daemon serves: its numbers and the tree of its checkout, and one step of it by a request and its answer.
 -- (EdenFS's documents on inode lifetime; libfuse's rules for lookup counts, `fuse_lowlevel.h`.)
-use Rattle.std.specs.Prelude.{◌≡◌, ℕ, true, false, List, [], ◌∷◌, MatchOption, Option, Some, None}
+use Rattle.std.specs.Prelude.{◌≡◌, ℕ, max, true, false, List, [], ◌∷◌, MatchOption, Option, Some, None}
 use Rattle.std.specs.List.{AllByRecursion}
 use Rattle.eden_base.specs.declared.number.FileId.{FileId}
 use Rattle.eden_base.specs.declared.number.Number.{Number}
@@ -22,9 +22,9 @@ pub record ServedState : Type 0 where
   pub map : MapState
   pub tree : Tree
 
--- a daemon that begins to serve a checkout
-abbrev pub new_served : Manifest → ServedState
-new_served manifest = record { map = new_map; tree = tree_of manifest }
+-- a daemon that begins to serve a checkout; its limit of loaded attributes is 1 at least
+abbrev pub new_served : Manifest → ℕ → ServedState
+new_served manifest limit = record { map = new_map (max limit 1); tree = tree_of manifest }
 
 -- the file that a number names for this daemon, or none where it names none
 abbrev pub IsLocated : ServedState → ℕ → Option FileId → Type 0

@@ -34,13 +34,13 @@ impl Model for Served {
 }
 
 impl Served {
-    /// Returns a daemon that begins to serve what a manifest says. The limit has no effect yet: every file counts as
-    /// loaded.
-    pub fn new(alloc: Global, manifest: &Manifest, _limit: usize) -> Result<Served, NoMemory>
-        ensures new { IfOk result (λ served. served ≡ new_served manifest.now) }
+    /// Returns a daemon that begins to serve what a manifest says. So many attributes may be loaded at once, and
+    /// one at least; every file counts as loaded yet.
+    pub fn new(alloc: Global, manifest: &Manifest, limit: usize) -> Result<Served, NoMemory>
+        ensures new { IfOk result (λ served. served ≡ new_served manifest.now limit) }
     {
         let tree = Tree::of(alloc, manifest)?;
-        let map = InodeMap::new(alloc)?;
+        let map = InodeMap::new(alloc, limit.max(1))?;
         Ok(Served { map, tree })
     }
 

@@ -5,14 +5,16 @@ use Rattle.std.specs.List.{list_any}
 use Rattle.std.specs.Option.{option_map, option_map_or}
 use Rattle.std.proofs.lemmas.Bool.Decides.{nat_tests}
 use Rattle.eden_base.proofs.MemberLemmas.{some-or}
-use Rattle.eden_base.proofs.NumberTests.{eq-false}
-use Rattle.inode_map.specs.InodeMap.{MapState, has_number, entry_of, count_of, is_kid_of, is_of_use, is_useless, is_bad_item, lowered, left_of_use, forgot, forgotten, AreNumbers}
+use Rattle.eden_base.proofs.NumberTests.{eq-false, false-ne}
+use Rattle.inode_map.specs.InodeMap.{MapState, has_number, entry_of, count_of, is_kid_of, is_of_use, is_useless, is_bad_item, lowered, left_of_use, forgot, forgotten, loaded_number, left_with, AreNumbers}
 use Rattle.inode_map.specs.declared.inode_map.Forgot.TheVariants.{Lowered, Dropped, Bad, Root}
 use Rattle.inode_map.specs.declared.inode_map.Kept.{Kept}
 use Rattle.inode_map.specs.EntryPlaces.{AreOfUseBut}
 use Rattle.inode_map.proofs.Changing.{KeepsPlace, lowered-of_use, kids-changed, count_of-entry, count_of-none}
 use Rattle.inode_map.proofs.EntryLemmas.{changed-same, entry_of-number, numbers-changed}
 use Rattle.inode_map.proofs.Giving.{AreKept}
+use Rattle.inode_map.specs.Table.{AreOfKept, file_number}
+use Rattle.inode_map.proofs.Keeping.{left_with-all}
 use Rattle.inode_map.proofs.Striking.{left_of_use-all}
 use Rattle.inode_map.proofs.Walking.{all-of_use, struck-keeps}
 
@@ -103,13 +105,22 @@ struck-kept es next n k are = let s = struck-keeps (λ xs. Unit {0}) 2 next (λ 
     (lowered-numbers es next n k are.numbers) (lowered-others es n k are.of_use) tt in
     record { numbers = s.numbers; of_use = s.of_use }
 
--- where the number is of use still, none leaves
-pub forgotten-lowered : (map : MapState) (n k : ℕ) → AreKept map.next map.entries → IsTold map n k false → record map { entries = lowered map.entries n k } ≡ forgotten map n k
-forgotten-lowered map n k are told =
-    let kept = lowered-kept map n k are told in
-    let same : lowered map.entries n k ≡ left_of_use (lowered map.entries n k) = sym (left_of_use-all (lowered map.entries n k) 2 map.next kept.numbers kept.of_use) in
-    let other : (n == 1) ≡ false = told.other in let good : is_bad_item map.entries n k ≡ false = told.good in
-    rw (other, good) (ap (λ (entries : List Kept). record map { entries = entries }) same)
+-- what is no bad item is counted as often
+pub good-parts : (es : List Kept) (n k : ℕ) → is_bad_item es n k ≡ false → (k ≡ 0 → ⊥) × (k ≤ count_of es n)
+good-parts es n k h = in_ (k == 0) (nat_lt (count_of es n) k) refl refl h where
+  in_ : (a b : Bool) → (k == 0) ≡ a → nat_lt (count_of es n) k ≡ b → (a || b) ≡ false → (k ≡ 0 → ⊥) × (k ≤ count_of es n)
+  in_ true b e f g = absurd (let none : ⊥ = cc in none)
+  in_ false true e f g = absurd (let none : ⊥ = cc in none)
+  in_ false false e f g = (false-ne k 0 e, let l : k ≤ count_of es n = grind (arith, nat_tests) in l)
 
-pub forgotten-dropped : (map : MapState) (n k : ℕ) → IsTold map n k true → record map { entries = left_of_use (lowered map.entries n k) } ≡ forgotten map n k
+-- where the number is of use still, none leaves
+pub forgotten-lowered : (map : MapState) (n k : ℕ) → AreKept map.next map.entries → AreOfKept loaded_number (lowered map.entries n k) map.loaded → AreOfKept file_number (lowered map.entries n k) map.remembered →
+    IsTold map n k false → record map { entries = lowered map.entries n k } ≡ forgotten map n k
+forgotten-lowered map n k are loaded files told =
+    let kept = lowered-kept map n k are told in
+    let same : left_of_use (lowered map.entries n k) ≡ lowered map.entries n k = left_of_use-all (lowered map.entries n k) 2 map.next kept.numbers kept.of_use in
+    let other : (n == 1) ≡ false = told.other in let good : is_bad_item map.entries n k ≡ false = told.good in
+    rw (other, good) (sym (ap (λ (es : List Kept). left_with es map) same ∙ left_with-all (lowered map.entries n k) map loaded files))
+
+pub forgotten-dropped : (map : MapState) (n k : ℕ) → IsTold map n k true → left_with (left_of_use (lowered map.entries n k)) map ≡ forgotten map n k
 forgotten-dropped map n k told = let other : (n == 1) ≡ false = told.other in let good : is_bad_item map.entries n k ≡ false = told.good in rw (other, good) refl

@@ -8,11 +8,10 @@ use Rattle.eden_base.proofs.NumberTests.{true-eq, eq-or}
 use Rattle.eden_base.specs.declared.place.Place.{Place}
 use Rattle.eden_base.specs.declared.place.Place.TheVariants.{Linked, Unlinked}
 use Rattle.eden_base.specs.First.{without_where}
-use Rattle.inode_map.specs.EntryPlaces.{AreOfUseBut, IsNumbered, IsUselessPlace, dir_of}
+use Rattle.inode_map.specs.EntryPlaces.{AreOfUseBut, dir_of}
 use Rattle.inode_map.specs.InodeMap.{has_number, entry_of, is_kid_of, is_in, is_of_use, is_useless, left_of_use, AreNumbers}
 use Rattle.inode_map.specs.declared.inode_map.Kept.{Kept}
 use Rattle.inode_map.proofs.EntryLemmas.{entry_of-number, numbers-without, without-same, without-other}
-use Rattle.inode_map.proofs.EntryWrites.{entry_of-place}
 use Rattle.inode_map.proofs.Striking.{IsUseless, useless-entry, left_of_use-all, left_of_use-one}
 
 -- an entry that was left
@@ -106,18 +105,3 @@ struck-keeps P low next step (suc steps) (Some n) es short are useful here =
           let long : suc (length (without_where (has_number n) es)) ≡ length es = length-without_where es (has_number n) u.0 u.1.entry in
           subst (λ (xs : List Kept). IsStruck P low next xs) (sym (left_of_use-one es low next n are useful h))
           (rest (dir_of u.0.place) (omega arith) (left-of_use es low next n u.0 are u.1 useful) (step es n are h here))
-
--- one step of the walk: the entry at a place of no use is taken out
-pub record IsStep (es : List Kept) (x : Kept) (new : List Kept) : Type 0 where
-  pub same : left_of_use new ≡ left_of_use es
-  pub others_of_use : AreOfUseBut (dir_of x.place) new
-  pub numbers : IsNumbered new
-
-pub removed-step : (es : List Kept) (n i : ℕ) (x : Kept) → IsNumbered es → AreOfUseBut (Some n) es → IsUselessPlace es n i → x ≡ get_or es i x → IsStep es x (remove es i)
-removed-step es n i x are useful place is = subst (λ (xs : List Kept). IsStep es x xs) place.is_place.removal (record {
-  same = sym (left_of_use-one es 2 are.0 n are.1 useful place.useless);
-  others_of_use = let u = useless-entry es n place.useless in
-      let same : u.0 ≡ x = some-same (entry_of es n) u.0 x u.1.entry (entry_of-place es n i x place.is_place is) in
-      subst (λ (k : Kept). AreOfUseBut (dir_of k.place) (without_where (has_number n) es)) same (left-of_use es 2 are.0 n u.0 are.1 u.1 useful);
-  numbers = (are.0, numbers-without es 2 are.0 (has_number n) are.1);
-})

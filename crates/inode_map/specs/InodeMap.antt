@@ -1,27 +1,38 @@
 -- What a daemon remembers for the kernel, as EdenFS's inode map does: each number that it gave, where the file of that
 -- number stands, and how often the kernel holds it, with libfuse's rules for lookup counts (`fuse_lowlevel.h`).
-use Rattle.std.specs.Prelude.{◌≡◌, ℕ, suc, zero, ◌+◌, ◌-◌, ◌^◌, ◌≤◌, min, Bool, false, ◌||◌, ◌&&◌, ◌==◌, nat_le, nat_lt, not, List, [], ◌∷◌, ◌++◌, length, nat_eq, Option, Some, None, is_some, if◌then◌else◌}
+use Rattle.std.specs.Prelude.{◌≡◌, ℕ, suc, zero, ◌+◌, ◌-◌, ◌^◌, ◌≤◌, min, Bool, true, false, take, ◌||◌, ◌&&◌, ◌==◌, nat_le, nat_lt, not, List, [], ◌∷◌, ◌++◌, length, nat_eq, Option, Some, None, is_some, if◌then◌else◌}
 use Rattle.std.specs.Option.{option_map, option_map_or}
-use Rattle.std.specs.List.{filter, list_any}
+use Rattle.std.specs.List.{filter, list_any, AllByRecursion}
+use Rattle.std.specs.Map.{lookup}
+use Rattle.std.specs.BTreeMap.{insert_entry}
+use Rattle.std.specs.Ordering.{nat_cmp}
 use Rattle.std.specs.Cmp.Lexicographic.{pointwise}
 use Rattle.eden_base.specs.declared.number.Number.{Number}
 use Rattle.eden_base.specs.declared.number.FileId.{FileId}
 use Rattle.eden_base.specs.declared.place.Place.{Place}
 use Rattle.eden_base.specs.declared.place.Place.TheVariants.{Linked, Unlinked}
-use Rattle.eden_base.specs.First.{first_where, changed_where}
+use Rattle.eden_base.specs.declared.attr.Attr.{Attr}
+use Rattle.eden_base.specs.First.{first_where, changed_where, without_where}
 use Rattle.eden_base.specs.Limits.{greatest_count, end_of_numbers}
 use Rattle.checkout.specs.Tree.{Tree, child_of, root}
 use Rattle.inode_map.specs.declared.inode_map.Kept.{Kept}
+use Rattle.inode_map.specs.declared.loaded.LoadedAttr.{LoadedAttr}
 use Rattle.inode_map.specs.declared.inode_map.GiveFault.{GiveFault}
 use Rattle.inode_map.specs.declared.inode_map.GiveFault.TheVariants.{NoNumber, TooMany, NoMemory}
 use Rattle.inode_map.specs.declared.inode_map.Forgot.{Forgot}
 use Rattle.inode_map.specs.declared.inode_map.Forgot.TheVariants.{Lowered, Dropped, Bad, Root}
 
--- the numbers that were given and are not forgotten, the next number, and how many bad forgets came
+-- the numbers that were given and are not forgotten by rising number, the next number, how many bad forgets came, the
+-- loaded attributes by recency and how many there may be, how many numbers can be given without memory, and the files
+-- that are remembered by rising number
 pub record MapState : Type 0 where
   pub entries : List Kept
   pub next : ℕ
   pub bad_items : ℕ
+  pub loaded : List LoadedAttr
+  pub limit : ℕ
+  pub spare : ℕ
+  pub remembered : List (ℕ × FileId)
 
 -- the entry is of this number
 abbrev pub has_number : ℕ → Kept → Bool
@@ -38,6 +49,14 @@ place_of_kept kept = kept.place
 -- what is remembered of a number
 abbrev pub entry_of : List Kept → ℕ → Option Kept
 entry_of entries n = first_where (has_number n) entries
+
+-- the number has an entry
+abbrev pub is_kept : List Kept → ℕ → Bool
+is_kept entries n = is_some (entry_of entries n)
+
+-- the number is the root's, or has an entry
+abbrev pub is_known : List Kept → ℕ → Bool
+is_known entries n = n == 1 || is_kept entries n
 
 -- how often the kernel holds it, as far as the daemon knows
 abbrev pub count_of : List Kept → ℕ → ℕ
@@ -113,7 +132,7 @@ abbrev pub given : MapState → Number → List ℕ → MapState
 given map parent name =
     if is_some (entry_at map.entries parent.0 name)
     then record map { entries = changed_where (stands_at parent.0 name) once_more map.entries }
-    else record map { entries = map.entries ++ new_entry map.next parent name ∷ []; next = map.next + 1 }
+    else record map { entries = map.entries ++ new_entry map.next parent name ∷ []; next = map.next + 1; spare = 0 }
 
 -- a refused gift tells the first fault; out of memory comes for a new number alone, where no other fault does
 abbrev pub IsGiveRefusal : MapState → ℕ → List ℕ → GiveFault → Type 0
@@ -137,12 +156,24 @@ forgot map n k =
     else if is_useless (lowered map.entries n k) n then Dropped
     else Lowered
 
+-- the number of a loaded attribute
+abbrev pub loaded_number : LoadedAttr → ℕ
+loaded_number loaded = loaded.number.0
+
+-- what is left where only these entries are: with a number goes its loaded attribute, and the file that is remembered
+abbrev pub left_with : List Kept → MapState → MapState
+left_with entries map = record map {
+  entries = entries;
+  loaded = filter (λ (loaded : LoadedAttr). is_kept entries (loaded_number loaded)) map.loaded;
+  remembered = filter (λ (file : ℕ × FileId). is_kept entries file.0) map.remembered;
+}
+
 -- after a forget
 abbrev pub forgotten : MapState → ℕ → ℕ → MapState
 forgotten map n k =
     if n == 1 then map
     else if is_bad_item map.entries n k then record map { bad_items = min (map.bad_items + 1) (2 ^ 64 - 1) }
-    else record map { entries = left_of_use (lowered map.entries n k) }
+    else left_with (left_of_use (lowered map.entries n k)) map
 
 -- the file that a number names in a tree: the root for 1; the child, at its name, of its directory's file; or the
 -- file in its mark
@@ -167,6 +198,66 @@ is_above n kept = nat_lt n kept.number.0
 abbrev pub number_after : List Kept → ℕ → Option Number
 number_after entries n = option_map number_of_kept (first_where (is_above n) entries)
 
+-- the loaded attribute is of this number
+abbrev pub is_loaded_of : ℕ → LoadedAttr → Bool
+is_loaded_of n loaded = loaded.number.0 == n
+
+-- the attribute in it
+abbrev pub attr_in : LoadedAttr → Attr
+attr_in loaded = loaded.attr
+
+-- the loaded attribute of a number
+abbrev pub attr_of : List LoadedAttr → ℕ → Option Attr
+attr_of loaded n = option_map attr_in (first_where (is_loaded_of n) loaded)
+
+-- one that is loaded becomes the most recent
+abbrev pub used : List LoadedAttr → ℕ → List LoadedAttr
+used loaded n = option_map_or (λ (found : LoadedAttr). found ∷ without_where (is_loaded_of n) loaded) (first_where (is_loaded_of n) loaded) loaded
+
+-- an attribute becomes the most recent, and the oldest makes place for it at the limit
+abbrev pub load : ℕ → List LoadedAttr → Number → Attr → List LoadedAttr
+load limit loaded number attr = record { number = number; attr = attr } ∷ take (limit - 1) loaded
+
+-- without the oldest
+abbrev pub without_oldest : List LoadedAttr → List LoadedAttr
+without_oldest loaded = take (length loaded - 1) loaded
+
+-- the file that is remembered of a number
+abbrev pub file_remembered : List (ℕ × FileId) → ℕ → Option FileId
+file_remembered files n = lookup (λ (m : ℕ). m == n) files
+
+-- with a file remembered
+abbrev pub remembered : List (ℕ × FileId) → ℕ → FileId → List (ℕ × FileId)
+remembered files n file = insert_entry nat_cmp files n file
+
+-- the entry stands under some name
+abbrev pub IsLinked : List Kept → ℕ → Type 0
+IsLinked entries n = (kept : Kept) × (dir : Number) × (name : List ℕ) × (entry_of entries n ≡ Some kept) × (kept.place ≡ Linked dir name)
+
+-- its name was taken away
+abbrev pub marked : FileId → Kept → Kept
+marked file kept = record kept { place = Unlinked file }
+
+-- after the name of a number was taken away: its directory leaves where it is of no use, and so on upwards
+abbrev pub unlinked : MapState → ℕ → FileId → MapState
+unlinked map n file = left_with (left_of_use (changed_where (has_number n) (marked file) map.entries)) map
+
+-- an entry that is linked is the one of its place
+abbrev pub AreApart : List Kept → Type 0
+AreApart entries = (n : ℕ) (kept : Kept) (dir : Number) (name : List ℕ) →
+    entry_of entries n ≡ Some kept → kept.place ≡ Linked dir name → entry_at entries dir.0 name ≡ Some kept
+
+-- entries that a map may have: numbers rise and stay below the next, no place is of two, and each is of use
+pub record AreEntries (entries : List Kept) (next : ℕ) : Type 0 where
+  pub numbers : AreNumbers 2 next entries
+  pub last : next ≤ end_of_numbers
+  pub apart : AreApart entries
+  pub of_use : AllByRecursion (λ (kept : Kept). is_of_use entries kept ≡ true) entries
+
+-- a map with entries of which nothing is loaded or remembered
+abbrev pub map_of : List Kept → ℕ → ℕ → MapState
+map_of entries next limit = record { entries = entries; next = next; bad_items = 0; loaded = []; limit = limit; spare = 0; remembered = [] }
+
 -- nothing was given yet but the root, which is no entry
-abbrev pub new_map : MapState
-new_map = record { entries = []; next = 2; bad_items = 0 }
+abbrev pub new_map : ℕ → MapState
+new_map limit = map_of [] 2 limit

@@ -1,15 +1,21 @@
 //! What a daemon remembers for the kernel.
-ghost use Rattle.std.specs.Prelude.{◌≡◌, ◌+◌, ◌<◌, ◌≤◌, ◌^◌, None, vec_capacity, MatchOption, IfOk, IfErr, OnOk, OnErr};
+ghost use Rattle.std.specs.Prelude.{◌≡◌, ℕ, ◌+◌, ◌<◌, ◌≤◌, ◌^◌, None, Some, IsSome, false, true, nat_lt, length, MatchOption, IfOk, IfErr, OnOk, OnErr};
+ghost use Rattle.std.specs.List.{filter, list_any};
 ghost use Rattle.std.specs.Option.{option_map, option_copied};
+ghost use Rattle.eden_base.specs.Limits.{end_of_numbers};
 ghost use Rattle.eden_base.specs.declared.number.FileId.{FileId};
 ghost use Rattle.eden_base.specs.declared.number.Number.{Number};
+ghost use Rattle.inode_map.specs.declared.loaded.LoadedAttr.{LoadedAttr};
 ghost use Rattle.inode_map.specs.Words.{forgot_name};
-ghost use Rattle.inode_map.specs.InodeMap.{new_map, entry_of, entry_at, count_of, number_after, number_of_kept, place_of_kept, give_fault, number_given, given, IsGiveRefusal, forgot, forgotten, IsFileOf, AreNumbers};
+ghost use Rattle.inode_map.specs.EntryPlaces.{AreOfUseBut};
+ghost use Rattle.inode_map.specs.InodeMap.{new_map, map_of, entry_of, entry_at, count_of, number_after, number_of_kept, place_of_kept, is_known, give_fault, number_given, given, IsGiveRefusal, forgot, forgotten, unlinked, is_kid_of, is_useless, is_bad_item, lowered, IsLinked, IsFileOf, AreNumbers, AreEntries, attr_of, used, load, without_oldest, loaded_number, left_of_use, file_remembered, remembered};
+ghost use Rattle.inode_map.specs.Table.{AreOfKept, of_kept, pruned, file_number};
 
-use crate::entries::{has_kids, locate, lower, place_above, place_at, place_of, prune};
+use crate::loaded::Loaded;
+use crate::table::Table;
 use checkout::Tree;
-use eden_base::{END_OF_NUMBERS, FileId, GREATEST_COUNT, Name, NoMemory, Number, Place};
-use std::alloc::{AllocError, Global};
+use eden_base::{Attr, END_OF_NUMBERS, FileId, GREATEST_COUNT, Name, NoMemory, Number, Place};
+use std::alloc::Global;
 use std::marker::Model;
 use thiserror::Error;
 
@@ -60,13 +66,12 @@ pub enum GiveFault {
     NoMemory,
 }
 
-/// Given numbers by rising number, the next one, and how many bad forgets came; and the room for a walk.
+/// The entries, the next number, how many bad forgets came, and the loaded attributes.
 #[derive(Drop)]
 pub struct InodeMap {
-    entries: Vec<Kept>,
-    next: u64,
+    table: Table,
     bad_items: u64,
-    way: Vec<usize>,
+    loaded: Loaded,
 }
 
 impl Model for InodeMap {
@@ -75,9 +80,13 @@ impl Model for InodeMap {
     ghost Value = { MapState };
 
     ghost view = { λ m. record {
-      entries = m.entries.items;
-      next = m.next;
+      entries = m.table.entries;
+      next = m.table.next;
       bad_items = m.bad_items;
+      loaded = m.loaded.attrs;
+      limit = m.loaded.limit;
+      spare = m.table.spare;
+      remembered = m.table.remembered;
     } };
 
     ghost use Rattle.inode_map.specs.Inside.{IsConsistent};
@@ -86,15 +95,16 @@ impl Model for InodeMap {
 }
 
 impl InodeMap {
-    /// Remembers no number yet but the root's, which is no entry.
-    pub fn new(alloc: Global) -> Result<InodeMap, NoMemory>
-        ensures new { IfOk result (λ map. map ≡ new_map) }
+    /// Remembers no number yet but the root's, which is no entry. So many attributes may be loaded at once.
+    pub fn new(alloc: Global, loaded_limit: usize) -> Result<InodeMap, NoMemory>
+        requires limit { 1 ≤ loaded_limit }
+        ensures new { IfOk result (λ map. map ≡ new_map loaded_limit) }
     {
+        let loaded = Loaded::new(alloc, loaded_limit)?;
         Ok(InodeMap {
-            entries: Vec::new(alloc),
-            next: 2,
+            table: Table::new(alloc),
             bad_items: 0,
-            way: Vec::new(alloc),
+            loaded,
         })
     }
 
@@ -102,7 +112,7 @@ impl InodeMap {
     pub fn next(&self) -> u64
         ensures next { result ≡ self.now.next }
     {
-        self.next
+        self.table.next()
     }
 
     /// Returns how many forgets were bad.
@@ -112,12 +122,19 @@ impl InodeMap {
         self.bad_items
     }
 
+    /// Tells whether a number is the root's or has an entry.
+    pub fn known(&self, number: Number) -> bool
+        ensures known { result ≡ is_known self.now.entries number.0 }
+    {
+        number == Number::ROOT || self.table.get(number).is_some()
+    }
+
     /// Returns how often the kernel holds a number, as far as the daemon knows: 0 for an unknown one, and for the root.
     pub fn count(&self, number: Number) -> u64
         ensures count { result ≡ count_of self.now.entries number.0 }
     {
-        match place_of(self.entries.as_slice(), number) {
-            Some(place) => self.entries[place].count,
+        match self.table.get(number) {
+            Some(held) => held.count,
             None => 0,
         }
     }
@@ -127,8 +144,7 @@ impl InodeMap {
         ensures place { option_copied result
             ≡ option_map place_of_kept (entry_of self.now.entries number.0) }
     {
-        let place = place_of(self.entries.as_slice(), number)?;
-        Some(&self.entries[place].place)
+        Some(&self.table.get(number)?.place)
     }
 
     /// Returns the least number above another. Numbers rise, so who goes on from the last answer sees each once.
@@ -136,11 +152,7 @@ impl InodeMap {
         ensures after { result ≡ number_after self.now.entries number.0 }
         ensures numbers { AreNumbers 2 self.now.next self.now.entries }
     {
-        let place = place_above(self.entries.as_slice(), number);
-        if place < self.entries.len() {
-            return Some(self.entries[place].number);
-        }
-        None
+        self.table.after(number)
     }
 
     /// Returns the number that a name in a directory has.
@@ -148,8 +160,7 @@ impl InodeMap {
         ensures number { result
             ≡ option_map number_of_kept (entry_at self.now.entries parent.0 name.now) }
     {
-        let place = place_at(self.entries.as_slice(), parent, name)?;
-        Some(self.entries[place].number)
+        self.table.find(parent, name)
     }
 
     /// Finds the file that a number names in a tree, by the names above it. It takes no memory.
@@ -159,7 +170,7 @@ impl InodeMap {
             (IsFileOf tree.now self.old.entries number.0) }
         ensures unchanged { self.new ≡ self.old }
     {
-        locate(self.entries.as_slice(), &mut self.way, tree, number)
+        self.table.locate(tree, number)
     }
 
     /// Gives the number of a name in a directory, which is then held once more: the one that it has, or the next.
@@ -170,51 +181,67 @@ impl InodeMap {
         ensures refused { IfErr result (IsGiveRefusal self.old parent.0 name.now) }
         ensures unchanged { OnErr result (self.new ≡ self.old) }
     {
-        match place_at(self.entries.as_slice(), parent, name) {
-            Some(place) => {
-                let kept = &mut self.entries[place];
-                if kept.count >= GREATEST_COUNT {
-                    return Err(GiveFault::TooMany);
-                }
-                kept.count += 1;
-                Ok(kept.number)
-            }
-            None => self.give_next(alloc, parent, name),
+        if let Some(number) = self.table.find(parent, name) {
+            return self.give_again(parent, name, number);
         }
-    }
-
-    /// Gives the next number to a name that has none.
-    fn give_next(&mut self, alloc: Global, parent: Number, name: &Name) -> Result<Number, GiveFault>
-        requires no_number { entry_at self.old.entries parent.0 name.now ≡ None }
-        ensures number { IfOk result (λ number. number ≡ number_given self.old parent.0 name.now) }
-        ensures given { OnOk result (self.new ≡ given self.old parent name.now) }
-        ensures accepted { OnOk result (give_fault self.old parent.0 name.now ≡ None) }
-        ensures refused { IfErr result (IsGiveRefusal self.old parent.0 name.now) }
-        ensures unchanged { OnErr result (self.new ≡ self.old) }
-    {
-        if self.next >= END_OF_NUMBERS {
+        if self.table.next() >= END_OF_NUMBERS {
             return Err(GiveFault::NoNumber);
         }
         let Ok(name) = name.copy(alloc) else {
             return Err(GiveFault::NoMemory);
         };
-        let Ok(()) = reserve_way(&mut self.way, self.entries.len()) else {
+        let Ok(()) = self.table.reserve(alloc) else {
             return Err(GiveFault::NoMemory);
         };
-        let number = Number(self.next);
-        let place = Place::Linked { parent, name };
-        let kept = Kept {
-            number,
-            place,
-            count: 1,
-        };
-        match self.entries.push(kept) {
-            Ok(()) => {
-                self.next += 1;
-                Ok(number)
-            }
-            Err(_refused) => Err(GiveFault::NoMemory),
+        Ok(self.table.add(parent, name))
+    }
+
+    /// Makes room for one new number, so that `give_ready` takes no memory.
+    pub fn reserve(&mut self, alloc: Global) -> Result<(), NoMemory>
+        ensures ok { OnOk result (self.new ≡ record self.old { spare = 1 }) }
+        ensures err { OnErr result (self.new ≡ self.old) }
+    {
+        self.table.reserve(alloc)
+    }
+
+    /// Gives the number of a name in a directory as `give` does, in the room that `reserve` made.
+    pub fn give_ready(&mut self, parent: Number, name: Name) -> Result<Number, GiveFault>
+        requires room { self.old.spare ≡ 1 }
+        ensures number { IfOk result (λ number. number ≡ number_given self.old parent.0 name) }
+        ensures given { OnOk result (self.new ≡ given self.old parent name) }
+        ensures accepted { OnOk result (give_fault self.old parent.0 name ≡ None) }
+        ensures refused { IfErr result (λ fault. give_fault self.old parent.0 name ≡ Some fault) }
+        ensures unchanged { OnErr result (self.new ≡ self.old) }
+    {
+        if let Some(number) = self.table.find(parent, &name) {
+            return self.give_again(parent, &name, number);
         }
+        if self.table.next() >= END_OF_NUMBERS {
+            return Err(GiveFault::NoNumber);
+        }
+        Ok(self.table.add(parent, name))
+    }
+
+    /// Gives the number that a name has.
+    fn give_again(
+        &mut self,
+        parent: Number,
+        name: &Name,
+        number: Number,
+    ) -> Result<Number, GiveFault>
+        requires has { Some number ≡ option_map number_of_kept (entry_at self.old.entries parent.0 name.now) }
+        ensures number { IfOk result (λ number. number ≡ number_given self.old parent.0 name.now) }
+        ensures given { OnOk result (self.new ≡ given self.old parent name.now) }
+        ensures accepted { OnOk result (give_fault self.old parent.0 name.now ≡ None) }
+        ensures refused { IfErr result (λ fault. give_fault self.old parent.0 name.now ≡ Some fault) }
+        ensures unchanged { OnErr result (self.new ≡ self.old) }
+    {
+        let count = self.count(number);
+        if count >= GREATEST_COUNT {
+            return Err(GiveFault::TooMany);
+        }
+        self.table.set_count(number, count + 1);
+        Ok(number)
     }
 
     /// Tells what would become of a forget.
@@ -231,7 +258,7 @@ impl InodeMap {
         if count > k {
             return Forgot::Lowered;
         }
-        if has_kids(self.entries.as_slice(), number) {
+        if self.table.has_kids(number) {
             return Forgot::Lowered;
         }
         Forgot::Dropped
@@ -246,22 +273,109 @@ impl InodeMap {
         match forgot {
             Forgot::Root => {}
             Forgot::Bad => self.bad_items = self.bad_items.saturating_add(1),
-            Forgot::Lowered => lower(&mut self.entries, number, k),
+            Forgot::Lowered => lower(&mut self.table, number, k),
             Forgot::Dropped => {
-                lower(&mut self.entries, number, k);
-                prune(&mut self.entries, number);
+                lower(&mut self.table, number, k);
+                prune(&mut self.table, &mut self.loaded, number);
             }
         }
         forgot
     }
+
+    /// Takes the name of a number away: it names its file by a mark from now on. The directory is dropped once it is of
+    /// no use, and so on upwards.
+    pub fn unlink(&mut self, number: Number, file: FileId)
+        requires linked { IsLinked self.old.entries number.0 }
+        requires no_kids { list_any (is_kid_of number.0) self.old.entries ≡ false }
+        ensures unlinked { self.new ≡ unlinked self.old number.0 file }
+    {
+        let dir = self.table.unlink(number, file);
+        prune(&mut self.table, &mut self.loaded, dir);
+    }
+
+    /// Returns the loaded attribute of a number, and makes it the most recent.
+    pub fn attr(&mut self, number: Number) -> Option<Attr>
+        ensures attr { result ≡ attr_of self.old.loaded number.0 }
+        ensures used { self.new ≡ record self.old { loaded = used self.old.loaded number.0 } }
+    {
+        self.loaded.get(number)
+    }
+
+    /// Loads the attribute of a number. At the limit the oldest is unloaded first.
+    pub fn load(&mut self, number: Number, attr: Attr)
+        requires entry { IsSome (entry_of self.old.entries number.0) }
+        requires unloaded { attr_of self.old.loaded number.0 ≡ None }
+        ensures loaded { self.new
+            ≡ record self.old { loaded = load self.old.limit self.old.loaded number attr } }
+    {
+        self.loaded.load(number, attr);
+    }
+
+    /// Unloads the oldest attribute, unless nothing is loaded.
+    pub fn unload_oldest(&mut self) -> bool
+        ensures some { result ≡ nat_lt 0 (length self.old.loaded) }
+        ensures unloaded { self.new ≡ record self.old { loaded = without_oldest self.old.loaded } }
+    {
+        self.loaded.unload_oldest()
+    }
+
+    /// Remembers the file that a number names. A number never names another file.
+    pub fn remember(&mut self, number: Number, file: FileId)
+        requires entry { IsSome (entry_of self.old.entries number.0) }
+        ensures remembered { self.new
+            ≡ record self.old { remembered = remembered self.old.remembered number.0 file } }
+    {
+        self.table.remember(number, file);
+    }
+
+    /// Returns the file that is remembered of a number.
+    pub fn recall(&self, number: Number) -> Option<FileId>
+        ensures file { result ≡ file_remembered self.now.remembered number.0 }
+    {
+        self.table.get(number)?.file
+    }
 }
 
-/// Makes room for a way that has one entry more.
-fn reserve_way(way: &mut Vec<usize>, entries: usize) -> Result<(), AllocError>
-    requires { entries + 1 < 2 ^ 64 }
-    ensures ok { OnOk result (entries + 1 ≤ vec_capacity way.new) }
-    ensures err { OnErr result (vec_capacity way.new ≡ vec_capacity way.old) }
+/// Tells whether a number is remembered, and is of no use.
+fn is_useless(table: &Table, number: Number) -> bool
+    ensures useless { result ≡ is_useless table.now.entries number.0 }
+    ensures kept { AreOfKept file_number table.now.entries table.now.remembered }
 {
-    way.clear();
-    way.try_reserve(entries + 1)
+    match table.get(number) {
+        Some(held) => held.count == 0 && !table.has_kids(number),
+        None => false,
+    }
+}
+
+/// Counts a number fewer times.
+fn lower(table: &mut Table, number: Number, k: u64)
+    requires held { is_bad_item table.old.entries number.0 k ≡ false }
+    ensures lowered { table.new ≡ record table.old { entries = lowered table.old.entries number.0 k } }
+    ensures kept { AreOfKept file_number table.new.entries table.new.remembered }
+{
+    let Some(held) = table.get(number) else {
+        unreachable!()
+    };
+    let count = held.count - k;
+    table.set_count(number, count);
+}
+
+/// Drops a number of no use, and then its directory if that is of none, and so on upwards.
+fn prune(table: &mut Table, loaded: &mut Loaded, number: Number)
+    requires numbers { AreNumbers 2 table.old.next table.old.entries }
+    requires others_of_use { AreOfUseBut (Some number.0) table.old.entries }
+    requires loaded { AreOfKept loaded_number table.old.entries loaded.old.attrs }
+    requires remembered { AreOfKept file_number table.old.entries table.old.remembered }
+    ensures pruned { table.new ≡ pruned table.old }
+    ensures unloaded { loaded.new ≡ record loaded.old { attrs = of_kept loaded_number (left_of_use table.old.entries) loaded.old.attrs } }
+{
+    let mut number = number;
+    while is_useless(table, number) {
+        let place = table.remove(number);
+        loaded.remove(number);
+        match place {
+            Place::Linked { parent, .. } => number = parent,
+            Place::Unlinked { .. } => return,
+        }
+    }
 }

@@ -2,10 +2,14 @@
 //! it.
 #![tactic(auto)]
 
-mod entries;
+mod index;
 mod inode_map;
+mod loaded;
+mod table;
+mod way;
 
-pub use inode_map::{Forgot, GiveFault, InodeMap};
+pub use inode_map::{Forgot, GiveFault, InodeMap, Kept};
+pub use loaded::LoadedAttr;
 
 #[cfg(test)]
 mod tests;

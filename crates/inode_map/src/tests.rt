@@ -27,7 +27,7 @@ fn given_below(alloc: Global, map: &mut InodeMap, name: &Name, depth: u64) -> Op
 fn gives_each_name_one_number(rt: HostRuntime) -> Result<(), Fail> {
     let a = parsed(rt.alloc(), b"a")?;
     let b = parsed(rt.alloc(), b"b")?;
-    let mut map = InodeMap::new(rt.alloc())?;
+    let mut map = InodeMap::new(rt.alloc(), 4)?;
     assert!(rt; given(rt.alloc(), &mut map, Number::ROOT, &a) == Some(Number(2)));
     assert!(rt; given(rt.alloc(), &mut map, Number::ROOT, &b) == Some(Number(3)));
     assert!(rt; given(rt.alloc(), &mut map, Number::ROOT, &a) == Some(Number(2)));
@@ -90,7 +90,7 @@ fn finds_each_file_of_a_deep_path(rt: HostRuntime) -> Result<(), Fail> {
     let manifest = read(rt.alloc(), text.as_slice())?;
     let tree = tree_of(rt.alloc(), &manifest)?;
     let a = parsed(rt.alloc(), b"a")?;
-    let mut map = InodeMap::new(rt.alloc())?;
+    let mut map = InodeMap::new(rt.alloc(), 4)?;
     let last = given_below(rt.alloc(), &mut map, &a, 101);
     assert!(rt; last == Some(Number(102)));
     for id in 1..102u64 {
@@ -104,7 +104,7 @@ fn finds_each_file_of_a_deep_path(rt: HostRuntime) -> Result<(), Fail> {
 #[test]
 fn goes_over_its_numbers_and_forgets_upwards(rt: HostRuntime) -> Result<(), Fail> {
     let a = parsed(rt.alloc(), b"a")?;
-    let mut map = InodeMap::new(rt.alloc())?;
+    let mut map = InodeMap::new(rt.alloc(), 4)?;
     assert!(rt; given_below(rt.alloc(), &mut map, &a, 3) == Some(Number(4)));
     assert!(rt; map.after(Number::ROOT) == Some(Number(2)));
     assert!(rt; map.after(Number(3)) == Some(Number(4)) && map.after(Number(4)) == None);

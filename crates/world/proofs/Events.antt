@@ -62,8 +62,8 @@ shows-matched w old outcome new m (is, same) = subst (λ (o : List Happened). Mo
 mounts-matched : (w : World) (old : State) (daemon : DaemonId) (outcome : List Happened) (new : State) → Matches w old → fault old (Mount daemon) ≡ None → Mounts old daemon outcome new → MovesOn w old (Mount daemon) outcome new
 mounts-matched w old daemon outcome new m clear (is, makes) = subst (λ (o : List Happened). MovesOn w old (Mount daemon) o new) (sym is) (record {
   run = ((m.books).seat ∙ may.1, tt);
-  matches = subst (λ (s : State). Matches w' s) (sym makes) (goes-on w w' old (mounted old.broker daemon) seat Waiting (new_served old.manifest) m refl is_tree (books-mounted w old.broker daemon m.books) (seat-mounted w daemon)
-      (record { asks = (m.quiet).asks; items = (m.quiet).items; replies = (m.quiet).replies }) (answered-mounted w daemon m.answered) refl may.0 (subst (λ (x : Manifest). Knows w'.tree w'.names (owed w') (new_served x)) m.manifest knows));
+  matches = subst (λ (s : State). Matches w' s) (sym makes) (goes-on w w' old (mounted old.broker daemon) seat Waiting (new_served old.manifest old.limit) m refl is_tree (books-mounted w old.broker daemon m.books) (seat-mounted w daemon)
+      (record { asks = (m.quiet).asks; items = (m.quiet).items; replies = (m.quiet).replies }) (answered-mounted w daemon m.answered) refl may.0 (subst (λ (x : Manifest). Knows w'.tree w'.names (owed w') (new_served x old.limit)) m.manifest knows));
   forgets = (tt, tt);
   answered = tt;
 }) where
@@ -79,8 +79,8 @@ mounts-matched w old daemon outcome new m clear (is, makes) = subst (λ (o : Lis
   seat : Seat
   seat = record { generation = old.broker.last + 1; daemon = daemon }
 
-  knows : Knows w'.tree w'.names (owed w') (new_served w.manifest)
-  knows = new-knows w.manifest (owed w') is_tree (λ n. quiet-owed w n m.quiet ∙ ap (times n) ((m.seat_is_last).empty ((m.books).seat ∙ may.1)))
+  knows : Knows w'.tree w'.names (owed w') (new_served w.manifest old.limit)
+  knows = new-knows w.manifest old.limit (owed w') is_tree (λ n. quiet-owed w n m.quiet ∙ ap (times n) ((m.seat_is_last).empty ((m.books).seat ∙ may.1)))
 
 -- an ask that the seated daemon answered, in a world in which nothing was under way
 asks-matched : (v : World) (old : State) (seat : Seat) (served later : ServedState) (request : Request) (answer : Answer) (new : State) →

@@ -116,12 +116,12 @@ gave-knows w m new n file k g = record {
         above_in (inr (is', e')) l = omega (arith, d)
 
 -- a new daemon knows the root alone
-pub new-knows : (manifest : Manifest) (owes : ℕ → ℕ) → IsTree (tree_of manifest) → ((n : ℕ) → owes n ≡ 0) → Knows (tree_of manifest) ((1, root) ∷ []) owes (new_served manifest)
-new-knows manifest owes is nothing = record {
+pub new-knows : (manifest : Manifest) (limit : ℕ) (owes : ℕ → ℕ) → IsTree (tree_of manifest) → ((n : ℕ) → owes n ≡ 0) → Knows (tree_of manifest) ((1, root) ∷ []) owes (new_served manifest limit)
+new-knows manifest limit owes is nothing = record {
   tree_is = refl;
   counts = λ n d. sym (nothing n);
   files = λ n file at. root_in n file at (named-known (tree_of manifest) [] n file at);
-  sound = new-sound (tree_of manifest) is;
+  sound = new-sound (tree_of manifest) (Rattle.std.specs.Prelude.max limit 1) is;
   numbers = λ n. number_in n (1 == n) refl;
 } where
   root_in : (n : ℕ) (file : FileId) → IsFileOf (tree_of manifest) [] n file → (n ≡ 1) ⊎ ((kept : Kept) × (None ≡ Some kept)) → file_named ((1, root) ∷ []) n ≡ Some file

@@ -93,7 +93,7 @@ Step-forgets old request item place None became daemons broker outcome fine ask 
 
 -- a mount by a daemon that waited
 pub Step-mounts : (old : State) (d : DaemonId) (place : ℕ) (served : ServedState) (broker : BrokerState) (outcome : List Happened) → mount_fault old.broker ≡ None →
-    place_of_daemon d ≡ Some place → slice_get old.daemons place ≡ Some Waiting → served ≡ new_served old.manifest → broker ≡ mounted old.broker d →
+    place_of_daemon d ≡ Some place → slice_get old.daemons place ≡ Some Waiting → served ≡ new_served old.manifest old.limit → broker ≡ mounted old.broker d →
     outcome ≡ happened.Mounted (old.broker.last + 1) ∷ [] →
     Step old (Mount d) outcome (record old { broker = broker; daemons = set old.daemons place (Serving served) })
 Step-mounts old d place served broker outcome fine at waits is broke tells =
@@ -101,7 +101,7 @@ Step-mounts old d place served broker outcome fine at waits is broke tells =
     let made : Mounts old d outcome new = (
       tells,
       ap (λ (b : BrokerState). record old { broker = b; daemons = set old.daemons place (Serving served) }) broke
-          ∙ with_holder old (mounted old.broker d) d place (set old.daemons place (Serving served)) (Serving (new_served old.manifest)) at (ap (λ (s : ServedState). set old.daemons place (Serving s)) is),
+          ∙ with_holder old (mounted old.broker d) d place (set old.daemons place (Serving served)) (Serving (new_served old.manifest old.limit)) at (ap (λ (s : ServedState). set old.daemons place (Serving s)) is),
     ) in
     let waiting : daemon_of old d ≡ Some Waiting = daemon_of-place old d place at ∙ waits in
     subst (λ (o : Option Daemon). StepBy old (Mount d) (mount_refusal old o) outcome new) (sym waiting)

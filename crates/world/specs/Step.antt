@@ -32,7 +32,7 @@ Starts old outcome new =
 abbrev pub Mounts : State → DaemonId → List Happened → State → Type 0
 Mounts old daemon outcome new =
     (outcome ≡ happened.Mounted (old.broker.last + 1) ∷ [])
-    × (new ≡ with_daemon (record old { broker = mounted old.broker daemon }) daemon (Serving (new_served old.manifest)))
+    × (new ≡ with_daemon (record old { broker = mounted old.broker daemon }) daemon (Serving (new_served old.manifest old.limit)))
 
 -- what became of each item
 abbrev pub told_of : ServedState → List Item → List Happened

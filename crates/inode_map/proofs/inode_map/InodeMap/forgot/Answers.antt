@@ -1,3 +1,4 @@
+-- What becomes of a forget is told by the count and the kids.
 use Rattle.std.proofs.Common.{true, false, ap, refl, sym, ◌∙◌, arith}
 use Rattle.inode_map.specs.InodeMap.{MapState, is_kid_of}
 use Rattle.inode_map.proofs.Forgetting.{forgot-good, counted-more, counted-all}
@@ -13,14 +14,12 @@ pub returns-then-has_kids : goal.returns-then-has_kids
 returns-then-has_kids c = record {
   forgot = sym (forgot-good c.args.self.now c.args.number.0 c.args.k false true (sym c.if-eq.ensures) c.if-k-eq0.false (omega (arith, c.count-count.ensures.count))
       (counted-all _ _ (omega (arith, c.count-count.ensures.count)))
-      (ap (λ (m : MapState). Rattle.std.specs.List.list_any (is_kid_of c.args.number.0) m.entries) (sym c.self.view_is)
-      ∙ ap (λ entries. Rattle.std.specs.List.list_any (is_kid_of c.args.number.0) entries) (sym c.as_slice.ensures.value) ∙ sym c.if-has_kids.ensures));
+      (ap (λ (m : MapState). Rattle.std.specs.List.list_any (is_kid_of c.args.number.0) m.entries) (sym c.self.view_is) ∙ sym c.if-has_kids.ensures));
 }
 
 pub returns : goal.returns
 returns c = record {
   forgot = sym (forgot-good c.args.self.now c.args.number.0 c.args.k false false (sym c.if-eq.ensures) c.if-k-eq0.false (omega (arith, c.count-count.ensures.count))
       (counted-all _ _ (omega (arith, c.count-count.ensures.count)))
-      (ap (λ (m : MapState). Rattle.std.specs.List.list_any (is_kid_of c.args.number.0) m.entries) (sym c.self.view_is)
-      ∙ ap (λ entries. Rattle.std.specs.List.list_any (is_kid_of c.args.number.0) entries) (sym c.as_slice.ensures.value) ∙ sym c.if-has_kids.ensures));
+      (ap (λ (m : MapState). Rattle.std.specs.List.list_any (is_kid_of c.args.number.0) m.entries) (sym c.self.view_is) ∙ sym c.if-has_kids.ensures));
 }

@@ -1,22 +1,21 @@
-use Rattle.std.proofs.Common.{◌≡◌, ◌+◌, set, subst}
-use Rattle.eden_base.specs.First.{IsFirstPlace}
-use Rattle.inode_map.specs.InodeMap.{MapState, given, stands_at}
+-- The next number is added.
+use Rattle.std.proofs.Common.{◌≡◌, ◌+◌, ◌++◌, ◌∷◌, [], lit<, refl, sym, ap, ◌∙◌, subst, arith}
+use Rattle.inode_map.specs.InodeMap.{new_entry, loaded_number}
+use Rattle.inode_map.specs.Inside.{IsConsistent}
+use Rattle.inode_map.specs.Table.{TableState}
 use Rattle.inode_map.specs.declared.inode_map.Kept.{Kept}
-use Rattle.inode_map.proofs.Giving.{given-again, kept-again}
+use Rattle.inode_map.proofs.Giving.{kept-new, next-none}
+use Rattle.inode_map.proofs.Keeping.{of-added}
 use Rattle.inode_map.proofs.inode_map.InodeMap.give.Goals as goal
 
-pub invariant_of-self-in-Some : goal.invariant_of-self-in-Some
-invariant_of-self-in-Some c =
-    let kept : Kept = c.index_mut-kept.result.now in
-    let are = kept-again c.self.inside.entries.items c.self.inside.next c.args.parent.0 c.args.name.now c.in-Some.place kept
-    (record { numbers = c.self.invariant.numbers; of_use = c.self.invariant.of_use })
-    (subst (λ entries. IsFirstPlace (stands_at c.args.parent.0 c.args.name.now) entries c.in-Some.place) c.as_slice.ensures.value c.in-Some.ensures) c.index_mut-kept.ensures.value in
-    record { numbers = are.numbers; numbers_fit = c.self.invariant.numbers_fit; of_use = are.of_use; room = c.self.invariant.room }
-
-pub returns-else-kept-ge-GREATEST_COUNT-clause-given : goal.returns-else-kept-ge-GREATEST_COUNT-clause-given
-returns-else-kept-ge-GREATEST_COUNT-clause-given c =
-    let map : MapState = record { entries = c.self.inside.entries.items; next = c.self.inside.next; bad_items = c.self.inside.bad_items } in
-    let kept : Kept = c.index_mut-kept.result.now in
-    subst (λ (m : MapState). record map { entries = set map.entries c.in-Some.place (record kept { count = kept.count + 1 }) } ≡ given m c.args.parent c.args.name.now) c.self.view_is
-    (given-again map c.args.parent c.args.name.now c.in-Some.place kept
-    (subst (λ entries. IsFirstPlace (stands_at c.args.parent.0 c.args.name.now) entries c.in-Some.place) c.as_slice.ensures.value c.in-Some.ensures) c.index_mut-kept.ensures.value)
+pub invariant_of-self-2 : goal.invariant_of-self-2
+invariant_of-self-2 c =
+    let t = c.self.inside.table in
+    let x : Kept = new_entry t.next c.args.parent c.args.name.now in
+    let are = kept-new t.entries t.next x (record { numbers = c.self.invariant.numbers; of_use = c.self.invariant.of_use }) refl (lit< tt) in
+    subst (λ (new : TableState). IsConsistent (record { table = new; bad_items = c.self.inside.bad_items; loaded = c.self.inside.loaded })) (sym (c.add.ensures.added ∙ ap (λ (old : TableState). record old { entries = old.entries ++ new_entry old.next c.args.parent c.in-Ok.name ∷ []; next = old.next + 1; spare = 0 }) c.in-Ok-reserve.ensures.ok ∙ ap (λ name. record t { entries = t.entries ++ new_entry t.next c.args.parent name ∷ []; next = t.next + 1; spare = 0 }) c.in-Ok.ensures.copy)) (record {
+      numbers = are.numbers;
+      numbers_fit = let f = c.if-next-ge-END_OF_NUMBERS.false in let e = c.next.ensures in omega arith;
+      of_use = are.of_use;
+      loaded = of-added loaded_number t.entries x c.self.inside.loaded.attrs (next-none t.entries t.next c.self.invariant.numbers) c.self.invariant.loaded;
+    })

@@ -1,0 +1,141 @@
+-- The table and what is loaded while entries of no use leave, one after another; and which one may be of no use after a
+-- name was taken away.
+use Rattle.std.proofs.Common.{◌≡◌, ℕ, suc, ◌<◌, Bool, true, false, ◌||◌, List, [], ◌∷◌, length, Option, Some, None, cond, refl, sym, ap, ◌∙◌, subst, inl, inr, ◌⊎◌, arith}
+use Rattle.std.specs.Prelude.{nat_lt, if◌then◌else◌}
+use Rattle.std.specs.List.{filter, list_any}
+use Rattle.std.specs.Option.{option_map}
+use Rattle.eden_base.proofs.MemberLemmas.{some-same, length-without_where}
+use Rattle.eden_base.proofs.NumberTests.{eq-true, eq-false, eq-or, true-eq}
+use Rattle.eden_base.specs.declared.number.FileId.{FileId}
+use Rattle.eden_base.specs.declared.number.Number.{Number}
+use Rattle.eden_base.specs.declared.place.Place.{Place}
+use Rattle.eden_base.specs.declared.place.Place.TheVariants.{Linked, Unlinked}
+use Rattle.eden_base.specs.First.{first_where, changed_where, without_where}
+use Rattle.inode_map.specs.EntryPlaces.{AreOfUseBut, dir_of}
+use Rattle.inode_map.specs.InodeMap.{has_number, entry_of, place_of_kept, is_in, is_kid_of, is_of_use, is_useless, left_of_use, loaded_number, marked, AreNumbers}
+use Rattle.inode_map.specs.Recency.{LoadedState}
+use Rattle.inode_map.specs.Table.{TableState, without_entry, of_kept, pruned, file_number, is_other, AreOfKept}
+use Rattle.inode_map.specs.declared.inode_map.Kept.{Kept}
+use Rattle.inode_map.specs.declared.loaded.LoadedAttr.{LoadedAttr}
+use Rattle.inode_map.proofs.EntryLemmas.{entry_of-number, numbers-without, changed-same, changed-other}
+use Rattle.inode_map.proofs.Giving.{AreKept}
+use Rattle.inode_map.proofs.Keeping.{of_kept-all, of_kept-without}
+use Rattle.inode_map.proofs.Striking.{useless-entry, left_of_use-all, left_of_use-one}
+use Rattle.inode_map.proofs.Walking.{all-of_use, left-of_use, struck-keeps}
+
+-- what was struck so far
+pub record Pruned (old now : TableState) (before after : LoadedState) : Type 0 where
+  pub same : left_of_use now.entries ≡ left_of_use old.entries
+  pub numbers : AreNumbers 2 old.next now.entries
+  pub table : now ≡ record old { entries = now.entries; remembered = of_kept file_number now.entries old.remembered }
+  pub loaded : after ≡ record before { attrs = of_kept loaded_number now.entries before.attrs }
+
+-- nothing yet
+pub pruned-init : (table : TableState) (loaded : LoadedState) → AreNumbers 2 table.next table.entries → AreOfKept loaded_number table.entries loaded.attrs → AreOfKept file_number table.entries table.remembered → Pruned table table loaded loaded
+pruned-init table loaded are attrs files = record {
+  same = refl;
+  numbers = are;
+  table = λ i. record table { remembered = sym (of_kept-all file_number table.entries table.remembered files) i };
+  loaded = λ i. record loaded { attrs = sym (of_kept-all loaded_number table.entries loaded.attrs attrs) i };
+}
+
+-- one more
+pub pruned-step : (old now later : TableState) (before after left : LoadedState) (n : ℕ) → Pruned old now before after → AreOfUseBut (Some n) now.entries → is_useless now.entries n ≡ true →
+    later ≡ without_entry now n (without_where (has_number n) now.entries) → left ≡ record after { attrs = filter (λ (l : LoadedAttr). is_other n (loaded_number l)) after.attrs } → Pruned old later before left
+pruned-step old now later before after left n p useful useless table loaded = subst (λ (t : TableState). Pruned old t before left) (sym table) (subst (λ (l : LoadedState). Pruned old next before l) (sym loaded) (record {
+  same = sym (left_of_use-one now.entries 2 old.next n p.numbers useful useless) ∙ p.same;
+  numbers = numbers-without now.entries 2 old.next (has_number n) p.numbers;
+  table = ap (λ (t : TableState). without_entry t n (without_where (has_number n) now.entries)) p.table
+      ∙ ap (λ files. record old { entries = without_where (has_number n) now.entries; remembered = files }) (of_kept-without file_number now.entries 2 old.next n old.remembered p.numbers);
+  loaded = ap (λ (l : LoadedState). record l { attrs = filter (λ (x : LoadedAttr). is_other n (loaded_number x)) l.attrs }) p.loaded
+      ∙ ap (λ attrs. record before { attrs = attrs }) (of_kept-without loaded_number now.entries 2 old.next n before.attrs p.numbers);
+})) where
+  next : TableState
+  next = without_entry now n (without_where (has_number n) now.entries)
+
+-- its directory alone may be of no use then
+pub pruned-others : (old now later : TableState) (before after : LoadedState) (n : ℕ) (place : Place) → Pruned old now before after → AreOfUseBut (Some n) now.entries → is_useless now.entries n ≡ true →
+    option_map place_of_kept (entry_of now.entries n) ≡ Some place → later ≡ without_entry now n (without_where (has_number n) now.entries) → AreOfUseBut (dir_of place) later.entries
+pruned-others old now later before after n place p useful useless at table =
+    let u = useless-entry now.entries n useless in
+    let is : u.0.place ≡ place = (let s : Some u.0.place ≡ Some place = ap (option_map place_of_kept) (sym u.1.entry) ∙ at in cc) in
+    subst (λ (t : TableState). AreOfUseBut (dir_of place) t.entries) (sym table)
+    (subst (λ (q : Place). AreOfUseBut (dir_of q) (without_where (has_number n) now.entries)) is (left-of_use now.entries 2 old.next n u.0 p.numbers u.1 useful))
+
+pub pruned-shorter : (now later : TableState) (n : ℕ) → is_useless now.entries n ≡ true → later ≡ without_entry now n (without_where (has_number n) now.entries) → length later.entries < length now.entries
+pruned-shorter now later n useless table =
+    let u = useless-entry now.entries n useless in
+    let long : suc (length (without_where (has_number n) now.entries)) ≡ length now.entries = length-without_where now.entries (has_number n) u.0 u.1.entry in
+    let same : length later.entries ≡ length (without_where (has_number n) now.entries) = ap (λ (t : TableState). length t.entries) table in
+    omega arith
+
+-- the end
+all_left : (old now : TableState) (before after : LoadedState) → Pruned old now before after → AreOfUseBut None now.entries → now.entries ≡ left_of_use old.entries
+all_left old now before after p useful = sym (left_of_use-all now.entries 2 old.next p.numbers useful) ∙ p.same
+
+pub pruned-table : (old now : TableState) (before after : LoadedState) → Pruned old now before after → AreOfUseBut None now.entries → now ≡ pruned old
+pruned-table old now before after p useful = p.table ∙ ap (λ (es : List Kept). record old { entries = es; remembered = of_kept file_number es old.remembered }) (all_left old now before after p useful)
+
+pub pruned-loaded : (old now : TableState) (before after : LoadedState) → Pruned old now before after → AreOfUseBut None now.entries → after ≡ record before { attrs = of_kept loaded_number (left_of_use old.entries) before.attrs }
+pruned-loaded old now before after p useful = p.loaded ∙ ap (λ (es : List Kept). record before { attrs = of_kept loaded_number es before.attrs }) (all_left old now before after p useful)
+
+-- what striking leaves of entries of which one may be of no use
+pub struck-left : (es : List Kept) (next n : ℕ) → AreNumbers 2 next es → AreOfUseBut (Some n) es → AreKept next (left_of_use es)
+struck-left es next n are useful = let s = struck-keeps (λ xs. Unit {0}) 2 next (λ xs m numbers useless here. tt) (length es) (Some n) es (omega arith) are useful tt in record { numbers = s.numbers; of_use = s.of_use }
+
+-- a test that the changed member fails
+any-changed_other : (es : List Kept) (p q : Kept → Bool) (change : Kept → Kept) → ((x : Kept) → first_where p es ≡ Some x → q x ≡ false) → list_any q es ≡ true → list_any q (changed_where p change es) ≡ true
+any-changed_other [] p q change fails h = h
+any-changed_other (y ∷ es) p q change fails h = in_ (p y) (q y) refl fails h (λ f t. any-changed_other es p q change f t) where
+  either : (d : Bool) → (d || true) ≡ true
+  either true = refl
+  either false = refl
+
+  in_ : (b c : Bool) → q y ≡ c → ((x : Kept) → cond b (Some y) (first_where p es) ≡ Some x → q x ≡ false) → (c || list_any q es) ≡ true →
+      (((x : Kept) → first_where p es ≡ Some x → q x ≡ false) → list_any q es ≡ true → list_any q (changed_where p change es) ≡ true) → list_any q (cond b (change y ∷ es) (y ∷ changed_where p change es)) ≡ true
+  in_ true true e f t rest = let g : q y ≡ false = f y refl in absurd (let none : ⊥ = cc in none)
+  in_ true false e f t rest = ap (λ d. q (change y) || d) t ∙ either (q (change y))
+  in_ false true e f t rest = ap (λ d. d || list_any q (changed_where p change es)) e
+  in_ false false e f t rest = ap (λ d. d || list_any q (changed_where p change es)) e ∙ rest f t
+
+-- A name was taken away: its directory alone may be of no use.
+pub marked-others : (es : List Kept) (n : ℕ) (file : FileId) (kept : Kept) (dir : Number) (name : List ℕ) → entry_of es n ≡ Some kept → kept.place ≡ Linked dir name → AreOfUseBut None es → AreOfUseBut (Some dir.0) (changed_where (has_number n) (marked file) es)
+marked-others es n file kept dir name here place useful m now e = dir_in (eq-or m dir.0) where
+  left : List Kept
+  left = changed_where (has_number n) (marked file) es
+
+  -- the entry as it was, which is counted as often
+  was_in : (m ≡ n) ⊎ (m ≡ n → ⊥) → (x : Kept) × (entry_of es m ≡ Some x) × (now.count ≡ x.count) × (now.number ≡ x.number)
+  was_in (inl same) =
+      let there : entry_of left n ≡ Some (marked file kept) = changed-same es n (marked file) (λ y. refl) ∙ ap (option_map (marked file)) here in
+      let is : now ≡ marked file kept = some-same (entry_of left n) now (marked file kept) (subst (λ (k : ℕ). entry_of left k ≡ Some now) same e) there in
+      (kept, subst (λ (k : ℕ). entry_of es k ≡ Some kept) (sym same) here, ap (λ (x : Kept). x.count) is, ap (λ (x : Kept). x.number) is)
+  was_in (inr other) = (now, sym (changed-other es n m (marked file) (λ y. refl) other) ∙ e, refl, refl)
+
+  -- no kid of another directory is the one that lost its name
+  fails : (m ≡ dir.0 → ⊥) → (x : Kept) → first_where (has_number n) es ≡ Some x → is_kid_of m x ≡ false
+  fails other x f =
+      let is : x ≡ kept = some-same (entry_of es n) x kept f here in
+      ap (λ (y : Kept). is_kid_of m y) is ∙ ap (is_in m) place ∙ eq-false dir.0 m (λ s. other (sym s))
+
+  use_in : (m ≡ dir.0 → ⊥) → (x : Kept) → entry_of es m ≡ Some x → now.count ≡ x.count → now.number ≡ x.number → (b c : Bool) → nat_lt 0 x.count ≡ b → list_any (is_kid_of x.number.0) es ≡ c → (b || c) ≡ true → is_of_use left now ≡ true
+  use_in other x f count number true c t k h = ap (λ (k : ℕ). nat_lt 0 k || list_any (is_kid_of now.number.0) left) count ∙ ap (λ d. d || list_any (is_kid_of now.number.0) left) t
+  use_in other x f count number false false t k h = absurd (let none : ⊥ = cc in none)
+  use_in other x f count number false true t k h =
+      let is : x.number.0 ≡ m = entry_of-number es m x f in
+      let kids : list_any (is_kid_of m) left ≡ true = any-changed_other es (has_number n) (is_kid_of m) (marked file) (fails other) (ap (λ (k : ℕ). list_any (is_kid_of k) es) (sym is) ∙ k) in
+      let same : now.number.0 ≡ m = ap (λ (k : Number). k.0) number ∙ is in
+      ap (λ (k : ℕ). nat_lt 0 now.count || list_any (is_kid_of k) left) same ∙ ap (λ d. nat_lt 0 now.count || d) kids ∙ either (nat_lt 0 now.count) where
+        either : (d : Bool) → (d || true) ≡ true
+        either true = refl
+        either false = refl
+
+  of_use_in : (x : Kept) → entry_of es m ≡ Some x → (is_of_use es x ≡ true) ⊎ (None ≡ Some m) → is_of_use es x ≡ true
+  of_use_in x f (inl t) = t
+  of_use_in x f (inr empty) = absurd (let none : ⊥ = cc in none)
+
+  dir_in : (m ≡ dir.0) ⊎ (m ≡ dir.0 → ⊥) → (is_of_use left now ≡ true) ⊎ (Some dir.0 ≡ Some m)
+  dir_in (inl same) = inr (ap Some (sym same))
+  dir_in (inr other) =
+      let w = was_in (eq-or m n) in
+      inl (use_in other w.0 w.1 w.2 w.3 (nat_lt 0 w.0.count) (list_any (is_kid_of w.0.number.0) es) refl refl (of_use_in w.0 w.1 (useful m w.0 w.1)))

@@ -1,0 +1,21 @@
+-- The next number is added.
+use Rattle.std.proofs.Common.{◌≡◌, ◌+◌, ◌++◌, ◌∷◌, [], lit<, refl, sym, ap, ◌∙◌, subst, arith}
+use Rattle.inode_map.specs.InodeMap.{new_entry, loaded_number}
+use Rattle.inode_map.specs.Inside.{IsConsistent}
+use Rattle.inode_map.specs.Table.{TableState}
+use Rattle.inode_map.specs.declared.inode_map.Kept.{Kept}
+use Rattle.inode_map.proofs.Giving.{kept-new, next-none}
+use Rattle.inode_map.proofs.Keeping.{of-added}
+use Rattle.inode_map.proofs.inode_map.InodeMap.give_ready.Goals as goal
+
+pub invariant_of-self : goal.invariant_of-self
+invariant_of-self c =
+    let t = c.self.inside.table in
+    let x : Kept = new_entry t.next c.args.parent c.args.name in
+    let are = kept-new t.entries t.next x (record { numbers = c.self.invariant.numbers; of_use = c.self.invariant.of_use }) refl (lit< tt) in
+    subst (λ (new : TableState). IsConsistent (record { table = new; bad_items = c.self.inside.bad_items; loaded = c.self.inside.loaded })) (sym (c.add.ensures.added)) (record {
+      numbers = are.numbers;
+      numbers_fit = let f = c.if-next-ge-END_OF_NUMBERS.false in let e = c.next.ensures in omega arith;
+      of_use = are.of_use;
+      loaded = of-added loaded_number t.entries x c.self.inside.loaded.attrs (next-none t.entries t.next c.self.invariant.numbers) c.self.invariant.loaded;
+    })

@@ -1,0 +1,40 @@
+-- An entry loses its name, and what is of no use then is struck.
+use Rattle.std.proofs.Common.{◌≡◌, Some, List, refl, sym, subst, ap, ◌∙◌}
+use Rattle.eden_base.specs.First.{changed_where}
+use Rattle.inode_map.specs.EntryPlaces.{AreOfUseBut}
+use Rattle.inode_map.specs.Inside.{IsConsistent}
+use Rattle.inode_map.specs.InodeMap.{has_number, marked, left_of_use, loaded_number, AreNumbers}
+use Rattle.inode_map.specs.Recency.{LoadedState}
+use Rattle.inode_map.specs.Table.{TableState, AreOfKept, of_kept, pruned}
+use Rattle.inode_map.specs.declared.inode_map.Kept.{Kept}
+use Rattle.inode_map.proofs.EntryLemmas.{numbers-changed}
+use Rattle.inode_map.proofs.Keeping.{of-changed, of_kept-kept}
+use Rattle.inode_map.proofs.Pruning.{marked-others, struck-left}
+use Rattle.inode_map.proofs.inode_map.InodeMap.unlink.Goals as goal
+
+pub prune-requires-clause-numbers : goal.prune-requires-clause-numbers
+prune-requires-clause-numbers c =
+    let t = c.self.inside.table in
+    subst (λ (new : TableState). AreNumbers 2 new.next new.entries) (sym c.unlink-dir.ensures.unlinked) (numbers-changed t.entries 2 t.next (has_number c.args.number.0) (marked c.args.file) (λ x. refl) c.self.invariant.numbers)
+
+pub prune-requires-clause-others_of_use : goal.prune-requires-clause-others_of_use
+prune-requires-clause-others_of_use c =
+    let t = c.self.inside.table in
+    subst (λ (new : TableState). AreOfUseBut (Some c.unlink-dir.result.0) new.entries) (sym c.unlink-dir.ensures.unlinked) (marked-others t.entries c.args.number.0 c.args.file c.unlink-dir.ensures.dir.0 c.unlink-dir.result c.unlink-dir.ensures.dir.1 c.unlink-dir.ensures.dir.2 c.unlink-dir.ensures.dir.3 c.self.invariant.of_use)
+
+pub prune-requires-clause-loaded : goal.prune-requires-clause-loaded
+prune-requires-clause-loaded c =
+    let t = c.self.inside.table in
+    subst (λ (new : TableState). AreOfKept loaded_number new.entries c.self.inside.loaded.attrs) (sym c.unlink-dir.ensures.unlinked) (of-changed loaded_number t.entries c.args.number.0 (marked c.args.file) c.self.inside.loaded.attrs (λ x. refl) c.self.invariant.loaded)
+
+pub invariant_of-self : goal.invariant_of-self
+invariant_of-self c =
+    let t = c.self.inside.table in
+    let m = c.self.inside in
+    let es : List Kept = changed_where (has_number c.args.number.0) (marked c.args.file) t.entries in
+    let now = struck-left es t.next c.unlink-dir.result.0 (numbers-changed t.entries 2 t.next (has_number c.args.number.0) (marked c.args.file) (λ x. refl) c.self.invariant.numbers) (marked-others t.entries c.args.number.0 c.args.file c.unlink-dir.ensures.dir.0 c.unlink-dir.result c.unlink-dir.ensures.dir.1 c.unlink-dir.ensures.dir.2 c.unlink-dir.ensures.dir.3 c.self.invariant.of_use) in
+    let left = c.prune.ensures.pruned ∙ ap pruned c.unlink-dir.ensures.unlinked in
+    let loaded = c.prune.ensures.unloaded ∙ ap (λ (s : TableState). record m.loaded { attrs = of_kept loaded_number (left_of_use s.entries) m.loaded.attrs }) c.unlink-dir.ensures.unlinked in
+    subst (λ (new : TableState). IsConsistent (record { table = new; bad_items = m.bad_items; loaded = c.prune.new.loaded })) (sym left)
+    (subst (λ (new : LoadedState). IsConsistent (record { table = pruned (record t { entries = es }); bad_items = m.bad_items; loaded = new })) (sym loaded)
+    (record { numbers = now.numbers; numbers_fit = c.self.invariant.numbers_fit; of_use = now.of_use; loaded = of_kept-kept loaded_number (left_of_use es) m.loaded.attrs }))

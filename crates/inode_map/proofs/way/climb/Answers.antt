@@ -1,0 +1,49 @@
+-- The way is climbed a number after another.
+use Rattle.std.proofs.Common.{◌≡◌, ◌≤◌, ap, refl, sym, ◌∙◌, arith, length, Some, None}
+use Rattle.std.specs.Option.{option_map}
+use Rattle.eden_base.specs.declared.number.Number.{Number}
+use Rattle.inode_map.specs.InodeMap.{entry_of, is_root, is_marked}
+use Rattle.inode_map.specs.Table.{kept_of, kept_from}
+use Rattle.inode_map.specs.declared.inode_map.Kept.{Kept}
+use Rattle.inode_map.proofs.Climbing.{Climbs-append, long-no_file, unknown-way, step-read, ne-tested, eq-tested}
+use Rattle.inode_map.proofs.SlotLemmas.{kept-len}
+use Rattle.inode_map.proofs.way.climb.Goals as goal
+
+pub returns-in_err-parent-clause-way : goal.returns-in_err-parent-clause-way
+returns-in_err-parent-clause-way c = rw c.from_residual.ensures (λ tree file at.
+    unknown-way tree (kept_from c.args.slots.now.entries) c.loop-number.way.items c.args.number.0 c.loop-number.number.0 file c.loop-number.invariant.climbs
+    (ne-tested _ _ c.loop-number-test.ensures) (sym c.in_err-parent.ensures.entry) at)
+
+pub returns-then-len-clause-way : goal.returns-then-len-clause-way
+returns-then-len-clause-way c = λ tree file at.
+    let es = kept_from c.args.slots.now.entries in
+    let step = step-read es c.loop-number.number.0 (kept_of c.loop-number.number.0 c.in_ok-parent.field-0.now) c.in-Linked.parent c.in-Linked.name
+    (ne-tested _ _ c.loop-number-test.ensures) (sym c.in_ok-parent.ensures.entry) c.in-Linked.is in
+    let few : length es ≤ length c.args.slots.now.entries = kept-len c.args.slots.now.entries in
+    long-no_file tree es c.loop-number.way.items c.args.number.0 c.loop-number.number c.in-Linked.parent.0 file c.loop-number.invariant.climbs step (let l = c.len-in-Linked.ensures.len in omega arith) at
+
+pub loop-number-preserved : goal.loop-number-preserved
+loop-number-preserved c =
+    let es = kept_from c.args.slots.now.entries in
+    let step = step-read es c.loop-number.number.0 (kept_of c.loop-number.number.0 c.in_ok-parent.field-0.now) c.in-Linked.parent c.in-Linked.name
+    (ne-tested _ _ c.loop-number-test.ensures) (sym c.in_ok-parent.ensures.entry) c.in-Linked.is in
+    record {
+      climbs = rw c.push_reserved.ensures.items (Climbs-append es c.loop-number.way.items c.args.number.0 c.loop-number.number c.in-Linked.parent.0 c.loop-number.invariant.climbs step);
+      long = let l = c.len-in-Linked.ensures.len in omega arith;
+      capacity = c.push_reserved.ensures.capacity ∙ c.loop-number.invariant.capacity;
+    }
+
+pub returns-in-Unlinked-clause-way : goal.returns-in-Unlinked-clause-way
+returns-in-Unlinked-clause-way c = record {
+  top = c.loop-number.number.0;
+  climbs = c.loop-number.invariant.climbs;
+  names = λ tree. is_marked c.loop-number.number.0 c.in-Unlinked.file (kept_of c.loop-number.number.0 c.in_ok-parent.field-0.now) (ne-tested _ _ c.loop-number-test.ensures)
+      (sym c.in_ok-parent.ensures.entry) c.in-Unlinked.is;
+}
+
+pub returns-clause-way : goal.returns-clause-way
+returns-clause-way c = record {
+  top = c.loop-number.number.0;
+  climbs = c.loop-number.invariant.climbs;
+  names = λ tree. is_root c.loop-number.number.0 (record { 0 = 1 }) (eq-tested _ _ c.loop-number-test.ensures) refl;
+}

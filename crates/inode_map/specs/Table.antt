@@ -1,0 +1,96 @@
+-- How the entries stand in their map, and what its index has of them.
+use Rattle.std.specs.Prelude.{◌≡◌, ℕ, ◌+◌, ◌≤◌, ◌==◌, Bool, true, false, not, List, [], ◌∷◌, Option, Some, None, if◌then◌else◌}
+use Rattle.std.specs.List.{filter, AllByRecursion}
+use Rattle.std.specs.Map.{lookup}
+use Rattle.std.specs.BTreeMap.{is_at}
+use Rattle.std.specs.Option.{option_and_then}
+use Rattle.std.specs.Ordering.{nat_cmp}
+use Rattle.eden_base.specs.declared.number.FileId.{FileId}
+use Rattle.eden_base.specs.declared.number.Number.{Number}
+use Rattle.eden_base.specs.declared.place.Place.TheVariants.{Linked, Unlinked}
+use Rattle.inode_map.specs.InodeMap.{entry_of, is_kept, left_of_use}
+use Rattle.inode_map.specs.declared.inode_map.Kept.{Kept}
+use Rattle.inode_map.specs.declared.table.Held.{Held}
+
+-- the entries, the files that are remembered of them, the next number, and whether there is room for it
+pub record TableState : Type 0 where
+  pub entries : List Kept
+  pub remembered : List (ℕ × FileId)
+  pub next : ℕ
+  pub spare : ℕ
+
+-- an entry, with its number
+abbrev pub kept_of : ℕ → Held → Kept
+kept_of n held = record { number = record { 0 = n }; place = held.place; count = held.count }
+
+-- the entries of the map; a number that is reserved has none yet
+abbrev pub kept_from : List (ℕ × Option Held) → List Kept
+kept_from [] = []
+kept_from ((n, Some held) ∷ slots) = kept_of n held ∷ kept_from slots
+kept_from ((n, None) ∷ slots) = kept_from slots
+
+-- what stands under a number
+abbrev pub held_in : List (ℕ × Option Held) → ℕ → Option Held
+held_in slots n = option_and_then (λ (held : Option Held). held) (lookup (is_at (nat_cmp n)) slots)
+
+-- the file of a number, if it is remembered, before others
+abbrev pub file_first : ℕ → Option FileId → List (ℕ × FileId) → List (ℕ × FileId)
+file_first n (Some file) files = (n, file) ∷ files
+file_first n None files = files
+
+-- the files that are remembered
+abbrev pub files_from : List (ℕ × Option Held) → List (ℕ × FileId)
+files_from [] = []
+files_from ((n, Some held) ∷ slots) = file_first n held.file (files_from slots)
+files_from ((n, None) ∷ slots) = files_from slots
+
+-- how many numbers are reserved
+abbrev pub spare_of : Bool → ℕ
+spare_of ready = if ready then 1 else 0
+
+-- numbers rise from a lowest one and stay below the next, which alone may be reserved
+abbrev pub AreSlots : ℕ → ℕ → Bool → List (ℕ × Option Held) → Type 0
+AreSlots low next ready [] = (low ≤ next) × (ready ≡ false)
+AreSlots low next ready ((n, Some held) ∷ slots) = (low ≤ n) × AreSlots (n + 1) next ready slots
+AreSlots low next ready ((n, None) ∷ slots) = (low ≤ n) × (n ≡ next) × (ready ≡ true) × (slots ≡ [])
+
+-- the slots of a table, whichever its next number is
+abbrev pub IsSlots : List (ℕ × Option Held) → Type 0
+IsSlots slots = (next : ℕ) × (ready : Bool) × AreSlots 2 next ready slots
+
+-- what the index has of the entries: each linked one at its place, and nothing else
+pub record IsIndexed (entries : List Kept) (link : ℕ → List ℕ → Option ℕ) : Type 0 where
+  pub stands : (dir : ℕ) (name : List ℕ) (n : ℕ) → link dir name ≡ Some n → (kept : Kept) × (entry_of entries n ≡ Some kept) × (kept.place ≡ Linked (record { 0 = dir }) name)
+  pub found : (n : ℕ) (kept : Kept) (dir : Number) (name : List ℕ) → entry_of entries n ≡ Some kept → kept.place ≡ Linked dir name → link dir.0 name ≡ Some n
+
+-- the number stands in this directory
+abbrev pub IsIn : List Kept → ℕ → Number → Type 0
+IsIn entries n dir = (kept : Kept) × (name : List ℕ) × (entry_of entries n ≡ Some kept) × (kept.place ≡ Linked dir name)
+
+-- the number is another
+abbrev pub is_other : ℕ → ℕ → Bool
+is_other n m = not (m == n)
+
+-- counted so often
+abbrev pub counted : ℕ → Kept → Kept
+counted count kept = record kept { count = count }
+
+-- the table without an entry
+abbrev pub without_entry : TableState → ℕ → List Kept → TableState
+without_entry table n entries = record table { entries = entries; remembered = filter (λ (file : ℕ × FileId). is_other n file.0) table.remembered }
+
+-- each is of a number with an entry
+abbrev pub AreOfKept : {X : Type 0} → (X → ℕ) → List Kept → List X → Type 0
+AreOfKept number entries xs = AllByRecursion (λ x. is_kept entries (number x) ≡ true) xs
+
+-- the number of a remembered file
+abbrev pub file_number : ℕ × FileId → ℕ
+file_number file = file.0
+
+-- those of numbers with an entry
+abbrev pub of_kept : {X : Type 0} → (X → ℕ) → List Kept → List X → List X
+of_kept number entries xs = filter (λ x. is_kept entries (number x)) xs
+
+-- the table with the entries of use alone
+abbrev pub pruned : TableState → TableState
+pruned table = record table { entries = left_of_use table.entries; remembered = of_kept file_number (left_of_use table.entries) table.remembered }

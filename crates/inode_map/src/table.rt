@@ -1,0 +1,265 @@
+//! The entries of an inode map by number, and the index of their places.
+ghost use Rattle.std.specs.Prelude.{◌≡◌, ℕ, ◌+◌, ◌<◌, ◌≤◌, List, [], ◌∷◌, ◌++◌, Option, Some, None, IsSome, MatchOption, OnOk, OnErr, vec_len, vec_capacity, length};
+ghost use Rattle.std.specs.Option.{option_map, option_copied, option_and_then};
+ghost use Rattle.std.specs.List.{list_any, filter};
+ghost use Rattle.checkout.specs.Tree.{Tree};
+ghost use Rattle.eden_base.specs.First.{changed_where, without_where};
+ghost use Rattle.eden_base.specs.Limits.{end_of_numbers};
+ghost use Rattle.eden_base.specs.declared.number.FileId.{FileId};
+ghost use Rattle.eden_base.specs.declared.number.Number.{Number};
+ghost use Rattle.inode_map.specs.InodeMap.{has_number, entry_of, entry_at, is_kid_of, number_of_kept, place_of_kept, number_after, new_entry, marked, IsLinked, IsFileOf, file_remembered, remembered};
+ghost use Rattle.inode_map.specs.Table.{IsIn, kept_of, kept_from, held_in, IsSlots, counted, without_entry, AreOfKept, file_number};
+
+use crate::index::Index;
+use crate::way::locate;
+use checkout::Tree;
+use eden_base::{FileId, Name, NoMemory, Number, Place};
+use std::alloc::Global;
+use std::collections::BTreeMap;
+use std::marker::Model;
+use std::ops::Bound;
+
+/// What an entry has beside its number.
+#[derive(Drop)]
+pub(crate) struct Held {
+    pub place: Place,
+    pub count: u64,
+    /// The file that the number names, once it was found.
+    pub file: Option<FileId>,
+}
+
+/// The map of the entries has a place for the next number where that is reserved. The way has room for a walk past all
+/// of them.
+#[derive(Drop)]
+pub(crate) struct Table {
+    slots: BTreeMap<u64, Option<Held>>,
+    index: Index,
+    next: u64,
+    is_reserved: bool,
+    way: Vec<Number>,
+}
+
+impl Model for Table {
+    ghost use Rattle.inode_map.specs.Table.{TableState, kept_from, files_from, spare_of};
+
+    ghost Value = { TableState };
+
+    ghost view = { λ t. record {
+      entries = kept_from t.slots.entries;
+      remembered = files_from t.slots.entries;
+      next = t.next;
+      spare = spare_of t.is_reserved;
+    } };
+
+    ghost use Rattle.inode_map.specs.Inside.{IsTable};
+
+    ghost invariant = { IsTable };
+}
+
+impl Table {
+    /// Returns a table without entries.
+    pub fn new(alloc: Global) -> Table
+        ensures { result ≡ record { entries = []; remembered = []; next = 2; spare = 0 } }
+    {
+        Table {
+            slots: BTreeMap::new(alloc),
+            index: Index::new(alloc),
+            next: 2,
+            is_reserved: false,
+            way: Vec::new(alloc),
+        }
+    }
+
+    /// Returns the number that is given next.
+    pub fn next(&self) -> u64
+        ensures { result ≡ self.now.next }
+    {
+        self.next
+    }
+
+    /// Returns what an entry has beside its number.
+    pub fn get(&self, number: Number) -> Option<&Held>
+        ensures entry { option_map (kept_of number.0) (option_copied result)
+            ≡ entry_of self.now.entries number.0 }
+        ensures file { option_and_then (λ held. held.file) (option_copied result)
+            ≡ file_remembered self.now.remembered number.0 }
+        ensures kept { AreOfKept file_number self.now.entries self.now.remembered }
+    {
+        held_at(&self.slots, number)
+    }
+
+    /// Returns the least number above another.
+    pub fn after(&self, number: Number) -> Option<Number>
+        ensures { result ≡ number_after self.now.entries number.0 }
+    {
+        let mut above = self
+            .slots
+            .range((Bound::Excluded(number.0), Bound::Unbounded));
+        match above.next() {
+            Some((n, slot)) => {
+                if slot.is_none() {
+                    return None;
+                }
+                Some(Number(*n))
+            }
+            None => None,
+        }
+    }
+
+    /// Returns the number that stands under a name in a directory.
+    pub fn find(&self, parent: Number, name: &Name) -> Option<Number>
+        ensures { result ≡ option_map number_of_kept (entry_at self.now.entries parent.0 name.now) }
+    {
+        match self.index.get(parent.0, name) {
+            Some(number) => Some(Number(number)),
+            None => None,
+        }
+    }
+
+    /// Tells whether an entry stands in the directory.
+    pub fn has_kids(&self, parent: Number) -> bool
+        ensures { result ≡ list_any (is_kid_of parent.0) self.now.entries }
+    {
+        self.index.has_names(parent.0)
+    }
+
+    /// Makes room for one number.
+    pub fn reserve(&mut self, alloc: Global) -> Result<(), NoMemory>
+        ensures ok { OnOk result (self.new ≡ record self.old { spare = 1 }) }
+        ensures err { OnErr result (self.new ≡ self.old) }
+    {
+        if self.is_reserved {
+            return Ok(());
+        }
+        self.index.reserve(alloc)?;
+        self.way.clear();
+        self.way.try_reserve(self.slots.len() + 1)?;
+        self.slots.insert(self.next, None)?;
+        self.is_reserved = true;
+        Ok(())
+    }
+
+    /// Gives the number that is reserved to a name in a directory.
+    pub fn add(&mut self, parent: Number, name: Name) -> Number
+        requires reserved { self.old.spare ≡ 1 }
+        requires is_new { entry_at self.old.entries parent.0 name ≡ None }
+        requires fits { self.old.next < end_of_numbers }
+        ensures number { result.0 ≡ self.old.next }
+        ensures added { self.new ≡ record self.old {
+          entries = self.old.entries ++ new_entry self.old.next parent name ∷ [];
+          next = self.old.next + 1;
+          spare = 0;
+        } }
+    {
+        let number = Number(self.next);
+        self.index.add(parent.0, &name, number.0);
+        let held = Held {
+            place: Place::Linked { parent, name },
+            count: 1,
+            file: None,
+        };
+        let Some(slot) = self.slots.get_mut(&number.0) else {
+            unreachable!()
+        };
+        *slot = Some(held);
+        self.next += 1;
+        self.is_reserved = false;
+        number
+    }
+
+    /// Sets how often the kernel holds a number.
+    pub fn set_count(&mut self, number: Number, count: u64)
+        requires { IsSome (entry_of self.old.entries number.0) }
+        ensures counted { self.new ≡ record self.old {
+          entries = changed_where (has_number number.0) (counted count) self.old.entries;
+        } }
+        ensures kept { AreOfKept file_number self.new.entries self.new.remembered }
+    {
+        let Some(slot) = self.slots.get_mut(&number.0) else {
+            unreachable!()
+        };
+        let Some(held) = slot else { unreachable!() };
+        held.count = count;
+    }
+
+    /// Remembers the file that a number names.
+    pub fn remember(&mut self, number: Number, file: FileId)
+        requires { IsSome (entry_of self.old.entries number.0) }
+        ensures { self.new ≡ record self.old {
+          remembered = remembered self.old.remembered number.0 file;
+        } }
+    {
+        let Some(slot) = self.slots.get_mut(&number.0) else {
+            unreachable!()
+        };
+        let Some(held) = slot else { unreachable!() };
+        held.file = Some(file);
+    }
+
+    /// Takes the name of a number away, and returns the directory in which it stood.
+    pub fn unlink(&mut self, number: Number, file: FileId) -> Number
+        requires { IsLinked self.old.entries number.0 }
+        ensures unlinked { self.new ≡ record self.old {
+          entries = changed_where (has_number number.0) (marked file) self.old.entries;
+        } }
+        ensures dir { IsIn self.old.entries number.0 result }
+        ensures kept { AreOfKept file_number self.new.entries self.new.remembered }
+    {
+        let Some(slot) = self.slots.get_mut(&number.0) else {
+            unreachable!()
+        };
+        let Some(held) = slot.take() else {
+            unreachable!()
+        };
+        *slot = Some(Held {
+            place: Place::Unlinked { file },
+            count: held.count,
+            file: held.file,
+        });
+        let Place::Linked { parent, name } = &held.place else {
+            unreachable!()
+        };
+        self.index.remove(parent.0, name);
+        *parent
+    }
+
+    /// Removes an entry, and returns where it stood.
+    pub fn remove(&mut self, number: Number) -> Place
+        requires { IsSome (entry_of self.old.entries number.0) }
+        ensures place { option_map place_of_kept (entry_of self.old.entries number.0) ≡ Some result }
+        ensures removed { self.new ≡ without_entry self.old number.0
+            (without_where (has_number number.0) self.old.entries) }
+    {
+        let Some(slot) = self.slots.remove(&number.0) else {
+            unreachable!()
+        };
+        let Some(held) = slot else { unreachable!() };
+        if let Place::Linked { parent, name } = &held.place {
+            self.index.remove(parent.0, name);
+        }
+        held.place
+    }
+
+    /// Finds the file that a number names in a tree, by the names above it.
+    pub fn locate(&mut self, tree: &Tree, number: Number) -> Option<FileId>
+        ensures found { MatchOption result
+            ((file : FileId) → IsFileOf tree.now self.old.entries number.0 file → ⊥)
+            (IsFileOf tree.now self.old.entries number.0) }
+        ensures unchanged { self.new ≡ self.old }
+    {
+        locate(&self.slots, &mut self.way, tree, number)
+    }
+}
+
+/// Returns what an entry has beside its number.
+pub(crate) fn held_at(slots: &BTreeMap<u64, Option<Held>>, number: Number) -> Option<&Held>
+    requires { IsSlots slots.now.entries }
+    ensures held { option_copied result ≡ held_in slots.now.entries number.0 }
+    ensures entry { option_map (kept_of number.0) (option_copied result)
+        ≡ entry_of (kept_from slots.now.entries) number.0 }
+{
+    match slots.get(&number.0) {
+        Some(slot) => slot.as_ref(),
+        None => None,
+    }
+}
