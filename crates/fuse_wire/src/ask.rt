@@ -115,7 +115,7 @@ impl Request {
         }
     }
 
-    /// Whether the kernel waits for a reply: to all but the two forgets.
+    /// Returns whether the kernel waits for a reply: to all but the two forgets.
     pub fn is_ask(&self) -> bool
         ensures ask { result ≡ is_ask self.now }
     {

@@ -1,8 +1,8 @@
 use Rattle.std.proofs.Common.{◌∙◌, arith, false}
-use Rattle.fuse_wire.specs.Reading.{WantsMemory, request_of}
+use Rattle.fuse_wire.specs.RequestReading.{WantsMemory, request_of}
 use Rattle.fuse_wire.proofs.Lacking.{as_given, by_rooms, not_out_of_memory}
 use Rattle.fuse_wire.proofs.Requests.{is_text, may_be_sent, request_again}
-use Rattle.fuse_wire.proofs.reading.read_request_to.Goals as goal
+use Rattle.fuse_wire.proofs.request_reader.read_request_to.Goals as goal
 
 pub returns-clause-text : goal.returns-clause-text
 returns-clause-text c = is_text c.args.bytes.now c.read_ask.result (λ i. omega (arith, c.type_inv.bytes i)) (as_given false WantsMemory c.read_ask.result (request_of c.args.bytes.now) c.read_ask.ensures)

@@ -1,6 +1,6 @@
 use Rattle.std.proofs.Common.{◌∙◌, arith}
 use Rattle.fuse_wire.proofs.Forgets.{is_forget_of, items_same}
-use Rattle.fuse_wire.proofs.reading.read_items.Goals as goal
+use Rattle.fuse_wire.proofs.request_reader.read_items.Goals as goal
 
 pub returns-clause-forget : goal.returns-clause-forget
 returns-clause-forget c = is_forget_of c.args.bytes.now c.read_forgotten.result c.read_forgotten.ensures

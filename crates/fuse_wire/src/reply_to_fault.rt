@@ -7,8 +7,8 @@ use crate::opcode::Opcode;
 use crate::{Answer, Reply, WireFault};
 use eden_base::{Errno, NameFault};
 
-/// The reply to bytes that `read_request` refused. A forget has none, nor have bytes without a whole header. It takes
-/// no memory.
+/// Returns the reply to bytes that `read_request` refused. A forget has none, nor have bytes without a whole header.
+/// It takes no memory.
 pub fn fault_reply(bytes: &[u8], fault: &WireFault) -> Option<Reply>
     ensures reply { result ≡ fault_reply_of bytes.now fault.now }
 {
@@ -25,7 +25,7 @@ pub fn fault_reply(bytes: &[u8], fault: &WireFault) -> Option<Reply>
     })
 }
 
-/// The kernel waits for no reply to a forget.
+/// Returns whether the request is a forget, to which the kernel waits for no reply.
 fn is_forget(opcode: Opcode) -> bool
     ensures { result ≡ is_forget opcode }
 {
