@@ -35,9 +35,11 @@ errno_of NoMemory = ENOMEM
 -- the answer for a file that was found, and what the daemon knows after it
 abbrev pub GivesEntry : ServedState → Number → List ℕ → FileId → Answer → ServedState → Type 0
 GivesEntry old dir name file (Entry number attr) new =
-    (give_fault old.map dir.0 name ≡ None) × (number ≡ number_given old.map dir.0 name) × (attr_of old.tree file ≡ Some attr)
+    (give_fault old.map dir.0 name ≡ None) × (number ≡ number_given old.map dir.0 name)
+    × (attr_of old.tree file ≡ Some attr)
     × (new ≡ record old { map = given old.map dir name })
-GivesEntry old dir name file (Error errno) new = ((fault : GiveFault) × IsGiveRefusal old.map dir.0 name fault × (errno ≡ errno_of fault)) × (new ≡ old)
+GivesEntry old dir name file (Error errno) new =
+    ((fault : GiveFault) × IsGiveRefusal old.map dir.0 name fault × (errno ≡ errno_of fault)) × (new ≡ old)
 GivesEntry old dir name file answer new = ⊥
 
 -- an error is told as it is, and for a file its number is given
@@ -46,7 +48,8 @@ GivesFound old dir name (Ok file) answer new = GivesEntry old dir name file answ
 GivesFound old dir name (Err errno) answer new = (answer ≡ Error errno) × (new ≡ old)
 
 -- a lookup's answer, and what the daemon knows after it
-pub record LooksUp (old : ServedState) (dir : Number) (name : List ℕ) (answer : Answer) (new : ServedState) : Type 0 where
+pub record LooksUp (old : ServedState) (dir : Number) (name : List ℕ) (answer : Answer)
+    (new : ServedState) : Type 0 where
   pub dir_file : Option FileId
   pub located : IsLocated old dir.0 dir_file
   pub gives : GivesFound old dir name (found_in old.tree dir_file name) answer new

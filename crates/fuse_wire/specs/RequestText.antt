@@ -84,7 +84,8 @@ header len opcode unique nodeid = u32_bytes len ++ u32_bytes opcode ++ u64_bytes
 
 abbrev pub request_text : Ask → List ℕ
 request_text ask =
-    (header (40 + length (body ask.what)) (code (opcode ask.what)) ask.unique (nodeid ask.what) ++ zeros 16) ++ body ask.what
+    (header (40 + length (body ask.what)) (code (opcode ask.what)) ask.unique (nodeid ask.what) ++ zeros 16)
+    ++ body ask.what
 
 -- ---- as read: what is ignored is any bytes
 

@@ -17,8 +17,8 @@ use Rattle.world.specs.declared.event.Event.TheVariants.{Start, Mount, Do, Show}
 use Rattle.world.specs.declared.outcome.Refusal.{Refusal}
 use Rattle.world.specs.declared.outcome.Refusal.TheVariants as refusal
 
--- the manifest that every daemon is handed, how many loaded files a daemon keeps, the kernel's side, and the daemons in the
--- order in which they started
+-- the manifest that every daemon is handed, how many loaded files a daemon keeps, the kernel's side, and the daemons
+-- in the order in which they started
 pub record State : Type 0 where
   pub manifest : Manifest
   pub limit : ℕ
