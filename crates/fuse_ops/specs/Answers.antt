@@ -13,9 +13,9 @@ use Rattle.eden_base.specs.declared.number.Number.{Number}
 use Rattle.checkout.specs.Tree.{Tree, kind_of, child_of, attr_of}
 use Rattle.fuse_wire.specs.Ask.{nodes}
 use Rattle.fuse_wire.specs.declared.ask.Request.{Request}
-use Rattle.fuse_wire.specs.declared.ask.Request.TheVariants.{Lookup}
+use Rattle.fuse_wire.specs.declared.ask.Request.TheVariants.{Lookup, Getattr}
 use Rattle.fuse_wire.specs.declared.reply.Answer.{Answer}
-use Rattle.fuse_wire.specs.declared.reply.Answer.TheVariants.{Entry, Done, Error}
+use Rattle.fuse_wire.specs.declared.reply.Answer.TheVariants.{Entry, Attrs, Done, Error}
 
 -- ---- by the tree
 
@@ -42,19 +42,27 @@ abbrev pub enters : Tree → Result FileId Errno → Result Effect Errno
 enters tree (Ok file) = Ok (record { tree = tree; file = Some file; counts = true })
 enters tree (Err errno) = Err errno
 
+-- the attributes of a file of a tree that stays as it is, where a number names this file or none
+abbrev pub shows : Tree → Option FileId → Result Effect Errno
+shows tree (Some file) = Ok (record { tree = tree; file = Some file; counts = false })
+shows tree None = Err ESTALE
+
 -- the numbers whose files a row looks at
 abbrev pub looks_at : Request → List Number
 looks_at (Lookup dir name) = dir ∷ []
+looks_at (Getattr node) = node ∷ []
 looks_at request = []
 
 -- what a request comes to, where `files` tells the file that a number names; one row a request
 abbrev pub comes_to : Tree → (ℕ → Option FileId) → Request → Result Effect Errno
 comes_to tree files (Lookup dir name) = enters tree (found_in tree (files dir.0) name)
+comes_to tree files (Getattr node) = shows tree (files node.0)
 comes_to tree files request = Err ENOSYS
 
 -- how a success tells a number and attributes; those of other requests tell that they were done
 abbrev pub telling : Request → Number → Attr → Answer
 telling (Lookup dir name) number attr = Entry number attr
+telling (Getattr node) number attr = Attrs number attr
 telling request number attr = Done
 
 -- ---- by the number

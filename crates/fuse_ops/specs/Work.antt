@@ -1,13 +1,13 @@
--- What the code of a served state says of a lookup's results.
+-- What the code of a served state says of its answers.
 use Rattle.std.specs.Prelude.{◌≡◌, ℕ, List, Option, Some, None, Result, Ok, Err}
 use Rattle.eden_base.specs.declared.attr.Attr.{Attr}
 use Rattle.eden_base.specs.declared.errno.Errno.{Errno}
-use Rattle.eden_base.specs.declared.errno.Errno.TheVariants.{ENOSPC, EOVERFLOW, ENOMEM}
+use Rattle.eden_base.specs.declared.errno.Errno.TheVariants.{ESTALE, ENOSPC, EOVERFLOW, ENOMEM}
 use Rattle.eden_base.specs.declared.number.FileId.{FileId}
 use Rattle.eden_base.specs.declared.number.Number.{Number}
 use Rattle.checkout.specs.Tree.{attr_of}
 use Rattle.fuse_wire.specs.declared.reply.Answer.{Answer}
-use Rattle.fuse_wire.specs.declared.reply.Answer.TheVariants.{Entry, Error}
+use Rattle.fuse_wire.specs.declared.reply.Answer.TheVariants.{Entry, Attrs, Error}
 use Rattle.inode_map.specs.InodeMap.{IsGiveRefusal, give_fault, given, number_given}
 use Rattle.inode_map.specs.declared.inode_map.GiveFault.{GiveFault}
 use Rattle.inode_map.specs.declared.inode_map.GiveFault.TheVariants.{NoNumber, TooMany, NoMemory}
@@ -53,3 +53,15 @@ pub record LooksUp (old : ServedState) (dir : Number) (name : List ℕ) (answer 
   pub dir_file : Option FileId
   pub located : IsLocated old dir.0 dir_file
   pub gives : GivesFound old dir name (found_in old.tree dir_file name) answer new
+
+-- the answer with the attributes of a number's file
+abbrev pub ShowsFile : ServedState → Number → Option FileId → Answer → Type 0
+ShowsFile served node (Some file) answer =
+    (attr : Attr) × (attr_of served.tree file ≡ Some attr) × (answer ≡ Attrs node attr)
+ShowsFile served node None answer = answer ≡ Error ESTALE
+
+-- a GETATTR's answer
+pub record Shows (served : ServedState) (node : Number) (answer : Answer) : Type 0 where
+  pub file : Option FileId
+  pub located : IsLocated served node.0 file
+  pub shows : ShowsFile served node file answer
