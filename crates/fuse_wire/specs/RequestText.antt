@@ -1,8 +1,9 @@
 -- The bytes of a request (linux/fuse.h: fuse_in_header, and the struct of each opcode): as they are written, where
 -- what no reader looks at is 0, and all the bytes that are read as a request.
-use Rattle.std.specs.Prelude.{All, ◌≡◌, ◌<◌, ◌≤◌, ◌^◌, ◌+◌, ◌%◌, ℕ, List, [], ◌∷◌, ◌++◌, length, replicate}
+use Rattle.std.specs.Prelude.{All, ◌≡◌, ◌<◌, ◌≤◌, ◌^◌, ◌+◌, ◌%◌, ℕ, List, [], ◌∷◌, ◌++◌, length, replicate, Option, Some, None}
 use Rattle.std.specs.List.{flat_map}
 use Rattle.eden_base.specs.declared.attr.Perm.{Perm}
+use Rattle.eden_base.specs.declared.number.Number.{Number}
 use Rattle.eden_base.specs.Name.{IsNameText}
 use Rattle.fuse_wire.specs.declared.ask.Ask.{Ask}
 use Rattle.fuse_wire.specs.declared.ask.Request.{Request}
@@ -45,6 +46,15 @@ nodeid (Other n node) = node.0
 abbrev pub IsSendable : Request → Type 0
 IsSendable (Other n node) = opcode_of n ≡ opcodes.Other n
 IsSendable request = Unit {0}
+
+-- a request of an operation that has no form of its own
+abbrev pub other_by : Opcode → Number → Option Request
+other_by (opcodes.Other n) node = Some (Other n node)
+other_by opcode node = None
+
+-- the request of an opcode for a number, where no request of another form has that opcode
+abbrev pub other_of : ℕ → Number → Option Request
+other_of n node = other_by (opcode_of n) node
 
 -- ---- as written
 

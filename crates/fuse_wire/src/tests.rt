@@ -487,6 +487,17 @@ fn tells_asks_and_their_numbers(rt: HostRuntime) -> Result<(), Fail> {
 }
 
 #[test]
+fn makes_a_request_of_another_opcode_alone(rt: HostRuntime) {
+    let node = Number(7);
+    for served in [1, 2, 3, 9, 10, 11, 35, 42u32] {
+        assert!(rt; Request::other(served, node).is_none());
+    }
+    for opcode in [0, 12, 14, 15, 43, 0xffff_ffffu32] {
+        assert!(rt; Request::other(opcode, node) == Some(Request::Other { opcode, node }));
+    }
+}
+
+#[test]
 fn answers_no_forget(rt: HostRuntime) {
     assert!(rt; fault_reply(&FORGET, &WireFault::BadBody).is_none());
     assert!(rt; fault_reply(&BATCH_FORGET, &WireFault::BadCount).is_none());
