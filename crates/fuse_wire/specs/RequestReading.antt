@@ -23,7 +23,7 @@ abbrev pub ◌>>=◌ : {A B : Type 0} → Result A WireFault → (A → Result B
 (Ok x) >>= f = f x
 (Err fault) >>= f = Err fault
 
--- what a call gave that takes memory for some values: want of memory comes in place of one of them alone
+-- what a call gave that takes memory for some values: out of memory comes in place of one of them alone
 abbrev pub Gives : {X : Type 0} → (X → Type 0) → Result X WireFault → Result X WireFault → Type 0
 Gives Takes (Ok x) read = read ≡ Ok x
 Gives Takes (Err NoMemory) read = IsOkAnd read Takes
