@@ -16,6 +16,10 @@ with_version app = record { top = record app.top { has_version = true }; subs = 
 pub app_with_about : (old told : Command) (about : Bor (List ℕ)) → out-Command told ≡ record (out-Command old) { about = Some about } → app_of told ≡ app_of old
 app_with_about old told about is = ap app_of_fields is
 
+-- nor does a text at its end
+pub app_with_after_help : (old told : Command) (text : Bor (List ℕ)) → out-Command told ≡ record (out-Command old) { after_help = Some text } → app_of told ≡ app_of old
+app_with_after_help old told text is = ap app_of_fields is
+
 -- a version and a text for help
 pub app_told : (old versioned told : Command) (version about : Bor (List ℕ)) →
     out-Command versioned ≡ record (out-Command old) { version = Some version } → out-Command told ≡ record (out-Command versioned) { about = Some about } →

@@ -1,4 +1,5 @@
 pub mod CommandLemmas
+pub mod EndingLemmas
 pub mod LineLemmas
 pub mod NumberLemmas
 pub mod OctalLemmas

@@ -1,6 +1,8 @@
 -- Lemmas on a script that was read and run.
 use Rattle.std.proofs.Common.{◌≡◌, ℕ, ◌≤◌, List, [], ◌∷◌, length, Option, Some, None, Ok, subst}
 use Rattle.std.specs.Prelude.{IfSome}
+use Rattle.std.specs.Io.KnownBytes.{Keeps}
+use Rattle.std.proofs.KnownBytes.{Appends-kept}
 use Rattle.checkout.specs.Manifest.{Manifest}
 use Rattle.world.specs.State.{State, started}
 use Rattle.world.specs.Step.{Steps}
@@ -60,3 +62,17 @@ pub runs_whole : (known : Option (List ℕ)) (script : List ℕ) (limit : ℕ) (
     IfSome known (λ all. script ≡ all) → Runs script limit before after → IfSome known (λ all. Runs all limit before after)
 runs_whole None script limit before after is runs = tt
 runs_whole (Some all) script limit before after is runs = subst (λ (s : List ℕ). Runs s limit before after) is runs
+
+-- what was written stays written
+pub Runs-kept : (script : List ℕ) (limit : ℕ) (before between after : Option (List ℕ)) → Runs script limit before between → Keeps between after → Runs script limit before after
+Runs-kept script limit before between after runs kept = record {
+  good = runs.good;
+  runs = record {
+    outcomes = runs.runs.outcomes;
+    text = runs.runs.text;
+    last = runs.runs.last;
+    prints = runs.runs.prints;
+    written = Appends-kept before between after runs.runs.text runs.runs.written kept;
+  };
+  promised = runs.promised;
+}

@@ -11,6 +11,16 @@ const WORLD: &str = "world";
 
 const SCRIPT: &str = "SCRIPT";
 
+/// What the help of `world` ends with.
+const WORLD_HELP: &str = "\
+Example:
+  printf 'commit %040d\\ndir src\\n--\\nstart\\nmount 1\\ndo lookup 1 src\\nshow\\n' 0 | edend world -
+
+Exit status:
+  0  the script was run; a refused event is no fault
+  1  a fault, told by a line 'fault: TEXT' on standard output
+  2  the command line was refused";
+
 /// Returns the script that the words name: `-` is standard input, and is meant where they name none. The first word is
 /// the program's name.
 pub fn script_of<'a>(alloc: Global, words: &'a [String]) -> Result<&'a str, Error>
@@ -29,6 +39,15 @@ pub fn script_of<'a>(alloc: Global, words: &'a [String]) -> Result<&'a str, Erro
     }
 }
 
+/// What is wrong with words that are no text.
+pub const NOT_TEXT: &str = "a word of the command line is not UTF-8";
+
+/// Returns the refusal of words that are no text, with the program's usage.
+pub fn not_text(alloc: Global) -> Result<Error, AllocError> {
+    let mut command = edend_command(alloc)?;
+    command.error(ErrorKind::InvalidValue, NOT_TEXT)
+}
+
 /// Returns the words that the program takes, as `clap` reads them.
 fn edend_command<'a>(alloc: Global) -> Result<Command<'a>, AllocError>
     ensures { IfOk result (λ command. app_of command ≡ edend_app) }
@@ -39,6 +58,7 @@ fn edend_command<'a>(alloc: Global) -> Result<Command<'a>, AllocError>
         .action(ArgAction::Set);
     let world = Command::new(alloc, WORLD)
         .about("Runs a script: a manifest, a line --, and lines of events")
+        .after_help(WORLD_HELP)
         .arg(script)?;
     Command::new(alloc, "edend")
         .version("0.1.0")

@@ -1,36 +1,65 @@
 //! Why a script was not run to its end.
 ghost use Rattle.world_script.specs.declared.fault.Fault.TheVariants.{NoMemory as WantOfMemory};
-ghost use Rattle.std.specs.Prelude.{◌≡◌};
+ghost use Rattle.std.specs.Prelude.{◌≡◌, None, OnOk, Some};
+ghost use Rattle.std.specs.Io.KnownBytes.{Appends};
+ghost use Rattle.world_script.specs.FaultText.{fault_line, fault_text};
 ghost use Rattle.world_script.specs.Refusal.{fault_of_manifest};
 
 use checkout::{ManifestFault, ManifestFaultKind};
 use eden_base::NoMemory;
 use std::alloc::{AllocError, AllocFailed};
-use thiserror::Error;
+use std::error::Error;
+use std::fmt;
+use std::io::{self, Write};
 
 /// A fault ends the program. All but the last come before anything of a script is run or printed; of several the one
-/// that stands first here is told, and want of memory where it comes.
-#[derive(Clone, Copy, Debug, PartialEq, Eq, Error)]
+/// that stands first here is told, and out of memory where it comes.
+#[derive(Clone, Copy, Debug, PartialEq, Eq)]
 pub enum Fault {
     /// The script's reader failed, or took too many reads.
-    #[error("cannot read")]
     CannotRead,
-    #[error("too long")]
+    /// The script has more than 1,048,576 bytes.
     TooLong,
     /// The script has no line `--`.
-    #[error("no events")]
     NoEvents,
-    #[error("{0}")]
+    /// The first faulty line of the manifest.
     BadManifest(ManifestFault),
     /// The first line behind the line `--` that says no event. Lines are counted from the script's first.
-    #[error("line {0}: bad line")]
     BadLine(usize),
-    #[error("no memory")]
     NoMemory,
     /// What happened could not be printed.
-    #[error("cannot write")]
     CannotWrite,
 }
+
+/// Writes the line that tells a fault.
+pub fn write_fault<W: Write>(out: &mut W, fault: Fault) -> io::Result<()>
+    ensures line { OnOk result (Appends (W.contents out.old) (W.contents out.new)
+        (fault_line fault)) }
+{
+    writeln!(out, "fault: {fault}")
+}
+
+impl fmt::Display for Fault {
+    ghost output = { λ fault. Some (fault_text fault) };
+
+    fn fmt<W: fmt::Write>(&self, f: &mut fmt::Formatter<W>) -> fmt::Result {
+        match self {
+            Fault::CannotRead => f.write_str("cannot read"),
+            Fault::TooLong => f.write_str("too long"),
+            Fault::NoEvents => f.write_str("no events"),
+            Fault::BadManifest(fault) => {
+                let line = fault.line;
+                let kind = fault.kind;
+                write!(f, "line {line}: {kind}")
+            }
+            Fault::BadLine(line) => write!(f, "line {line}: bad line"),
+            Fault::NoMemory => f.write_str("no memory"),
+            Fault::CannotWrite => f.write_str("cannot write"),
+        }
+    }
+}
+
+impl Error for Fault {}
 
 impl From<NoMemory> for Fault {
     ghost from_gives = { λ _ fault. fault ≡ WantOfMemory };

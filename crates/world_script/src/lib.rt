@@ -3,6 +3,7 @@
 #![tactic(auto)]
 
 mod command_line;
+mod ending;
 mod event_line;
 mod fault;
 mod input;
@@ -11,10 +12,15 @@ mod number;
 mod print;
 mod program;
 mod run;
+mod run_error;
 mod script;
+mod sources;
 #[cfg(test)]
 mod tests;
 
-pub use fault::Fault;
-pub use program::run_program;
-pub use run::{DEFAULT_LIMIT, run_world};
+pub use ending::Ending;
+pub use fault::{Fault, write_fault};
+pub use program::{run_program, run_words, words_of};
+pub use run::{DEFAULT_LIMIT, run_script, run_world};
+pub use run_error::RunError;
+pub use sources::{Sources, System, run_path};

@@ -4,10 +4,10 @@ ghost use Rattle.std.specs.Io.KnownBytes.{Keeps};
 ghost use Rattle.world_script.specs.Refusal.{IsRunRefusal, comes_first};
 ghost use Rattle.world_script.specs.Script.{Runs, RunsEvents};
 
-use crate::Fault;
 use crate::input::read_whole;
 use crate::print::print_event;
 use crate::script::Script;
+use crate::{Fault, RunError};
 use std::alloc::Global;
 use std::io::{self, Read, Write};
 use world::{Event, World};
@@ -32,12 +32,32 @@ pub fn run_world<R: Read, W: Write>(
     ensures unwritten { IfErr result (λ fault. comes_first fault ≡ true
         → Keeps (W.contents writer.old) (W.contents writer.new)) }
 {
+    match run_script(alloc, reader, limit, writer) {
+        Ok(()) => Ok(()),
+        Err(error) => Err(error.fault),
+    }
+}
+
+/// Runs a script as `run_world` does, and returns the system's error beside the fault.
+pub fn run_script<R: Read, W: Write>(
+    alloc: Global,
+    reader: &mut R,
+    limit: usize,
+    writer: &mut W,
+) -> Result<(), RunError>
+    ensures runs { OnOk result (IfSome (R.remaining reader.old) (λ script.
+        Runs script limit (W.contents writer.old) (W.contents writer.new))) }
+    ensures refused { IfErr result (λ error.
+        IfSome (R.remaining reader.old) (λ script. IsRunRefusal script error.fault)) }
+    ensures unwritten { IfErr result (λ error. comes_first error.fault ≡ true
+        → Keeps (W.contents writer.old) (W.contents writer.new)) }
+{
     let bytes = read_whole(alloc, reader)?;
     let script = Script::read(alloc, bytes.as_slice())?;
     let mut world = World::new(alloc, &script.manifest, limit)?;
     match play(&mut world, script.events.as_slice(), writer) {
         Ok(()) => Ok(()),
-        Err(_) => Err(Fault::CannotWrite),
+        Err(error) => Err(RunError::with_cause(Fault::CannotWrite, error)),
     }
 }
 

@@ -1,10 +1,11 @@
 //! Scripts, and what the program prints for them.
 mod bad_lines;
 mod bounds;
+mod endings;
 mod rows;
 mod streams;
 
-use crate::{DEFAULT_LIMIT, run_world};
+use crate::{DEFAULT_LIMIT, run_world, write_fault};
 use std::alloc::Global;
 use std::io::{self, Read, Write};
 
@@ -62,7 +63,7 @@ fn prints_once(alloc: Global, first: &[u8], second: &[u8], lines: &[u8]) -> bool
         is_other: false,
     };
     if let Err(fault) = run_world(alloc, &mut reader, DEFAULT_LIMIT, &mut out) {
-        let _ = writeln!(out, "fault: {fault}");
+        let _ = write_fault(&mut out, fault);
     }
     out.rest.is_empty() && !out.is_other
 }

@@ -1,5 +1,5 @@
 use Rattle.world_script.proofs.RunLemmas.{runs_as_said, runs_whole}
-use Rattle.world_script.proofs.run.run_world.Goals as goal
+use Rattle.world_script.proofs.run.run_script.Goals as goal
 
 pub returns-in-Ok-clause-runs : goal.returns-in-Ok-clause-runs
 returns-in-Ok-clause-runs g c =
