@@ -1,10 +1,10 @@
 //! The words that the program is started with.
 ghost use Rattle.std.specs.Prelude.{◌≡◌, map, IfOk, MatchResult, string_bytes};
-ghost use Rattle.clap.specs.Words.{FailsBy, app_of, fault_of, kind_of};
-ghost use Rattle.world_script.specs.CommandLine.{NamesPlainly, edend_app, script_named};
+ghost use Rattle.clap.specs.Words.{FailsBy, app_of, fault_of, kind_of, subcommand_rows_of};
+ghost use Rattle.world_script.specs.CommandLine.{NamesPlainly, edend_app, script_in, script_named};
 
 use clap::error::ErrorKind;
-use clap::{Arg, ArgAction, Command, Error};
+use clap::{Arg, ArgAction, ArgMatches, Command, Error};
 use std::alloc::{AllocError, Global};
 
 const WORLD: &str = "world";
@@ -33,9 +33,16 @@ pub fn script_of<'a>(alloc: Global, words: &'a [String]) -> Result<&'a str, Erro
 {
     let command = edend_command(alloc)?;
     let matches = command.try_get_matches_from(words)?;
+    Ok(script_in(&matches))
+}
+
+/// Returns the script of the command that the words have.
+fn script_in<'a>(matches: &ArgMatches<'a>) -> &'a str
+    ensures { result.now ≡ script_in (subcommand_rows_of matches.now) }
+{
     match matches.subcommand_matches(WORLD) {
-        Some(world) => Ok(world.get_str(SCRIPT).unwrap_or("-")),
-        None => Ok("-"),
+        Some(world) => world.get_str(SCRIPT).unwrap_or("-"),
+        None => "-",
     }
 }
 
