@@ -3,6 +3,7 @@ mod bad_lines;
 mod bounds;
 mod endings;
 mod rows;
+mod sizes;
 mod streams;
 
 use crate::{DEFAULT_LIMIT, run_world, write_fault};
