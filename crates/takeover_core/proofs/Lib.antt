@@ -1,0 +1,6 @@
+mod Leaving
+mod OutLaws
+mod Rows
+mod SeatLaws
+mod SessionLaws
+mod VersionLaws

@@ -3,6 +3,7 @@
 
 mod heard;
 mod image_bytes;
+pub mod laws;
 mod message;
 mod node;
 mod phase;

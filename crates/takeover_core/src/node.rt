@@ -441,3 +441,8 @@ impl Node {
         self.phase = Phase::Gone;
     }
 }
+
+#[cfg(test)]
+mod table_tests;
+#[cfg(test)]
+mod tests;

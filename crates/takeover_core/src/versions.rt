@@ -22,21 +22,12 @@ impl Model for Versions {
 }
 
 impl Versions {
-    /// This project's own.
+    /// This project's own limit.
     pub const MAX_LEN: usize = 8;
-
-    /// Returns no versions.
-    pub fn new() -> Versions
-        ensures empty { result ≡ [] }
-    {
-        Versions {
-            versions: ArrayVec::new(),
-        }
-    }
 
     /// Returns these versions.
     pub fn of(versions: &[u16]) -> Versions
-        requires { length versions.now ≤ 8 }
+        requires at_most { length versions.now ≤ 8 }
         ensures versions { result ≡ versions.now }
     {
         Versions {
