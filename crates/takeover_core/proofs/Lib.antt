@@ -3,4 +3,5 @@ mod OutLaws
 mod Rows
 mod SeatLaws
 mod SessionLaws
+mod Steps
 mod VersionLaws

@@ -1,5 +1,5 @@
 //! The phases of one daemon.
-ghost use Rattle.std.specs.Prelude.{◌≡◌, ℕ, List, true, Some, None, IfOk, IfErr, OnOk, OnErr};
+ghost use Rattle.std.specs.Prelude.{◌≡◌, ℕ, List, Some, None, IsTrue, IfOk, IfErr, OnOk, OnErr};
 ghost use Rattle.takeover_core.specs.Node.{new_node};
 ghost use Rattle.takeover_core.specs.Phases.{after, heard, said, drain_fault, is_raising, is_making, is_holding, may_take, claim_wanted, Mounted, Hear, Raised, Drained, DataMade, DataFailed, GiveUp, Claimed, Crash};
 
@@ -22,7 +22,7 @@ pub enum DrainFault {
 
 /// A daemon's part in takeovers: its phase, the image versions that it reads and writes, and the sessions that it has
 /// begun. Clauses see it as a `NodeState`. No call takes memory.
-#[derive(Debug, Drop)]
+#[derive(Drop)]
 pub struct Node {
     phase: Phase,
     versions: Versions,
@@ -267,7 +267,7 @@ impl Node {
 
     /// Tells whether the data was read and raised. The message, if there is one, is to be said.
     pub fn raised(&mut self, succeeded: bool) -> Option<Message>
-        requires raising { is_raising self.old.phase ≡ true }
+        requires raising { IsTrue (is_raising self.old.phase) }
         ensures message { result ≡ said (heard self.old (Raised succeeded)) }
         ensures after { self.new ≡ after self.old (Raised succeeded) }
     {
@@ -321,7 +321,7 @@ impl Node {
     /// Hands the data over, in the bytes' own memory, and returns the message that is to be said. From here on the
     /// daemon does not serve without a claim.
     pub fn data_made(&mut self, bytes: ImageBytes) -> Message
-        requires making { is_making self.old.phase ≡ true }
+        requires making { IsTrue (is_making self.old.phase) }
         ensures message { Some result ≡ said (heard self.old (DataMade bytes)) }
         ensures after { self.new ≡ after self.old (DataMade bytes) }
     {
@@ -347,7 +347,7 @@ impl Node {
 
     /// Tells that the data could not be made, and returns the message that is to be said. The daemon serves on.
     pub fn data_failed(&mut self) -> Message
-        requires making { is_making self.old.phase ≡ true }
+        requires making { IsTrue (is_making self.old.phase) }
         ensures message { Some result ≡ said (heard self.old DataFailed) }
         ensures after { self.new ≡ after self.old DataFailed }
     {
@@ -424,7 +424,7 @@ impl Node {
     /// Tells what became of the claim: the generation at which the daemon serves from here on, or why it may not. It
     /// may claim once more only where asks were unanswered.
     pub fn claimed(&mut self, answer: Result<u64, ClaimFault>)
-        requires holding { is_holding self.old.phase ≡ true }
+        requires holding { IsTrue (is_holding self.old.phase) }
         ensures after { self.new ≡ after self.old (Claimed answer) }
     {
         match answer {

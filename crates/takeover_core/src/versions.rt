@@ -51,14 +51,14 @@ impl Versions {
     }
 
     /// Tells whether a version is among them.
-    pub fn contains(&self, version: u16) -> bool
+    pub(crate) fn contains(&self, version: u16) -> bool
         ensures among { result ≡ is_among self.now version }
     {
         self.as_slice().iter().any(|own| *own == version)
     }
 
     /// Returns the greatest version that is among both.
-    pub fn greatest_common(&self, offered: &Versions) -> Option<u16>
+    pub(crate) fn greatest_common(&self, offered: &Versions) -> Option<u16>
         ensures greatest { result ≡ greatest_common self.now offered.now }
     {
         let offered = offered.as_slice();
