@@ -57,7 +57,8 @@ CanBeLeft =
 
 -- who is gone stays gone
 abbrev pub GoneForGood : Type 0
-GoneForGood = (node : NodeState) (events : List Event) → node.phase ≡ Gone → (after_all node events).phase ≡ Gone
+GoneForGood =
+    (node : NodeState) (events : List Event) → node.phase ≡ Gone → (after_all node events).phase ≡ Gone
 
 -- a version is the greatest that both have
 pub record IsGreatestCommon (own offered : List ℕ) (v : ℕ) : Type 0 where

@@ -216,8 +216,10 @@ impl Node {
 
     /// Hears the data, whatever its bytes are: they are read by whoever has the message.
     fn hear_data(&mut self, handed: u32, generation: u64) -> Heard
-        ensures heard { (bytes : List ℕ) → result ≡ heard self.old (Hear (Message.Data handed generation bytes)) }
-        ensures after { (bytes : List ℕ) → self.new ≡ after self.old (Hear (Message.Data handed generation bytes)) }
+        ensures heard { (bytes : List ℕ) →
+            result ≡ heard self.old (Hear (Message.Data handed generation bytes)) }
+        ensures after { (bytes : List ℕ) →
+            self.new ≡ after self.old (Hear (Message.Data handed generation bytes)) }
     {
         match self.phase {
             Phase::Chosen { session, version } if session == handed => {
@@ -265,7 +267,7 @@ impl Node {
         Heard::Heard
     }
 
-    /// Tells whether the data was read and raised. The message, if there is one, is to be said.
+    /// Takes in whether the data was read and raised, and returns the message that is to be said, if there is one.
     pub fn raised(&mut self, succeeded: bool) -> Option<Message>
         requires raising { IsTrue (is_raising self.old.phase) }
         ensures message { result ≡ said (heard self.old (Raised succeeded)) }
@@ -345,7 +347,7 @@ impl Node {
         }
     }
 
-    /// Tells that the data could not be made, and returns the message that is to be said. The daemon serves on.
+    /// Takes in that the data could not be made, and returns the message that is to be said. The daemon serves on.
     pub fn data_failed(&mut self) -> Message
         requires making { IsTrue (is_making self.old.phase) }
         ensures message { Some result ≡ said (heard self.old DataFailed) }
@@ -403,7 +405,7 @@ impl Node {
         }
     }
 
-    /// Tells whether the daemon may take requests: while it serves, and while it drains, since a round of its workers
+    /// Returns whether the daemon may take requests: while it serves, and while it drains, since a round of its workers
     /// takes until it sees that it is to stop.
     pub fn may_take(&self) -> bool
         ensures may_take { result ≡ may_take self.now.phase }
@@ -421,7 +423,7 @@ impl Node {
         }
     }
 
-    /// Tells what became of the claim: the generation at which the daemon serves from here on, or why it may not. It
+    /// Takes in the answer to the claim: the generation at which the daemon serves from here on, or why it may not. It
     /// may claim once more only where asks were unanswered.
     pub fn claimed(&mut self, answer: Result<u64, ClaimFault>)
         requires holding { IsTrue (is_holding self.old.phase) }

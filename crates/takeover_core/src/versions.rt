@@ -50,7 +50,7 @@ impl Versions {
         Versions::of(self.as_slice())
     }
 
-    /// Tells whether a version is among them.
+    /// Returns whether a version is among them.
     pub(crate) fn contains(&self, version: u16) -> bool
         ensures among { result ≡ is_among self.now version }
     {

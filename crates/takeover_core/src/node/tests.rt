@@ -128,9 +128,9 @@ fn said(heard: Heard) -> Result<Message, Fail> {
     }
 }
 
-/// Makes the data, of two bytes, where the daemon is about to.
+/// Makes the data, of no bytes, where the daemon is about to.
 fn data_of(alloc: Global, node: &mut Node) -> Result<Message, Fail> {
-    let bytes = ImageBytes::of(Vec::from_slice(alloc, &[7, 8])?);
+    let bytes = ImageBytes::of(Vec::new(alloc));
     match node.phase() {
         Phase::Making { .. } => Ok(node.data_made(bytes)),
         _ => Err("no data is to be made")?,
