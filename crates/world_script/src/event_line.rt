@@ -1,6 +1,6 @@
 //! A line that says what happens.
 ghost use Rattle.std.specs.Prelude.{◌≡◌, IfOk};
-ghost use Rattle.world_script.specs.EventLine.{event_of, mount_of, do_of, request_of, lookup_of, forget_of};
+ghost use Rattle.world_script.specs.EventLine.{event_of, mount_of, do_of, request_of, lookup_of, forget_of, getattr_of, other_said};
 
 use crate::number::number;
 use eden_base::{DaemonId, Name, NameFault, NoMemory, Number, cut};
@@ -61,6 +61,12 @@ fn read_request(alloc: Global, words: &[u8]) -> Result<Option<Request>, NoMemory
     if word == b"forget".as_slice() {
         return Ok(read_forget(rest));
     }
+    if word == b"getattr".as_slice() {
+        return Ok(read_getattr(rest));
+    }
+    if word == b"other".as_slice() {
+        return Ok(read_other(rest));
+    }
     Ok(None)
 }
 
@@ -92,4 +98,23 @@ fn read_forget(words: &[u8]) -> Option<Request>
     let node = Number(number(node)?);
     let k = number(k)?;
     Some(Request::Forget(Item { node, k }))
+}
+
+/// Reads the number whose attributes are asked for.
+fn read_getattr(words: &[u8]) -> Option<Request>
+    ensures { result ≡ getattr_of words.now }
+{
+    let node = Number(number(words)?);
+    Some(Request::Getattr { node })
+}
+
+/// Reads the opcode of a request that has no command of its own, and the number that it goes to.
+fn read_other(words: &[u8]) -> Option<Request>
+    ensures { result ≡ other_said words.now }
+{
+    let (opcode, node) = cut(words, b' ')?;
+    let opcode = number(opcode)?;
+    let node = Number(number(node)?);
+    let opcode = u32::try_from(opcode).ok()?;
+    Request::other(opcode, node)
 }

@@ -1,7 +1,7 @@
 //! Lines that say no event.
 use super::{MANIFEST, prints};
 
-const BAD_LINES: [&[u8]; 40] = [
+const BAD_LINES: [&[u8]; 47] = [
     b"\n",
     b" \n",
     b"\r\n",
@@ -39,7 +39,14 @@ const BAD_LINES: [&[u8]; 40] = [
     b"do forget 1 \n",
     b"do forget 1 2 3\n",
     b"do forget 1 18446744073709551616\n",
-    b"do getattr 2\n",
+    b"do getattr\n",
+    b"do getattr \n",
+    b"do getattr 1 2\n",
+    b"do other 15\n",
+    b"do other 3 1\n",
+    b"do other 42 1\n",
+    b"do other 4294967296 1\n",
+    b"do create 1 0644 a\n",
     b"issue lookup 1 src\n",
     b"take 1\n",
 ];

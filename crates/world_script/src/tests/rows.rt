@@ -2,7 +2,7 @@
 use super::{MANIFEST, prints};
 
 /// The start of a script, its rest, and the printed lines.
-const ROWS: [(&[u8], &[u8], &[u8]); 24] = [
+const ROWS: [(&[u8], &[u8], &[u8]); 25] = [
     (
         MANIFEST,
         b"start\nmount 1\nshow\n",
@@ -24,6 +24,12 @@ const ROWS: [(&[u8], &[u8], &[u8]); 24] = [
         MANIFEST,
         b"show\nmount 1\ndo lookup 1 src\nstart\nmount 2\ndo forget 2 1\nmount 1\nmount 1\nstart\nmount 2\ndo lookup 1 nope\ndo lookup 1 README\ndo lookup 2 x\ndo lookup 9 x\ndo forget 1 1\ndo forget 2 2\ndo forget 2 0\ndo lookup 1 README\ndo forget 2 1\ndo forget 2 1\nshow\n",
         b"seat none\nrefused NoDaemon\nrefused NotMounted\ndaemon 1\nrefused NoDaemon\nrefused NotMounted\nmounted 1\nrefused WrongPhase\ndaemon 2\nrefused Seated\nanswer 1 error ENOENT\nanswer 2 entry 2 file 0644 7 1\nanswer 3 error ENOTDIR\nrefused NotHeld\nrefused BadForget\nrefused BadForget\nrefused BadForget\nanswer 4 entry 2 file 0644 7 1\nforgot Lowered\nforgot Dropped\nseat 1 1 next 3\n",
+    ),
+    // Attributes, and a request that is not served.
+    (
+        MANIFEST,
+        b"start\nmount 1\ndo getattr 1\ndo getattr 2\ndo lookup 1 README\ndo getattr 2\ndo other 15 1\ndo other 0 2\ndo other 4294967295 2\ndo forget 2 1\ndo getattr 2\nshow\n",
+        b"daemon 1\nmounted 1\nanswer 1 attr 1 dir 0755 0 2\nrefused NotHeld\nanswer 2 entry 2 file 0644 7 1\nanswer 3 attr 2 file 0644 7 1\nanswer 4 error ENOSYS\nanswer 5 error ENOSYS\nanswer 6 error ENOSYS\nforgot Dropped\nrefused NotHeld\nseat 1 1 next 3\n",
     ),
     // Zeros in front, and names to the end of the line.
     (
