@@ -72,7 +72,8 @@ pub(crate) fn address<N, A: Allocator>(nodes: &Vec<N, A>, first: *const N, index
 /// Returns the node that is at the address.
 pub(crate) fn follow<N, A: Allocator>(nodes: &Vec<N, A>, to: *mut u8) -> &N
     requires { LeadsIn nodes.now (type_size N.row) to }
-    ensures { slice_get nodes.now.items (index_of (vec_ptr nodes.now) (type_size N.row) to) ≡ Some result.now }
+    ensures { slice_get nodes.now.items (index_of (vec_ptr nodes.now) (type_size N.row) to)
+        ≡ Some result.now }
 {
     let node = to as *const N;
     unsafe { &*node }
@@ -83,7 +84,8 @@ pub(crate) fn follow_mut<N, A: Allocator>(nodes: &mut Vec<N, A>, to: *mut u8) ->
     requires { LeadsIn nodes.old (type_size N.row) to }
     ensures* writes_back { sem 𝓛 (vec_follows_item N.row A.row A.Allocator nodes.entry
         (index_of (vec_ptr nodes.old) (type_size N.row) to) result) }
-    ensures value { slice_get nodes.old.items (index_of (vec_ptr nodes.old) (type_size N.row) to) ≡ Some result.now }
+    ensures value { slice_get nodes.old.items (index_of (vec_ptr nodes.old) (type_size N.row) to)
+        ≡ Some result.now }
 {
     let node = to as *mut N;
     unsafe { &mut *node }

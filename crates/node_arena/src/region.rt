@@ -97,7 +97,8 @@ impl<T> Region<T> {
     /// Returns a link to the node after the one that `link` leads to.
     pub(crate) fn next(&self, link: Link) -> Link
         requires { IsLaidOut self.now × IsPlaced self.now link }
-        ensures { IsPlaced self.now result × (place_of self.now result ≡ next_of self.now (place_of self.now link)) }
+        ensures { IsPlaced self.now result
+            × (place_of self.now result ≡ next_of self.now (place_of self.now link)) }
     {
         self.node(link).next
     }
@@ -105,7 +106,8 @@ impl<T> Region<T> {
     /// Returns a link to the node before it.
     pub(crate) fn prev(&self, link: Link) -> Link
         requires { IsLaidOut self.now × IsPlaced self.now link }
-        ensures { IsPlaced self.now result × (place_of self.now result ≡ prev_of self.now (place_of self.now link)) }
+        ensures { IsPlaced self.now result
+            × (place_of self.now result ≡ prev_of self.now (place_of self.now link)) }
     {
         self.node(link).prev
     }
@@ -114,7 +116,8 @@ impl<T> Region<T> {
     pub(crate) fn set_next(&mut self, link: Link, to: Link)
         requires { IsLaidOut self.old × IsPlaced self.old link × IsPlaced self.old to }
         ensures { Becomes self.old self.new
-            (updated (next_of self.old) (place_of self.old link) (place_of self.old to)) (prev_of self.old) (value_of self.old) }
+            (updated (next_of self.old) (place_of self.old link) (place_of self.old to))
+            (prev_of self.old) (value_of self.old) }
     {
         self.node_mut(link).next = to;
     }
@@ -123,7 +126,8 @@ impl<T> Region<T> {
     fn set_prev(&mut self, link: Link, to: Link)
         requires { IsLaidOut self.old × IsPlaced self.old link × IsPlaced self.old to }
         ensures { Becomes self.old self.new
-            (next_of self.old) (updated (prev_of self.old) (place_of self.old link) (place_of self.old to)) (value_of self.old) }
+            (next_of self.old) (updated (prev_of self.old) (place_of self.old link) (place_of self.old to))
+            (value_of self.old) }
     {
         self.node_mut(link).prev = to;
     }
@@ -164,7 +168,8 @@ impl<T> Region<T> {
 
     /// Returns the value that the node holds.
     pub(crate) fn value(&self, link: Link) -> &T
-        requires { IsLaidOut self.now × IsPlaced self.now link × IsSome (value_of self.now (place_of self.now link)) }
+        requires { IsLaidOut self.now × IsPlaced self.now link
+            × IsSome (value_of self.now (place_of self.now link)) }
         ensures { value_of self.now (place_of self.now link) ≡ Some result.now }
     {
         self.node(link).item.value()
@@ -172,7 +177,8 @@ impl<T> Region<T> {
 
     /// Returns the value that the node holds, to write to.
     pub(crate) fn value_mut(&mut self, link: Link) -> &mut T
-        requires { IsLaidOut self.old × IsPlaced self.old link × IsSome (value_of self.old (place_of self.old link)) }
+        requires { IsLaidOut self.old × IsPlaced self.old link
+            × IsSome (value_of self.old (place_of self.old link)) }
         ensures* writes_back { sem 𝓛 (lends_value T.row self.entry (place_of self.old link) result) }
         ensures value { value_of self.old (place_of self.old link) ≡ Some result.now }
     {
@@ -181,19 +187,23 @@ impl<T> Region<T> {
 
     /// Moves the value out of the node.
     pub(crate) fn take(&mut self, link: Link) -> T
-        requires { IsLaidOut self.old × IsPlaced self.old link × IsSome (value_of self.old (place_of self.old link)) }
+        requires { IsLaidOut self.old × IsPlaced self.old link
+            × IsSome (value_of self.old (place_of self.old link)) }
         ensures value { value_of self.old (place_of self.old link) ≡ Some result }
         ensures emptied { Becomes self.old self.new
-            (next_of self.old) (prev_of self.old) (updated (value_of self.old) (place_of self.old link) None) }
+            (next_of self.old) (prev_of self.old)
+            (updated (value_of self.old) (place_of self.old link) None) }
     {
         self.node_mut(link).item.take()
     }
 
     /// Moves a value into the node, which holds none.
     pub(crate) fn put(&mut self, link: Link, value: T)
-        requires { IsLaidOut self.old × IsPlaced self.old link × (value_of self.old (place_of self.old link) ≡ None) }
+        requires { IsLaidOut self.old × IsPlaced self.old link
+            × (value_of self.old (place_of self.old link) ≡ None) }
         ensures { Becomes self.old self.new
-            (next_of self.old) (prev_of self.old) (updated (value_of self.old) (place_of self.old link) (Some value)) }
+            (next_of self.old) (prev_of self.old)
+            (updated (value_of self.old) (place_of self.old link) (Some value)) }
     {
         self.node_mut(link).item.put(value)
     }
