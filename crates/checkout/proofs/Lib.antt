@@ -1,8 +1,12 @@
+pub mod AttrLaws
+pub mod CreateLaws
 pub mod FlatLemmas
 pub mod LinkLaws
 pub mod ManifestIsTree
 pub mod ManifestTree
 pub mod MapLemmas
 pub mod MoreLines
+pub mod PathLaws
 pub mod ReadLemmas
+pub mod RemoveLaws
 pub mod TextLemmas

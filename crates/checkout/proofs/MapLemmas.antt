@@ -1,12 +1,12 @@
 -- Lookups in a finite map after an insertion, and its entries.
-use Rattle.std.proofs.Common.{◌≡◌, Bool, true, false, cond, ◌&&◌, ◌||◌, T, List, [], ◌∷◌, length, Some, refl, sym, ap, ◌∙◌, ◌⊎◌, inl, inr}
+use Rattle.std.proofs.Common.{◌≡◌, Bool, true, false, cond, ◌&&◌, ◌||◌, T, List, [], ◌∷◌, length, Some, None, refl, sym, ap, ◌∙◌, ◌⊎◌, inl, inr}
 use Rattle.std.proofs.Math.Bool.{or-true}
 use Rattle.std.specs.List.{list_any}
 use Rattle.std.specs.Ordering.{is_eq, is_lt, eq_by_cmp, ordering_reverse}
 use Rattle.std.specs.declared.cmp.Ordering.{Ordering}
 use Rattle.std.specs.declared.cmp.Ordering.TheVariants.{Less, Equal, Greater}
 use Rattle.std.specs.Cmp.{IsTotalOrder, tied_itself}
-use Rattle.std.specs.FinMap.{FinMap, entries, entries_sorted, get, insert, find, empty, get-entries, get-insert, empty_of_len, len-entries, IsAntisymmetric}
+use Rattle.std.specs.FinMap.{FinMap, entries, entries_sorted, get, insert, find, empty, remove, get-entries, get-insert, get-remove, empty_of_len, len-entries, IsAntisymmetric}
 use Rattle.std.specs.FinMap.Entries.{below_all, is_sorted}
 
 tie : (o : Ordering) → is_eq o ≡ true → o ≡ Equal
@@ -35,6 +35,24 @@ get-insert_other {K} {X} {R} o same m k v q other =
       | true ↦ λ e. absurd (other (tied same q k (R q k) refl e))
       | false ↦ λ e. refl
     ] refl)
+
+-- what a map has after a removal
+pub get-remove_same : {K X : Type 0} {R : K → K → Ordering} (o : IsTotalOrder R) → (m : FinMap R X) (k : K) → get (remove m k) k ≡ None
+get-remove_same o m k = get-remove o m k k ∙ ap (λ r. cond (is_eq r) None (get m k)) (tied_itself o k)
+
+pub get-remove_other : {K X : Type 0} {R : K → K → Ordering} (o : IsTotalOrder R) → IsAntisymmetric R → (m : FinMap R X) (k q : K) → (q ≡ k → ⊥) → get (remove m k) q ≡ get m q
+get-remove_other {K} {X} {R} o same m k q other =
+    get-remove o m k q ∙ (elim (eq_by_cmp R q k) as (λ b. eq_by_cmp R q k ≡ b → cond b None (get m q) ≡ get m q) [
+      | true ↦ λ e. absurd (other (tied same q k (R q k) refl e))
+      | false ↦ λ e. refl
+    ] refl)
+
+pub get-remove_cases : {K X : Type 0} {R : K → K → Ordering} (o : IsTotalOrder R) → IsAntisymmetric R → (m : FinMap R X) (k q : K) (w : X) → get (remove m k) q ≡ Some w → (get m q ≡ Some w) × (q ≡ k → ⊥)
+get-remove_cases {K} {X} {R} o same m k q w h =
+    elim (eq_by_cmp R q k) as (λ b. eq_by_cmp R q k ≡ b → cond b None (get m q) ≡ Some w → (get m q ≡ Some w) × (q ≡ k → ⊥)) [
+      | true ↦ λ e g. absurd (cc)
+      | false ↦ λ e g. (g, λ same_key. let there = ap (get (remove m k)) same_key ∙ get-remove_same o m k in absurd (cc))
+    ] refl (sym (get-remove o m k q) ∙ h)
 
 -- a value that is found is among the entries
 list_any-find : {K X : Type 0} (R : K → K → Ordering) (p : X → Bool) (q : K) (es : List (K × X)) (v : X) → find R q es ≡ Some v → p v ≡ true → list_any (λ (e : K × X). p e.1) es ≡ true
