@@ -1,7 +1,8 @@
 -- A tree from which a link was taken.
-use Rattle.std.proofs.Common.{◌≡◌, ℕ, ◌&&◌, true, false, List, Some, None, refl, sym, ap, ◌∙◌}
+use Rattle.std.proofs.Common.{Bool, not, ◌≡◌, ℕ, ◌&&◌, true, false, List, Some, None, refl, sym, ap, ◌∙◌}
+use Rattle.eden_base.specs.declared.attr.Kind.TheVariants.{File as RegularFile}
 use Rattle.eden_base.specs.declared.number.FileId.{FileId}
-use Rattle.checkout.specs.Tree.{Tree, root, child_of, has_links, is_full_dir, is_dir, is_linked, removed, IsTree}
+use Rattle.checkout.specs.Tree.{kind_of, Tree, root, child_of, has_links, is_empty_dir, is_full_dir, is_dir, is_linked, removed, IsTree}
 use Rattle.checkout.proofs.FlatLemmas.{link_cmp_total, link_cmp-same, has_link}
 use Rattle.checkout.proofs.CreateLaws.{IsElsewhere}
 use Rattle.checkout.proofs.LinkLaws.{linked_from_child, child_from_linked}
@@ -90,3 +91,17 @@ module _ (tree : Tree) (dir : FileId) (name : List ℕ) (file : FileId) (is : Is
               absurd (cc (e, linked))
         ] refl
       ] refl
+
+no_both : (a b : Bool) → (a && not b) ≡ true → (a && b) ≡ false
+no_both true true h = absurd (cc)
+no_both true false h = refl
+no_both false b h = refl
+
+-- an empty directory, and what is no directory, is no directory with links
+pub not_full-from_empty : (tree : Tree) (file : FileId) → is_empty_dir tree file ≡ true → is_full_dir tree file ≡ false
+not_full-from_empty tree file h = no_both (is_dir (kind_of tree file)) (has_links tree file) h
+
+pub not_full-from_file : (tree : Tree) (file : FileId) → kind_of tree file ≡ Some RegularFile → is_full_dir tree file ≡ false
+not_full-from_file tree file h = ap (λ k. is_dir k && has_links tree file) h
+
+pub ruleset not_full_rules = (not_full-from_empty, not_full-from_file)

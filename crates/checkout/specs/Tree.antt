@@ -68,10 +68,6 @@ abbrev pub nlink_of_kind : Kind → ℕ
 nlink_of_kind RegularFile = 1
 nlink_of_kind Dir = 2
 
--- what a daemon tells the kernel of a file while a name leads to it
-abbrev pub attr_of_linked : File → Attr
-attr_of_linked f = record { kind = f.kind; perm = f.perm; size = f.size; nlink = nlink_of_kind f.kind }
-
 -- an unlinked file has none
 abbrev pub nlink_of : Tree → FileId → Kind → ℕ
 nlink_of tree file kind = if is_unlinked tree file then 0 else nlink_of_kind kind
