@@ -32,6 +32,12 @@ fn remove<T>(rt: &impl Abort, nodes: &mut Nodes<T>, slot: Slot) -> T {
     value
 }
 
+/// Compares the oldest slot and the length with what they must be.
+fn expect_oldest<T>(rt: &impl Abort, nodes: &Nodes<T>, oldest: Option<Slot>, len: usize) {
+    assert_eq!(rt; nodes.oldest(), oldest);
+    assert_eq!(rt; nodes.len(), len);
+}
+
 /// The values, the least recently used first. Each is touched once, so the order stays.
 fn values_from_oldest(alloc: Global, nodes: &mut Nodes<char>) -> Result<String, Fail> {
     let mut values = String::new(alloc);
@@ -56,21 +62,30 @@ fn expect_order(
     Ok(())
 }
 
+/// Sees that a full arena gives a value back.
+fn expect_full(rt: &impl Abort, nodes: &mut Nodes<char>, value: char) {
+    assert_eq!(rt; nodes.add(value), Err(value));
+}
+
+/// Removes a slot that is held, and compares its value.
+fn expect_removed(rt: &impl Abort, nodes: &mut Nodes<char>, slot: Slot, value: char) {
+    assert_eq!(rt; remove(rt, nodes, slot), value);
+}
+
 #[test]
 fn refuses_a_third_value_at_capacity_two(rt: HostRuntime) -> Result<(), Fail> {
     let mut nodes = Nodes::new(rt.alloc(), 2)?;
-    assert_eq!(rt; nodes.oldest(), None);
     assert_eq!(rt; nodes.capacity(), 2);
+    expect_oldest(&rt, &nodes, None, 0);
     let a = add(&rt, &mut nodes, 'a');
     let b = add(&rt, &mut nodes, 'b');
-    assert_eq!(rt; nodes.add('c'), Err('c'));
-    assert_eq!(rt; nodes.oldest(), Some(a));
+    expect_full(&rt, &mut nodes, 'c');
+    expect_oldest(&rt, &nodes, Some(a), 2);
     touch(&rt, &mut nodes, a);
-    assert_eq!(rt; nodes.oldest(), Some(b));
-    assert_eq!(rt; remove(&rt, &mut nodes, b), 'b');
+    expect_oldest(&rt, &nodes, Some(b), 2);
+    expect_removed(&rt, &mut nodes, b, 'b');
     add(&rt, &mut nodes, 'c');
-    assert_eq!(rt; nodes.oldest(), Some(a));
-    assert_eq!(rt; nodes.len(), 2);
+    expect_oldest(&rt, &nodes, Some(a), 2);
     Ok(())
 }
 
@@ -83,7 +98,7 @@ fn keeps_the_order_of_use_at_capacity_three(rt: HostRuntime) -> Result<(), Fail>
     expect_order(&rt, rt.alloc(), &mut nodes, "abc")?;
     touch(&rt, &mut nodes, b);
     expect_order(&rt, rt.alloc(), &mut nodes, "acb")?;
-    assert_eq!(rt; remove(&rt, &mut nodes, c), 'c');
+    expect_removed(&rt, &mut nodes, c, 'c');
     expect_order(&rt, rt.alloc(), &mut nodes, "ab")?;
     touch(&rt, &mut nodes, a);
     expect_order(&rt, rt.alloc(), &mut nodes, "ba")?;
@@ -115,21 +130,27 @@ fn takes_24_bytes_beside_a_value(rt: HostRuntime) {
     assert_eq!(rt; size_of::<Node<(u64, [u64; 9])>>(), 24 + 80);
 }
 
+/// Fills an arena, sees that it refuses one more, and empties it, the oldest first.
+fn fill_and_empty(rt: &impl Abort, nodes: &mut Nodes<usize>) -> Result<(), Fail> {
+    let capacity = nodes.capacity();
+    for value in 0..capacity {
+        add(rt, nodes, value);
+    }
+    assert_eq!(rt; nodes.add(capacity), Err(capacity));
+    for value in 0..capacity {
+        let slot = nodes.oldest().ok_or("no oldest slot")?;
+        assert_eq!(rt; remove(rt, nodes, slot), value);
+    }
+    Ok(())
+}
+
 #[test]
 fn fills_refuses_once_and_empties(rt: HostRuntime) -> Result<(), Fail> {
     for capacity in [1usize, 65_536] {
         let mut nodes = Nodes::new(rt.alloc(), capacity)?;
-        for value in 0..capacity {
-            add(&rt, &mut nodes, value);
-        }
-        assert_eq!(rt; nodes.add(capacity), Err(capacity));
-        assert_eq!(rt; nodes.len(), capacity);
-        for value in 0..capacity {
-            let slot = nodes.oldest().ok_or("no oldest slot")?;
-            assert_eq!(rt; remove(&rt, &mut nodes, slot), value);
-        }
-        assert_eq!(rt; nodes.oldest(), None);
-        assert_eq!(rt; nodes.len(), 0);
+        assert_eq!(rt; nodes.capacity(), capacity);
+        fill_and_empty(&rt, &mut nodes)?;
+        expect_oldest(&rt, &nodes, None, 0);
     }
     Ok(())
 }
