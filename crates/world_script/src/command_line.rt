@@ -50,7 +50,9 @@ fn script_in<'a>(matches: &ArgMatches<'a>) -> &'a str
 pub const NOT_TEXT: &str = "a word of the command line is not UTF-8";
 
 /// Returns the refusal of words that are no text, with the program's usage.
-pub fn not_text(alloc: Global) -> Result<Error, AllocError> {
+pub fn not_text(alloc: Global) -> Result<Error, AllocError>
+    ensures kind { IfOk result (λ error. kind_of error ≡ ErrorKind.InvalidValue) }
+{
     let mut command = edend_command(alloc)?;
     command.error(ErrorKind::InvalidValue, NOT_TEXT)
 }
