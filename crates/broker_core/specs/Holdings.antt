@@ -13,7 +13,8 @@ pub record HeldState : Type 0 where
 -- a state as a pair
 abbrev pub held_state_code : Coded HeldState
 held_state_code =
-    code_by (HeldMap × ℕ) (coded× held_map_code coded_ℕ) (λ s. (s.counts, s.spare)) (λ p. record { counts = p.0; spare = p.1 }) (λ _. refl)
+    code_by (HeldMap × ℕ) (coded× held_map_code coded_ℕ) (λ s. (s.counts, s.spare))
+    (λ p. record { counts = p.0; spare = p.1 }) (λ _. refl)
 
 -- the map of a list
 abbrev pub map_of : List Holding → HeldMap

@@ -5,7 +5,7 @@ use Rattle.std.specs.declared.cmp.Ordering.{Ordering}
 use Rattle.std.specs.declared.cmp.Ordering.TheVariants.{Less, Equal, Greater}
 use Rattle.std.specs.Cmp.{IsTotalOrder, nat_cmp_total, on_total, then_total}
 use Rattle.std.specs.Cmp.Lexicographic.{slice_cmp, nat_list_cmp_total}
-use Rattle.std.specs.FinMap.{FinMap, empty, get-empty, entries, get, insert, from_entries, find, put, IsAntisymmetric, nat_cmp-IsAntisymmetric, slice_cmp-IsAntisymmetric, get-entries, get-from_entries, get-insert, same_map}
+use Rattle.std.specs.FinMap.{FinMap, empty, get-empty, entries, get, insert, remove, from_entries, find, put, IsAntisymmetric, nat_cmp-IsAntisymmetric, slice_cmp-IsAntisymmetric, get-entries, get-from_entries, get-insert, get-remove, same_map}
 use Rattle.std.specs.FinMap.Entries.{find-put, by_order}
 use Rattle.std.specs.Map.{lookup, keys_of}
 use Rattle.std.specs.List.{AllByRecursion}
@@ -19,15 +19,12 @@ use Rattle.eden_base.specs.declared.number.FileId.{FileId}
 use Rattle.std.specs.List.{list_any}
 use Rattle.std.proofs.lemmas.Bool.Decides.{nat_tests}
 use Rattle.checkout.proofs.MapLemmas.{get-insert_same, any_key-entries, key_from_any}
-use Rattle.checkout.specs.Flat.{by_bytes, in_directory, in_directories}
+use Rattle.checkout.specs.Flat.{vec_cmp, by_bytes, in_directory, in_directories}
 use Rattle.checkout.specs.Tree.{link_cmp}
 
 -- names, by their bytes
 abbrev pub name_cmp : List ℕ → List ℕ → Ordering
 name_cmp = slice_cmp nat_cmp
-
-abbrev pub vec_cmp : Vec ℕ Global → Vec ℕ Global → Ordering
-vec_cmp a b = name_cmp a.items b.items
 
 pub name_cmp-same : IsAntisymmetric name_cmp
 name_cmp-same = slice_cmp-IsAntisymmetric nat_cmp-IsAntisymmetric
@@ -71,7 +68,7 @@ find-in_directory d dir name (e ∷ es) =
     ] rest
 
 -- a lookup in two lists is one in the second where the first has nothing
-find-append : {K X : Type 0} (R : K → K → Ordering) (q : K) (es fs : List (K × X)) → find R q (es ++ fs) ≡ option_or (find R q es) (find R q fs)
+pub find-append : {K X : Type 0} (R : K → K → Ordering) (q : K) (es fs : List (K × X)) → find R q (es ++ fs) ≡ option_or (find R q es) (find R q fs)
 find-append R q [] fs = refl
 find-append {X = X} R q (e ∷ es) fs =
     let rest = find-append R q es fs in
@@ -120,6 +117,30 @@ link_cmp-same x y e =
       | Greater ↦ λ _ h. cc
     ] refl e
 
+-- one name changes in one directory, and each other gives what it gave
+changed-in_directories : (m n : List (ℕ × FinMap name_cmp FileId)) (dir : ℕ) (name : List ℕ) (value : Option FileId) (old new : FinMap name_cmp FileId) (all : FinMap link_cmp FileId) →
+    IsStrictlySortedBy nat_cmp (keys_of m) → IsStrictlySortedBy nat_cmp (keys_of n) →
+    ((x : List ℕ) → in_it dir x (lookup (is_at (nat_cmp dir)) m) ≡ get old x) →
+    ((d : ℕ) → lookup (is_at (nat_cmp d)) n ≡ cond (is_at (nat_cmp dir) d) (Some new) (lookup (is_at (nat_cmp d)) m)) →
+    ((x : List ℕ) → get new x ≡ cond (eq_by_cmp name_cmp x name) value (get old x)) →
+    ((q : ℕ × List ℕ) → get all q ≡ cond (eq_by_cmp link_cmp q (dir, name)) value (get (from_entries {R = link_cmp} (in_directories m)) q)) →
+    from_entries {R = link_cmp} (in_directories n) ≡ all
+changed-in_directories m n dir name value old new all sorted_m sorted_n before after in_dir in_all =
+    same_map link_cmp_total link_cmp-same _ _ (λ q. get-in_directories q.0 q.1 n sorted_n ∙ ap (in_it q.0 q.1) (after q.0) ∙ at_link q.0 q.1 ∙ sym (in_all q))
+  where
+    links : FinMap link_cmp FileId
+    links = from_entries (in_directories m)
+
+    at_link : (d : ℕ) (x : List ℕ) → in_it d x (cond (is_eq (nat_cmp dir d)) (Some new) (lookup (is_at (nat_cmp d)) m)) ≡ cond (is_eq (ordering_then (nat_cmp d dir) (name_cmp x name))) value (get links (d, x))
+    at_link d x =
+        elim (nat_cmp d dir) as (λ o. nat_cmp d dir ≡ o → in_it d x (cond (is_eq (nat_cmp dir d)) (Some new) (lookup (is_at (nat_cmp d)) m)) ≡ cond (is_eq (ordering_then o (name_cmp x name))) value (get links (d, x))) [
+          | Less ↦ λ e. rw (nat_cmp_total.antisymm dir d, e) (sym (get-in_directories d x m sorted_m))
+          | Equal ↦ λ e.
+              let same : d ≡ dir = nat_cmp-IsAntisymmetric d dir e in
+              rw (nat_cmp_total.antisymm dir d, e) (in_dir x ∙ ap (cond (eq_by_cmp name_cmp x name) value) (sym (before x) ∙ sym (get-in_directories dir x m sorted_m) ∙ ap (λ k. get links (k, x)) (sym same)))
+          | Greater ↦ λ e. rw (nat_cmp_total.antisymm dir d, e) (sym (get-in_directories d x m sorted_m))
+        ] refl
+
 -- what one name gives in one directory, and each other as before
 pub insert-in_directories : (m n : List (ℕ × FinMap name_cmp FileId)) (dir : ℕ) (name : List ℕ) (file : FileId) (files : FinMap name_cmp FileId) →
     IsStrictlySortedBy nat_cmp (keys_of m) → IsStrictlySortedBy nat_cmp (keys_of n) →
@@ -127,21 +148,17 @@ pub insert-in_directories : (m n : List (ℕ × FinMap name_cmp FileId)) (dir : 
     ((d : ℕ) → lookup (is_at (nat_cmp d)) n ≡ cond (is_at (nat_cmp dir) d) (Some (insert files name file)) (lookup (is_at (nat_cmp d)) m)) →
     from_entries {R = link_cmp} (in_directories n) ≡ insert (from_entries (in_directories m)) (dir, name) file
 insert-in_directories m n dir name file files sorted_m sorted_n before after =
-    same_map link_cmp_total link_cmp-same _ _ (λ q.
-    get-in_directories q.0 q.1 n sorted_n ∙ ap (in_it q.0 q.1) (after q.0) ∙ at_link q.0 q.1 ∙ sym (get-insert link_cmp_total (from_entries (in_directories m)) (dir, name) file q))
-  where
-    old : FinMap link_cmp FileId
-    old = from_entries (in_directories m)
+    changed-in_directories m n dir name (Some file) files (insert files name file) (insert (from_entries (in_directories m)) (dir, name) file) sorted_m sorted_n before after
+    (λ x. get-insert nat_list_cmp_total files name file x) (λ q. get-insert link_cmp_total (from_entries (in_directories m)) (dir, name) file q)
 
-    at_link : (d : ℕ) (x : List ℕ) → in_it d x (cond (is_eq (nat_cmp dir d)) (Some (insert files name file)) (lookup (is_at (nat_cmp d)) m)) ≡ cond (is_eq (ordering_then (nat_cmp d dir) (name_cmp x name))) (Some file) (get old (d, x))
-    at_link d x =
-        elim (nat_cmp d dir) as (λ o. nat_cmp d dir ≡ o → in_it d x (cond (is_eq (nat_cmp dir d)) (Some (insert files name file)) (lookup (is_at (nat_cmp d)) m)) ≡ cond (is_eq (ordering_then o (name_cmp x name))) (Some file) (get old (d, x))) [
-          | Less ↦ λ e. rw (nat_cmp_total.antisymm dir d, e) (sym (get-in_directories d x m sorted_m))
-          | Equal ↦ λ e.
-              let same : d ≡ dir = nat_cmp-IsAntisymmetric d dir e in
-              rw (nat_cmp_total.antisymm dir d, e) (get-insert nat_list_cmp_total files name file x ∙ ap (cond (eq_by_cmp name_cmp x name) (Some file)) (sym (before x) ∙ sym (get-in_directories dir x m sorted_m) ∙ ap (λ k. get old (k, x)) (sym same)))
-          | Greater ↦ λ e. rw (nat_cmp_total.antisymm dir d, e) (sym (get-in_directories d x m sorted_m))
-        ] refl
+pub remove-in_directories : (m n : List (ℕ × FinMap name_cmp FileId)) (dir : ℕ) (name : List ℕ) (files : FinMap name_cmp FileId) →
+    IsStrictlySortedBy nat_cmp (keys_of m) → IsStrictlySortedBy nat_cmp (keys_of n) →
+    ((x : List ℕ) → in_it dir x (lookup (is_at (nat_cmp dir)) m) ≡ get files x) →
+    ((d : ℕ) → lookup (is_at (nat_cmp d)) n ≡ cond (is_at (nat_cmp dir) d) (Some (remove files name)) (lookup (is_at (nat_cmp d)) m)) →
+    from_entries {R = link_cmp} (in_directories n) ≡ remove (from_entries (in_directories m)) (dir, name)
+remove-in_directories m n dir name files sorted_m sorted_n before after =
+    changed-in_directories m n dir name None files (remove files name) (remove (from_entries (in_directories m)) (dir, name)) sorted_m sorted_n before after
+    (λ x. get-remove nat_list_cmp_total files name x) (λ q. get-remove link_cmp_total (from_entries (in_directories m)) (dir, name) q)
 
 pub empty_by_bytes : (es : List (Vec ℕ Global × FileId)) → (length es ≡ 0 → from_entries {R = name_cmp} (by_bytes es) ≡ empty) × (from_entries {R = name_cmp} (by_bytes es) ≡ empty → length es ≡ 0)
 empty_by_bytes [] = (λ _. refl, λ _. refl)

@@ -1,26 +1,17 @@
 -- What a manifest says is a tree.
-use Rattle.std.proofs.Common.{◌≡◌, ℕ, zero, suc, ◌+◌, ◌<◌, ◌-◌, Bool, false, not, ◌&&◌, ◌==◌, if◌then◌else◌, List, [], ◌∷◌, ◌++◌, length, Option, Some, None, IsSome, refl, sym, ap, ◌∙◌, inl, inr, arith, eq-eqb}
-use Rattle.std.proofs.Math.Bool.{and-false}
+use Rattle.std.proofs.Common.{◌≡◌, ℕ, zero, suc, ◌+◌, ◌<◌, ◌-◌, List, [], ◌∷◌, ◌++◌, length, Option, Some, None, IsSome, refl, sym, ap, subst, ◌∙◌, inl, inr, arith}
 use Rattle.std.specs.List.{slice_get}
 use Rattle.std.specs.Option.{option_map, option_and_then}
 use Rattle.std.specs.FinMap.{get}
 use Rattle.eden_base.proofs.MemberLemmas.{some-IsSome}
-use Rattle.eden_base.specs.declared.attr.Attr.{Attr}
+use Rattle.eden_base.specs.Name.{IsNameText}
 use Rattle.eden_base.specs.declared.attr.Kind.TheVariants.{Dir}
 use Rattle.eden_base.specs.declared.number.FileId.{FileId}
 use Rattle.checkout.specs.Manifest.{File, Line, Manifest, IsDirBefore, IsManifest}
-use Rattle.checkout.specs.Tree.{Tree, files_from, root, tree_of, kind_of, child_of, file_at, is_linked, is_unlinked, nlink_of, nlink_of_kind, attr_of, attr_of_linked, IsTree}
-use Rattle.checkout.proofs.LinkLaws.{linked_from_child}
+use Rattle.checkout.specs.Tree.{Tree, files_from, root, tree_of, kind_of, child_of, file_at, IsTree}
 use Rattle.checkout.proofs.MoreLines.{apart}
+use Rattle.checkout.proofs.PathLaws.{file_at-append}
 use Rattle.checkout.proofs.ManifestTree.{file_with, same_id, IsLinkOf, line_of_link, link_of_line, root_of_files, file_of_line, id_of_file, line_at}
-
-file_at-append : (tree : Tree) (dir : FileId) (path more : List (List ℕ)) → file_at tree dir (path ++ more) ≡ option_and_then (λ (f : FileId). file_at tree f more) (file_at tree dir path)
-file_at-append tree dir [] more = refl
-file_at-append tree dir (name ∷ path) more =
-    elim (child_of tree dir name) as (λ o. option_and_then (λ (child : FileId). file_at tree child (path ++ more)) o ≡ option_and_then (λ (f : FileId). file_at tree f more) (option_and_then (λ (child : FileId). file_at tree child path) o)) [
-      | None ↦ refl
-      | Some child ↦ file_at-append tree child path more
-    ]
 
 module _ (m : Manifest) (is : IsManifest m) where
   abbrev tree : Tree
@@ -73,6 +64,7 @@ module _ (m : Manifest) (is : IsManifest m) where
     next_fits = omega (arith, is.lines.few);
     has_manifest_files = λ file f h. h;
     others_are_later = λ file f h. inl h;
+    links_have_names = λ dir name file h. let r = file_is dir name file h in subst IsNameText r.name_is ((is.lines.each r.place r.line r.here).name);
     links_give_files = λ dir name file h. let r = file_is dir name file h in some-IsSome _ r.line.file (ap (get (files_from 2 m.lines)) r.file_is ∙ file_of_line 2 r.place m.lines r.line r.here);
     links_stand_in_dirs = λ dir name file h. let r = file_is dir name file h in ap (kind_of tree) (same_id dir r.line.dir (sym r.dir_is)) ∙ dir_kind r.line.dir r.place ((is.lines.each r.place r.line r.here).dir_before);
     root_has_no_link = λ dir name file h. let r = file_is dir name file h in omega (arith, r.file_is);
@@ -87,25 +79,3 @@ module _ (m : Manifest) (is : IsManifest m) where
         let p = reached (suc r.place) r.place r.line (omega arith) r.here in
         (p.0, p.1 ∙ ap (λ f. Some f) (same_id (file_with (2 + r.place)) file (sym r.file_is)));
   }
-
--- every file of a manifest's tree is the root or linked
-no_file_is_unlinked : (m : Manifest) → IsManifest m → (file : FileId) (f : File) → get (files_from 2 m.lines) file.0 ≡ Some f → is_unlinked (tree_of m) file ≡ false
-no_file_is_unlinked m is file f h =
-    elim (id_of_file 2 m.lines file.0 f h) [
-      | inl one ↦ ap (λ b. not b && not (is_linked (tree_of m) file)) (eq-eqb file.0 1 one)
-      | inr w ↦
-          let at = line_at m.lines (file.0 - 2) (omega (arith, w.0, w.1)) in
-          let id : (file_with (2 + (file.0 - 2))).0 ≡ file.0 = omega (arith, w.0) in
-          let child = child_of_line m is (file.0 - 2) at.0 at.1 ∙ ap (λ g. Some g) (same_id (file_with (2 + (file.0 - 2))) file id) in
-          ap (λ b. not (file.0 == 1) && not b) (linked_from_child (tree_of m) at.0.dir at.0.name file child) ∙ and-false (not (file.0 == 1))
-    ]
-
-abbrev attr_with : File → ℕ → Attr
-attr_with f n = record { kind = f.kind; perm = f.perm; size = f.size; nlink = n }
-
-pub attr_of-tree_of : (m : Manifest) → IsManifest m → (file : FileId) → attr_of (tree_of m) file ≡ option_map attr_of_linked (get (files_from 2 m.lines) file.0)
-attr_of-tree_of m is file =
-    elim (get (files_from 2 m.lines) file.0) as (λ o. get (files_from 2 m.lines) file.0 ≡ o → option_map (λ (f : File). record { kind = f.kind; perm = f.perm; size = f.size; nlink = nlink_of (tree_of m) file f.kind }) o ≡ option_map attr_of_linked o) [
-      | None ↦ λ e. refl
-      | Some f ↦ λ e. ap (λ (b : Bool). Some (attr_with f (if b then 0 else nlink_of_kind f.kind))) (no_file_is_unlinked m is file f e)
-    ] refl

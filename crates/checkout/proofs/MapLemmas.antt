@@ -1,12 +1,12 @@
 -- Lookups in a finite map after an insertion, and its entries.
-use Rattle.std.proofs.Common.{◌≡◌, Bool, true, false, cond, ◌&&◌, ◌||◌, T, List, [], ◌∷◌, length, Some, refl, sym, ap, ◌∙◌, ◌⊎◌, inl, inr}
+use Rattle.std.proofs.Common.{◌≡◌, Bool, true, false, cond, ◌&&◌, ◌||◌, T, List, [], ◌∷◌, length, Some, None, refl, sym, ap, ◌∙◌, ◌⊎◌, inl, inr}
 use Rattle.std.proofs.Math.Bool.{or-true}
 use Rattle.std.specs.List.{list_any}
 use Rattle.std.specs.Ordering.{is_eq, is_lt, eq_by_cmp, ordering_reverse}
 use Rattle.std.specs.declared.cmp.Ordering.{Ordering}
 use Rattle.std.specs.declared.cmp.Ordering.TheVariants.{Less, Equal, Greater}
 use Rattle.std.specs.Cmp.{IsTotalOrder, tied_itself}
-use Rattle.std.specs.FinMap.{FinMap, entries, entries_sorted, get, insert, find, empty, get-entries, get-insert, empty_of_len, len-entries, IsAntisymmetric}
+use Rattle.std.specs.FinMap.{FinMap, entries, entries_sorted, get, insert, find, empty, remove, get-entries, get-insert, get-remove, same_map, empty_of_len, len-entries, IsAntisymmetric}
 use Rattle.std.specs.FinMap.Entries.{below_all, is_sorted}
 
 tie : (o : Ordering) → is_eq o ≡ true → o ≡ Equal
@@ -17,6 +17,9 @@ tie Greater h = absurd (cc)
 -- a key that ties is the key, in an order that tells keys apart
 tied : {K : Type 0} {R : K → K → Ordering} → IsAntisymmetric R → (x y : K) (o : Ordering) → R x y ≡ o → is_eq o ≡ true → x ≡ y
 tied same x y o e h = same x y (e ∙ tie o h)
+
+pub tied_key : {K : Type 0} {R : K → K → Ordering} → IsAntisymmetric R → (x y : K) → eq_by_cmp R x y ≡ true → x ≡ y
+tied_key {K} {R} same x y h = tied same x y (R x y) refl h
 
 -- what a map has after an insertion is what was inserted, or what it had
 pub get-insert_cases : {K X : Type 0} {R : K → K → Ordering} (o : IsTotalOrder R) → IsAntisymmetric R → (m : FinMap R X) (k : K) (v : X) (q : K) (w : X) → get (insert m k v) q ≡ Some w → ((q ≡ k) × (v ≡ w)) ⊎ (get m q ≡ Some w)
@@ -35,6 +38,39 @@ get-insert_other {K} {X} {R} o same m k v q other =
       | true ↦ λ e. absurd (other (tied same q k (R q k) refl e))
       | false ↦ λ e. refl
     ] refl)
+
+-- what a map has after a removal
+pub get-remove_same : {K X : Type 0} {R : K → K → Ordering} (o : IsTotalOrder R) → (m : FinMap R X) (k : K) → get (remove m k) k ≡ None
+get-remove_same o m k = get-remove o m k k ∙ ap (λ r. cond (is_eq r) None (get m k)) (tied_itself o k)
+
+pub get-remove_other : {K X : Type 0} {R : K → K → Ordering} (o : IsTotalOrder R) → IsAntisymmetric R → (m : FinMap R X) (k q : K) → (q ≡ k → ⊥) → get (remove m k) q ≡ get m q
+get-remove_other {K} {X} {R} o same m k q other =
+    get-remove o m k q ∙ (elim (eq_by_cmp R q k) as (λ b. eq_by_cmp R q k ≡ b → cond b None (get m q) ≡ get m q) [
+      | true ↦ λ e. absurd (other (tied same q k (R q k) refl e))
+      | false ↦ λ e. refl
+    ] refl)
+
+pub get-remove_cases : {K X : Type 0} {R : K → K → Ordering} (o : IsTotalOrder R) → IsAntisymmetric R → (m : FinMap R X) (k q : K) (w : X) → get (remove m k) q ≡ Some w → (get m q ≡ Some w) × (q ≡ k → ⊥)
+get-remove_cases {K} {X} {R} o same m k q w h =
+    elim (eq_by_cmp R q k) as (λ b. eq_by_cmp R q k ≡ b → cond b None (get m q) ≡ Some w → (get m q ≡ Some w) × (q ≡ k → ⊥)) [
+      | true ↦ λ e g. absurd (cc)
+      | false ↦ λ e g. (g, λ same_key. let there = ap (get (remove m k)) same_key ∙ get-remove_same o m k in absurd (cc))
+    ] refl (sym (get-remove o m k q) ∙ h)
+
+-- nothing is removed where nothing is, and what was inserted there is removed again
+pub removed_nothing : {K X : Type 0} {R : K → K → Ordering} (o : IsTotalOrder R) → IsAntisymmetric R → (m : FinMap R X) (k : K) → get m k ≡ None → remove m k ≡ m
+removed_nothing {K} {X} {R} o same m k none =
+    same_map o same (remove m k) m (λ q. get-remove o m k q ∙ (elim (eq_by_cmp R q k) as (λ b. eq_by_cmp R q k ≡ b → cond b None (get m q) ≡ get m q) [
+      | true ↦ λ e. sym (ap (get m) (tied same q k (R q k) refl e) ∙ none)
+      | false ↦ λ e. refl
+    ] refl))
+
+pub removed_again : {K X : Type 0} {R : K → K → Ordering} (o : IsTotalOrder R) → IsAntisymmetric R → (m : FinMap R X) (k : K) (v : X) → get m k ≡ None → remove (insert m k v) k ≡ m
+removed_again {K} {X} {R} o same m k v none =
+    same_map o same (remove (insert m k v) k) m (λ q. get-remove o (insert m k v) k q ∙ (elim (eq_by_cmp R q k) as (λ b. eq_by_cmp R q k ≡ b → cond b None (get (insert m k v) q) ≡ get m q) [
+      | true ↦ λ e. sym (ap (get m) (tied same q k (R q k) refl e) ∙ none)
+      | false ↦ λ e. get-insert o m k v q ∙ ap (λ b. cond b (Some v) (get m q)) e
+    ] refl))
 
 -- a value that is found is among the entries
 list_any-find : {K X : Type 0} (R : K → K → Ordering) (p : X → Bool) (q : K) (es : List (K × X)) (v : X) → find R q es ≡ Some v → p v ≡ true → list_any (λ (e : K × X). p e.1) es ≡ true

@@ -1,8 +1,12 @@
 pub mod Codes
+pub mod Create
 pub mod Flat
+pub mod MadeCodes
 pub mod Manifest
 pub mod ManifestText
 pub mod Names
+pub mod Overlay
+pub mod Tally
 pub mod Text
 pub mod Tree
 pub mod Words

@@ -3,16 +3,14 @@
 use Rattle.std.specs.Prelude.{◌≡◌, ◌≢◌, ℕ, ◌+◌, ◌-◌, ◌<◌, ◌≤◌, ◌⊎◌, List, length, slice_get, Option, Some, None, nat_lt, if◌then◌else◌}
 use Rattle.eden_base.specs.declared.attr.Kind.{Kind}
 use Rattle.eden_base.specs.declared.attr.Kind.TheVariants.{Dir}
-use Rattle.eden_base.specs.declared.attr.Perm.{Perm}
 use Rattle.eden_base.specs.declared.number.FileId.{FileId}
 use Rattle.eden_base.specs.Limits.{greatest_size}
 use Rattle.eden_base.specs.Name.{IsNameText}
+use Rattle.checkout.specs.declared.content.Content.{Content}
 
--- what a checkout knows of a file
-pub record File : Type 0 where
-  pub kind : Kind
-  pub perm : Perm
-  pub size : ℕ
+-- what a checkout knows of a file, its names apart
+abbrev pub File : Type 0
+File = Content
 
 -- a line: a file, and where it stands
 pub record Line : Type 0 where

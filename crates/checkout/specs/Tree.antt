@@ -1,14 +1,15 @@
 -- The tree of a checkout: its files, the names that lead to them, and the file that would be made next. Files are
 -- never taken out of it while a mount lasts. (EdenFS's documents on inodes and the overlay; the next file is this
 -- project's own.)
-use Rattle.std.specs.Prelude.{◌≡◌, ℕ, ◌+◌, ◌<◌, ◌≤◌, ◌⊎◌, Bool, true, false, ◌&&◌, ◌==◌, not, List, [], ◌∷◌, length, Option, Some, None, IsSome, if◌then◌else◌}
+use Rattle.std.specs.Prelude.{◌≡◌, ℕ, ◌+◌, ◌<◌, ◌≤◌, ◌⊎◌, Bool, true, false, ◌&&◌, ◌==◌, not, nat_lt, List, [], ◌∷◌, length, Option, Some, None, IsSome, if◌then◌else◌}
 use Rattle.std.specs.Option.{option_map, option_and_then}
 use Rattle.std.specs.List.{list_any}
 use Rattle.std.specs.Ordering.{nat_cmp, ordering_then}
 use Rattle.std.specs.Cmp.Lexicographic.{slice_cmp}
 use Rattle.std.specs.declared.cmp.Ordering.{Ordering}
-use Rattle.std.specs.FinMap.{FinMap, get, insert, empty, entries}
+use Rattle.std.specs.FinMap.{FinMap, get, insert, remove, empty, entries}
 use Rattle.eden_base.specs.Limits.{end_of_files}
+use Rattle.eden_base.specs.Name.{IsNameText}
 use Rattle.eden_base.specs.declared.attr.Attr.{Attr}
 use Rattle.eden_base.specs.declared.attr.Kind.{Kind}
 use Rattle.eden_base.specs.declared.attr.Kind.TheVariants.{Dir, File as RegularFile}
@@ -67,10 +68,6 @@ abbrev pub nlink_of_kind : Kind → ℕ
 nlink_of_kind RegularFile = 1
 nlink_of_kind Dir = 2
 
--- what a daemon tells the kernel of a file while a name leads to it
-abbrev pub attr_of_linked : File → Attr
-attr_of_linked f = record { kind = f.kind; perm = f.perm; size = f.size; nlink = nlink_of_kind f.kind }
-
 -- an unlinked file has none
 abbrev pub nlink_of : Tree → FileId → Kind → ℕ
 nlink_of tree file kind = if is_unlinked tree file then 0 else nlink_of_kind kind
@@ -78,6 +75,41 @@ nlink_of tree file kind = if is_unlinked tree file then 0 else nlink_of_kind kin
 -- what a daemon tells the kernel of a file of the tree
 abbrev pub attr_of : Tree → FileId → Option Attr
 attr_of tree file = option_map (λ (f : File). record { kind = f.kind; perm = f.perm; size = f.size; nlink = nlink_of tree file f.kind }) (file_of tree file)
+
+-- the permissions of a file that was made after the manifest
+abbrev pub perm_made : Tree → FileId → Option Perm
+perm_made tree file =
+    if nat_lt file.0 (length tree.manifest.lines + 2) then None else option_map (λ (f : File). f.perm) (file_of tree file)
+
+-- a directory in which a link stands
+abbrev pub is_full_dir : Tree → FileId → Bool
+is_full_dir tree file = is_dir (kind_of tree file) && has_links tree file
+
+-- the file that would be made next
+abbrev pub next_file : Tree → FileId
+next_file tree = record { 0 = tree.next_file }
+
+-- a file as it is made: without content
+abbrev pub made_file : Kind → Perm → File
+made_file kind perm = record { kind = kind; perm = perm; size = 0 }
+
+-- the tree with its next file made, under a name in a directory
+abbrev pub created : Tree → FileId → List ℕ → Kind → Perm → Tree
+created tree dir name kind perm = record {
+  manifest = tree.manifest;
+  files = insert tree.files tree.next_file (made_file kind perm);
+  links = insert tree.links (dir.0, name) (next_file tree);
+  next_file = tree.next_file + 1;
+}
+
+-- the tree without the link under a name in a directory; the file stays
+abbrev pub removed : Tree → FileId → List ℕ → Tree
+removed tree dir name = record {
+  manifest = tree.manifest;
+  files = tree.files;
+  links = remove tree.links (dir.0, name);
+  next_file = tree.next_file;
+}
 
 -- the file at a path, from a directory down
 abbrev pub file_at : Tree → FileId → List (List ℕ) → Option FileId
@@ -125,6 +157,7 @@ pub record IsTree (tree : Tree) : Type 0 where
   -- all others came later, and are empty
   pub others_are_later : (file : FileId) (f : File) → file_of tree file ≡ Some f →
       (file_of (tree_of tree.manifest) file ≡ Some f) ⊎ ((length tree.manifest.lines + 2 ≤ file.0) × (f.size ≡ 0))
+  pub links_have_names : (dir : FileId) (name : List ℕ) (file : FileId) → child_of tree dir name ≡ Some file → IsNameText name
   pub links_give_files : (dir : FileId) (name : List ℕ) (file : FileId) → child_of tree dir name ≡ Some file → IsSome (file_of tree file)
   pub links_stand_in_dirs : (dir : FileId) (name : List ℕ) (file : FileId) → child_of tree dir name ≡ Some file → kind_of tree dir ≡ Some Dir
   pub root_has_no_link : (dir : FileId) (name : List ℕ) (file : FileId) → child_of tree dir name ≡ Some file → 1 < file.0

@@ -1,12 +1,11 @@
 //! What a checkout stands on: the store that knows the files' attributes.
 ghost use Rattle.std.specs.Prelude.{◌≡◌, ◌<◌, ◌≤◌, ℕ, IfOk, IsOk, IsSome, OnErr, OnOk, Option, Some};
-ghost use Rattle.eden_base.specs.declared.attr.Attr.{Attr};
 ghost use Rattle.eden_base.specs.declared.number.FileId.{FileId};
-ghost use Rattle.checkout.specs.Tree.{attr_of, tree_of};
+ghost use Rattle.checkout.specs.Tree.{file_of, tree_of};
+ghost use Rattle.checkout.specs.declared.content.Content.{Content};
 
-use crate::Manifest;
-use crate::line::attr_of;
-use eden_base::{Attr, FileId};
+use crate::{Content, Manifest};
+use eden_base::FileId;
 use std::marker::Model;
 use thiserror::Error;
 
@@ -17,14 +16,14 @@ pub struct BackingFault;
 
 /// A store of a commit's files. What it holds never changes; it may fail to tell it.
 pub trait Backing {
-    /// What a daemon tells the kernel of each file, while its names lead to it.
-    ghost content: { Self → FileId → Option Attr };
+    /// What it knows of each file.
+    ghost content: { Self → FileId → Option Content };
 
     /// How often it failed.
     ghost failed: { Self → ℕ };
 
-    /// Returns the attributes of a file that the store holds.
-    fn attr(&mut self, file: FileId) -> Result<Attr, BackingFault>
+    /// Returns the attributes of a file that the store holds, the count of its names apart.
+    fn attr(&mut self, file: FileId) -> Result<Content, BackingFault>
         requires held { IsSome (content self.old file) }
         ensures attr { IfOk result (λ attr. content self.old file ≡ Some attr) }
         ensures same_content { (other : FileId) → content self.new other ≡ content self.old other }
@@ -61,31 +60,24 @@ impl<'a> ManifestBacking<'a> {
     {
         ManifestBacking { manifest }
     }
-
-    /// Returns the attributes of a file that the manifest has.
-    fn attr_said(&self, file: FileId) -> Option<Attr>
-        ensures { result ≡ attr_of (tree_of self.now) file }
-    {
-        let manifest = self.manifest;
-        attr_of(manifest.lines(), file)
-    }
 }
 
 impl Backing for ManifestBacking<'_> {
-    ghost content = { λ backing file. attr_of (tree_of backing) file };
+    ghost content = { λ backing file. file_of (tree_of backing) file };
 
     ghost failed = { λ _. 0 };
 
-    fn attr(&mut self, file: FileId) -> Result<Attr, BackingFault>
-        requires held { IsSome (attr_of (tree_of self.old) file) }
-        ensures attr { IfOk result (λ attr. attr_of (tree_of self.old) file ≡ Some attr) }
+    fn attr(&mut self, file: FileId) -> Result<Content, BackingFault>
+        requires held { IsSome (file_of (tree_of self.old) file) }
+        ensures attr { IfOk result (λ attr. file_of (tree_of self.old) file ≡ Some attr) }
         ensures same_content { (other : FileId)
-            → attr_of (tree_of self.new) other ≡ attr_of (tree_of self.old) other }
+            → file_of (tree_of self.new) other ≡ file_of (tree_of self.old) other }
         ensures answered { OnOk result (◌≡◌ {A = ℕ} 0 0) }
         ensures failed { OnErr result (0 < 0) }
         ensures never_fails { IsOk result }
     {
-        match self.attr_said(file) {
+        let manifest = self.manifest;
+        match manifest.content(file) {
             Some(attr) => Ok(attr),
             None => unreachable!(),
         }

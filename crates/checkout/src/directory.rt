@@ -2,7 +2,7 @@
 ghost use Rattle.std.specs.Prelude.{◌≡◌, ◌↔◌, IsTrue, OnOk, OnErr};
 ghost use Rattle.std.specs.Ordering.{nat_cmp};
 ghost use Rattle.std.specs.Cmp.Lexicographic.{slice_cmp};
-ghost use Rattle.std.specs.FinMap.{FinMap, empty, get, insert};
+ghost use Rattle.std.specs.FinMap.{FinMap, empty, get, insert, remove};
 
 use eden_base::{FileId, NoMemory};
 use std::alloc::Global;
@@ -21,13 +21,16 @@ impl Model for Directory {
     ghost use Rattle.std.specs.FinMap.{FinMap, from_entries};
     ghost use Rattle.eden_base.specs.declared.number.FileId.{FileId};
     ghost use Rattle.checkout.specs.Codes.{directory_code};
-    ghost use Rattle.checkout.specs.Flat.{by_bytes};
+    ghost use Rattle.std.specs.BTreeMap.{IsOrdered};
+    ghost use Rattle.checkout.specs.Flat.{by_bytes, vec_cmp};
 
     ghost Value = { FinMap (slice_cmp nat_cmp) FileId };
 
     ghost coded = { directory_code };
 
     ghost view = { λ a. from_entries (by_bytes a.files.entries) };
+
+    ghost invariant = { λ a. IsOrdered vec_cmp a.files };
 }
 
 impl Directory {
@@ -62,5 +65,13 @@ impl Directory {
         let name = Vec::from_slice(alloc, name)?;
         self.files.insert(name, file)?;
         Ok(())
+    }
+
+    /// Takes a name out, and returns the file that it gave. Takes no memory.
+    pub fn remove(&mut self, name: &[u8]) -> Option<FileId>
+        ensures value { result ≡ get self.old name.now }
+        ensures files { self.new ≡ remove self.old name.now }
+    {
+        self.files.remove(name)
     }
 }

@@ -1,4 +1,4 @@
-//! Why bytes are no manifest.
+//! Why bytes are no manifest, and why no file is made.
 ghost use Rattle.std.specs.Prelude.{Some};
 ghost use Rattle.checkout.specs.Words.{kind_text};
 
@@ -34,6 +34,15 @@ pub enum ManifestFaultKind {
     /// The line is the 65,537th.
     TooManyLines,
     /// Out of memory.
+    NoMemory,
+}
+
+/// Why no file was made.
+#[derive(Clone, Copy, Debug, PartialEq, Eq, Error)]
+pub enum CreateFault {
+    #[error("no file id is left")]
+    NoFileId,
+    #[error("out of memory")]
     NoMemory,
 }
 

@@ -2,18 +2,22 @@
 #![tactic(auto)]
 
 mod backing;
+mod content;
 mod directory;
 mod entry;
 mod fault;
 mod field;
 mod line;
+mod lines;
 mod links;
+mod made;
 mod manifest;
-mod reading;
+mod tally;
 mod tree;
 
 pub use backing::{Backing, BackingFault, ManifestBacking};
-pub use fault::{ManifestFault, ManifestFaultKind};
+pub use content::Content;
+pub use fault::{CreateFault, ManifestFault, ManifestFaultKind};
 pub use line::Line;
 pub use manifest::Manifest;
 pub use tree::Tree;

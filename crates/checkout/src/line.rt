@@ -1,12 +1,12 @@
 //! A file of a manifest, and where it stands.
-ghost use Rattle.std.specs.Prelude.{◌≡◌, IfOk};
+ghost use Rattle.std.specs.Prelude.{◌≡◌};
 ghost use Rattle.std.specs.Option.{option_copied, option_map};
 ghost use Rattle.std.specs.FinMap.{get};
 ghost use Rattle.checkout.specs.Manifest.{File, line_of};
-ghost use Rattle.checkout.specs.Tree.{attr_of_linked, files_from};
+ghost use Rattle.checkout.specs.Tree.{files_from};
 
-use eden_base::{Attr, FileId, Kind, Name, NoMemory, Perm};
-use std::alloc::Global;
+use crate::Content;
+use eden_base::{FileId, Kind, Name, Perm};
 use std::marker::Model;
 
 /// A line of a manifest: the file itself, the directory that holds it, and its name there.
@@ -36,34 +36,15 @@ impl Model for Line {
 }
 
 impl Line {
-    /// Returns what a daemon tells the kernel of the file while its name leads to it.
-    pub fn attr(&self) -> Attr
-        ensures attr { result ≡ attr_of_linked self.now.file }
+    /// Returns what the line says of its file.
+    pub fn content(&self) -> Content
+        ensures content { result ≡ self.now.file }
     {
-        let nlink = match self.kind {
-            Kind::File => 1,
-            Kind::Dir => 2,
-        };
-        Attr {
+        Content {
             kind: self.kind,
             perm: self.perm,
             size: self.size,
-            nlink,
         }
-    }
-
-    /// Returns the same line, in memory of its own.
-    pub fn copy(&self, alloc: Global) -> Result<Line, NoMemory>
-        ensures copy { IfOk result (λ line. line ≡ self.now) }
-    {
-        let name = self.name.copy(alloc)?;
-        Ok(Line {
-            dir: self.dir,
-            name,
-            kind: self.kind,
-            perm: self.perm,
-            size: self.size,
-        })
     }
 }
 
@@ -77,29 +58,25 @@ fn line_of(lines: &[Line], file: FileId) -> Option<&Line>
     lines.get((file.0 - 2) as usize)
 }
 
+/// Returns the content of a file of these lines, or of the root.
+pub fn content_of(lines: &[Line], file: FileId) -> Option<Content>
+    ensures { result ≡ get (files_from 2 lines.now) file.0 }
+{
+    if file.0 == 1 {
+        return Some(Content {
+            kind: Kind::Dir,
+            perm: Perm::DIRECTORY,
+            size: 0,
+        });
+    }
+    let line = line_of(lines, file)?;
+    Some(line.content())
+}
+
 /// Returns the kind of a file of these lines, or of the root.
 pub fn kind_of(lines: &[Line], file: FileId) -> Option<Kind>
     ensures { result ≡ option_map (λ (f : File). f.kind) (get (files_from 2 lines.now) file.0) }
 {
-    if file.0 == 1 {
-        return Some(Kind::Dir);
-    }
-    let line = line_of(lines, file)?;
-    Some(line.kind)
-}
-
-/// Returns what a daemon tells the kernel of a file of these lines, or of the root, while the names lead to them.
-pub fn attr_of(lines: &[Line], file: FileId) -> Option<Attr>
-    ensures { result ≡ option_map attr_of_linked (get (files_from 2 lines.now) file.0) }
-{
-    if file.0 == 1 {
-        return Some(Attr {
-            kind: Kind::Dir,
-            perm: Perm::DIRECTORY,
-            size: 0,
-            nlink: 2,
-        });
-    }
-    let line = line_of(lines, file)?;
-    Some(line.attr())
+    let content = content_of(lines, file)?;
+    Some(content.kind)
 }

@@ -1,6 +1,6 @@
 //! The names in every directory, and the file that each of them gives.
 ghost use Rattle.std.specs.Prelude.{◌≡◌, ◌==◌, OnOk, OnErr};
-ghost use Rattle.std.specs.FinMap.{FinMap, empty, entries, get, insert};
+ghost use Rattle.std.specs.FinMap.{FinMap, empty, entries, get, insert, remove};
 ghost use Rattle.std.specs.List.{list_any};
 
 use crate::directory::Directory;
@@ -81,5 +81,16 @@ impl Links {
                 Ok(())
             }
         }
+    }
+
+    /// Takes a name out of a directory, and returns the file that it gave. Takes no memory.
+    pub fn remove(&mut self, dir: FileId, name: &[u8]) -> Option<FileId>
+        ensures value { result ≡ get self.old (dir.0, name.now) }
+        ensures links { self.new ≡ remove self.old (dir.0, name.now) }
+    {
+        let Some(directory) = self.directories.get_mut(&dir.0) else {
+            return None;
+        };
+        directory.remove(name)
     }
 }

@@ -1,21 +1,25 @@
 //! The list of what a commit contains.
 ghost use Rattle.std.specs.Prelude.{◌≡◌, ◌+◌, [], IfErr, IfOk, Ok, length};
+ghost use Rattle.std.specs.FinMap.{get};
 ghost use Rattle.checkout.specs.Manifest.{IsManifest};
+ghost use Rattle.checkout.specs.Overlay.{kids_in};
 ghost use Rattle.checkout.specs.ManifestText.{commit_of, lines_of, manifest_of, read_on, with_commit, IsAmongLines, IsAtLine, IsManifestRefusal, IsRefusal};
 
 use crate::field::after;
-use crate::reading::Reading;
-use crate::{Line, ManifestFault, ManifestFaultKind};
-use eden_base::{NoMemory, cut};
+use crate::line::content_of;
+use crate::lines::Lines;
+use crate::{Content, Line, ManifestFault, ManifestFaultKind};
+use eden_base::{FileId, NoMemory, cut};
 use std::alloc::Global;
 use std::marker::Model;
+use std::sync::Arc;
 
 /// The files of a checkout at a commit, each directory before what it holds. Every daemon of a mount is handed the
 /// same one.
 #[derive(Drop)]
 pub struct Manifest {
     commit: [u8; 20],
-    lines: Vec<Line>,
+    lines: Arc<Lines>,
 }
 
 impl Model for Manifest {
@@ -26,13 +30,13 @@ impl Model for Manifest {
 
     ghost coded = { manifest_code };
 
-    ghost view = { λ a. record { commit = a.commit; lines = a.lines.items } };
+    ghost view = { λ a. record { commit = a.commit; lines = a.lines.value } };
 
-    ghost invariant = { λ a. IsManifest (record { commit = a.commit; lines = a.lines.items }) };
+    ghost invariant = { λ a. IsManifest (record { commit = a.commit; lines = a.lines.value }) };
 }
 
 impl Manifest {
-    ghost use Rattle.checkout.specs.Tree.{IsTree, tree_of};
+    ghost use Rattle.checkout.specs.Tree.{IsTree, tree_of, files_from, links_from};
 
     /// Reads a line `commit ` with forty hexadecimal digits, and then lines `dir PATH` and `file MODE SIZE PATH`. Each
     /// is ended by LF.
@@ -46,8 +50,15 @@ impl Manifest {
             Ok(parts) => parts,
             Err(kind) => return Err(ManifestFault { line: 1, kind }),
         };
-        let lines = read_lines(alloc, rest)?.into_lines();
-        Ok(Manifest { commit, lines })
+        let lines = read_lines(alloc, rest)?;
+        let line = lines.len() + 1;
+        match Arc::new(alloc, lines) {
+            Ok(lines) => Ok(Manifest { commit, lines }),
+            Err(_) => Err(ManifestFault {
+                line,
+                kind: ManifestFaultKind::NoMemory,
+            }),
+        }
     }
 
     /// Returns the name of the commit, as Git and EdenFS have it: twenty bytes of a hash.
@@ -66,17 +77,40 @@ impl Manifest {
         self.lines.as_slice()
     }
 
-    /// Returns the same manifest, in memory of its own. Its lines make a tree.
-    pub fn copy(&self, alloc: Global) -> Result<Manifest, NoMemory>
-        ensures copy { IfOk result (λ copy. copy ≡ self.now) }
+    /// Returns one more owner of the same lines, which make a tree. It is refused where owners can't be counted.
+    pub fn share(&self) -> Result<Manifest, NoMemory>
+        ensures same { IfOk result (λ shared. shared ≡ self.now) }
         ensures is_manifest { IfOk result IsManifest }
-        ensures makes_tree { IfOk result (λ copy. IsTree (tree_of copy)) }
+        ensures makes_tree { IfOk result (λ shared. IsTree (tree_of shared)) }
     {
-        let lines = copy_lines(alloc, self.lines())?;
+        let lines = Arc::try_clone(&self.lines)?;
         Ok(Manifest {
             commit: self.commit,
             lines,
         })
+    }
+
+    /// Returns what the manifest says of a file.
+    pub fn content(&self, file: FileId) -> Option<Content>
+        ensures content { result ≡ get (files_from 2 self.now.lines) file.0 }
+        ensures is_manifest { IsManifest self.now }
+    {
+        content_of(self.lines(), file)
+    }
+
+    /// Returns the file that the manifest has under a name in a directory.
+    pub fn child(&self, dir: FileId, name: &[u8]) -> Option<FileId>
+        ensures child { result ≡ get (links_from 2 self.now.lines) (dir.0, name.now) }
+        ensures is_manifest { IsManifest self.now }
+    {
+        self.lines.child(dir, name)
+    }
+
+    /// Returns how many names the manifest has in a directory.
+    pub fn kids(&self, dir: FileId) -> u32
+        ensures kids { result ≡ kids_in dir.0 self.now.lines }
+    {
+        self.lines.kids(dir)
     }
 }
 
@@ -114,38 +148,28 @@ fn commit_of(line: &[u8]) -> Option<[u8; 20]>
 }
 
 /// Reads the lines after the first.
-fn read_lines(alloc: Global, bytes: &[u8]) -> Result<Reading, ManifestFault>
+fn read_lines(alloc: Global, bytes: &[u8]) -> Result<Lines, ManifestFault>
     ensures lines { IfOk result (λ lines. read_on [] 2 (lines_of bytes.now) ≡ Ok lines) }
+    ensures count { IfOk result (λ lines. length (lines_of bytes.now) ≡ length lines + 1) }
     ensures refused { IfErr result (λ fault.
         IsRefusal (read_on [] 2 (lines_of bytes.now)) fault.line fault.kind) }
     ensures line { IfErr result (λ fault.
         IsAmongLines (length (lines_of bytes.now) + 1) fault.line fault.kind) }
 {
-    let mut reading = Reading::new(alloc);
+    let mut lines = Lines::new(alloc);
     let mut rest = bytes;
     while !rest.is_empty() {
-        let line = reading.len() + 2;
+        let line = lines.len() + 2;
         let Some((text, after)) = cut(rest, b'\n') else {
             return Err(ManifestFault {
                 line,
                 kind: ManifestFaultKind::BadLine,
             });
         };
-        match reading.add(alloc, text) {
+        match lines.add(alloc, text) {
             Ok(()) => rest = after,
             Err(kind) => return Err(ManifestFault { line, kind }),
         }
     }
-    Ok(reading)
-}
-
-/// Copies the lines, each into memory of its own.
-fn copy_lines(alloc: Global, lines: &[Line]) -> Result<Vec<Line>, NoMemory>
-    ensures { IfOk result (λ copies. copies.items ≡ lines.now) }
-{
-    let mut copies = Vec::with_capacity(alloc, lines.len())?;
-    for line in lines {
-        copies.push(line.copy(alloc)?)?;
-    }
-    Ok(copies)
+    Ok(lines)
 }

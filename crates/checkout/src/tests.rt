@@ -1,6 +1,8 @@
 //! What a small manifest says, and the first fault of lines that are none.
-use crate::{Backing, Manifest, ManifestBacking, ManifestFault, ManifestFaultKind, Tree};
-use eden_base::{FileId, Kind, Name, NameFault};
+use crate::{
+    Backing, CreateFault, Manifest, ManifestBacking, ManifestFault, ManifestFaultKind, Tree,
+};
+use eden_base::{FileId, Kind, Name, NameFault, Number, Perm};
 use std::alloc::{AllocError, Global};
 use std::process::Abort;
 use std::test::Fail;
@@ -212,15 +214,22 @@ fn takes_a_directory_of_directories_for_one_with_entries(rt: HostRuntime) -> Res
     Ok(())
 }
 
+/// What the backing of a manifest tells of its file 4, which it has.
+fn told(manifest: &Manifest) -> Option<(u16, u64, u64)> {
+    let mut backing = ManifestBacking::of(manifest);
+    match manifest.content(FileId(4)) {
+        None => None,
+        Some(_) => {
+            let content = backing.attr(FileId(4)).ok()?;
+            Some((content.perm.bits(), content.size, backing.failures()))
+        }
+    }
+}
+
 #[test]
 fn answers_from_the_manifest_and_never_fails(rt: HostRuntime) -> Result<(), Fail> {
     let manifest = Manifest::read(rt.alloc(), SMALL)?;
-    let tree = Tree::of(rt.alloc(), &manifest)?;
-    let mut backing = ManifestBacking::of(&manifest);
-    assert_eq!(rt; tree.attr(FileId(4)).is_some(), true);
-    let attr = backing.attr(FileId(4))?;
-    assert_eq!(rt; (attr.perm.bits(), attr.size, attr.nlink), (0o755, 0, 1));
-    assert_eq!(rt; backing.failures(), 0);
+    assert_eq!(rt; told(&manifest), Some((0o755, 0, 0)));
     Ok(())
 }
 
@@ -306,32 +315,30 @@ const SMALL_LINES: [(usize, u64, &[u8], Kind, u16, u64); 4] = [
     (3, 1, b"README", Kind::File, 0o644, 7),
 ];
 
-/// That the manifest is what `SMALL` says; takes no memory.
-fn is_small(rt: &impl Abort, manifest: &Manifest) -> Result<(), Fail> {
-    let commit = manifest.commit();
-    assert_eq!(rt; (commit[0], commit[7], commit[19]), (0x01, 0xef, 0x67));
-    assert_eq!(rt; manifest.lines().len(), 4);
-    for (place, dir, name, kind, perm, size) in SMALL_LINES {
-        let line = manifest.lines().get(place).ok_or("a line")?;
-        assert_eq!(rt;
-            (line.dir.0, line.kind, line.perm.bits(), line.size),
-            (dir, kind, perm, size)
-        );
-        assert_eq!(rt; line.name.bytes(), name);
+/// That a manifest has a line; takes no memory.
+fn has_line(
+    rt: &impl Abort,
+    manifest: &Manifest,
+    (place, dir, name, kind, perm, size): (usize, u64, &[u8], Kind, u16, u64),
+) {
+    match manifest.lines().get(place) {
+        None => assert_eq!(rt; place, 4),
+        Some(line) => {
+            assert_eq!(rt; (line.dir.0, line.kind), (dir, kind));
+            assert_eq!(rt; (line.perm.bits(), line.size), (perm, size));
+            assert_eq!(rt; line.name.bytes(), name);
+        }
     }
-    Ok(())
 }
 
-/// That the tree is that of `SMALL`; takes no memory.
-fn is_tree_of_small(rt: &impl Abort, tree: &Tree, manifest: &Manifest) -> Result<(), Fail> {
-    assert_eq!(rt; tree.commit(), manifest.commit());
-    for (place, file) in [(0, 2), (1, 3), (2, 4), (3, 5)] {
-        let line = manifest.lines().get(place).ok_or("a line")?;
-        assert_eq!(rt; tree.child(line.dir, &line.name), Some(FileId(file)));
-        assert_eq!(rt; tree.kind(FileId(file)), Some(line.kind));
+/// That the manifest is what `SMALL` says; takes no memory.
+fn is_small(rt: &impl Abort, manifest: &Manifest) {
+    let commit = manifest.commit();
+    assert_eq!(rt; (commit[0], commit[7], commit[19]), (0x01, 0xef, 0x67));
+    for line in SMALL_LINES {
+        has_line(rt, manifest, line);
     }
-    assert_eq!(rt; tree.kind(FileId(6)), None);
-    Ok(())
+    assert_eq!(rt; manifest.lines().len(), 4);
 }
 
 /// What `SMALL` says, read again where memory was refused.
@@ -345,21 +352,181 @@ fn read_small(rt: &impl Abort, alloc: Global) -> Result<Manifest, Fail> {
     }
 }
 
-/// Passes also where one allocation is refused: `rt try --test --fail-alloc N -- makes_each_call_again`.
+/// Passes also where one allocation is refused, as the next one does:
+/// `rt try --test --fail-alloc N -- again_after_memory_was_refused`.
 #[test]
-fn makes_each_call_again_after_memory_was_refused(rt: HostRuntime) -> Result<(), Fail> {
-    let alloc = rt.alloc();
-    let manifest = read_small(&rt, alloc)?;
-    is_small(&rt, &manifest)?;
-    let copy = manifest.copy(alloc).or_else(|_| manifest.copy(alloc))?;
-    is_small(&rt, &copy)?;
-    let last = manifest.lines().get(3).ok_or("the last line")?;
-    let line = last.copy(alloc).or_else(|_| last.copy(alloc))?;
-    assert_eq!(rt;
-        (line.dir, line.kind, line.size),
-        (FileId::ROOT, Kind::File, 7)
+fn reads_and_shares_again_after_memory_was_refused(rt: HostRuntime) -> Result<(), Fail> {
+    let manifest = read_small(&rt, rt.alloc())?;
+    is_small(&rt, &manifest);
+    is_small(&rt, &manifest.share()?);
+    Ok(())
+}
+
+/// The tree of `SMALL`, made again where memory was refused.
+fn small_tree(rt: &impl Abort, alloc: Global) -> Result<Tree, Fail> {
+    let manifest = read_small(rt, alloc)?;
+    match Tree::of(alloc, &manifest) {
+        Ok(tree) => Ok(tree),
+        Err(_) => Ok(Tree::of(alloc, &manifest)?),
+    }
+}
+
+fn parsed(alloc: Global, name: &[u8]) -> Result<Name, Fail> {
+    match Name::parse(alloc, name) {
+        Ok(name) => Ok(name),
+        Err(_) => Ok(Name::parse(alloc, name)?),
+    }
+}
+
+/// Makes a file where the call's conditions hold.
+fn created(
+    tree: &mut Tree,
+    dir: FileId,
+    name: &Name,
+    kind: Kind,
+) -> Option<Result<FileId, CreateFault>> {
+    match tree.kind(dir) {
+        Some(Kind::Dir) => {}
+        Some(Kind::File) => return None,
+        None => return None,
+    }
+    if dir.0 != 1 && !tree.is_linked(dir) {
+        return None;
+    }
+    match tree.child(dir, name) {
+        Some(_) => None,
+        None => Some(tree.create(dir, name, kind, Perm::DIRECTORY)),
+    }
+}
+
+/// Makes a file, once more where memory was refused, and compares its id.
+fn makes(
+    rt: &impl Abort,
+    alloc: Global,
+    tree: &mut Tree,
+    dir: u64,
+    name: &[u8],
+    kind: Kind,
+) -> Result<FileId, Fail> {
+    let next = tree.next_file();
+    let name = parsed(alloc, name)?;
+    let made = match created(tree, FileId(dir), &name, kind) {
+        Some(Err(_)) => created(tree, FileId(dir), &name, kind),
+        other => other,
+    };
+    assert_eq!(rt; made, Some(Ok(next)));
+    Ok(next)
+}
+
+/// Takes a name out where the call's conditions hold.
+#[tactic(auto, using(crate::proofs::RemoveLaws::not_full_rules))]
+fn removed(tree: &mut Tree, dir: FileId, name: &Name) -> Option<FileId> {
+    let file = tree.child(dir, name)?;
+    if tree.is_empty_dir(file) {
+        return Some(tree.remove(dir, name));
+    }
+    match tree.kind(file) {
+        Some(Kind::File) => Some(tree.remove(dir, name)),
+        Some(Kind::Dir) => None,
+        None => None,
+    }
+}
+
+/// Takes these names out of their directories, and compares the files that they gave.
+fn takes_out(
+    rt: &impl Abort,
+    alloc: Global,
+    tree: &mut Tree,
+    names: &[(u64, &[u8], Option<u64>)],
+) -> Result<(), Fail> {
+    for (dir, name, file) in names {
+        let name = parsed(alloc, name)?;
+        assert_eq!(rt; removed(tree, FileId(*dir), &name).map(|f| f.0), *file);
+    }
+    Ok(())
+}
+
+/// What a tree tells of files: their kind, count of links, and whether they are empty directories.
+fn tells(rt: &impl Abort, tree: &Tree, files: &[(u64, Kind, u32, bool)]) {
+    for (file, kind, nlink, empty) in files {
+        let file = FileId(*file);
+        assert_eq!(rt; tree.kind(file), Some(*kind));
+        assert_eq!(rt; tree.attr(file).map(|attr| attr.nlink), Some(*nlink));
+        assert_eq!(rt; tree.is_linked(file), file != FileId::ROOT && *nlink != 0);
+        assert_eq!(rt; tree.is_empty_dir(file), *empty);
+    }
+}
+
+#[test]
+fn fills_and_empties_a_directory_again_after_memory_was_refused(
+    rt: HostRuntime,
+) -> Result<(), Fail> {
+    let mut tree = small_tree(&rt, rt.alloc())?;
+    let dir = makes(&rt, rt.alloc(), &mut tree, 1, b"d", Kind::Dir)?;
+    tells(&rt, &tree, [(6, Kind::Dir, 2, true)].as_slice());
+    makes(&rt, rt.alloc(), &mut tree, dir.0, b"x", Kind::File)?;
+    tells(
+        &rt,
+        &tree,
+        [(6, Kind::Dir, 2, false), (7, Kind::File, 1, false)].as_slice(),
     );
-    assert_eq!(rt; line.name.bytes(), b"README".as_slice());
-    let tree = Tree::of(alloc, &manifest).or_else(|_| Tree::of(alloc, &manifest))?;
-    is_tree_of_small(&rt, &tree, &manifest)
+    let names: [(u64, &[u8], Option<u64>); 3] = [
+        (1, b"d", None),
+        (6, b"x", Some(7)),
+        (1, b"d", Some(6)),
+    ];
+    takes_out(&rt, rt.alloc(), &mut tree, names.as_slice())?;
+    tells(
+        &rt,
+        &tree,
+        [(6, Kind::Dir, 0, true), (7, Kind::File, 0, false)].as_slice(),
+    );
+    Ok(())
+}
+
+#[test]
+fn removes_what_the_manifest_has_and_makes_it_anew(rt: HostRuntime) -> Result<(), Fail> {
+    let mut tree = small_tree(&rt, rt.alloc())?;
+    let names: [(u64, &[u8], Option<u64>); 5] = [
+        (1, b"src", None),
+        (2, b"b", Some(4)),
+        (2, b"b", None),
+        (2, b"a", Some(3)),
+        (1, b"src", Some(2)),
+    ];
+    takes_out(&rt, rt.alloc(), &mut tree, names.as_slice())?;
+    tells(
+        &rt,
+        &tree,
+        [
+            (1, Kind::Dir, 2, false),
+            (2, Kind::Dir, 0, true),
+            (3, Kind::File, 0, false),
+        ]
+        .as_slice(),
+    );
+    makes(&rt, rt.alloc(), &mut tree, 1, b"src", Kind::File)?;
+    tells(
+        &rt,
+        &tree,
+        [(5, Kind::File, 1, false), (6, Kind::File, 1, false)].as_slice(),
+    );
+    Ok(())
+}
+
+#[test]
+fn tells_the_permissions_of_made_files_alone(rt: HostRuntime) -> Result<(), Fail> {
+    let mut tree = small_tree(&rt, rt.alloc())?;
+    makes(&rt, rt.alloc(), &mut tree, 2, b"made", Kind::File)?;
+    let made = tree.perm_made(FileId(6)).map(|perm| perm.bits());
+    assert_eq!(rt; made, Some(0o755));
+    assert_eq!(rt; tree.perm_made(FileId(5)).is_some(), false);
+    assert_eq!(rt; tree.next_file().0, 7);
+    Ok(())
+}
+
+#[test]
+fn names_the_root_and_its_permissions_as_fuse_does(rt: HostRuntime) {
+    assert_eq!(rt; (FileId::ROOT.0, Number::ROOT.0), (1, 1));
+    assert_eq!(rt; Perm::DIRECTORY.bits, 0o755);
 }

@@ -1,50 +1,74 @@
 //! The files of a checkout and the names that lead to them.
-ghost use Rattle.std.specs.Prelude.{◌≡◌, IfOk};
-ghost use Rattle.checkout.specs.Tree.{IsTree, tree_of, child_of, kind_of, attr_of, is_empty_dir, links_from};
+ghost use Rattle.std.specs.Prelude.{◌≡◌, ◌<◌, ◌==◌, ◌&&◌, ◌||◌, nat_lt, not, false, None, Some, IfErr, IfOk, IfSome, IsSome, OnErr, OnOk, Option};
+ghost use Rattle.std.specs.FinMap.{entries};
+ghost use Rattle.std.specs.List.{list_any};
+ghost use Rattle.eden_base.specs.declared.attr.Kind.TheVariants.{Dir};
+ghost use Rattle.checkout.specs.Create.{IsCreateRefusal};
+ghost use Rattle.checkout.specs.Overlay.{is_line};
+ghost use Rattle.checkout.specs.Tree.{IsTree, tree_of, child_of, kind_of, attr_of, file_of, perm_made, next_file, nlink_of, has_links, is_empty_dir, is_full_dir, is_linked, is_unlinked, created, removed};
 
-use crate::Manifest;
-use crate::line::{attr_of, kind_of};
 use crate::links::Links;
-use eden_base::{Attr, FileId, Kind, Name, NoMemory};
+use crate::made::{MadeFile, MadeFiles};
+use crate::tally::Tally;
+use crate::{Content, CreateFault, Manifest};
+use eden_base::{Attr, FileId, Kind, Name, NoMemory, Perm};
 use std::alloc::Global;
 use std::marker::Model;
 
-/// What the requests of a mount read and change. It starts as its manifest says.
+/// What the requests of a mount read and change. It starts as its manifest says, and holds what differs from it alone:
+/// the files that were made and their links, which of the manifest's files lost their link, and how many of a
+/// directory's links that were. The room for losses is taken at once, so that no name is too many to remove.
 #[derive(Drop)]
 pub struct Tree {
+    alloc: Global,
     manifest: Manifest,
-    links: Links,
+    made: MadeFiles,
+    added: Links,
+    gone: Tally,
+    lost: Tally,
+    next_file: u64,
 }
 
 impl Model for Tree {
     ghost use Rattle.std.specs.Prelude.{◌≡◌, ◌+◌, length};
-    ghost use Rattle.checkout.specs.Manifest.{IsManifest};
-    ghost use Rattle.checkout.specs.Tree.{Tree, files_from, links_from};
+    ghost use Rattle.checkout.specs.Overlay.{tree_over, gone_by, IsOverlay};
+    ghost use Rattle.checkout.specs.Tally.{count_of};
+    ghost use Rattle.checkout.specs.Tree.{Tree};
     ghost use Rattle.checkout.specs.Codes.{tree_code};
 
     ghost Value = { Tree };
 
     ghost coded = { tree_code };
 
-    ghost view = { λ a. record {
-      manifest = a.manifest;
-      files = files_from 2 a.manifest.lines;
-      links = a.links;
-      next_file = length a.manifest.lines + 2;
-    } };
+    ghost view = { λ a. tree_over a.manifest a.made a.added (gone_by a.gone) a.next_file };
 
-    ghost invariant = { λ a. IsManifest a.manifest × (a.links ≡ links_from 2 a.manifest.lines) };
+    ghost invariant = { λ a. IsOverlay a.manifest a.made a.added (gone_by a.gone) (count_of a.lost) a.next_file
+        × (a.gone.room ≡ length a.manifest.lines + 2)
+        × (a.lost.room ≡ length a.manifest.lines + 2) };
 }
 
 impl Tree {
+    /// The file id after the last that may be given.
+    const END_OF_FILES: u64 = 9223372036854775807;
+
     /// Makes the tree that the manifest says, before any request.
     pub fn of(alloc: Global, manifest: &Manifest) -> Result<Tree, NoMemory>
         ensures tree { IfOk result (λ tree. tree ≡ tree_of manifest.now) }
         ensures is_tree { IfOk result IsTree }
     {
-        let links = links_of(alloc, manifest)?;
-        let manifest = manifest.copy(alloc)?;
-        Ok(Tree { manifest, links })
+        let manifest = manifest.share()?;
+        let files = manifest.lines().len() + 2;
+        let gone = Tally::with_room(alloc, files)?;
+        let lost = Tally::with_room(alloc, files)?;
+        Ok(Tree {
+            alloc,
+            manifest,
+            made: MadeFiles::new(alloc),
+            added: Links::new(alloc),
+            gone,
+            lost,
+            next_file: files as u64,
+        })
     }
 
     /// Returns the name of the manifest's commit.
@@ -55,48 +79,172 @@ impl Tree {
         self.manifest.commit()
     }
 
+    /// Returns the file that would be made next.
+    pub fn next_file(&self) -> FileId
+        ensures next_file { result ≡ next_file self.now }
+        ensures is_tree { IsTree self.now }
+    {
+        FileId(self.next_file)
+    }
+
+    /// Returns what is known of a file of the tree, its names apart.
+    fn content(&self, file: FileId) -> Option<Content>
+        ensures { result ≡ file_of self.now file }
+    {
+        match self.made.get(file) {
+            Some(made) => Some(Content {
+                kind: made.kind,
+                perm: made.perm,
+                size: 0,
+            }),
+            None => self.manifest.content(file),
+        }
+    }
+
     /// Returns the kind of a file of the tree; nothing where the tree doesn't have it.
     pub fn kind(&self, file: FileId) -> Option<Kind>
         ensures kind { result ≡ kind_of self.now file }
     {
-        kind_of(self.manifest.lines(), file)
+        let content = self.content(file)?;
+        Some(content.kind)
+    }
+
+    /// Returns the permissions of a file that was made; nothing for a file of the manifest.
+    pub fn perm_made(&self, file: FileId) -> Option<Perm>
+        ensures perm { result ≡ perm_made self.now file }
+    {
+        let made = self.made.get(file)?;
+        Some(made.perm)
+    }
+
+    /// Returns whether some name leads to the file. None leads to the root.
+    pub fn is_linked(&self, file: FileId) -> bool
+        ensures linked { result ≡ is_linked self.now file }
+    {
+        match self.made.get(file) {
+            Some(made) => made.dir.is_some(),
+            None => self.is_line(file) && self.gone.count(file.0) == 0,
+        }
+    }
+
+    /// Returns whether the file is one of the manifest, below the root.
+    fn is_line(&self, file: FileId) -> bool
+        ensures { result ≡ is_line self.now.manifest file }
+    {
+        2 <= file.0 && file.0 < self.manifest.lines().len() as u64 + 2
     }
 
     /// Returns what a daemon tells the kernel of a file of the tree.
     pub fn attr(&self, file: FileId) -> Option<Attr>
         ensures attr { result ≡ attr_of self.now file }
     {
-        attr_of(self.manifest.lines(), file)
+        let content = self.content(file)?;
+        Some(Attr {
+            kind: content.kind,
+            perm: content.perm,
+            size: content.size,
+            nlink: self.nlink(file, content.kind),
+        })
     }
 
-    /// Whether the file is a directory of the tree without a name in it. What is no directory isn't an empty one.
+    /// Returns how many names lead to a file of a kind, as stat(2) counts them: a directory names itself.
+    fn nlink(&self, file: FileId, kind: Kind) -> u32
+        ensures { result ≡ nlink_of self.now file kind }
+    {
+        if file.0 != 1 && !self.is_linked(file) {
+            return 0;
+        }
+        match kind {
+            Kind::File => 1,
+            Kind::Dir => 2,
+        }
+    }
+
+    /// Returns whether the file is a directory of the tree without a name in it. What is no directory isn't an empty
+    /// one.
     pub fn is_empty_dir(&self, dir: FileId) -> bool
         ensures empty { result ≡ is_empty_dir self.now dir }
     {
         match self.kind(dir) {
-            Some(Kind::Dir) => !self.links.has_links(dir),
+            Some(Kind::Dir) => !self.has_links(dir),
             Some(Kind::File) => false,
             None => false,
         }
+    }
+
+    /// Returns whether a name stands in the directory.
+    fn has_links(&self, dir: FileId) -> bool
+        ensures { result ≡ has_links self.now dir }
+    {
+        self.added.has_links(dir) || self.lost.count(dir.0) < self.manifest.kids(dir)
     }
 
     /// Returns the file under a name in a directory.
     pub fn child(&self, dir: FileId, name: &Name) -> Option<FileId>
         ensures child { result ≡ child_of self.now dir name.now }
     {
-        self.links.get(dir, name.bytes())
+        if let Some(file) = self.added.get(dir, name.bytes()) {
+            return Some(file);
+        }
+        let file = self.manifest.child(dir, name.bytes())?;
+        if self.gone.count(file.0) > 0 {
+            return None;
+        }
+        Some(file)
     }
-}
 
-/// Makes the index of the names that the lines of a manifest give.
-fn links_of(alloc: Global, manifest: &Manifest) -> Result<Links, NoMemory>
-    ensures { IfOk result (λ links. links ≡ links_from 2 manifest.now.lines) }
-{
-    let mut links = Links::new(alloc);
-    let mut id = 2;
-    for line in manifest.lines() {
-        links.insert(alloc, line.dir, line.name.bytes(), FileId(id))?;
-        id += 1;
+    /// Makes a file without content, under a new name in a directory. Returns its id.
+    pub fn create(
+        &mut self,
+        dir: FileId,
+        name: &Name,
+        kind: Kind,
+        perm: Perm,
+    ) -> Result<FileId, CreateFault>
+        requires dir { kind_of self.old dir ≡ Some Dir }
+        requires reached { is_unlinked self.old dir ≡ false }
+        requires free { child_of self.old dir name.now ≡ None }
+        ensures created { OnOk result (self.new ≡ created self.old dir name.now kind perm) }
+        ensures file { IfOk result (λ file. file ≡ next_file self.old) }
+        ensures refused { IfErr result (IsCreateRefusal self.old) }
+        ensures unchanged { OnErr result (self.new ≡ self.old) }
+        ensures is_tree { IsTree self.new }
+    {
+        if self.next_file >= Tree::END_OF_FILES {
+            return Err(CreateFault::NoFileId);
+        }
+        let file = FileId(self.next_file);
+        let Ok(()) = self.added.insert(self.alloc, dir, name.bytes(), file) else {
+            return Err(CreateFault::NoMemory);
+        };
+        let made = MadeFile {
+            kind,
+            perm,
+            dir: Some(dir),
+        };
+        let Ok(()) = self.made.insert(file, made) else {
+            self.added.remove(dir, name.bytes());
+            return Err(CreateFault::NoMemory);
+        };
+        self.next_file += 1;
+        Ok(file)
     }
-    Ok(links)
+
+    /// Takes a name out of a directory, and returns the file that it gave, which stays. Takes no memory.
+    pub fn remove(&mut self, dir: FileId, name: &Name) -> FileId
+        requires there { IsSome (child_of self.old dir name.now) }
+        requires not_full { IfSome (child_of self.old dir name.now) (λ file. is_full_dir self.old file ≡ false) }
+        ensures file { child_of self.old dir name.now ≡ Some result }
+        ensures removed { self.new ≡ removed self.old dir name.now }
+        ensures is_tree { IsTree self.new }
+    {
+        if let Some(file) = self.added.remove(dir, name.bytes()) {
+            self.made.unlink(file);
+            return file;
+        }
+        let file = self.manifest.child(dir, name.bytes()).unwrap();
+        self.gone.raise(file.0);
+        self.lost.raise(dir.0);
+        file
+    }
 }

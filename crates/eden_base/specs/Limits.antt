@@ -1,5 +1,5 @@
--- The limits of numbers, of how often one is held, of files and of their sizes. (This project's own; libfuse counts
--- lookups in 64 bits. A size is an `off_t`, which has a sign.)
+-- The limits of numbers, of how often one is held, of files and of their sizes, and of generations and sessions. (This
+-- project's own; libfuse counts lookups in 64 bits. A size is an `off_t`, which has a sign.)
 use Rattle.std.specs.Prelude.{ℕ, ◌-◌, ◌^◌}
 
 -- how often the kernel may hold one number: a count of 32 bits
@@ -17,3 +17,11 @@ end_of_files = 2 ^ 63 - 1
 -- how many bytes a file may have
 abbrev pub greatest_size : ℕ
 greatest_size = 2 ^ 63 - 1
+
+-- the last generation that the seat may have
+abbrev pub last_generation : ℕ
+last_generation = 2 ^ 63 - 1
+
+-- the last takeover session that a daemon may begin
+abbrev pub last_session : ℕ
+last_session = 2 ^ 32 - 1

@@ -2,6 +2,7 @@
 #![tactic(auto)]
 
 mod attr;
+mod claim;
 mod errno;
 mod limits;
 mod memory;
@@ -12,8 +13,9 @@ mod place;
 mod text;
 
 pub use attr::{Attr, Kind, Perm};
+pub use claim::ClaimFault;
 pub use errno::Errno;
-pub use limits::{END_OF_NUMBERS, GREATEST_COUNT, GREATEST_SIZE};
+pub use limits::{END_OF_NUMBERS, GREATEST_COUNT, GREATEST_SIZE, LAST_GENERATION, LAST_SESSION};
 pub use memory::NoMemory;
 pub use name::{Name, NameFault};
 pub use name_room::NameRoom;

@@ -1,4 +1,4 @@
-//! The limits of numbers, of what is counted by them, and of sizes.
+//! The limits of numbers, of what is counted by them, of sizes, and of what is numbered in a takeover.
 
 /// How often the kernel may hold one number: a count of 32 bits.
 pub const GREATEST_COUNT: u64 = (1 << 32) - 1;
@@ -8,3 +8,9 @@ pub const END_OF_NUMBERS: u64 = (1 << 63) - 1;
 
 /// How many bytes a file may have: an offset in it is a number of 64 bits with a sign.
 pub const GREATEST_SIZE: u64 = (1 << 63) - 1;
+
+/// The last generation that the seat may have; the first is 1.
+pub const LAST_GENERATION: u64 = (1 << 63) - 1;
+
+/// The last takeover session that a daemon may begin; its first is 1.
+pub const LAST_SESSION: u32 = u32::MAX;

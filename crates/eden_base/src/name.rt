@@ -136,7 +136,7 @@ impl Name {
         Name::of_to(room, self.bytes())
     }
 
-    /// Whether the two are one name, byte for byte.
+    /// Returns whether the two are one name, byte for byte.
     pub fn is(&self, other: &Name) -> bool
         ensures same { IsTrue result ↔ (self.now ≡ other.now) }
         ensures value { result ≡ pointwise nat_eq self.now other.now }
@@ -145,14 +145,14 @@ impl Name {
     }
 }
 
-/// Whether a slash or a NUL is among the bytes.
+/// Returns whether a slash or a NUL is among the bytes.
 fn has_separator(bytes: &[u8]) -> bool
     ensures { result ≡ list_any is_separator bytes.now }
 {
     bytes.iter().any(|byte| *byte == b'/' || *byte == 0)
 }
 
-/// Whether the bytes are `.` or `..`.
+/// Returns whether the bytes are `.` or `..`.
 fn is_dots(bytes: &[u8]) -> bool
     ensures { result ≡ is_dots bytes.now }
 {

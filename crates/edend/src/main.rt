@@ -1,23 +1,25 @@
 //! The program: it reads a script of what happens to a mount and its daemons, runs it, and prints what came of it.
 #![tactic(auto)]
 
-mod command_line;
-mod event_line;
-mod fault;
-mod input;
-mod lines;
-mod number;
-mod print;
-mod program;
-mod run;
-mod script;
-#[cfg(test)]
-mod tests;
-
-pub use fault::Fault;
-pub use run::{DEFAULT_LIMIT, run_world};
+use std::io::BufWriter;
 use std::process::ExitCode;
+pub use world_script::{DEFAULT_LIMIT, Fault, run_world};
+use world_script::{System, run_program, words_of, write_fault};
+
+/// How many bytes of printed lines are gathered for one write.
+const OUTPUT_BUFFER: usize = 65_536;
 
 fn main(rt: HostRuntime) -> ExitCode {
-    program::run_program(&rt)
+    let Ok(lines) = BufWriter::with_capacity(rt.alloc(), OUTPUT_BUFFER, rt.stdout()) else {
+        let _ = write_fault(&mut rt.stdout(), Fault::NoMemory);
+        return ExitCode::from(1);
+    };
+    let (_, ending) = run_program(
+        rt.alloc(),
+        words_of(&rt),
+        &System(&rt),
+        lines,
+        &mut rt.stderr(),
+    );
+    ExitCode::from(ending.status())
 }

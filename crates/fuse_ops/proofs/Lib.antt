@@ -4,6 +4,7 @@ pub mod FitsChanged
 pub mod FitsLeft
 pub mod ForgettingLaw
 pub mod GivingLaw
+pub mod Keeping
 pub mod Known
 pub mod PlaceNumbers
 pub mod Replays

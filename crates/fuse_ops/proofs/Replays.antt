@@ -1,12 +1,12 @@
 -- What `apply` does is a step of the replay.
-use Rattle.std.proofs.Common.{◌≡◌, ℕ, List, Some, None, Result, Ok, Err, refl, sym, ap, ◌∙◌, inl, inr}
+use Rattle.std.proofs.Common.{◌≡◌, ℕ, ◌<◌, List, Option, Some, None, Result, Ok, Err, refl, sym, ap, ◌∙◌, inl, inr, arith}
 use Rattle.eden_base.specs.declared.errno.Errno.{Errno}
 use Rattle.eden_base.specs.declared.errno.Errno.TheVariants.{ENOSYS}
 use Rattle.eden_base.specs.declared.number.FileId.{FileId}
 use Rattle.eden_base.specs.declared.number.Number.{Number}
 use Rattle.fuse_wire.specs.Given.{given_out}
 use Rattle.fuse_wire.specs.declared.ask.Request.{Request}
-use Rattle.fuse_wire.specs.declared.ask.Request.TheVariants.{Lookup, Forget, BatchForget}
+use Rattle.fuse_wire.specs.declared.ask.Request.TheVariants.{Lookup, Getattr, Forget, BatchForget}
 use Rattle.fuse_wire.specs.declared.item.Item.{Item}
 use Rattle.fuse_wire.specs.declared.reply.Answer.{Answer}
 use Rattle.fuse_wire.specs.declared.reply.Answer.TheVariants.{Entry, Opened, Attrs, Done, Error}
@@ -14,8 +14,8 @@ use Rattle.inode_map.specs.InodeMap.{IsGiveRefusal}
 use Rattle.inode_map.specs.declared.inode_map.GiveFault.{GiveFault}
 use Rattle.inode_map.specs.declared.inode_map.GiveFault.TheVariants.{NoNumber, TooMany, NoMemory}
 use Rattle.fuse_ops.specs.Answers.{none_left, at_greatest, found_in, enters, Answers, tree_after}
-use Rattle.fuse_ops.specs.Served.{ServedState, numbers_at, number_fault, map_after, Replay}
-use Rattle.fuse_ops.specs.Work.{errno_of, GivesEntry, GivesFound, LooksUp}
+use Rattle.fuse_ops.specs.Served.{ServedState, IsLocated, numbers_at, number_fault, map_after, Replay}
+use Rattle.fuse_ops.specs.Work.{errno_of, GivesEntry, GivesFound, LooksUp, Shows, ShowsFile}
 
 -- the state after an answer to a lookup that came to this
 abbrev after_lookup : ServedState → Number → List ℕ → Result FileId Errno → Answer → ServedState
@@ -61,9 +61,25 @@ lookup-replay old dir name answer new l =
     (refl, record { files = λ n. l.dir_file; locates = (l.located, tt); answers = a.answers; makes = a.makes })
 
 -- a request that no row serves yet is answered so, and changes nothing
-pub unserved-replay : (old : ServedState) (request : Request) → ((dir : Number) (name : List ℕ) → request ≡ Lookup dir name → ⊥) → ((item : Item) → request ≡ Forget item → ⊥) →
-    ((items : List Item) → request ≡ BatchForget items → ⊥) → Replay old request (Some (Error ENOSYS)) old
-unserved-replay old (Lookup dir name) a b d = absurd (a dir name refl)
-unserved-replay old (Forget item) a b d = absurd (b item refl)
-unserved-replay old (BatchForget items) a b d = absurd (d items refl)
-unserved-replay old request a b d = (refl, record { files = λ n. None; locates = tt; answers = refl; makes = refl })
+pub unserved-replay : (old : ServedState) (request : Request) → ((dir : Number) (name : List ℕ) → request ≡ Lookup dir name → ⊥) → ((node : Number) → request ≡ Getattr node → ⊥) →
+    ((item : Item) → request ≡ Forget item → ⊥) → ((items : List Item) → request ≡ BatchForget items → ⊥) → Replay old request (Some (Error ENOSYS)) old
+unserved-replay old (Lookup dir name) a g b d = absurd (a dir name refl)
+unserved-replay old (Getattr node) a g b d = absurd (g node refl)
+unserved-replay old (Forget item) a g b d = absurd (b item refl)
+unserved-replay old (BatchForget items) a g b d = absurd (d items refl)
+unserved-replay old request a g b d = (refl, record { files = λ n. None; locates = tt; answers = refl; makes = refl })
+
+-- a GETATTR is a legal step, which leaves what there was
+pub getattr-replay : (old : ServedState) (node : Number) (answer : Answer) → Shows old node answer → Replay old (Getattr node) (Some answer) old
+getattr-replay old node answer s = by_file s.file s.located s.shows where
+  by_file : (file : Option FileId) → IsLocated old node.0 file → ShowsFile old node file answer → Replay old (Getattr node) (Some answer) old
+  by_file None at e = rw e (refl, record { files = λ n. None; locates = (at, tt); answers = refl; makes = refl })
+  by_file (Some file) at (attr, is_attr, e) = rw e (
+    refl,
+    record {
+      files = λ n. Some file;
+      locates = (at, tt);
+      answers = inl (record { number = node; attr = attr; is = refl; is_number = (0, (let low : 0 < 1 = omega arith in low), refl); is_attr = is_attr });
+      makes = refl;
+    },
+  )

@@ -1,6 +1,6 @@
--- What each request is answered, as a table: first what it comes to in the tree, then what stands against a number, then
--- what may fail. The world's moves and what `apply` promises read the same rows. The requests are those of `linux/fuse.h`;
--- which errors there are, and in which order they are told, is this project's own.
+-- What each request is answered, as a table: first what it comes to in the tree, then what stands against a number,
+-- then what may fail. The world's moves and what `apply` promises read the same rows. The requests are those of
+-- `linux/fuse.h`; which errors there are, and in which order they are told, is this project's own.
 use Rattle.std.specs.Prelude.{◌≡◌, ℕ, ◌⊎◌, Bool, true, false, List, [], ◌∷◌, Contains, Option, Some, None, Result, Ok, Err}
 use Rattle.std.specs.Option.{option_map_or}
 use Rattle.eden_base.specs.declared.attr.Attr.{Attr}
@@ -13,9 +13,9 @@ use Rattle.eden_base.specs.declared.number.Number.{Number}
 use Rattle.checkout.specs.Tree.{Tree, kind_of, child_of, attr_of}
 use Rattle.fuse_wire.specs.Ask.{nodes}
 use Rattle.fuse_wire.specs.declared.ask.Request.{Request}
-use Rattle.fuse_wire.specs.declared.ask.Request.TheVariants.{Lookup}
+use Rattle.fuse_wire.specs.declared.ask.Request.TheVariants.{Lookup, Getattr}
 use Rattle.fuse_wire.specs.declared.reply.Answer.{Answer}
-use Rattle.fuse_wire.specs.declared.reply.Answer.TheVariants.{Entry, Done, Error}
+use Rattle.fuse_wire.specs.declared.reply.Answer.TheVariants.{Entry, Attrs, Done, Error}
 
 -- ---- by the tree
 
@@ -27,7 +27,8 @@ pub record Effect : Type 0 where
 
 -- the file under a name in a directory of this kind
 abbrev pub found_in_dir : Tree → FileId → List ℕ → Option Kind → Result FileId Errno
-found_in_dir tree dir name (Some Dir) = option_map_or (λ (file : FileId). Ok file) (child_of tree dir name) (Err ENOENT)
+found_in_dir tree dir name (Some Dir) =
+    option_map_or (λ (file : FileId). Ok file) (child_of tree dir name) (Err ENOENT)
 found_in_dir tree dir name (Some File) = Err ENOTDIR
 found_in_dir tree dir name None = Err ENOTDIR
 
@@ -41,19 +42,27 @@ abbrev pub enters : Tree → Result FileId Errno → Result Effect Errno
 enters tree (Ok file) = Ok (record { tree = tree; file = Some file; counts = true })
 enters tree (Err errno) = Err errno
 
+-- the attributes of a file of a tree that stays as it is, where a number names this file or none
+abbrev pub shows : Tree → Option FileId → Result Effect Errno
+shows tree (Some file) = Ok (record { tree = tree; file = Some file; counts = false })
+shows tree None = Err ESTALE
+
 -- the numbers whose files a row looks at
 abbrev pub looks_at : Request → List Number
 looks_at (Lookup dir name) = dir ∷ []
+looks_at (Getattr node) = node ∷ []
 looks_at request = []
 
 -- what a request comes to, where `files` tells the file that a number names; one row a request
 abbrev pub comes_to : Tree → (ℕ → Option FileId) → Request → Result Effect Errno
 comes_to tree files (Lookup dir name) = enters tree (found_in tree (files dir.0) name)
+comes_to tree files (Getattr node) = shows tree (files node.0)
 comes_to tree files request = Err ENOSYS
 
 -- how a success tells a number and attributes; those of other requests tell that they were done
 abbrev pub telling : Request → Number → Attr → Answer
 telling (Lookup dir name) number attr = Entry number attr
+telling (Getattr node) number attr = Attrs number attr
 telling request number attr = Done
 
 -- ---- by the number
@@ -77,7 +86,8 @@ pub record Numbers : Type 1 where
   pub MayWant : FileId → Type 0
 
 -- the answer tells one of these numbers, with the file's attributes
-pub record Tells (request : Request) (tree : Tree) (file : FileId) (IsNumber : ℕ → Type 0) (answer : Answer) : Type 0 where
+pub record Tells (request : Request) (tree : Tree) (file : FileId) (IsNumber : ℕ → Type 0)
+    (answer : Answer) : Type 0 where
   pub number : Number
   pub attr : Attr
   pub is : answer ≡ telling request number attr
@@ -95,7 +105,8 @@ AnswersCounted numbers request tree file None answer =
 -- the answers for a file whose number, one of the request's own, is held as often as before
 abbrev pub AnswersShown : Numbers → Request → Tree → FileId → Answer → Type 0
 AnswersShown numbers request tree file answer =
-    Tells request tree file (λ n. Contains (nodes request) (record { 0 = n })) answer ⊎ ((answer ≡ Error EIO) × numbers.MayFail file)
+    Tells request tree file (λ n. Contains (nodes request) (record { 0 = n })) answer
+    ⊎ ((answer ≡ Error EIO) × numbers.MayFail file)
 
 -- the answers to a success, by the file that it tells and whether that file's number is held once more
 abbrev pub AnswersFile : Numbers → Request → Tree → Option FileId → Bool → Answer → Type 0

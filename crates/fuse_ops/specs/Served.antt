@@ -29,11 +29,13 @@ new_served manifest limit = record { map = new_map (max limit 1); tree = tree_of
 -- the file that a number names for this daemon, or none where it names none
 abbrev pub IsLocated : ServedState → ℕ → Option FileId → Type 0
 IsLocated served n found =
-    MatchOption found ((file : FileId) → IsFileOf served.tree served.map.entries n file → ⊥) (IsFileOf served.tree served.map.entries n)
+    MatchOption found ((file : FileId) → IsFileOf served.tree served.map.entries n file → ⊥)
+    (IsFileOf served.tree served.map.entries n)
 
 -- the files that the numbers of a request name for this daemon, as far as they are looked at
 abbrev pub Locates : ServedState → Request → (ℕ → Option FileId) → Type 0
-Locates served request files = AllByRecursion (λ (node : Number). IsLocated served node.0 (files node.0)) (looks_at request)
+Locates served request files =
+    AllByRecursion (λ (node : Number). IsLocated served node.0 (files node.0)) (looks_at request)
 
 -- the directory and the name whose number a request's success tells, where it tells an entry
 abbrev pub place_told : Request → Option (Number × List ℕ)
@@ -55,7 +57,8 @@ numbers_at map (Some (dir, name)) = record {
   MayFail = λ file. ⊥;
   MayWant = λ file. entry_at map.entries dir.0 name ≡ None;
 }
-numbers_at map None = record { IsAgainst = λ file fault. ⊥; IsNumber = λ file n. ⊥; MayFail = λ file. ⊥; MayWant = λ file. ⊥ }
+numbers_at map None =
+    record { IsAgainst = λ file fault. ⊥; IsNumber = λ file n. ⊥; MayFail = λ file. ⊥; MayWant = λ file. ⊥ }
 
 -- the map after an answer: what is given out is counted once more
 abbrev pub map_after : MapState → Option (Number × List ℕ) → Option Number → MapState
@@ -80,4 +83,5 @@ forgotten_all map (item ∷ items) = forgotten_all (forgotten map item.node.0 it
 -- one step by a record of a request and its answer: an ask is answered legally, a forget is not answered
 abbrev pub Replay : ServedState → Request → Option Answer → ServedState → Type 0
 Replay old request (Some answer) new = (is_ask request ≡ true) × IsLegal old request answer new
-Replay old request None new = (is_ask request ≡ false) × (new ≡ record old { map = forgotten_all old.map (items_of request) })
+Replay old request None new =
+    (is_ask request ≡ false) × (new ≡ record old { map = forgotten_all old.map (items_of request) })

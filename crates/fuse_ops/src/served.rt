@@ -1,7 +1,9 @@
 //! The numbers and the tree that one daemon serves.
 ghost use Rattle.std.specs.Prelude.{◌≡◌, true, IfOk};
+ghost use Rattle.inode_map.specs.InodeMap.{forgotten};
 ghost use Rattle.fuse_ops.specs.Served.{new_served, forgotten_all, Replay};
-ghost use Rattle.fuse_ops.specs.Work.{errno_of, Finds, LooksUp};
+ghost use Rattle.fuse_ops.specs.Soundness.{IsSound};
+ghost use Rattle.fuse_ops.specs.Work.{errno_of, Finds, LooksUp, Shows};
 
 use checkout::{Manifest, Tree};
 use eden_base::{Attr, Errno, Kind, Name, NoMemory, Number};
@@ -27,10 +29,11 @@ impl Model for Served {
     ghost coded = { Prim.hlevel (codes, tree_code) };
 
     ghost use Rattle.checkout.specs.Tree.{IsTree};
+    ghost use Rattle.fuse_ops.specs.Soundness.{IsSound};
 
     ghost view = { λ s. record { map = s.map; tree = s.tree } };
 
-    ghost invariant = { λ s. IsTree s.tree };
+    ghost invariant = { λ s. IsTree s.tree × IsSound (record { map = s.map; tree = s.tree }) };
 }
 
 impl Served {
@@ -38,15 +41,17 @@ impl Served {
     /// one at least; every file counts as loaded yet.
     pub fn new(alloc: Global, manifest: &Manifest, limit: usize) -> Result<Served, NoMemory>
         ensures new { IfOk result (λ served. served ≡ new_served manifest.now limit) }
+        ensures sound { IfOk result IsSound }
     {
         let tree = Tree::of(alloc, manifest)?;
         let map = InodeMap::new(alloc, limit.max(1))?;
         Ok(Served { map, tree })
     }
 
-    /// Returns the numbers that the daemon gave.
+    /// Returns the numbers that the daemon gave. What it knows fits together, whatever it was asked.
     pub fn map(&self) -> &InodeMap
         ensures map { result.now ≡ self.now.map }
+        ensures sound { IsSound self.now }
     {
         &self.map
     }
@@ -64,8 +69,9 @@ impl Served {
     {
         match request {
             Request::Lookup { dir, name } => Some(self.look_up(alloc, *dir, name)),
+            Request::Getattr { node } => Some(self.get_attr(*node)),
             Request::Forget(item) => {
-                self.map.forget(item.node, item.k);
+                self.forget(*item);
                 None
             }
             Request::BatchForget(items) => {
@@ -106,12 +112,33 @@ impl Served {
         }
     }
 
+    /// Answers a GETATTR. It changes nothing.
+    fn get_attr(&mut self, node: Number) -> Answer
+        ensures answer { Shows self.old node result }
+        ensures unchanged { self.new ≡ self.old }
+    {
+        let Some(file) = self.map.locate(&self.tree, node) else {
+            return Answer::Error(Errno::ESTALE);
+        };
+        match self.tree.attr(file) {
+            Some(attr) => Answer::Attrs { number: node, attr },
+            None => unreachable!(),
+        }
+    }
+
+    /// Applies an item of a forget.
+    fn forget(&mut self, item: Item)
+        ensures forgotten { self.new ≡ record self.old { map = forgotten self.old.map item.node.0 item.k } }
+    {
+        self.map.forget(item.node, item.k);
+    }
+
     /// Applies each item by itself, in order.
     fn forget_all(&mut self, items: &[Item])
         ensures forgotten { self.new ≡ record self.old { map = forgotten_all self.old.map items.now } }
     {
         for item in items {
-            self.map.forget(item.node, item.k);
+            self.forget(*item);
         }
     }
 }

@@ -13,7 +13,7 @@ use Rattle.fuse_wire.specs.declared.opcode.Opcode.{Opcode}
 use Rattle.fuse_wire.specs.declared.opcode.Opcode.TheVariants.{Forget, BatchForget}
 use Rattle.fuse_wire.specs.FaultReply.{is_forget}
 use Rattle.fuse_wire.specs.Opcode.{code, opcode_of}
-use Rattle.fuse_wire.specs.Reading.{◌>>=◌, asked, body_of, header_of, batch_of, forget_of, what_of, forgotten_of, request_of, items_of, items_told, IsForgetOf}
+use Rattle.fuse_wire.specs.RequestReading.{◌>>=◌, asked, body_of, header_of, batch_of, forget_of, what_of, forgotten_of, request_of, items_of, items_told, IsForgetOf}
 use Rattle.fuse_wire.specs.RequestText.{opcode}
 use Rattle.fuse_wire.proofs.Bodies.{bind_ok, done, ok_is}
 use Rattle.fuse_wire.proofs.Fields.{AreBytes, AreBytes-drop}

@@ -3,7 +3,7 @@ use Rattle.std.proofs.Common.{◌≡◌, Bool, false, Result, Ok, Err, sym}
 use Rattle.std.specs.Prelude.{IsTrue}
 use Rattle.fuse_wire.specs.declared.fault.WireFault.{WireFault}
 use Rattle.fuse_wire.specs.declared.fault.WireFault.TheVariants.{Short, BadLength, BadBody, BadCount, BadName, NoMemory}
-use Rattle.fuse_wire.specs.Reading.{Gives, MayLack}
+use Rattle.fuse_wire.specs.RequestReading.{Gives, MayLack}
 
 false_not : IsTrue false → ⊥
 false_not e = cc

@@ -7,7 +7,7 @@ use Rattle.fuse_wire.specs.declared.ask.Request.{Request}
 use Rattle.fuse_wire.specs.declared.ask.Request.TheVariants.{BatchForget}
 use Rattle.fuse_wire.specs.declared.item.Item.{Item}
 use Rattle.fuse_wire.specs.Mode.{S_IFREG}
-use Rattle.fuse_wire.specs.Reading.{request_of}
+use Rattle.fuse_wire.specs.RequestReading.{request_of}
 use Rattle.fuse_wire.specs.RequestText.{zeros, nodeid, create_body, mkdir_body, batch_body, body, IsBody, IsNodeid, IsCreateBody, IsMkdirBody, IsBatchBody, IsRequestText, request_text, FitsAsk}
 use Rattle.fuse_wire.proofs.Lengths.{length-zeros}
 use Rattle.fuse_wire.proofs.Requests.{request_again}

@@ -17,7 +17,7 @@ use Rattle.fuse_wire.specs.declared.opcode.Opcode.{Opcode}
 use Rattle.fuse_wire.specs.declared.opcode.Opcode.TheVariants.{Lookup, Forget, Getattr, Mkdir, Unlink, Rmdir, Create, BatchForget, Other}
 use Rattle.fuse_wire.specs.Field.{u32_bytes, u64_bytes, u32_at, u64_at}
 use Rattle.fuse_wire.specs.Opcode.{code, opcode_of}
-use Rattle.fuse_wire.specs.Reading.{◌>>=◌, Gives, WantsMemory, body_of, fields_of, header_of, name_of, made_of, batch_of, forget_of, what_of, request_of}
+use Rattle.fuse_wire.specs.RequestReading.{◌>>=◌, Gives, WantsMemory, body_of, fields_of, header_of, name_of, made_of, batch_of, forget_of, what_of, request_of}
 use Rattle.fuse_wire.specs.RequestText.{opcode, nodeid, header, IsBody, IsNodeid, IsRequestText, IsSendable, FitsBody, FitsAsk}
 use Rattle.fuse_wire.proofs.Bodies.{bind_ok, guard_ok, test_ok, ok_is, yes_eq, parted, name_found, name_again, made_found, made_again, create_found, create_again, mkdir_found, mkdir_again, forget_found, forget_again, batch_found, batch_again}
 use Rattle.fuse_wire.proofs.Fields.{AreBytes, AreBytes-drop, u32_again, u64_again, u32_below, u32_front, u64_front}

@@ -11,7 +11,7 @@ use Rattle.fuse_wire.specs.declared.opcode.Opcode.TheVariants.{Forget, BatchForg
 use Rattle.fuse_wire.specs.declared.reply.Answer.TheVariants.{Error}
 use Rattle.fuse_wire.specs.declared.reply.Reply.{Reply}
 use Rattle.fuse_wire.specs.Opcode.{opcode_of}
-use Rattle.fuse_wire.specs.Reading.{fields_of}
+use Rattle.fuse_wire.specs.RequestReading.{fields_of}
 
 -- the kernel waits for no reply to a forget
 abbrev pub is_forget : Opcode → Bool

@@ -5,7 +5,7 @@ pub mod Given
 pub mod Item
 pub mod Mode
 pub mod Opcode
-pub mod Reading
+pub mod RequestReading
 pub mod ReplyReading
 pub mod ReplyText
 pub mod RequestText

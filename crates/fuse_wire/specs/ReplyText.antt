@@ -47,7 +47,8 @@ attributes number attr =
 abbrev pub entry : Number → Attr → List ℕ
 entry number attr = u64_bytes number.0 ++ zeros 32 ++ attributes number attr
 
--- what follows the header: after an entry a file handle and its flags, before lone attributes how long they may be kept
+-- what follows the header: after an entry a file handle and its flags, before lone attributes how long they may be
+-- kept
 abbrev pub payload : Answer → List ℕ
 payload (Entry number attr) = entry number attr
 payload (Opened number attr) = entry number attr ++ zeros 16

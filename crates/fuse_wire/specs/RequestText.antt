@@ -1,8 +1,9 @@
 -- The bytes of a request (linux/fuse.h: fuse_in_header, and the struct of each opcode): as they are written, where
 -- what no reader looks at is 0, and all the bytes that are read as a request.
-use Rattle.std.specs.Prelude.{All, ◌≡◌, ◌<◌, ◌≤◌, ◌^◌, ◌+◌, ◌%◌, ℕ, List, [], ◌∷◌, ◌++◌, length, replicate}
+use Rattle.std.specs.Prelude.{All, ◌≡◌, ◌<◌, ◌≤◌, ◌^◌, ◌+◌, ◌%◌, ℕ, List, [], ◌∷◌, ◌++◌, length, replicate, Option, Some, None}
 use Rattle.std.specs.List.{flat_map}
 use Rattle.eden_base.specs.declared.attr.Perm.{Perm}
+use Rattle.eden_base.specs.declared.number.Number.{Number}
 use Rattle.eden_base.specs.Name.{IsNameText}
 use Rattle.fuse_wire.specs.declared.ask.Ask.{Ask}
 use Rattle.fuse_wire.specs.declared.ask.Request.{Request}
@@ -46,6 +47,15 @@ abbrev pub IsSendable : Request → Type 0
 IsSendable (Other n node) = opcode_of n ≡ opcodes.Other n
 IsSendable request = Unit {0}
 
+-- a request of an operation that has no form of its own
+abbrev pub other_by : Opcode → Number → Option Request
+other_by (opcodes.Other n) node = Some (Other n node)
+other_by opcode node = None
+
+-- the request of an opcode for a number, where no request of another form has that opcode
+abbrev pub other_of : ℕ → Number → Option Request
+other_of n node = other_by (opcode_of n) node
+
 -- ---- as written
 
 abbrev pub name_text : List ℕ → List ℕ
@@ -84,7 +94,8 @@ header len opcode unique nodeid = u32_bytes len ++ u32_bytes opcode ++ u64_bytes
 
 abbrev pub request_text : Ask → List ℕ
 request_text ask =
-    (header (40 + length (body ask.what)) (code (opcode ask.what)) ask.unique (nodeid ask.what) ++ zeros 16) ++ body ask.what
+    (header (40 + length (body ask.what)) (code (opcode ask.what)) ask.unique (nodeid ask.what) ++ zeros 16)
+    ++ body ask.what
 
 -- ---- as read: what is ignored is any bytes
 

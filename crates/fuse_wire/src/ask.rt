@@ -1,7 +1,9 @@
 //! What the kernel asks.
 ghost use Rattle.std.specs.Prelude.{◌≡◌, IfOk};
 ghost use Rattle.fuse_wire.specs.Ask.{is_ask, nodes, item_of};
+ghost use Rattle.fuse_wire.specs.RequestText.{other_of};
 
+use crate::opcode::Opcode;
 use crate::{Batch, BatchRoom, Item, Nodes};
 use eden_base::{Name, NameRoom, NoMemory, Number, Perm};
 use std::alloc::Global;
@@ -115,7 +117,17 @@ impl Request {
         }
     }
 
-    /// Whether the kernel waits for a reply: to all but the two forgets.
+    /// Returns the request of an opcode that no other variant has; nothing for an opcode that one has.
+    pub fn other(opcode: u32, node: Number) -> Option<Request>
+        ensures other { result ≡ other_of opcode node }
+    {
+        match Opcode::of(opcode) {
+            Opcode::Other(opcode) => Some(Request::Other { opcode, node }),
+            _ => None,
+        }
+    }
+
+    /// Returns whether the kernel waits for a reply: to all but the two forgets.
     pub fn is_ask(&self) -> bool
         ensures ask { result ≡ is_ask self.now }
     {

@@ -1,6 +1,6 @@
 //! What the kernel forgets at once, out of line.
 ghost use Rattle.std.specs.Prelude.{◌≡◌, ◌≤◌, ◌*◌, ◌==◌, List, length, vec_len, vec_capacity, IfOk};
-ghost use Rattle.fuse_wire.specs.Reading.{items_at};
+ghost use Rattle.fuse_wire.specs.RequestReading.{items_at};
 
 use crate::reader::Reader;
 use crate::{Item, Items};
@@ -126,7 +126,7 @@ impl Batch {
         self.as_slice().len()
     }
 
-    /// Whether there are none.
+    /// Returns whether there are none.
     pub fn is_empty(&self) -> bool
         ensures empty { result ≡ (length self.now == 0) }
     {

@@ -1,6 +1,6 @@
 //! The first 40 bytes of a request.
 ghost use Rattle.std.specs.Prelude.{◌≡◌, ◌≤◌, length, OnOk, ◌==◌};
-ghost use Rattle.fuse_wire.specs.Reading.{Gives, TakesNone, asked, fields_of, header_of};
+ghost use Rattle.fuse_wire.specs.RequestReading.{Gives, TakesNone, asked, fields_of, header_of};
 
 use crate::reader::Reader;
 use crate::{Ask, Request, WireFault};
@@ -21,8 +21,8 @@ impl Header {
     /// In bytes.
     pub(crate) const LEN: usize = 40;
 
-    /// The header of bytes that have one, whatever length it tells.
-    #[tactic(auto, unfolding(crate::specs::Reading::fields_of))]
+    /// Reads the header of bytes that have one, whatever length it tells.
+    #[tactic(auto, unfolding(crate::specs::RequestReading::fields_of))]
     pub(crate) fn of(bytes: &[u8]) -> Header
         requires { 40 ≤ length bytes.now }
         ensures { result ≡ fields_of bytes.now }
@@ -50,11 +50,11 @@ impl Header {
     }
 }
 
-/// The header of a whole request: the length that it tells is that of the bytes.
-#[tactic(auto, unfolding(crate::specs::Reading::header_of))]
+/// Reads the header of a whole request: the length that it tells is that of the bytes.
+#[tactic(auto, unfolding(crate::specs::RequestReading::header_of))]
 pub(crate) fn read_header(bytes: &[u8]) -> Result<Header, WireFault>
     ensures header { result ≡ header_of bytes.now }
-    ensures no_want { Gives TakesNone result (header_of bytes.now) }
+    ensures never_out_of_memory { Gives TakesNone result (header_of bytes.now) }
     ensures whole { OnOk result (40 ≤ length bytes.now) }
 {
     if bytes.len() < Header::LEN {

@@ -1,6 +1,6 @@
 //! What the kernel forgets.
 ghost use Rattle.std.specs.Prelude.{◌≡◌, ◌<◌, ◌≤◌, ◌+◌, ◌*◌, List, [], ◌∷◌, ◌++◌, length, drop, ◌==◌, nat_eq};
-ghost use Rattle.fuse_wire.specs.Reading.{item_at, items_at};
+ghost use Rattle.fuse_wire.specs.RequestReading.{item_at, items_at};
 
 use crate::reader::Reader;
 use arrayvec::ArrayVec;
@@ -70,7 +70,7 @@ impl Items {
         }
     }
 
-    /// Whether no item can be added.
+    /// Returns whether no item can be added.
     pub fn is_full(&self) -> bool
         ensures full { result ≡ (length self.now == 256) }
     {
@@ -115,7 +115,7 @@ impl Items {
         self.items.len()
     }
 
-    /// Whether there are none.
+    /// Returns whether there are none.
     pub fn is_empty(&self) -> bool
         ensures empty { result ≡ (length self.now == 0) }
     {

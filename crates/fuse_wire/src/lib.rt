@@ -14,11 +14,11 @@ mod mode;
 mod nodes;
 mod opcode;
 mod reader;
-mod reading;
-mod refusal;
 mod reply;
 mod reply_reader;
+mod reply_to_fault;
 mod reply_writer;
+mod request_reader;
 mod request_writer;
 mod writer;
 
@@ -27,11 +27,11 @@ pub use batch::{Batch, BatchRoom};
 pub use fault::WireFault;
 pub use item::{Item, Items};
 pub use nodes::Nodes;
-pub use reading::{read_items, read_request, read_request_to};
-pub use refusal::fault_reply;
 pub use reply::{Answer, Reply};
 pub use reply_reader::read_reply;
+pub use reply_to_fault::fault_reply;
 pub use reply_writer::{MAX_REPLY_LEN, write_reply};
+pub use request_reader::{read_items, read_request, read_request_to};
 pub use request_writer::write_request;
 
 #[cfg(test)]

@@ -18,7 +18,7 @@ pub(crate) enum Opcode {
 }
 
 impl Opcode {
-    /// The operation of a header's opcode.
+    /// Returns the operation of a header's opcode.
     #[tactic(auto, unfolding(crate::specs::Opcode::opcode_of))]
     pub(crate) fn of(code: u32) -> Opcode
         ensures { result ≡ opcode_of code }
@@ -36,7 +36,7 @@ impl Opcode {
         }
     }
 
-    /// The opcode, as `linux/fuse.h` numbers it.
+    /// Returns the opcode, as `linux/fuse.h` numbers it.
     pub(crate) fn code(self) -> u32
         ensures { result ≡ code self }
     {

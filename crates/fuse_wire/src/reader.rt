@@ -12,7 +12,7 @@ pub(crate) struct Reader<'a> {
 }
 
 impl<'a> Reader<'a> {
-    /// A reader before the first field.
+    /// Makes a reader before the first field.
     pub(crate) fn new(bytes: &'a [u8]) -> Reader<'a>
         ensures bytes { result.bytes.now ≡ bytes.now }
         ensures at { result.at ≡ 0 }
@@ -20,7 +20,7 @@ impl<'a> Reader<'a> {
         Reader { bytes, at: 0 }
     }
 
-    /// A field of four bytes.
+    /// Reads a field of four bytes.
     #[tactic(auto, unfolding(crate::specs::Field::u32_at))]
     pub(crate) fn u32(&mut self) -> u32
         requires { self.old.at + 4 ≤ length self.old.bytes.now }
@@ -33,7 +33,7 @@ impl<'a> Reader<'a> {
         value
     }
 
-    /// A field of eight bytes.
+    /// Reads a field of eight bytes.
     #[tactic(auto, unfolding(crate::specs::Field::u64_at))]
     pub(crate) fn u64(&mut self) -> u64
         requires { self.old.at + 8 ≤ length self.old.bytes.now }
@@ -46,7 +46,7 @@ impl<'a> Reader<'a> {
         value
     }
 
-    /// So many bytes that are not looked at.
+    /// Skips so many bytes.
     pub(crate) fn skip(&mut self, count: usize)
         requires { self.old.at + count ≤ length self.old.bytes.now }
         ensures bytes { self.new.bytes.now ≡ self.old.bytes.now }

@@ -4,7 +4,7 @@ ghost use Rattle.std.specs.List.{flat_map};
 ghost use Rattle.fuse_wire.specs.Opcode.{code};
 ghost use Rattle.fuse_wire.specs.RequestText.{zeros, opcode, nodeid, IsSendable, name_text, create_body, mkdir_body, batch_body, item_text, body, header, request_text, IsBody, IsRequestText, FitsAsk, FitsBody, FitsItem};
 ghost use Rattle.eden_base.specs.Name.{IsNameText};
-ghost use Rattle.fuse_wire.specs.Reading.{request_of};
+ghost use Rattle.fuse_wire.specs.RequestReading.{request_of};
 ghost use Rattle.fuse_wire.specs.Writing.{HasRoom, Puts};
 
 use crate::header::Header;

@@ -1,6 +1,6 @@
 //! Vectors from outside, limits, and that calls succeed: where one allocation is refused, those that take memory tell
 //! so, and succeed when they are made once more. So every test passes under `rt try --test --fail-alloc N`, for each N.
-ghost use Rattle.std.specs.Prelude.{◌≡◌, IfOk};
+ghost use Rattle.std.specs.Prelude.{◌≡◌, ◌<◌, ◌^◌, IfOk};
 ghost use Rattle.fuse_wire.specs.RequestText.{IsSendable};
 
 use super::*;
@@ -81,69 +81,66 @@ fn copy_of(alloc: Global, batch: &Batch) -> Result<Batch, NoMemory> {
     }
 }
 
-/// Whether the request of the bytes is written as these, each copy of it is it, and so is what is read to rooms.
-fn is_kept(alloc: Global, bytes: &[u8], written: &[u8]) -> Result<bool, Fail> {
+/// Takes room for the names and the batch of a request.
+fn rooms(alloc: Global) -> Result<(NameRoom, NameRoom, BatchRoom), NoMemory> {
+    Ok((room(alloc)?, room(alloc)?, batch_room(alloc)?))
+}
+
+/// Reads a request to rooms.
+fn read_to_rooms(alloc: Global, bytes: &[u8]) -> Result<Ask, WireFault> {
+    match rooms(alloc) {
+        Ok((first, second, batch)) => read_request_to(first, second, batch, bytes),
+        Err(NoMemory) => Err(WireFault::NoMemory),
+    }
+}
+
+/// Returns whether both copies of a request are it.
+fn is_copied(alloc: Global, request: &Request) -> Result<bool, NoMemory> {
+    let (first, second, batch) = rooms(alloc)?;
+    if request.copy_to(first, second, batch) != *request {
+        return Ok(false);
+    }
+    Ok(copy(alloc, request)? == *request)
+}
+
+/// Returns whether an ask is written as these bytes.
+fn is_written(alloc: Global, ask: &Ask, written: &[u8]) -> Result<bool, NoMemory>
+    requires { IsSendable ask.now.what }
+{
+    Ok(write(alloc, ask)?.as_slice() == written)
+}
+
+/// Returns whether the request of the bytes is written as these, each copy of it is it, and so is what is read to
+/// rooms.
+fn is_kept(alloc: Global, bytes: &[u8], written: &[u8]) -> Result<bool, WireFault> {
     let ask = read(alloc, bytes)?;
-    let own = write(alloc, &ask)?;
-    let first = copy(alloc, &ask.what)?;
-    let second = ask
-        .what
-        .copy_to(room(alloc)?, room(alloc)?, batch_room(alloc)?);
-    let third = read_request_to(room(alloc)?, room(alloc)?, batch_room(alloc)?, bytes)?;
-    Ok(own.as_slice() == written && first == ask.what && second == ask.what && third == ask)
+    if read_to_rooms(alloc, bytes)? != ask {
+        return Ok(false);
+    }
+    match (
+        is_written(alloc, &ask, written),
+        is_copied(alloc, &ask.what),
+    ) {
+        (Ok(is_written), Ok(is_copied)) => Ok(is_written && is_copied),
+        (_, _) => Err(WireFault::NoMemory),
+    }
 }
 
 #[test]
-fn keeps_a_lookup(rt: HostRuntime) -> Result<(), Fail> {
-    assert!(rt; is_kept(rt.alloc(), &LOOKUP, &LOOKUP)?);
-    Ok(())
-}
-
-#[test]
-fn keeps_a_forget(rt: HostRuntime) -> Result<(), Fail> {
-    assert!(rt; is_kept(rt.alloc(), &FORGET, &FORGET)?);
-    Ok(())
-}
-
-#[test]
-fn keeps_a_getattr(rt: HostRuntime) -> Result<(), Fail> {
-    assert!(rt; is_kept(rt.alloc(), &GETATTR, &GETATTR)?);
-    Ok(())
-}
-
-#[test]
-fn keeps_a_mkdir(rt: HostRuntime) -> Result<(), Fail> {
-    assert!(rt; is_kept(rt.alloc(), &MKDIR, &MKDIR)?);
-    Ok(())
-}
-
-#[test]
-fn keeps_an_unlink(rt: HostRuntime) -> Result<(), Fail> {
-    assert!(rt; is_kept(rt.alloc(), &UNLINK, &UNLINK)?);
-    Ok(())
-}
-
-#[test]
-fn keeps_a_rmdir(rt: HostRuntime) -> Result<(), Fail> {
-    assert!(rt; is_kept(rt.alloc(), &RMDIR, &RMDIR)?);
-    Ok(())
-}
-
-#[test]
-fn keeps_a_create(rt: HostRuntime) -> Result<(), Fail> {
-    assert!(rt; is_kept(rt.alloc(), &CREATE, &CREATE)?);
-    Ok(())
-}
-
-#[test]
-fn keeps_a_batch(rt: HostRuntime) -> Result<(), Fail> {
-    assert!(rt; is_kept(rt.alloc(), &BATCH_FORGET, &BATCH_FORGET)?);
-    Ok(())
-}
-
-#[test]
-fn keeps_an_open(rt: HostRuntime) -> Result<(), Fail> {
-    assert!(rt; is_kept(rt.alloc(), &OPEN, &OPEN)?);
+fn keeps_each_kind(rt: HostRuntime) -> Result<(), Fail> {
+    for bytes in [
+        LOOKUP.as_slice(),
+        FORGET.as_slice(),
+        GETATTR.as_slice(),
+        MKDIR.as_slice(),
+        UNLINK.as_slice(),
+        RMDIR.as_slice(),
+        CREATE.as_slice(),
+        BATCH_FORGET.as_slice(),
+        OPEN.as_slice(),
+    ] {
+        assert!(rt; is_kept(rt.alloc(), bytes, bytes)?);
+    }
     Ok(())
 }
 
@@ -213,7 +210,7 @@ fn reads_the_items_of_forgets(rt: HostRuntime) -> Result<(), Fail> {
     Ok(())
 }
 
-/// Whether the reply is written as these bytes, and these are read as one that is.
+/// Returns whether the reply is written as these bytes, and these are read as one that is.
 fn is_written_as(reply: &Reply, bytes: &[u8]) -> bool {
     let mut out = [7u8; 160];
     let len = write_reply(reply, &mut out);
@@ -358,49 +355,79 @@ fn refuses_broken_headers_and_bodies(rt: HostRuntime) {
     );
 }
 
-/// A request of this opcode whose body is as long and of one byte, ended by NUL where it is a name's.
-fn filled(alloc: Global, opcode: u8, body_len: u16, count: u16, byte: u8) -> Result<Vec<u8>, Fail> {
-    let len = 40 + u32::from(body_len);
-    let mut bytes = Vec::with_capacity(alloc, len as usize).or_else(|_| Vec::with_capacity(
-        alloc,
-        len as usize,
-    ))?;
+/// Makes a request whose body begins with these bytes, goes on with one byte repeated, and ends with NUL.
+fn filled(
+    alloc: Global,
+    opcode: u8,
+    front: &[u8],
+    body_len: u32,
+    byte: u8,
+) -> Result<Vec<u8>, NoMemory>
+    requires { body_len < 2 ^ 31 }
+{
+    let len = 40 + body_len;
+    let mut bytes = Vec::with_capacity(alloc, len as usize)?;
     bytes.extend_from_slice(&len.to_le_bytes())?;
     bytes.extend_from_slice(&[opcode, 0, 0, 0, 7])?;
-    for _ in 0..31 {
-        bytes.push(0)?;
-    }
-    let [low, high] = count.to_le_bytes();
-    for place in 0..body_len {
-        let is_last = place == body_len - 1;
-        bytes.push(match place {
-            0 if opcode == 42 => low,
-            1 if opcode == 42 => high,
-            _ if is_last => 0,
-            _ => byte,
-        })?;
-    }
+    bytes.resize(40, 0)?;
+    bytes.extend_from_slice(front)?;
+    bytes.resize(len as usize - 1, byte)?;
+    bytes.push(0)?;
     Ok(bytes)
 }
 
+/// Makes a lookup of a name of so many bytes, and once more where memory was refused.
+fn lookup_of(alloc: Global, name_len: u16) -> Result<Vec<u8>, NoMemory> {
+    let body_len = u32::from(name_len) + 1;
+    match filled(alloc, 1, &[], body_len, b'n') {
+        Ok(bytes) => Ok(bytes),
+        Err(NoMemory) => filled(alloc, 1, &[], body_len, b'n'),
+    }
+}
+
+/// Makes a batch of so many items, and once more where memory was refused.
+fn batch_text(alloc: Global, count: u16) -> Result<Vec<u8>, NoMemory> {
+    let body_len = 8 + 16 * u32::from(count);
+    let front = count.to_le_bytes();
+    match filled(alloc, 42, &front, body_len, 0) {
+        Ok(bytes) => Ok(bytes),
+        Err(NoMemory) => filled(alloc, 42, &front, body_len, 0),
+    }
+}
+
 #[test]
-fn reads_a_name_of_255_bytes_and_no_longer_one(rt: HostRuntime) -> Result<(), Fail> {
-    let alloc = rt.alloc();
-    let longest = filled(alloc, 1, 256, 0, b'n')?;
-    assert_eq!(rt; longest.len(), 296);
-    assert!(rt; read(alloc, longest.as_slice()).is_ok());
-    let longer = filled(alloc, 1, 257, 0, b'n')?;
-    let fault = match read_request(alloc, longer.as_slice()) {
-        Err(fault) => fault,
-        Ok(_) => panic!(rt; "a name of 256 bytes"),
-    };
-    assert_eq!(rt; fault, WireFault::BadName(NameFault::TooLong));
-    let reply = fault_reply(longer.as_slice(), &fault).ok_or("a reply")?;
+fn keeps_names_of_all_lengths(rt: HostRuntime) -> Result<(), Fail> {
+    for len in 1..256u16 {
+        let text = lookup_of(rt.alloc(), len)?;
+        assert!(rt; is_kept(rt.alloc(), text.as_slice(), text.as_slice())?);
+    }
+    Ok(())
+}
+
+#[test]
+fn keeps_batches_of_many_lengths(rt: HostRuntime) -> Result<(), Fail> {
+    for count in [0, 1, 2, 3, 8, 28, 29, 30, 64, 100, 255, 256u16] {
+        let text = batch_text(rt.alloc(), count)?;
+        assert!(rt; is_kept(rt.alloc(), text.as_slice(), text.as_slice())?);
+    }
+    Ok(())
+}
+
+#[test]
+fn takes_memory_once_for_a_name(rt: HostRuntime) {
+    assert!(rt; read_request(rt.alloc(), &LOOKUP).is_ok());
+}
+
+#[test]
+fn reads_no_name_of_256_bytes(rt: HostRuntime) -> Result<(), Fail> {
+    let longer = lookup_of(rt.alloc(), 256)?;
+    let too_long = WireFault::BadName(NameFault::TooLong);
+    assert!(rt; read_request(rt.alloc(), longer.as_slice()) == Err(too_long));
+    let reply = fault_reply(longer.as_slice(), &too_long).ok_or("a reply")?;
     let mut out = [0u8; 160];
     let len = write_reply(&reply, &mut out);
-    assert_eq!(rt; len, 16);
     assert_eq!(rt;
-        &out[..16],
+        &out[..len],
         [16, 0, 0, 0, 0xdc, 0xff, 0xff, 0xff, 7, 0, 0, 0, 0, 0, 0, 0].as_slice()
     );
     Ok(())
@@ -408,24 +435,27 @@ fn reads_a_name_of_255_bytes_and_no_longer_one(rt: HostRuntime) -> Result<(), Fa
 
 #[test]
 fn reads_256_items_and_no_more(rt: HostRuntime) -> Result<(), Fail> {
-    let alloc = rt.alloc();
-    let full = filled(alloc, 42, 4104, 256, 0)?;
+    let full = batch_text(rt.alloc(), 256)?;
     assert_eq!(rt; full.len(), 4144);
-    let items = read_items(full.as_slice())?;
-    assert_eq!(rt; items.len(), 256);
-    assert!(rt; is_kept(alloc, full.as_slice(), full.as_slice())?);
-    let batch = batch_of(alloc, &items)?;
-    assert!(rt; batch.as_slice() == items.as_slice());
-    assert!(rt; copy_of(alloc, &batch)? == batch);
-    assert!(rt; batch.copy_to(batch_room(alloc)?) == batch);
-    let over = filled(alloc, 42, 4120, 257, 0)?;
+    assert_eq!(rt; read_items(full.as_slice())?.len(), 256);
+    let over = batch_text(rt.alloc(), 257)?;
     assert!(rt; matches!(read_items(over.as_slice()), Err(WireFault::BadCount)));
     assert!(rt;
         matches!(
-            read_request(alloc, over.as_slice()),
+            read_request(rt.alloc(), over.as_slice()),
             Err(WireFault::BadCount)
         )
     );
+    Ok(())
+}
+
+#[test]
+fn copies_a_batch(rt: HostRuntime) -> Result<(), Fail> {
+    let items = read_items(&BATCH_FORGET)?;
+    let batch = batch_of(rt.alloc(), &items)?;
+    assert!(rt; batch.as_slice() == items.as_slice());
+    assert!(rt; copy_of(rt.alloc(), &batch)? == batch);
+    assert!(rt; batch.copy_to(batch_room(rt.alloc())?) == batch);
     Ok(())
 }
 
@@ -454,6 +484,17 @@ fn tells_asks_and_their_numbers(rt: HostRuntime) -> Result<(), Fail> {
         assert_eq!(rt; ask.what.nodes().as_slice().len(), 0);
     }
     Ok(())
+}
+
+#[test]
+fn makes_a_request_of_another_opcode_alone(rt: HostRuntime) {
+    let node = Number(7);
+    for served in [1, 2, 3, 9, 10, 11, 35, 42u32] {
+        assert!(rt; Request::other(served, node).is_none());
+    }
+    for opcode in [0, 12, 14, 15, 43, 0xffff_ffffu32] {
+        assert!(rt; Request::other(opcode, node) == Some(Request::Other { opcode, node }));
+    }
 }
 
 #[test]

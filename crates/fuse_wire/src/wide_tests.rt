@@ -13,7 +13,7 @@ const NODE: Number = Number(0x201f1e1d1c1b1a19);
 
 const PERM: Perm = Perm { bits: 0o7777 };
 
-/// Whether a request is written as these bytes, and so is what is read of the filled ones. `None` is out of memory.
+/// Returns whether a request is written as these bytes, and so is what is read of the filled ones. `None` is out of memory.
 fn is_kept(alloc: Global, what: Request, written: &[u8], filled: &[u8]) -> Option<bool>
     requires { IsSendable what }
 {
@@ -85,14 +85,14 @@ fn keeps_nodes(alloc: Global) -> Option<bool> {
     Some(getattr && open && forget)
 }
 
-fn keeps_lines(alloc: Global) -> Option<bool> {
+fn keeps_batches(alloc: Global) -> Option<bool> {
     let read = read_request(alloc, &BATCH_FORGET_FILLED).ok()?;
     let own = write_request(alloc, &read).ok()?;
     Some(own.as_slice() == BATCH_FORGET.as_slice())
 }
 
 fn keeps_all(alloc: Global) -> Option<bool> {
-    Some(keeps_names(alloc)? && keeps_modes(alloc)? && keeps_nodes(alloc)? && keeps_lines(alloc)?)
+    Some(keeps_names(alloc)? && keeps_modes(alloc)? && keeps_nodes(alloc)? && keeps_batches(alloc)?)
 }
 
 #[test]
@@ -104,8 +104,8 @@ fn keeps_each_byte_of_requests(rt: HostRuntime) -> Result<(), Fail> {
 }
 
 #[test]
-fn reads_each_byte_of_lines(rt: HostRuntime) -> Result<(), Fail> {
-    let lines = [
+fn reads_each_byte_of_items(rt: HostRuntime) -> Result<(), Fail> {
+    let items = [
         Item {
             node: Number(0x5857565554535251),
             k: 0x605f5e5d5c5b5a59,
@@ -117,12 +117,12 @@ fn reads_each_byte_of_lines(rt: HostRuntime) -> Result<(), Fail> {
     ];
     assert_eq!(rt;
         read_items(&BATCH_FORGET_FILLED)?.as_slice(),
-        lines.as_slice()
+        items.as_slice()
     );
     Ok(())
 }
 
-/// Whether an answer is written as these bytes, and so is what is read of them.
+/// Returns whether an answer is written as these bytes, and so is what is read of them.
 fn is_written_as(answer: Answer, bytes: &[u8]) -> bool {
     let mut own = [7u8; 160];
     let reply = Reply {

@@ -1,116 +1,114 @@
--- The cells as they are filled with blank nodes one after another, and as they are emptied.
-use Rattle.std.proofs.Common.{◌≡◌, ◌≢◌, ℕ, zero, suc, ◌+◌, ◌<◌, ◌≤◌, List, length, set, get_or, replicate, Option, Some, None, inl, inr, refl, sym, ap, ◌∙◌, subst, arith, length-set, get_or-set_same, get_or-set_other, ext_get_or}
-use Rattle.std.proofs.lemmas.Bool.{cases_eq, cases_lt}
-use Rattle.std.proofs.lemmas.List.{length-replicate}
-use denote.RawPtr.{Ptr}
-use Rattle.node_arena.specs.Places.{IsFilled, nth_place}
-use Rattle.node_arena.specs.declared.cells.Place.{Place}
-use Rattle.node_arena.specs.declared.cells.Cells.{Cells}
-use Rattle.node_arena.specs.declared.region.Link.{Link}
+-- The nodes of a new region, as they are pushed one after another.
+use Rattle.std.proofs.Common.{◌≡◌, ℕ, zero, suc, ◌+◌, ◌-◌, ◌<◌, ◌≤◌, List, [], ◌∷◌, ◌++◌, length, slice_get, Option, Some, None, ◌⊎◌, inl, inr, refl, sym, ap, ◌∙◌, subst, arith}
+use Rattle.std.proofs.lemmas.Option.{slice_get_within}
+use Rattle.std.specs.Vec.{vec_ptr, vec_len, vec_capacity}
+use Rattle.std_alloc.specs.declared.vec.Vec.{Vec}
+use Rattle.std.specs.Mem.{type_size}
+use denote.Param.{param}
+use denote.RattleType.{RattleType}
+use denote.RawPtr.{Ptr, InBlock}
+use Rattle.node_arena.specs.contracts.region.Node as node
+use Rattle.node_arena.specs.Addresses.{address_of}
+use Rattle.node_arena.specs.Item.{index_in, value_in}
+use Rattle.node_arena.specs.Region.{count_of, place_of, node_at, next_in, prev_in, held_in, IsPlaced, IsLaidOut, IsBlank}
+use Rattle.node_arena.specs.declared.item.Item.TheVariants.{Vacant}
+use Rattle.node_arena.specs.declared.links.Link.{Link}
 use Rattle.node_arena.specs.declared.region.Node.{Node}
 use Rattle.node_arena.specs.declared.region.Region.{Region}
-use Rattle.node_arena.specs.Region.{next_in, prev_in, item_in, node_at, IsPlaced, IsLaidOut, IsBlank}
+use Rattle.node_arena.proofs.Addresses.{leads}
 
-pub none_in : (X : Type 0) (n k : ℕ) → let none : Option X = None in get_or (replicate n none) k none ≡ none
-none_in X zero k = refl
-none_in X (suc n) zero = refl
-none_in X (suc n) (suc k) = none_in X n k
+module _ {X : Type 0} where
+  -- one of the values before the last, or the last
+  slice_get-pushed : (xs : List X) (x : X) (k : ℕ) (y : X) → slice_get (xs ++ x ∷ []) k ≡ Some y → (slice_get xs k ≡ Some y) ⊎ ((length xs ≡ k) × (x ≡ y))
+  slice_get-pushed [] x zero y e = inr (refl, cc)
+  slice_get-pushed [] x (suc k) y e = cc
+  slice_get-pushed (z ∷ zs) x zero y e = inl e
+  slice_get-pushed (z ∷ zs) x (suc k) y e = elim (slice_get-pushed zs x k y e) [ inl before ↦ inl before | inr last ↦ inr (ap suc last.0, last.1) ]
 
-module _ {T : Type 0} where
-  -- the node k of a row of cells is linked to itself, and holds no value
-  pub record IsAlone (at : Ptr) (stride k : ℕ) (n : Node T) : Type 0 where
-    pub link : Link
-    pub is : n ≡ record { prev = link; next = link; item = None }
-    pub index : link.index ≡ k
-    pub place : link.place.ptr ≡ nth_place at stride k
+  slice_get-some : (xs : List X) (k : ℕ) → k < length xs → (x : X) × (slice_get xs k ≡ Some x)
+  slice_get-some [] k within = absurd (omega arith)
+  slice_get-some (x ∷ xs) zero within = (x, refl)
+  slice_get-some (x ∷ xs) (suc k) within = slice_get-some xs k (omega arith)
 
-  -- the cells below i hold such nodes, and the others nothing
-  pub record IsFilledBelow (first : Place) (count : ℕ) (cells : Cells (Node T)) (i : ℕ) : Type 0 where
-    pub within : i ≤ count
-    pub at : first.ptr ≡ cells.at
-    pub long : length cells.slots ≡ count
-    pub filled : (k : ℕ) → k < i → (n : Node T) × (get_or cells.slots k None ≡ Some n) × IsAlone cells.at cells.stride k n
-    pub empty : (k : ℕ) → i ≤ k → get_or cells.slots k None ≡ None
+-- a node takes some memory, that of its two links alone
+pub some_bytes : (R : RattleType) → 1 ≤ type_size (node.the_row (param 0 R))
+some_bytes R = omega arith
 
-  -- the cells below i hold nothing, and the others something
-  pub record IsEmptyBelow (first : Place) (count : ℕ) (cells : Cells (Node T)) (i : ℕ) : Type 0 where
-    pub at : first.ptr ≡ cells.at
-    pub long : length cells.slots ≡ count
-    pub empty : (k : ℕ) → k < i → get_or cells.slots k None ≡ None
-    pub filled : (k : ℕ) → i ≤ k → k < count → IsFilled cells.slots k
+-- the k-th node leads back to the first and on to the one before it
+abbrev pub IsFresh : {T : Type 0} → ℕ → Ptr → ℕ → Node T → Type 0
+IsFresh bytes start k n = (n.prev.to ≡ address_of start bytes 0) × (n.next.to ≡ address_of start bytes (k - 1)) × (n.item ≡ Vacant k)
 
-  -- a cell written into
-  cell_here : (old new : List (Option (Node T))) (i k : ℕ) (c : Option (Node T)) → new ≡ set old i c → i < length old → k ≡ i → get_or new k None ≡ c
-  cell_here old new i k c e within same = ap (λ l. get_or l k None) e ∙ ap (λ m. get_or (set old i c) m None) same ∙ get_or-set_same old i c None within
+module _ {T A : Type 0} (bytes : ℕ) (start : Ptr) where
+  -- the nodes below the index are there
+  pub record AreFresh (v : Vec (Node T) A) (first last : Link) (count index : ℕ) : Type 0 where
+    pub here : start ≡ vec_ptr v
+    pub block : InBlock start
+    pub room : vec_capacity v ≡ count
+    pub long : vec_len v ≡ index
+    pub leads_first : first.to ≡ address_of start bytes 0
+    pub leads_last : last.to ≡ address_of start bytes (index - 1)
+    pub nodes : (k : ℕ) (n : Node T) → slice_get v.items k ≡ Some n → IsFresh bytes start k n
 
-  -- and the others
-  cell_elsewhere : (old new : List (Option (Node T))) (i k : ℕ) (c : Option (Node T)) → new ≡ set old i c → k ≢ i → get_or new k None ≡ get_or old k None
-  cell_elsewhere old new i k c e other = ap (λ l. get_or l k None) e ∙ get_or-set_other old i k c None other
+  -- one more node
+  pub fresh_more : (v v' : Vec (Node T) A) (first last last' : Link) (count index : ℕ) (n : Node T) → AreFresh v first last count index → IsFresh bytes start index n
+      → v'.items ≡ v.items ++ n ∷ [] → vec_len v' ≡ vec_len v + 1 → vec_capacity v' ≡ vec_capacity v → vec_ptr v' ≡ vec_ptr v → last'.to ≡ address_of start bytes index
+      → AreFresh v' first last' count (index + 1)
+  fresh_more v v' first last last' count index n f new items len cap ptr leads' = record {
+    here = f.here ∙ sym ptr;
+    block = f.block;
+    room = cap ∙ f.room;
+    long = len ∙ ap (λ (m : ℕ). m + 1) f.long;
+    leads_first = f.leads_first;
+    leads_last = leads' ∙ ap (address_of start bytes) (one_off index);
+    nodes = λ k m e. elim (slice_get-pushed v.items n k m (ap (λ (xs : List (Node T)). slice_get xs k) (sym items) ∙ e)) [
+      | inl before ↦ f.nodes k m before
+      | inr at_end ↦ let at : index ≡ k = sym f.long ∙ v.ok.0 ∙ at_end.0 in subst (λ (m' : Node T). IsFresh bytes start k m') at_end.1 (subst (λ (i : ℕ). IsFresh bytes start i n) at new)
+    ];
+  } where
+    one_off : (i : ℕ) → i ≡ i + 1 - 1
+    one_off i = omega arith
 
-  pub filled_more : (first : Place) (count i : ℕ) (old new : Cells (Node T)) (n : Node T) → IsFilledBelow first count old i → i < count → IsAlone old.at old.stride i n
-      → (new.at ≡ old.at) × (new.stride ≡ old.stride) × (new.slots ≡ set old.slots i (Some n)) → IsFilledBelow first count new (i + 1)
-  filled_more first count i old new n inv lt alone w =
-      let within : i < length old.slots = omega (arith, inv.long) in
-      let moved : (k m : ℕ) (x : Node T) → k ≡ m → IsAlone old.at old.stride m x → IsAlone new.at new.stride k x =
-      λ k m x e a. record { link = a.link; is = a.is; index = a.index ∙ sym e; place = a.place ∙ (λ j. nth_place (sym w.0 j) (sym w.1 j) (sym e j)) } in
-      record {
-        within = omega arith;
-        at = inv.at ∙ sym w.0;
-        long = ap length w.2 ∙ length-set old.slots i (Some n) ∙ inv.long;
-        filled = λ k low. elim (cases_eq k i) [
-          | inl e ↦ (n, cell_here old.slots new.slots i k (Some n) w.2 within e, moved k i n e alone)
-          | inr other ↦ let below : k < i = omega arith in let was = inv.filled k below in (was.0, cell_elsewhere old.slots new.slots i k (Some n) w.2 other ∙ was.1, moved k k was.0 refl was.2)
-        ];
-        empty = λ k high. let other : k ≢ i = λ e. absurd (omega arith) in let above : i ≤ k = omega arith in cell_elsewhere old.slots new.slots i k (Some n) w.2 other ∙ inv.empty k above;
-      }
+module _ {T : Type 0} (r : Region T) (start : Ptr) (first last : Link) (count index : ℕ) (f : AreFresh r.stride.bytes start r.nodes first last count index) (all : index ≡ count) (some : 1 ≤ count) (pos : 1 ≤ r.stride.bytes) where
+  at_start : vec_ptr r.nodes ≡ start
+  at_start = sym f.here
 
-  pub emptied_more : (first : Place) (count i : ℕ) (old new : Cells (Node T)) → IsEmptyBelow first count old i → i < count
-      → (new.at ≡ old.at) × (new.stride ≡ old.stride) × (new.slots ≡ set old.slots i None) → IsEmptyBelow first count new (i + 1)
-  emptied_more first count i old new inv lt w =
-      let within : i < length old.slots = omega (arith, inv.long) in
-      record {
-        at = inv.at ∙ sym w.0;
-        long = ap length w.2 ∙ length-set old.slots i None ∙ inv.long;
-        empty = λ k low. elim (cases_eq k i) [
-          | inl e ↦ cell_here old.slots new.slots i k None w.2 within e
-          | inr other ↦ let below : k < i = omega arith in cell_elsewhere old.slots new.slots i k None w.2 other ∙ inv.empty k below
-        ];
-        filled = λ k high low. let other : k ≢ i = λ e. absurd (omega arith) in let above : i ≤ k = omega arith in
-            let was = inv.filled k above low in (was.0, cell_elsewhere old.slots new.slots i k None w.2 other ∙ was.1);
-      }
+  here_block : InBlock (vec_ptr r.nodes)
+  here_block = subst (λ (p : Ptr). InBlock p) (sym at_start) f.block
 
-  -- all cells are empty
-  pub all_empty : (first : Place) (count i : ℕ) (cells : Cells (Node T)) → IsEmptyBelow first count cells i → count ≤ i → cells.slots ≡ replicate count None
-  all_empty first count i cells inv all =
-      let none : Option (Node T) = None in
-      ext_get_or None cells.slots (replicate count None) (inv.long ∙ sym (length-replicate count none)) (λ k low.
-      let below : k < i = omega (arith, inv.long) in inv.empty k below ∙ sym (none_in (Node T) count k))
+  count_is : count_of r ≡ count
+  count_is = f.long ∙ all
 
-  -- all cells are filled
-  module _ (r : Region T) (i : ℕ) (inv : IsFilledBelow r.first r.count r.cells i) (all : r.count ≤ i) where
-    node_in : (k : ℕ) → k < r.count → (n : Node T) × (node_at r k ≡ Some n) × IsAlone r.cells.at r.cells.stride k n
-    node_in k low = let below : k < i = omega arith in inv.filled k below
+  -- a link to the node of an index
+  led : (link : Link) (i : ℕ) → link.to ≡ address_of start r.stride.bytes i → i < count → IsPlaced r link × (place_of r link ≡ i)
+  led link i is low = leads (vec_ptr r.nodes) r.stride.bytes (count_of r) i link.to here_block pos
+      (is ∙ ap (λ (p : Ptr). address_of p r.stride.bytes i) (sym at_start)) (subst (λ (m : ℕ). i < m) (sym count_is) low)
 
-    alone_placed : (k : ℕ) (n : Node T) → k < r.count → IsAlone r.cells.at r.cells.stride k n → IsPlaced r n.prev × IsPlaced r n.next
-    alone_placed k n low a =
-        let own : IsPlaced r a.link = (subst (λ (m : ℕ). m < r.count) (sym a.index) low, a.place ∙ ap (nth_place r.cells.at r.cells.stride) (sym a.index)) in
-        subst (λ (x : Node T). IsPlaced r x.prev × IsPlaced r x.next) (sym a.is) (own, own)
+  low_of : (k : ℕ) (n : Node T) → node_at r k ≡ Some n → k < count
+  low_of k n e = subst (λ (m : ℕ). k < m) (sym r.nodes.ok.0 ∙ count_is) (slice_get_within r.nodes.items k n e)
 
-    placed : (k : ℕ) (n : Node T) → node_at r k ≡ Some n → IsPlaced r n.prev × IsPlaced r n.next
-    placed k n e = elim (cases_lt k r.count) [
-      | inl low ↦ let was = node_in k low in let same : was.0 ≡ n = cc (was.1) in subst (λ (x : Node T). IsPlaced r x.prev × IsPlaced r x.next) same (alone_placed k was.0 low was.2)
-      | inr high ↦ let above : i ≤ k = omega (arith, inv.within) in cc (inv.empty k above)
-    ]
+  back : (k : ℕ) (n : Node T) → node_at r k ≡ Some n → IsPlaced r n.prev × (place_of r n.prev ≡ 0)
+  back k n e = led n.prev 0 (f.nodes k n e).0 some
 
-    pub all_filled : (r.deed.at ≡ r.first.ptr) × (r.deed.len ≡ r.count) × (r.deed.alloc ≡ r.alloc) → IsLaidOut r
-    all_filled deed = record { first = inv.at; deed = deed; count = inv.long; filled = λ k low. let was = node_in k low in (was.0, was.1); placed = placed }
+  on : (k : ℕ) (n : Node T) → node_at r k ≡ Some n → IsPlaced r n.next × (place_of r n.next ≡ k - 1)
+  on k n e = let low = low_of k n e in led n.next (k - 1) (f.nodes k n e).1 (omega arith)
 
-    pub all_blank : IsBlank r
-    all_blank = record {
-      next = λ k low. let was = node_in k low in ap next_in was.1 ∙ ap (λ (n : Node T). n.next.index) was.2.is ∙ was.2.index;
-      prev = λ k low. let was = node_in k low in ap prev_in was.1 ∙ ap (λ (n : Node T). n.prev.index) was.2.is ∙ was.2.index;
-      item = λ k. elim (cases_lt k r.count) [
-        | inl low ↦ let was = node_in k low in ap item_in was.1 ∙ ap (λ (n : Node T). n.item) was.2.is
-        | inr high ↦ let above : i ≤ k = omega (arith, inv.within) in ap item_in (inv.empty k above)
-      ];
-    }
+  one : (k : ℕ) → k < count_of r → (n : Node T) × (node_at r k ≡ Some n)
+  one k low = slice_get-some r.nodes.items k (subst (λ (m : ℕ). k < m) r.nodes.ok.0 low)
+
+  pub fresh_laid_out : IsLaidOut r
+  fresh_laid_out = record {
+    positive = pos;
+    placed = λ k n e. ((back k n e).0, (on k n e).0);
+    named = λ k n e. ap (λ it. index_in it) (f.nodes k n e).2;
+  }
+
+  no_value : (k : ℕ) (o : Option (Node T)) → node_at r k ≡ o → held_in r o ≡ None
+  no_value k None e = refl
+  no_value k (Some n) e = ap (λ it. value_in it) (f.nodes k n e).2
+
+  pub fresh_blank : IsBlank r
+  fresh_blank = record {
+    next = λ k low. let n = one k low in ap (next_in r) n.1 ∙ (on k n.0 n.1).1;
+    prev = λ k low. let n = one k low in ap (prev_in r) n.1 ∙ (back k n.0 n.1).1;
+    value = λ k. no_value k (node_at r k) refl;
+  }

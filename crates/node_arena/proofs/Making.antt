@@ -1,104 +1,68 @@
--- The nodes of a new region, as they are put one after another into the list of the spare ones.
-use Rattle.std.proofs.Common.{◌≡◌, ℕ, zero, suc, ◌+◌, ◌<◌, ◌≤◌, true, false, eqb, List, [], ◌∷◌, length, None, inl, inr, refl, sym, ap, ◌∙◌, subst, arith}
-use Rattle.std.proofs.lemmas.Bool.{cases_Bool, eqb-true, ne_eqb}
-use Rattle.node_arena.specs.Links.{has, next_with, prev_with}
-use Rattle.node_arena.specs.Recency.{AreTwo, IsWhole}
-use Rattle.node_arena.specs.Region.{next_of, prev_of, item_of, IsLaidOut, IsBlank, Becomes}
+-- A new arena: all nodes but the first are spare, the last first.
+use Rattle.std.proofs.Common.{◌≡◌, ℕ, zero, suc, ◌+◌, ◌-◌, ◌<◌, ◌≤◌, true, false, eqb, List, [], ◌∷◌, length, inl, inr, refl, ap, ◌∙◌, subst, sym, arith}
+use Rattle.std.proofs.lemmas.Bool.{cases_Bool, eqb-true}
+use Rattle.node_arena.specs.Links.{has, IsApart, IsRun}
+use Rattle.node_arena.specs.Recency.{IsWhole}
+use Rattle.node_arena.specs.Region.{count_of, place_of, next_of, IsPlaced, IsLaidOut, IsBlank}
+use Rattle.node_arena.specs.declared.links.Link.{Link}
 use Rattle.node_arena.specs.declared.region.Region.{Region}
 use Rattle.node_arena.proofs.Chains.{has_in_rest}
-use Rattle.node_arena.proofs.Two.{turned, given}
 
--- the first n nodes after the two starts, the last first
+-- the indexes from n down to 1
 abbrev pub spares : ℕ → List ℕ
 spares zero = []
-spares (suc n) = (n + 2) ∷ spares n
+spares (suc n) = suc n ∷ spares n
 
-has-spares : (n k : ℕ) → has k (spares n) ≡ true → k < n + 2
+has-spares : (n k : ℕ) → has k (spares n) ≡ true → (1 ≤ k) × (k ≤ n)
 has-spares zero k h = cc
-has-spares (suc n) k h = elim (cases_Bool (eqb k (n + 2))) [
-  | inl e ↦ let is = eqb-true k (n + 2) e in omega arith
-  | inr e ↦ let low = has-spares n k (has_in_rest k (n + 2) (spares n) e h) in omega arith
+has-spares (suc n) k h = elim (cases_Bool (eqb k (suc n))) [
+  | inl e ↦ let is = eqb-true k (suc n) e in (omega arith, omega arith)
+  | inr e ↦ let on = has-spares n k (has_in_rest k (suc n) (spares n) e h) in (on.0, omega (arith, on.1))
 ]
 
-has_not-spares : (n : ℕ) → has (n + 2) (spares n) ≡ false
-has_not-spares n = elim (cases_Bool (has (n + 2) (spares n))) [
-  | inl e ↦ let low = has-spares n (n + 2) e in absurd (omega arith)
-  | inr e ↦ e
-]
+not_there : (n k : ℕ) → ((1 ≤ k) × (k ≤ n) → ⊥) → has k (spares n) ≡ false
+not_there n k off = elim (cases_Bool (has k (spares n))) [ inl e ↦ absurd (off (has-spares n k e)) | inr e ↦ e ]
+
+apart-spares : (n : ℕ) → IsApart (spares n)
+apart-spares zero = tt
+apart-spares (suc n) = (not_there n (suc n) (λ h. let low = h.1 in absurd (omega arith)), apart-spares n)
 
 length-spares : (n : ℕ) → length (spares n) ≡ n
 length-spares zero = refl
 length-spares (suc n) = ap suc (length-spares n)
 
-module _ {T : Type 0} where
-  -- the nodes below i are spare, and no node holds a value
-  pub record IsMade (r : Region T) (count i : ℕ) : Type 0 where
-    pub laid_out : IsLaidOut r
-    pub count_is : r.count ≡ count
-    pub n : ℕ
-    pub below : i ≡ n + 2
-    pub two : AreTwo (next_of r) (prev_of r) 0 [] 1 (spares n)
-    pub items : (k : ℕ) → item_of r k ≡ None
+-- each index leads to the one below it
+run-spares : (next : ℕ → ℕ) (top : ℕ) → ((k : ℕ) → k ≤ top → next k ≡ k - 1) → (n : ℕ) → n ≤ top → IsRun next n (spares n)
+run-spares next top down zero low = tt
+run-spares next top down (suc n) low =
+    let one_less : suc n - 1 ≡ n = omega arith in
+    (refl, subst (λ (m : ℕ). IsRun next m (spares n)) (sym (down (suc n) low ∙ one_less)) (run-spares next top down n (omega arith)))
 
-  -- a blank region
-  pub made_none : (r : Region T) (count : ℕ) → IsLaidOut r → r.count ≡ count → 2 ≤ count → IsBlank r → IsMade r count 2
-  made_none r count laid is low blank =
-      let zero_low : 0 < r.count = omega arith in let one_low : 1 < r.count = omega arith in
-      record {
-        laid_out = laid;
-        count_is = is;
-        n = 0;
-        below = refl;
-        two = record {
-          one = (blank.next 0 zero_low, blank.prev 0 zero_low);
-          other = (blank.next 1 one_low, blank.prev 1 one_low);
-          ends = refl;
-          a_not = (refl, refl);
-          b_not = (refl, refl);
-          apart = (tt, tt);
+pub whole-new : {T : Type 0} (r : Region T) (first : Link) (capacity : ℕ) → IsLaidOut r → count_of r ≡ capacity + 1 → IsBlank r → IsPlaced r first → place_of r first ≡ capacity → 1 ≤ capacity → capacity ≤ 65536
+    → IsWhole r first capacity 0
+whole-new r first capacity laid count blank placed at least most =
+    let some : 0 < count_of r = omega arith in
+    record {
+      laid_out = laid;
+      placed = placed;
+      count = count;
+      least = least;
+      most = most;
+      order = [];
+      spare = spares capacity;
+      kept = record {
+        lists = record {
+          chain = (blank.next 0 some, blank.prev 0 some);
+          run = subst (λ (m : ℕ). IsRun (next_of r) m (spares capacity)) (sym at) (run-spares (next_of r) capacity (λ k low. blank.next k (omega (arith, count))) capacity (omega arith));
+          start_not = (refl, not_there capacity 0 (λ h. let low = h.0 in absurd (omega arith)));
+          apart = (tt, apart-spares capacity);
           disjoint = λ k h. cc;
         };
-        items = blank.item;
-      }
-
-  -- one more node
-  pub made_more : (r r' : Region T) (count i h x : ℕ) → IsMade r count i → h ≡ 1 → x ≡ i → Becomes r r' (next_with (next_of r) h x) (prev_with (next_of r) (prev_of r) h x) (item_of r) → IsMade r' count (i + 1)
-  made_more r r' count i h x m d e b =
-      let n = m.n in let is = m.below in
-      let not_one : eqb (n + 2) 1 ≡ false = ne_eqb (n + 2) 1 (λ q. omega arith) in let not_zero : eqb (n + 2) 0 ≡ false = ne_eqb (n + 2) 0 (λ q. omega arith) in
-      let back = turned (next_of r) (prev_of r) 0 [] 1 (spares n) m.two in
-      let more = given (next_of r) (prev_of r) 1 (spares n) 0 [] back (n + 2) (record { not_a = not_one; not_b = not_zero; not_xs = has_not-spares n; not_ys = refl }) in
-      let at : x ≡ n + 2 = e ∙ is in
-      let P : (ℕ → ℕ) × (ℕ → ℕ) → Type 0 = λ t. AreTwo t.0 t.1 0 [] 1 (spares (suc n)) in
-      let now : ◌≡◌ {A = (ℕ → ℕ) × (ℕ → ℕ)} (next_with (next_of r) 1 (n + 2), prev_with (next_of r) (prev_of r) 1 (n + 2)) (next_of r', prev_of r') =
-      (λ j. (next_with (next_of r) (sym d j) (sym at j), prev_with (next_of r) (prev_of r) (sym d j) (sym at j))) ∙ (λ j. (sym b.next j, sym b.prev j)) in
-      record {
-        laid_out = b.laid_out;
-        count_is = b.block.count ∙ m.count_is;
-        n = suc n;
-        below = omega arith;
-        two = subst P now (turned (next_with (next_of r) 1 (n + 2)) (prev_with (next_of r) (prev_of r) 1 (n + 2)) 1 ((n + 2) ∷ spares n) 0 [] more);
-        items = λ k. (λ j. b.item j k) ∙ m.items k;
-      }
-
-  -- all nodes
-  pub made_all : (r : Region T) (capacity i : ℕ) → IsMade r (capacity + 2) i → i ≡ capacity + 2 → 1 ≤ capacity → capacity ≤ 65536 → IsWhole r capacity 0
-  made_all r capacity i m all least most =
-      let is = m.below in let n_is : m.n ≡ capacity = omega arith in let long = length-spares m.n in
-      record {
-        laid_out = m.laid_out;
-        count = m.count_is;
-        least = least;
-        most = most;
-        order = [];
-        spare = spares m.n;
-        kept = record {
-          two = m.two;
-          long = refl;
-          total = omega arith;
-          order_within = λ k h. cc;
-          spare_within = λ k h. let low = has-spares m.n k h in omega arith;
-          filled = λ k h. cc;
-          only = λ k x e. let none = m.items k in cc;
-        };
-      }
+        long = refl;
+        total = let long = length-spares capacity in omega arith;
+        order_within = λ k h. cc;
+        spare_within = λ k h. (has-spares capacity k h).1;
+        filled = λ k h. cc;
+        only = λ k x e. let none = blank.value k in cc;
+      };
+    }

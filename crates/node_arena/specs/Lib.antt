@@ -1,11 +1,9 @@
+pub mod Addresses
 pub mod Arena
-pub mod Cells
-pub mod Lends
+pub mod Item
+pub mod ItemLends
 pub mod Links
-pub mod NodeLends
 pub mod NodesLends
-pub mod Ownership
-pub mod Places
 pub mod Recency
 pub mod Region
 pub mod RegionLends

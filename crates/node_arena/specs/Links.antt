@@ -25,6 +25,11 @@ abbrev pub IsChain : (ℕ → ℕ) → (ℕ → ℕ) → ℕ → List ℕ → �
 IsChain next prev a [] z = (next a ≡ z) × (prev z ≡ a)
 IsChain next prev a (x ∷ xs) z = (next a ≡ x) × (prev x ≡ a) × IsChain next prev x xs z
 
+-- the next links lead from k on through the list
+abbrev pub IsRun : (ℕ → ℕ) → ℕ → List ℕ → Type 0
+IsRun next k [] = Unit {0}
+IsRun next k (x ∷ xs) = (k ≡ x) × IsRun next (next x) xs
+
 -- the next links once x is taken out of its list
 abbrev pub next_without : (ℕ → ℕ) → (ℕ → ℕ) → ℕ → ℕ → ℕ
 next_without next prev x = updated next (prev x) (next x)

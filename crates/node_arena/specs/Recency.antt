@@ -1,8 +1,9 @@
 -- The list of the nodes in use and that of the spare ones, and the arena that they show.
-use Rattle.std.specs.Prelude.{◌≡◌, ℕ, zero, suc, ◌+◌, ◌<◌, ◌≤◌, true, false, ◌==◌, List, [], ◌∷◌, length, Option, Some, None}
+use Rattle.std.specs.Prelude.{◌≡◌, ℕ, zero, suc, ◌+◌, ◌≤◌, true, false, List, [], ◌∷◌, length, Option, Some, None}
 use Rattle.node_arena.specs.Arena.{Arena, arena}
-use Rattle.node_arena.specs.Links.{has, IsApart, IsChain}
-use Rattle.node_arena.specs.Region.{next_of, prev_of, item_of, IsLaidOut}
+use Rattle.node_arena.specs.Links.{has, IsApart, IsChain, IsRun}
+use Rattle.node_arena.specs.Region.{count_of, place_of, next_of, prev_of, value_of, IsPlaced, IsLaidOut}
+use Rattle.node_arena.specs.declared.links.Link.{Link}
 use Rattle.node_arena.specs.declared.region.Region.{Region}
 use Rattle.node_arena.specs.declared.slot.Slot.{Slot}
 
@@ -11,15 +12,13 @@ abbrev pub walked : (ℕ → ℕ) → ℕ → ℕ → List ℕ
 walked next zero k = []
 walked next (suc n) k = k ∷ walked next n (next k)
 
--- two lists, which start and end at a and at b, have no node in common
-pub record AreTwo (next prev : ℕ → ℕ) (a : ℕ) (xs : List ℕ) (b : ℕ) (ys : List ℕ) : Type 0 where
-  pub one : IsChain next prev a xs a
-  pub other : IsChain next prev b ys b
-  pub ends : (a == b) ≡ false
-  pub a_not : (has a xs ≡ false) × (has a ys ≡ false)
-  pub b_not : (has b xs ≡ false) × (has b ys ≡ false)
-  pub apart : IsApart xs × IsApart ys
-  pub disjoint : (k : ℕ) → has k xs ≡ true → has k ys ≡ false
+-- a list in use goes in a circle from node 0, a spare one starts at the head, and they have no node in common
+pub record AreApart (next prev : ℕ → ℕ) (order : List ℕ) (head : ℕ) (spare : List ℕ) : Type 0 where
+  pub chain : IsChain next prev 0 order 0
+  pub run : IsRun next head spare
+  pub start_not : (has 0 order ≡ false) × (has 0 spare ≡ false)
+  pub apart : IsApart order × IsApart spare
+  pub disjoint : (k : ℕ) → has k order ≡ true → has k spare ≡ false
 
 module _ {T : Type 0} where
   -- an entry, where there is a value
@@ -34,25 +33,26 @@ module _ {T : Type 0} where
 
   -- the arena that the region shows: the nodes after node 0, in order
   abbrev pub shown : Region T → ℕ → ℕ → Arena T
-  shown r capacity len = arena (entries_at (item_of r) (walked (next_of r) len (next_of r 0))) capacity
+  shown r capacity len = arena (entries_at (value_of r) (walked (next_of r) len (next_of r 0))) capacity
 
-  -- the nodes in use stand in the list of node 0, the spare ones in that of node 1; just the first have values
-  pub record IsKept (next prev : ℕ → ℕ) (values : ℕ → Option T) (capacity len : ℕ)
+  -- each node but node 0 stands in one of the two lists, and just those of the first have values
+  pub record IsKept (next prev : ℕ → ℕ) (values : ℕ → Option T) (head capacity len : ℕ)
       (order spare : List ℕ) : Type 0 where
-    pub two : AreTwo next prev 0 order 1 spare
+    pub lists : AreApart next prev order head spare
     pub long : length order ≡ len
     pub total : length order + length spare ≡ capacity
-    pub order_within : (k : ℕ) → has k order ≡ true → k < capacity + 2
-    pub spare_within : (k : ℕ) → has k spare ≡ true → k < capacity + 2
+    pub order_within : (k : ℕ) → has k order ≡ true → k ≤ capacity
+    pub spare_within : (k : ℕ) → has k spare ≡ true → k ≤ capacity
     pub filled : (k : ℕ) → has k order ≡ true → (x : T) × (values k ≡ Some x)
     pub only : (k : ℕ) (x : T) → values k ≡ Some x → has k order ≡ true
 
   -- what holds of each arena
-  pub record IsWhole (r : Region T) (capacity len : ℕ) : Type 0 where
+  pub record IsWhole (r : Region T) (first : Link) (capacity len : ℕ) : Type 0 where
     pub laid_out : IsLaidOut r
-    pub count : r.count ≡ capacity + 2
+    pub placed : IsPlaced r first
+    pub count : count_of r ≡ capacity + 1
     pub least : 1 ≤ capacity
     pub most : capacity ≤ 65536
     pub order : List ℕ
     pub spare : List ℕ
-    pub kept : IsKept (next_of r) (prev_of r) (item_of r) capacity len order spare
+    pub kept : IsKept (next_of r) (prev_of r) (value_of r) (place_of r first) capacity len order spare

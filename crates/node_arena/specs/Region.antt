@@ -1,71 +1,75 @@
 -- How the nodes lie in the region.
-use Rattle.std.specs.Prelude.{◌≡◌, ℕ, ◌<◌, length, get_or, Option, Some, None}
-use Rattle.node_arena.specs.Places.{IsFilled, nth_place}
-use Rattle.node_arena.specs.declared.region.Link.{Link}
+use Rattle.std.specs.Prelude.{◌≡◌, ℕ, ◌-◌, ◌<◌, ◌≤◌, slice_get, Option, Some, None}
+use Rattle.std.specs.Vec.{vec_ptr, vec_len}
+use Rattle.node_arena.specs.Addresses.{index_of, LeadsIn}
+use Rattle.node_arena.specs.Item.{index_in, value_in}
+use Rattle.node_arena.specs.declared.links.Link.{Link}
 use Rattle.node_arena.specs.declared.region.Node.{Node}
 use Rattle.node_arena.specs.declared.region.Region.{Region}
 
-module _ {T : Type 0} where
-  -- the index of the node after the one in a cell
+module _ {T : Type 0} (r : Region T) where
+  -- how many nodes there are
+  abbrev pub count_of : ℕ
+  count_of = vec_len r.nodes
+
+  -- the index of the node that the link leads to
+  abbrev pub place_of : Link → ℕ
+  place_of link = index_of (vec_ptr r.nodes) r.stride.bytes link.to
+
+  -- it leads to a node
+  abbrev pub IsPlaced : Link → Type 0
+  IsPlaced link = LeadsIn r.nodes r.stride.bytes link.to
+
+  -- the index of the node after this one, of the one before it, and its value
   abbrev pub next_in : Option (Node T) → ℕ
   next_in None = 0
-  next_in (Some n) = n.next.index
+  next_in (Some n) = place_of n.next
 
-  -- of the node before it
   abbrev pub prev_in : Option (Node T) → ℕ
   prev_in None = 0
-  prev_in (Some n) = n.prev.index
+  prev_in (Some n) = place_of n.prev
 
-  -- and its value
-  abbrev pub item_in : Option (Node T) → Option T
-  item_in None = None
-  item_in (Some n) = n.item
+  abbrev pub held_in : Option (Node T) → Option T
+  held_in None = None
+  held_in (Some n) = value_in n.item
 
-  module _ (r : Region T) where
-    -- the node at an index
-    abbrev pub node_at : ℕ → Option (Node T)
-    node_at k = get_or r.cells.slots k None
+  -- the node at an index
+  abbrev pub node_at : ℕ → Option (Node T)
+  node_at k = slice_get r.nodes.items k
 
-    -- the index of the node after it
-    abbrev pub next_of : ℕ → ℕ
-    next_of k = next_in (node_at k)
+  -- the index of the node after it, of the one before it, and its value
+  abbrev pub next_of : ℕ → ℕ
+  next_of k = next_in (node_at k)
 
-    -- of the node before it
-    abbrev pub prev_of : ℕ → ℕ
-    prev_of k = prev_in (node_at k)
+  abbrev pub prev_of : ℕ → ℕ
+  prev_of k = prev_in (node_at k)
 
-    -- and its value
-    abbrev pub item_of : ℕ → Option T
-    item_of k = item_in (node_at k)
+  abbrev pub value_of : ℕ → Option T
+  value_of k = held_in (node_at k)
 
-    -- the link's pointer is that of the cell at its index
-    abbrev pub IsPlaced : Link → Type 0
-    IsPlaced link = (link.index < r.count) × (link.place.ptr ≡ nth_place r.cells.at r.cells.stride link.index)
+  -- each link leads to a node, and each node has its index
+  pub record IsLaidOut : Type 0 where
+    pub positive : 1 ≤ r.stride.bytes
+    pub placed : (k : ℕ) (n : Node T) → node_at k ≡ Some n → IsPlaced n.prev × IsPlaced n.next
+    pub named : (k : ℕ) (n : Node T) → node_at k ≡ Some n → index_in n.item ≡ k
 
-    -- each cell holds a node, whose links point to nodes
-    pub record IsLaidOut : Type 0 where
-      pub first : r.first.ptr ≡ r.cells.at
-      pub deed : (r.deed.at ≡ r.first.ptr) × (r.deed.len ≡ r.count) × (r.deed.alloc ≡ r.alloc)
-      pub count : length r.cells.slots ≡ r.count
-      pub filled : (k : ℕ) → k < r.count → IsFilled r.cells.slots k
-      pub placed : (k : ℕ) (n : Node T) → node_at k ≡ Some n → IsPlaced n.prev × IsPlaced n.next
+  -- each node leads back to the first and on to the one before it, and holds no value
+  pub record IsBlank : Type 0 where
+    pub next : (k : ℕ) → k < count_of → next_of k ≡ k - 1
+    pub prev : (k : ℕ) → k < count_of → prev_of k ≡ 0
+    pub value : (k : ℕ) → value_of k ≡ None
 
-    -- each node is linked to itself, and no node holds a value
-    pub record IsBlank : Type 0 where
-      pub next : (k : ℕ) → k < r.count → next_of k ≡ k
-      pub prev : (k : ℕ) → k < r.count → prev_of k ≡ k
-      pub item : (k : ℕ) → item_of k ≡ None
-
+module _ {T : Type 0} (old new : Region T) where
   -- the same block
-  pub record IsSameBlock (old new : Region T) : Type 0 where
-    pub count : new.count ≡ old.count
-    pub at : new.cells.at ≡ old.cells.at
-    pub stride : new.cells.stride ≡ old.cells.stride
+  pub record IsSameBlock : Type 0 where
+    pub count : count_of new ≡ count_of old
+    pub start : vec_ptr new.nodes ≡ vec_ptr old.nodes
+    pub bytes : new.stride.bytes ≡ old.stride.bytes
 
   -- the new region is the same block, with these links and values
-  pub record Becomes (old new : Region T) (nexts prevs : ℕ → ℕ) (values : ℕ → Option T) : Type 0 where
+  pub record Becomes (nexts prevs : ℕ → ℕ) (values : ℕ → Option T) : Type 0 where
     pub laid_out : IsLaidOut new
-    pub block : IsSameBlock old new
+    pub block : IsSameBlock
     pub next : next_of new ≡ nexts
     pub prev : prev_of new ≡ prevs
-    pub item : item_of new ≡ values
+    pub value : value_of new ≡ values

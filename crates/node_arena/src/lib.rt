@@ -1,7 +1,8 @@
 //! Nodes of a fixed number in one region of memory, each named by a slot, with the order of their last use.
 #![tactic(auto)]
 
-mod cells;
+mod item;
+mod links;
 mod nodes;
 mod region;
 mod slot;

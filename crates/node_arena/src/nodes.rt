@@ -4,20 +4,21 @@ ghost use Rattle.std.specs.Borrow.{sem};
 ghost use Rattle.node_arena.specs.declared.slot.Slot.{Slot};
 ghost use Rattle.node_arena.specs.Arena.{arena, value_at, IsHeld, oldest_of, with_first, without, touched, IsSound};
 
+use crate::links::Link;
 use crate::region::Region;
 use crate::slot::Slot;
 use std::alloc::{AllocError, Global};
 use std::marker::Model;
 
-/// The index of the node where the list of the nodes in use starts and ends.
-const HELD: usize = 0;
-
-/// The same, of the list of the spare nodes.
-const SPARE: usize = 1;
+/// The index of the node where the list of the nodes in use starts and ends. It holds no value.
+const START: usize = 0;
 
 /// At most `capacity` values, each in a node of its own under a slot, in the order of their last use.
+#[derive(Drop)]
 pub struct Nodes<T> {
     region: Region<T>,
+    /// Leads to the first spare node, where there is one. Each spare node leads on to the next.
+    spare: Link,
     capacity: u32,
     len: u32,
 }
@@ -33,7 +34,7 @@ impl<T> Model for Nodes<T> {
 
     ghost view = { λ s. shown s.region s.capacity s.len };
 
-    ghost invariant = { λ s. IsWhole s.region s.capacity s.len };
+    ghost invariant = { λ s. IsWhole s.region s.spare s.capacity s.len };
 }
 
 impl<T> Nodes<T> {
@@ -45,15 +46,11 @@ impl<T> Nodes<T> {
         requires most { capacity ≤ 65536 }
         ensures new { IfOk result (λ n. n ≡ arena [] capacity) }
     {
-        let count = capacity + 2;
-        let mut region = Region::new(alloc, count)?;
-        for index in 2..count {
-            let spare = region.link(SPARE);
-            let node = region.link(index);
-            region.link_after(spare, node);
-        }
+        let region = Region::new(alloc, capacity + 1)?;
+        let spare = region.link(capacity);
         Ok(Nodes {
             region,
+            spare,
             capacity: capacity as u32,
             len: 0,
         })
@@ -74,17 +71,17 @@ impl<T> Nodes<T> {
         self.capacity as usize
     }
 
-    /// Whether the slot is of a value that is there.
+    /// Returns whether the slot is of a value that is there.
     pub fn is_held(&self, slot: Slot) -> bool
         ensures held { IsTrue result ↔ IsHeld self.now slot }
     {
-        if slot.index >= self.region.count {
+        if slot.index > self.capacity as usize {
             return false;
         }
-        self.region.is_filled(self.region.link(slot.index))
+        self.region.is_held(self.region.link(slot.index))
     }
 
-    /// The value of the slot.
+    /// Returns the value of the slot.
     pub fn get(&self, slot: Slot) -> &T
         requires { IsHeld self.now slot }
         ensures value { value_at self.now slot ≡ Some result.now }
@@ -92,7 +89,7 @@ impl<T> Nodes<T> {
         self.region.value(self.region.link(slot.index))
     }
 
-    /// The value of the slot, to write to. The order stays.
+    /// Returns the value of the slot, to write to. The order stays.
     pub fn get_mut(&mut self, slot: Slot) -> &mut T
         requires { IsHeld self.old slot }
         ensures* writes_back { sem 𝓛 (lends_value T.row self.entry slot result) }
@@ -102,7 +99,7 @@ impl<T> Nodes<T> {
         self.region.value_mut(lent)
     }
 
-    /// The slot whose value was added or touched the longest time ago.
+    /// Returns the slot whose value was added or touched the longest time ago.
     pub fn oldest(&self) -> Option<Slot>
         ensures last { result ≡ oldest_of self.now }
         ensures held { IfSome result (λ slot. IsHeld self.now slot) }
@@ -110,8 +107,10 @@ impl<T> Nodes<T> {
         if self.len == 0 {
             return None;
         }
-        let last = self.region.prev(self.region.link(HELD));
-        Some(Slot { index: last.index })
+        let last = self.region.prev(self.region.link(START));
+        Some(Slot {
+            index: self.region.index(last),
+        })
     }
 
     /// Makes the slot the most recently used.
@@ -121,9 +120,9 @@ impl<T> Nodes<T> {
         ensures values { (s : Slot) → value_at self.new s ≡ value_at self.old s }
     {
         let node = self.region.link(slot.index);
-        let held = self.region.link(HELD);
+        let start = self.region.link(START);
         self.region.unlink(node);
-        self.region.link_after(held, node);
+        self.region.link_after(start, node);
     }
 
     /// Takes the value of the slot out. The slot may be given out again.
@@ -135,9 +134,9 @@ impl<T> Nodes<T> {
         ensures others { (s : Slot) → s ≢ slot → value_at self.new s ≡ value_at self.old s }
     {
         let node = self.region.link(slot.index);
-        let spare = self.region.link(SPARE);
         self.region.unlink(node);
-        self.region.link_after(spare, node);
+        self.region.set_next(node, self.spare);
+        self.spare = node;
         self.len -= 1;
         self.region.take(node)
     }
@@ -153,23 +152,14 @@ impl<T> Nodes<T> {
         if self.len == self.capacity {
             return Err(item);
         }
-        let node = self.region.next(self.region.link(SPARE));
-        let start = self.region.link(HELD);
-        self.region.unlink(node);
+        let node = self.spare;
+        let start = self.region.link(START);
+        self.spare = self.region.next(node);
         self.region.link_after(start, node);
         self.region.put(node, item);
         self.len += 1;
-        Ok(Slot { index: node.index })
-    }
-}
-
-impl<T: Drop> Drop for Nodes<T> {
-    fn drop(self) {
-        let Nodes {
-            region,
-            capacity: _,
-            len: _,
-        } = self;
-        region.release();
+        Ok(Slot {
+            index: self.region.index(node),
+        })
     }
 }

@@ -1,160 +1,142 @@
-//! The nodes of the region, and the links between them.
-ghost use Rattle.std.specs.Prelude.{◌≡◌, ℕ, ◌+◌, ◌<◌, ◌≤◌, ◌^◌, length, get_or, Option, Some, None, IfOk, IsSome, is_some, ◌==◌, Bool, false};
+//! The nodes in their region of memory, and the links between them.
+ghost use Rattle.std.specs.Prelude.{◌≡◌, ◌+◌, ◌<◌, ◌≤◌, ◌^◌, Some, None, IfOk, IsSome, is_some};
 ghost use Rattle.std.specs.Borrow.{sem};
 ghost use Rattle.node_arena.specs.Links.{updated, next_without, prev_without, next_with, prev_with};
 
-use crate::cells::{Cells, Deed, Place, allocate, deallocate};
+use crate::item::Item;
+use crate::links::{Link, Stride, address, follow, follow_mut};
 use std::alloc::{AllocError, Global};
-use std_alloc::room::may_hold;
-
-/// A pointer to a node, with the node's index.
-#[derive(Clone, Copy)]
-pub struct Link {
-    place: Place,
-    pub(crate) index: usize,
-}
 
 /// A node: its two neighbours in the list that it stands in, and the value that it holds.
 #[derive(Drop)]
 pub struct Node<T> {
     prev: Link,
     next: Link,
-    item: Option<T>,
+    item: Item<T>,
 }
 
-impl<T> Node<T> {
-    ghost use Rattle.node_arena.specs.NodeLends.{lends_item};
-
-    /// The value that the node holds, to write to.
-    fn item_mut(&mut self) -> &mut T
-        requires { IsSome self.old.item }
-        ensures* writes_back { sem 𝓛 (lends_item T.row self.entry result) }
-        ensures value { self.old.item ≡ Some result.now }
-    {
-        match &mut self.item {
-            Some(item) => item,
-            None => unreachable!(),
-        }
-    }
-}
-
-/// The block of `count` nodes, and what it takes to free it.
+/// The nodes, side by side in one block. A link to one of them stays good, since none is added later.
+#[derive(Drop)]
 pub struct Region<T> {
-    first: Place,
-    pub(crate) count: usize,
-    cells: Cells<Node<T>>,
-    deed: Deed<Node<T>, Global>,
-    alloc: Global,
+    nodes: Vec<Node<T>>,
+    stride: Stride<Node<T>>,
 }
 
 impl<T> Region<T> {
-    ghost use Rattle.node_arena.specs.RegionLends.{lends_value};
-    ghost use Rattle.node_arena.specs.Region.{IsLaidOut, IsBlank, IsPlaced, Becomes, node_at, next_of, prev_of, item_of};
+    ghost use Rattle.node_arena.specs.RegionLends.{lends_node, lends_value};
+    ghost use Rattle.node_arena.specs.Region.{IsLaidOut, IsBlank, IsPlaced, Becomes, count_of, place_of, node_at, next_of, prev_of, value_of};
 
-    /// Takes a block of `count` nodes, each linked to itself, and with no value.
+    /// Takes a block of `count` nodes with no value. Each leads back to the first, and on to the one before it.
     pub(crate) fn new(alloc: Global, count: usize) -> Result<Region<T>, AllocError>
-        ensures { IfOk result (λ r. IsLaidOut r × (r.count ≡ count) × IsBlank r) }
+        requires { (1 ≤ count) × (count < 2 ^ 32) }
+        ensures { IfOk result (λ r. IsLaidOut r × (count_of r ≡ count) × IsBlank r) }
     {
-        if !may_hold::<Node<T>>(count) {
-            return Err(AllocError);
-        }
-        let (first, mut cells, deed) = allocate(&alloc, count)?;
+        let mut nodes = Vec::with_capacity(alloc, count)?;
+        let start = nodes.as_ptr();
+        let first = Link {
+            to: address(&nodes, start, 0),
+        };
+        let mut last = first;
         for index in 0..count {
-            let place = cells.place(first, index);
-            let own = Link { place, index };
-            let node = Node {
-                prev: own,
-                next: own,
-                item: None,
+            let item = Item::Vacant {
+                index: index as u32,
             };
-            cells.write(place, index, node);
+            nodes.push_reserved(Node {
+                prev: first,
+                next: last,
+                item,
+            });
+            last = Link {
+                to: address(&nodes, start, index),
+            };
         }
         Ok(Region {
-            first,
-            count,
-            cells,
-            deed,
-            alloc,
+            nodes,
+            stride: Stride::new(),
         })
     }
 
-    /// Drops what the nodes hold, and frees the block.
-    pub(crate) fn release(self)
-    where
-        T: Drop,
-        requires { IsLaidOut self }
-    {
-        let Region {
-            first,
-            count,
-            mut cells,
-            deed,
-            alloc,
-        } = self;
-        for index in 0..count {
-            let place = cells.place(first, index);
-            let _node = cells.read(place, index);
-        }
-        deallocate(&alloc, first, count, cells, deed);
-    }
-
-    /// A pointer to the node at `index`.
+    /// Returns a link to the node at `index`.
     pub(crate) fn link(&self, index: usize) -> Link
-        requires { IsLaidOut self.now × (index < self.now.count) }
-        ensures { IsPlaced self.now result × (result.index ≡ index) }
+        requires { IsLaidOut self.now × (index < count_of self.now) }
+        ensures { IsPlaced self.now result × (place_of self.now result ≡ index) }
     {
+        self.stride.measures();
         Link {
-            place: self.cells.place(self.first, index),
-            index,
+            to: address(&self.nodes, self.nodes.as_ptr(), index),
         }
     }
 
-    /// The node that `link` points to.
-    pub(crate) fn node(&self, link: Link) -> &Node<T>
+    /// Returns the node that `link` leads to.
+    fn node(&self, link: Link) -> &Node<T>
         requires { IsLaidOut self.now × IsPlaced self.now link }
-        ensures { node_at self.now link.index ≡ Some result.now }
+        ensures { node_at self.now (place_of self.now link) ≡ Some result.now }
     {
-        self.cells.at(link.place, link.index)
+        self.stride.measures();
+        follow(&self.nodes, link.to)
     }
 
-    /// The node after the one that `link` points to.
+    /// Returns the node that `link` leads to, to write to.
+    fn node_mut(&mut self, link: Link) -> &mut Node<T>
+        requires { IsLaidOut self.old × IsPlaced self.old link }
+        ensures* writes_back { sem 𝓛 (lends_node T.row self.entry (place_of self.old link) result) }
+        ensures value { node_at self.old (place_of self.old link) ≡ Some result.now }
+    {
+        self.stride.measures();
+        follow_mut(&mut self.nodes, link.to)
+    }
+
+    /// Returns the index of the node that `link` leads to.
+    pub(crate) fn index(&self, link: Link) -> usize
+        requires { IsLaidOut self.now × IsPlaced self.now link }
+        ensures { result ≡ place_of self.now link }
+    {
+        self.node(link).item.index() as usize
+    }
+
+    /// Returns a link to the node after the one that `link` leads to.
     pub(crate) fn next(&self, link: Link) -> Link
         requires { IsLaidOut self.now × IsPlaced self.now link }
-        ensures { IsPlaced self.now result × (result.index ≡ next_of self.now link.index) }
+        ensures { IsPlaced self.now result
+            × (place_of self.now result ≡ next_of self.now (place_of self.now link)) }
     {
         self.node(link).next
     }
 
-    /// The node before it.
+    /// Returns a link to the node before it.
     pub(crate) fn prev(&self, link: Link) -> Link
         requires { IsLaidOut self.now × IsPlaced self.now link }
-        ensures { IsPlaced self.now result × (result.index ≡ prev_of self.now link.index) }
+        ensures { IsPlaced self.now result
+            × (place_of self.now result ≡ prev_of self.now (place_of self.now link)) }
     {
         self.node(link).prev
     }
 
-    fn set_next(&mut self, link: Link, to: Link)
+    /// Lets the node lead on to the one that `to` leads to.
+    pub(crate) fn set_next(&mut self, link: Link, to: Link)
         requires { IsLaidOut self.old × IsPlaced self.old link × IsPlaced self.old to }
         ensures { Becomes self.old self.new
-            (updated (next_of self.old) link.index to.index) (prev_of self.old) (item_of self.old) }
+            (updated (next_of self.old) (place_of self.old link) (place_of self.old to))
+            (prev_of self.old) (value_of self.old) }
     {
-        self.cells.at_mut(link.place, link.index).next = to;
+        self.node_mut(link).next = to;
     }
 
+    /// Lets the node lead back to the one that `to` leads to.
     fn set_prev(&mut self, link: Link, to: Link)
         requires { IsLaidOut self.old × IsPlaced self.old link × IsPlaced self.old to }
         ensures { Becomes self.old self.new
-            (next_of self.old) (updated (prev_of self.old) link.index to.index) (item_of self.old) }
+            (next_of self.old) (updated (prev_of self.old) (place_of self.old link) (place_of self.old to))
+            (value_of self.old) }
     {
-        self.cells.at_mut(link.place, link.index).prev = to;
+        self.node_mut(link).prev = to;
     }
 
     /// Takes the node out of the list that it stands in. Its own links stay.
     pub(crate) fn unlink(&mut self, link: Link)
         requires { IsLaidOut self.old × IsPlaced self.old link }
-        ensures { let n = next_of self.old in let p = prev_of self.old in
-            Becomes self.old self.new
-            (next_without n p link.index) (prev_without n p link.index) (item_of self.old) }
+        ensures { let n = next_of self.old in let p = prev_of self.old in let k = place_of self.old link in
+            Becomes self.old self.new (next_without n p k) (prev_without n p k) (value_of self.old) }
     {
         let prev = self.prev(link);
         let next = self.next(link);
@@ -162,12 +144,12 @@ impl<T> Region<T> {
         self.set_prev(next, prev);
     }
 
-    /// Puts the node, which stands in no list, right after the one that `at` points to.
+    /// Puts the node, which stands in no list, right after the one that `at` leads to.
     pub(crate) fn link_after(&mut self, at: Link, link: Link)
         requires { IsLaidOut self.old × IsPlaced self.old at × IsPlaced self.old link }
         ensures { let n = next_of self.old in let p = prev_of self.old in
-            Becomes self.old self.new
-            (next_with n at.index link.index) (prev_with n p at.index link.index) (item_of self.old) }
+            let a = place_of self.old at in let k = place_of self.old link in
+            Becomes self.old self.new (next_with n a k) (prev_with n p a k) (value_of self.old) }
     {
         let next = self.next(at);
         self.set_next(link, next);
@@ -176,63 +158,53 @@ impl<T> Region<T> {
         self.set_next(at, link);
     }
 
-    /// Whether the node holds a value.
-    pub(crate) fn is_filled(&self, link: Link) -> bool
+    /// Returns whether the node holds a value.
+    pub(crate) fn is_held(&self, link: Link) -> bool
         requires { IsLaidOut self.now × IsPlaced self.now link }
-        ensures { result ≡ is_some (item_of self.now link.index) }
+        ensures { result ≡ is_some (value_of self.now (place_of self.now link)) }
     {
-        self.node(link).item.is_some()
+        self.node(link).item.is_held()
     }
 
-    /// The value that the node holds.
+    /// Returns the value that the node holds.
     pub(crate) fn value(&self, link: Link) -> &T
         requires { IsLaidOut self.now × IsPlaced self.now link
-            × IsSome (item_of self.now link.index) }
-        ensures { item_of self.now link.index ≡ Some result.now }
+            × IsSome (value_of self.now (place_of self.now link)) }
+        ensures { value_of self.now (place_of self.now link) ≡ Some result.now }
     {
-        match &self.node(link).item {
-            Some(item) => item,
-            None => unreachable!(),
-        }
+        self.node(link).item.value()
+    }
+
+    /// Returns the value that the node holds, to write to.
+    pub(crate) fn value_mut(&mut self, link: Link) -> &mut T
+        requires { IsLaidOut self.old × IsPlaced self.old link
+            × IsSome (value_of self.old (place_of self.old link)) }
+        ensures* writes_back { sem 𝓛 (lends_value T.row self.entry (place_of self.old link) result) }
+        ensures value { value_of self.old (place_of self.old link) ≡ Some result.now }
+    {
+        self.node_mut(link).item.value_mut()
     }
 
     /// Moves the value out of the node.
     pub(crate) fn take(&mut self, link: Link) -> T
         requires { IsLaidOut self.old × IsPlaced self.old link
-            × IsSome (item_of self.old link.index) }
-        ensures value { item_of self.old link.index ≡ Some result }
+            × IsSome (value_of self.old (place_of self.old link)) }
+        ensures value { value_of self.old (place_of self.old link) ≡ Some result }
         ensures emptied { Becomes self.old self.new
-            (next_of self.old) (prev_of self.old) (updated (item_of self.old) link.index None) }
+            (next_of self.old) (prev_of self.old)
+            (updated (value_of self.old) (place_of self.old link) None) }
     {
-        let node = self.cells.at_mut(link.place, link.index);
-        match node.item.take() {
-            Some(item) => item,
-            None => unreachable!(),
-        }
+        self.node_mut(link).item.take()
     }
 
     /// Moves a value into the node, which holds none.
-    pub(crate) fn put(&mut self, link: Link, item: T)
+    pub(crate) fn put(&mut self, link: Link, value: T)
         requires { IsLaidOut self.old × IsPlaced self.old link
-            × (item_of self.old link.index ≡ None) }
+            × (value_of self.old (place_of self.old link) ≡ None) }
         ensures { Becomes self.old self.new
-            (next_of self.old) (prev_of self.old) (updated (item_of self.old) link.index (Some item)) }
+            (next_of self.old) (prev_of self.old)
+            (updated (value_of self.old) (place_of self.old link) (Some value)) }
     {
-        let node = self.cells.at_mut(link.place, link.index);
-        match node.item.replace(item) {
-            Some(_) => unreachable!(),
-            None => {}
-        }
-    }
-
-    /// The value that the node holds, to write to.
-    pub(crate) fn value_mut(&mut self, link: Link) -> &mut T
-        requires { IsLaidOut self.old × IsPlaced self.old link
-            × IsSome (item_of self.old link.index) }
-        ensures* writes_back { sem 𝓛 (lends_value T.row self.entry link.index result) }
-        ensures value { item_of self.old link.index ≡ Some result.now }
-    {
-        let node = self.cells.at_mut(link.place, link.index);
-        node.item_mut()
+        self.node_mut(link).item.put(value)
     }
 }

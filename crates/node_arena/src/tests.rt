@@ -1,8 +1,42 @@
+ghost use Rattle.std.specs.Prelude.{◌<◌, vec_len};
+
+use crate::region::Node;
 use crate::{Nodes, Slot};
 use std::alloc::Global;
 use std::cell::Cell;
+use std::mem::size_of;
 use std::process::Abort;
 use std::test::Fail;
+
+/// Adds a value, for which there is room.
+fn add<T: Drop>(rt: &impl Abort, nodes: &mut Nodes<T>, value: T) -> Slot {
+    match nodes.add(value) {
+        Ok(slot) => slot,
+        Err(_) => panic!(rt; "full"),
+    }
+}
+
+/// Touches a slot that is held.
+fn touch<T>(rt: &impl Abort, nodes: &mut Nodes<T>, slot: Slot) {
+    assert!(rt; nodes.is_held(slot));
+    nodes.touch(slot);
+}
+
+/// Removes a slot that is held, and sees that it is not held any more.
+fn remove<T>(rt: &impl Abort, nodes: &mut Nodes<T>, slot: Slot) -> T {
+    assert!(rt; nodes.is_held(slot));
+    let value = nodes.remove(slot);
+    if nodes.is_held(slot) {
+        panic!(rt; "a removed slot is held");
+    }
+    value
+}
+
+/// Compares the oldest slot and the length with what they must be.
+fn expect_oldest<T>(rt: &impl Abort, nodes: &Nodes<T>, oldest: Option<Slot>, len: usize) {
+    assert_eq!(rt; nodes.oldest(), oldest);
+    assert_eq!(rt; nodes.len(), len);
+}
 
 /// The values, the least recently used first. Each is touched once, so the order stays.
 fn values_from_oldest(alloc: Global, nodes: &mut Nodes<char>) -> Result<String, Fail> {
@@ -16,64 +50,97 @@ fn values_from_oldest(alloc: Global, nodes: &mut Nodes<char>) -> Result<String, 
     Ok(values)
 }
 
+/// Compares the values, the least recently used first, with those of a text.
+fn expect_order(
+    rt: &impl Abort,
+    alloc: Global,
+    nodes: &mut Nodes<char>,
+    expected: &str,
+) -> Result<(), Fail> {
+    let values = values_from_oldest(alloc, nodes)?;
+    assert_eq!(rt; values.as_str(), expected);
+    Ok(())
+}
+
+/// Sees that a full arena gives a value back.
+fn expect_full(rt: &impl Abort, nodes: &mut Nodes<char>, value: char) {
+    assert_eq!(rt; nodes.add(value), Err(value));
+}
+
+/// Removes a slot that is held, and compares its value.
+fn expect_removed(rt: &impl Abort, nodes: &mut Nodes<char>, slot: Slot, value: char) {
+    assert_eq!(rt; remove(rt, nodes, slot), value);
+}
+
 #[test]
 fn refuses_a_third_value_at_capacity_two(rt: HostRuntime) -> Result<(), Fail> {
     let mut nodes = Nodes::new(rt.alloc(), 2)?;
-    assert_eq!(rt; nodes.oldest(), None);
     assert_eq!(rt; nodes.capacity(), 2);
-    let a = nodes.add('a')?;
-    let b = nodes.add('b')?;
-    assert_eq!(rt; nodes.add('c'), Err('c'));
-    assert_eq!(rt; nodes.oldest(), Some(a));
-    assert!(rt; nodes.is_held(a));
-    nodes.touch(a);
-    assert_eq!(rt; nodes.oldest(), Some(b));
-    assert!(rt; nodes.is_held(b));
-    assert_eq!(rt; nodes.remove(b), 'b');
-    assert!(rt; !nodes.is_held(b));
-    let c = nodes.add('c')?;
-    assert_eq!(rt; *nodes.get_mut(c), 'c');
-    assert_eq!(rt; nodes.oldest(), Some(a));
-    assert_eq!(rt; nodes.len(), 2);
+    expect_oldest(&rt, &nodes, None, 0);
+    let a = add(&rt, &mut nodes, 'a');
+    let b = add(&rt, &mut nodes, 'b');
+    expect_full(&rt, &mut nodes, 'c');
+    expect_oldest(&rt, &nodes, Some(a), 2);
+    touch(&rt, &mut nodes, a);
+    expect_oldest(&rt, &nodes, Some(b), 2);
+    expect_removed(&rt, &mut nodes, b, 'b');
+    add(&rt, &mut nodes, 'c');
+    expect_oldest(&rt, &nodes, Some(a), 2);
     Ok(())
 }
 
 #[test]
 fn keeps_the_order_of_use_at_capacity_three(rt: HostRuntime) -> Result<(), Fail> {
     let mut nodes = Nodes::new(rt.alloc(), 3)?;
-    let a = nodes.add('a')?;
-    let b = nodes.add('b')?;
-    let c = nodes.add('c')?;
-    assert_eq!(rt; values_from_oldest(rt.alloc(), &mut nodes)?.as_str(), "abc");
-    assert!(rt; nodes.is_held(b));
-    nodes.touch(b);
-    assert_eq!(rt; values_from_oldest(rt.alloc(), &mut nodes)?.as_str(), "acb");
-    assert!(rt; nodes.is_held(c));
-    assert_eq!(rt; nodes.remove(c), 'c');
-    assert_eq!(rt; values_from_oldest(rt.alloc(), &mut nodes)?.as_str(), "ab");
-    assert!(rt; nodes.is_held(a));
-    nodes.touch(a);
-    assert_eq!(rt; values_from_oldest(rt.alloc(), &mut nodes)?.as_str(), "ba");
-    let d = nodes.add('d')?;
-    assert_eq!(rt; values_from_oldest(rt.alloc(), &mut nodes)?.as_str(), "bad");
-    assert_eq!(rt; nodes.oldest(), Some(b));
-    assert_eq!(rt;
-        nodes.is_held(c),
-        c == d,
-        "c's old slot is held again where d took it"
-    );
+    let a = add(&rt, &mut nodes, 'a');
+    let b = add(&rt, &mut nodes, 'b');
+    let c = add(&rt, &mut nodes, 'c');
+    expect_order(&rt, rt.alloc(), &mut nodes, "abc")?;
+    touch(&rt, &mut nodes, b);
+    expect_order(&rt, rt.alloc(), &mut nodes, "acb")?;
+    expect_removed(&rt, &mut nodes, c, 'c');
+    expect_order(&rt, rt.alloc(), &mut nodes, "ab")?;
+    touch(&rt, &mut nodes, a);
+    expect_order(&rt, rt.alloc(), &mut nodes, "ba")?;
+    let d = add(&rt, &mut nodes, 'd');
+    expect_order(&rt, rt.alloc(), &mut nodes, "bad")?;
+    assert_eq!(rt; c, d, "c's old slot is held again");
     Ok(())
+}
+
+/// Writes a value in the place of one that is held.
+fn overwrite(rt: &impl Abort, nodes: &mut Nodes<char>, slot: Slot, value: char) {
+    assert!(rt; nodes.is_held(slot));
+    *nodes.get_mut(slot) = value;
 }
 
 #[test]
 fn writes_a_value_in_its_place(rt: HostRuntime) -> Result<(), Fail> {
     let mut nodes = Nodes::new(rt.alloc(), 3)?;
-    nodes.add('a')?;
-    let b = nodes.add('b')?;
-    nodes.add('c')?;
-    assert!(rt; nodes.is_held(b));
-    *nodes.get_mut(b) = 'x';
-    assert_eq!(rt; values_from_oldest(rt.alloc(), &mut nodes)?.as_str(), "axc");
+    add(&rt, &mut nodes, 'a');
+    let b = add(&rt, &mut nodes, 'b');
+    add(&rt, &mut nodes, 'c');
+    overwrite(&rt, &mut nodes, b, 'x');
+    expect_order(&rt, rt.alloc(), &mut nodes, "axc")
+}
+
+#[test]
+fn takes_24_bytes_beside_a_value(rt: HostRuntime) {
+    assert_eq!(rt; size_of::<Node<u64>>(), 24 + 8);
+    assert_eq!(rt; size_of::<Node<(u64, [u64; 9])>>(), 24 + 80);
+}
+
+/// Fills an arena, sees that it refuses one more, and empties it, the oldest first.
+fn fill_and_empty(rt: &impl Abort, nodes: &mut Nodes<usize>) -> Result<(), Fail> {
+    let capacity = nodes.capacity();
+    for value in 0..capacity {
+        add(rt, nodes, value);
+    }
+    assert_eq!(rt; nodes.add(capacity), Err(capacity));
+    for value in 0..capacity {
+        let slot = nodes.oldest().ok_or("no oldest slot")?;
+        assert_eq!(rt; remove(rt, nodes, slot), value);
+    }
     Ok(())
 }
 
@@ -81,18 +148,9 @@ fn writes_a_value_in_its_place(rt: HostRuntime) -> Result<(), Fail> {
 fn fills_refuses_once_and_empties(rt: HostRuntime) -> Result<(), Fail> {
     for capacity in [1usize, 65_536] {
         let mut nodes = Nodes::new(rt.alloc(), capacity)?;
-        for value in 0..capacity {
-            nodes.add(value)?;
-        }
-        assert_eq!(rt; nodes.add(capacity), Err(capacity));
-        assert_eq!(rt; nodes.len(), capacity);
-        for value in 0..capacity {
-            let slot = nodes.oldest().ok_or("no oldest slot")?;
-            assert!(rt; nodes.is_held(slot));
-            assert_eq!(rt; nodes.remove(slot), value);
-        }
-        assert_eq!(rt; nodes.oldest(), None);
-        assert_eq!(rt; nodes.len(), 0);
+        assert_eq!(rt; nodes.capacity(), capacity);
+        fill_and_empty(&rt, &mut nodes)?;
+        expect_oldest(&rt, &nodes, None, 0);
     }
     Ok(())
 }
@@ -111,13 +169,12 @@ impl Drop for Counted<'_> {
 fn drops_each_value_once(rt: HostRuntime) -> Result<(), Fail> {
     let drops = Cell::new(0);
     let mut nodes = Nodes::new(rt.alloc(), 3)?;
-    let first = nodes.add(Counted(&drops)).ok().ok_or("full")?;
-    nodes.add(Counted(&drops)).ok().ok_or("full")?;
-    nodes.add(Counted(&drops)).ok().ok_or("full")?;
-    assert!(rt; nodes.add(Counted(&drops)).is_err());
+    let first = add(&rt, &mut nodes, Counted(&drops));
+    add(&rt, &mut nodes, Counted(&drops));
+    add(&rt, &mut nodes, Counted(&drops));
+    drop(nodes.add(Counted(&drops)));
     assert_eq!(rt; drops.get(), 1, "the value that came back");
-    assert!(rt; nodes.is_held(first));
-    let value = nodes.remove(first);
+    let value = remove(&rt, &mut nodes, first);
     assert_eq!(rt; drops.get(), 1, "a removed value is its caller's");
     drop(value);
     assert_eq!(rt; drops.get(), 2);
@@ -130,9 +187,8 @@ fn drops_each_value_once(rt: HostRuntime) -> Result<(), Fail> {
 fn drops_nothing_where_no_value_is_held(rt: HostRuntime) -> Result<(), Fail> {
     let drops = Cell::new(0);
     let mut nodes = Nodes::new(rt.alloc(), 2)?;
-    let slot = nodes.add(Counted(&drops)).ok().ok_or("full")?;
-    assert!(rt; nodes.is_held(slot));
-    drop(nodes.remove(slot));
+    let slot = add(&rt, &mut nodes, Counted(&drops));
+    drop(remove(&rt, &mut nodes, slot));
     assert_eq!(rt; drops.get(), 1);
     drop(nodes);
     assert_eq!(rt; drops.get(), 1);
@@ -146,34 +202,51 @@ fn next_random(state: u64) -> u64 {
         .wrapping_add(1_442_695_040_888_963_407)
 }
 
-/// Makes one call on the arena, and the same on a plain list, the most recently used first.
-fn act(
+/// Adds a value to the arena, and to a list, the most recently used first.
+fn add_to_both(
     rt: &impl Abort,
     nodes: &mut Nodes<u64>,
     list: &mut Vec<(Slot, u64)>,
-    random: u64,
+    value: u64,
 ) -> Result<(), Fail> {
-    let place = random as usize / 8;
-    if random % 8 < 4 || list.is_empty() {
-        match nodes.add(random) {
-            Ok(slot) => list.insert(0, (slot, random))?,
-            Err(value) => {
-                assert_eq!(rt; value, random);
-                assert_eq!(rt; list.len(), nodes.capacity());
-            }
+    match nodes.add(value) {
+        Ok(slot) => list.insert(0, (slot, value))?,
+        Err(back) => {
+            assert_eq!(rt; back, value);
+            assert_eq!(rt; list.len(), nodes.capacity());
         }
-        return Ok(());
-    }
-    let (slot, value) = list.remove(place % list.len());
-    assert!(rt; nodes.is_held(slot));
-    if random % 8 < 6 {
-        nodes.touch(slot);
-        list.insert(0, (slot, value))?;
-    } else {
-        assert_eq!(rt; nodes.remove(slot), value);
-        assert!(rt; !nodes.is_held(slot));
     }
     Ok(())
+}
+
+/// Touches or removes a value of both.
+fn use_in_both(
+    rt: &impl Abort,
+    nodes: &mut Nodes<u64>,
+    list: &mut Vec<(Slot, u64)>,
+    place: usize,
+    touched: bool,
+) -> Result<(), Fail>
+    requires { 0 < vec_len list.old }
+{
+    let (slot, value) = list.remove(place % list.len());
+    if touched {
+        touch(rt, nodes, slot);
+        list.insert(0, (slot, value))?;
+    } else {
+        assert_eq!(rt; remove(rt, nodes, slot), value);
+    }
+    Ok(())
+}
+
+/// Compares the arena with the list.
+fn compare(rt: &impl Abort, nodes: &Nodes<u64>, list: &[(Slot, u64)]) {
+    assert_eq!(rt; nodes.len(), list.len());
+    assert_eq!(rt; nodes.oldest(), list.last().map(|entry| entry.0));
+    for (slot, value) in list {
+        assert!(rt; nodes.is_held(*slot));
+        assert_eq!(rt; *nodes.get(*slot), *value);
+    }
 }
 
 #[test]
@@ -183,13 +256,19 @@ fn agrees_with_a_plain_list(rt: HostRuntime) -> Result<(), Fail> {
     let mut random = 20_260_917;
     for _ in 0..20_000 {
         random = next_random(random);
-        act(&rt, &mut nodes, &mut list, random >> 40)?;
-        assert_eq!(rt; nodes.len(), list.len());
-        assert_eq!(rt; nodes.oldest(), list.last().map(|entry| entry.0));
-        for (slot, value) in &list {
-            assert!(rt; nodes.is_held(*slot));
-            assert_eq!(rt; *nodes.get(*slot), *value);
+        let action = random >> 40;
+        if action % 8 < 4 || list.is_empty() {
+            add_to_both(&rt, &mut nodes, &mut list, action)?;
+        } else {
+            use_in_both(
+                &rt,
+                &mut nodes,
+                &mut list,
+                action as usize / 8,
+                action % 8 < 6,
+            )?;
         }
+        compare(&rt, &nodes, &list);
     }
     Ok(())
 }

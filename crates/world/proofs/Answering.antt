@@ -1,28 +1,25 @@
 -- A daemon's legal answer is one that the world may give, and what the daemon knows after it is what the world has then.
 use Rattle.std.proofs.Common.{◌≡◌, ℕ, ◌+◌, ◌<◌, ◌≤◌, Bool, true, false, List, Option, Some, None, Result, Ok, Err, is_some, refl, sym, ap, ◌∙◌, subst, inl, inr, ◌⊎◌, arith}
 use Rattle.std.specs.Prelude.{◌==◌, nat_le, if◌then◌else◌}
-use Rattle.std.specs.Option.{option_map_or}
 use Rattle.std.proofs.lemmas.Bool.Decides.{nat_tests}
 use Rattle.eden_base.specs.Limits.{greatest_count, end_of_numbers}
-use Rattle.eden_base.specs.declared.attr.Kind.{Kind}
-use Rattle.eden_base.specs.declared.attr.Kind.TheVariants.{Dir, File}
 use Rattle.eden_base.specs.declared.errno.Errno.{Errno}
-use Rattle.eden_base.specs.declared.errno.Errno.TheVariants.{ESTALE, ENOENT, EIO, ENOMEM, ENOSYS}
+use Rattle.eden_base.specs.declared.errno.Errno.TheVariants.{ESTALE, EIO, ENOMEM, ENOSYS}
 use Rattle.eden_base.specs.declared.number.FileId.{FileId}
 use Rattle.eden_base.specs.declared.number.Number.{Number}
 use Rattle.eden_base.proofs.NumberTests.{eq-or}
-use Rattle.checkout.specs.Tree.{Tree, IsTree, child_of, kind_of, root}
+use Rattle.checkout.specs.Tree.{IsTree, root}
 use Rattle.fuse_wire.specs.Given.{given_out}
 use Rattle.fuse_wire.specs.declared.ask.Request.{Request}
-use Rattle.fuse_wire.specs.declared.ask.Request.TheVariants.{Lookup}
+use Rattle.fuse_wire.specs.declared.ask.Request.TheVariants.{Lookup, Getattr}
 use Rattle.fuse_wire.specs.declared.reply.Answer.{Answer}
-use Rattle.fuse_wire.specs.declared.reply.Answer.TheVariants.{Entry, Error}
+use Rattle.fuse_wire.specs.declared.reply.Answer.TheVariants.{Entry, Attrs, Error}
 use Rattle.inode_map.specs.InodeMap.{MapState, IsFileOf, is_root, entry_at, count_of, give_fault, given, number_given}
 use Rattle.inode_map.specs.declared.inode_map.GiveFault.{GiveFault}
 use Rattle.inode_map.specs.declared.inode_map.GiveFault.TheVariants.{NoNumber, TooMany, NoMemory}
 use Rattle.inode_map.proofs.EntryLemmas.{numbers-bound}
 use Rattle.inode_map.proofs.FileLemmas.{IsFileOf-same}
-use Rattle.fuse_ops.specs.Answers.{NumberFault, none_left, at_greatest, Effect, found_in, found_in_dir, enters, comes_to, Tells, AnswersCounted, Answers, tree_after, file_told}
+use Rattle.fuse_ops.specs.Answers.{NumberFault, none_left, at_greatest, Effect, found_in, found_in_dir, enters, comes_to, shows, Tells, AnswersCounted, AnswersShown, Answers, tree_after, file_told}
 use Rattle.fuse_ops.specs.Gifts.{served_over, IsPlaced}
 use Rattle.fuse_ops.specs.Served.{ServedState, IsLocated, numbers_at, number_fault, map_after, IsLegal}
 use Rattle.fuse_ops.specs.Soundness.{IsSound}
@@ -30,6 +27,7 @@ use Rattle.world.specs.World.{World, file_named, gives, owed, IsLive, IsNumberOf
 use Rattle.world.specs.Agreement.{Knows}
 use Rattle.world.proofs.Knowing.{named, knows-along, live-named, number-names, gave-knows}
 use Rattle.fuse_ops.proofs.GivingLaw.{gives-well}
+use Rattle.fuse_ops.proofs.Keeping.{found-child}
 use Rattle.fuse_ops.proofs.Known.{same-number, named-range, count-fits}
 use Rattle.fuse_ops.proofs.PlaceNumbers.{given-number, fault-held, next-number, fault-free, named-or-free}
 
@@ -48,18 +46,6 @@ refused w served later request errno is k same may = record {
   is_tree = is;
   knows = subst (λ (s : ServedState). Knows w.tree w.names (λ n. owed w n + 0) s) (sym same) (knows-along w.tree w.names (owed w) (λ n. owed w n + 0) served (λ n. omega arith) k);
 }
-
--- a directory's child was found
-found-child : (tree : Tree) (dir file : FileId) (name : List ℕ) → found_in tree (Some dir) name ≡ Ok file → child_of tree dir name ≡ Some file
-found-child tree dir file name h = kind_in (kind_of tree dir) h where
-  child_in : (o : Option FileId) → option_map_or (λ (f : FileId). Ok f) o (Err ENOENT) ≡ Ok file → o ≡ Some file
-  child_in None e = absurd (let none : ⊥ = cc in none)
-  child_in (Some f) e = let same : f ≡ file = cc in ap Some same
-
-  kind_in : (k : Option Kind) → found_in_dir tree dir name k ≡ Ok file → child_of tree dir name ≡ Some file
-  kind_in (Some Dir) e = child_in (child_of tree dir name) e
-  kind_in (Some File) e = absurd (let none : ⊥ = cc in none)
-  kind_in None e = absurd (let none : ⊥ = cc in none)
 
 -- a lookup that found a file, in a directory that the daemon knows
 record Found (w : World) (m : MapState) (dir : Number) (name : List ℕ) (above file : FileId) : Type 0 where
@@ -267,6 +253,35 @@ lookup_in w m dir name answer later is k o at (Err errno) found answers makes =
       may_err (Some above) at' e = inr (subst (λ (r : Result Effect Errno). Answers (numbers_of w) (Lookup dir name) r (Error errno))
           (sym (ap (λ (x : Option FileId). enters w.tree (found_in w.tree x name)) (k.files dir.0 above at') ∙ ap (λ (r : Result FileId Errno). enters w.tree r) e)) refl)
 
+-- a GETATTR, by what its number names: the answer is legal in the world as it is for the daemon
+getattr_in : (w : World) (m : MapState) (node : Number) (answer : Answer) (later : ServedState) → IsTree w.tree → Knows w.tree w.names (owed w) (served_over w.tree m) →
+    (o : Option FileId) → IsLocated (served_over w.tree m) node.0 o → Answers (numbers_at m None) (Getattr node) (shows w.tree o) answer →
+    later ≡ served_over (tree_after w.tree (shows w.tree o) answer) (map_after m None (given_out answer)) → Worked w (Getattr node) answer later
+getattr_in w m node answer later is k None nobody e makes =
+    subst (λ (a : Answer). Worked w (Getattr node) a later) (sym e)
+    (refused w (served_over w.tree m) later (Getattr node) ESTALE is k
+    (makes ∙ ap (λ (a : Answer). served_over (tree_after w.tree (shows w.tree None) a) (map_after m None (given_out a))) e)
+    (inl (refl, record { node = node; goes_to = (0, (let low : 0 < 1 = omega arith in low), refl); not_live = λ live. let f = live-named w m k node.0 live in nobody f.0 f.1 })))
+getattr_in w m node answer later is k (Some file) at answers makes = by_answer answers where
+  came : effect_in w (Getattr node) ≡ shows w.tree (Some file)
+  came = ap (λ (o : Option FileId). shows w.tree o) (k.files node.0 file at)
+
+  by_answer : AnswersShown (numbers_at m None) (Getattr node) w.tree file answer → Worked w (Getattr node) answer later
+  by_answer (inr (e, none)) = absurd none
+  by_answer (inl t) = subst (λ (a : Answer). Worked w (Getattr node) a later) (sym (t.is)) (record {
+    may = inr (subst (λ (r : Result Effect Errno). Answers (numbers_of w) (Getattr node) r told) (sym came)
+        (inl (record { number = t.number; attr = t.attr; is = refl; is_number = t.is_number; is_attr = t.is_attr })));
+    is_tree = subst (λ (r : Result Effect Errno). IsTree (tree_after w.tree r told)) (sym came) is;
+    knows = subst (λ (r : Result Effect Errno). Knows (tree_after w.tree r told) (names_after w.names None (file_told r)) (λ n. owed w n + 0) later) (sym came)
+        (subst (λ (s : ServedState). Knows w.tree w.names (λ n. owed w n + 0) s) (sym made)
+        (knows-along w.tree w.names (owed w) (λ n. owed w n + 0) (served_over w.tree m) (λ n. omega arith) k));
+  }) where
+    told : Answer
+    told = Attrs t.number t.attr
+
+    made : later ≡ served_over w.tree m
+    made = makes ∙ ap (λ (a : Answer). served_over (tree_after w.tree (shows w.tree (Some file)) a) (map_after m None (given_out a))) (t.is)
+
 -- a request that no row serves yet
 unserved : (w : World) (m : MapState) (request : Request) (answer : Answer) (later : ServedState) → IsTree w.tree → Knows w.tree w.names (owed w) (served_over w.tree m) →
     Answers (numbers_of w) request (effect_in w request) (Error ENOSYS) → answer ≡ Error ENOSYS → (answer ≡ Error ENOSYS → later ≡ served_over w.tree m) → Worked w request answer later
@@ -277,6 +292,7 @@ unserved w m request answer later is k may e same =
 legal_in : (w : World) (m : MapState) (request : Request) (answer : Answer) (later : ServedState) → IsTree w.tree → Knows w.tree w.names (owed w) (served_over w.tree m) →
     IsLegal (served_over w.tree m) request answer later → Worked w request answer later
 legal_in w m (Lookup dir name) answer later is k l = lookup_in w m dir name answer later is k (l.files dir.0) (l.locates).0 (found_in w.tree (l.files dir.0) name) refl l.answers l.makes
+legal_in w m (Getattr node) answer later is k l = getattr_in w m node answer later is k (l.files node.0) (l.locates).0 l.answers l.makes
 legal_in w m request answer later is k l = unserved w m request answer later is k refl l.answers (λ e. l.makes ∙ ap (λ (a : Answer). served_over (tree_after w.tree (Err ENOSYS) a) m) e)
 
 -- A legal answer is one that the world may give, and what the daemon knows after it is what the world has then.

@@ -2,7 +2,7 @@
 use Rattle.std.proofs.Common.{◌≡◌, ℕ, ◌+◌, ◌<◌, ◌≤◌, suc, Bool, true, List, [], ◌∷◌, length, Option, Some, None, refl, sym, ap, ◌∙◌, subst, inl, inr, ◌⊎◌, arith}
 use Rattle.std.specs.Prelude.{if◌then◌else◌}
 use Rattle.std.specs.Option.{option_map, option_map_or}
-use Rattle.std.specs.List.{AllByRecursion, list_all}
+use Rattle.std.specs.List.{list_all}
 use Rattle.eden_base.specs.declared.number.DaemonId.{DaemonId}
 use Rattle.checkout.specs.Manifest.{Manifest}
 use Rattle.checkout.specs.Tree.{IsTree, tree_of}
@@ -21,8 +21,8 @@ use Rattle.inode_map.specs.InodeMap.{forgot, forgotten}
 use Rattle.inode_map.specs.declared.inode_map.Forgot.{Forgot}
 use Rattle.fuse_ops.specs.Gifts.{IsTaken}
 use Rattle.fuse_ops.specs.Served.{ServedState, new_served, forgotten_all, IsLegal, Replay}
-use Rattle.world.specs.World.{World, Move, issue, mount, gives, times, owed, IsRun, after, after_all}
-use Rattle.world.specs.Agreement.{Knows, IsGoodForget, IsAnswered, posted_from, Matches, MovesOn, moves_of}
+use Rattle.world.specs.World.{World, issue, mount, gives, times, owed, after}
+use Rattle.world.specs.Agreement.{Knows, IsGoodForget, IsAnswered, Matches, MovesOn}
 use Rattle.world.specs.State.{State, fault, refusal_of_issue, daemon_of, with_daemon, IsSeated}
 use Rattle.world.specs.Step.{told_of, told, done, Does, Mounts, Starts, Makes, Refuses, TakesMemory, StepBy, Step}
 use Rattle.world.specs.declared.daemon.Daemon.TheVariants.{Waiting, Serving}

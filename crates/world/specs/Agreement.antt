@@ -28,28 +28,31 @@ use Rattle.world.specs.declared.outcome.Happened.TheVariants as happened
 abbrev pub holder_of : World → DaemonId
 holder_of world = option_map_or (λ (seat : Seat). seat.daemon) world.seat (record { 0 = 0 })
 
--- The moves that an event made. A request that was done is issued, worked, and where it is an ask its reply is accepted
--- from the holder and delivered. What was refused, and all else, made none.
+-- The moves that an event made. A request that was done is issued, worked, and where it is an ask its reply is
+-- accepted from the holder and delivered. What was refused, and all else, made none.
 abbrev pub moves_of : World → Event → List Happened → List Move
 moves_of world (Mount daemon) (happened.Mounted generation ∷ []) = mount daemon ∷ []
 moves_of world (Do request) (happened.Answered reply ∷ []) =
-    issue (record { unique = reply.unique; what = request }) ∷ work reply.unique reply.answer ∷ accept reply.unique (holder_of world) ∷ deliver reply.unique ∷ []
+    issue (record { unique = reply.unique; what = request }) ∷ work reply.unique reply.answer
+    ∷ accept reply.unique (holder_of world) ∷ deliver reply.unique ∷ []
 moves_of world (Do request) (happened.Forgot item forgot ∷ []) = issue_item item ∷ work_item item ∷ []
 moves_of world event outcome = []
 
 -- the moves of events one after another
 abbrev pub all_moves : World → List Event → List (List Happened) → List Move
-all_moves world (event ∷ events) (outcome ∷ outcomes) = moves_of world event outcome ++ all_moves (after_all world (moves_of world event outcome)) events outcomes
+all_moves world (event ∷ events) (outcome ∷ outcomes) =
+    moves_of world event outcome ++ all_moves (after_all world (moves_of world event outcome)) events outcomes
 all_moves world events outcomes = []
 
 -- the world after the moves of events, from before anything happened
 abbrev pub world_after : Manifest → List Event → List (List Happened) → World
-world_after manifest events outcomes = after_all (first_world manifest) (all_moves (first_world manifest) events outcomes)
+world_after manifest events outcomes =
+    after_all (first_world manifest) (all_moves (first_world manifest) events outcomes)
 
 -- ---- the promises
 
--- What a served state knows of a mount, where so much is owed for each number: its tree is the mount's, each count is what
--- is owed, each number names what it was first given out for, and it fits together.
+-- What a served state knows of a mount, where so much is owed for each number: its tree is the mount's, each count is
+-- what is owed, each number names what it was first given out for, and it fits together.
 pub record Knows (tree : Tree) (names : List (ℕ × FileId)) (owes : ℕ → ℕ) (served : ServedState) : Type 0 where
   pub tree_is : served.tree ≡ tree
   pub counts : (n : ℕ) → n ≢ 1 → count_of served.map.entries n ≡ owes n
@@ -81,26 +84,33 @@ pub record Agrees (world : World) (state : State) : Type 0 where
   pub manifest : world.manifest ≡ state.manifest
   pub books : Books world state.broker
   pub quiet : IsQuiet world
-  pub holder_serves : (seat : Seat) → state.broker.seat ≡ Some seat → (served : ServedState) × IsSeated state seat served
+  pub holder_serves : (seat : Seat) → state.broker.seat ≡ Some seat →
+      (served : ServedState) × IsSeated state seat served
   pub tree : (seat : Seat) (served : ServedState) → IsSeated state seat served → served.tree ≡ world.tree
 
 -- for the seated daemon, each count is what is owed
 abbrev pub CountsAreOwed : World → State → Type 0
-CountsAreOwed world state = (seat : Seat) (served : ServedState) → IsSeated state seat served → (n : ℕ) → n ≢ 1 → count_of served.map.entries n ≡ owed world n
+CountsAreOwed world state =
+    (seat : Seat) (served : ServedState) → IsSeated state seat served → (n : ℕ) → n ≢ 1 →
+    count_of served.map.entries n ≡ owed world n
 
 -- what a daemon's numbers name is what they were first given out for
 pub record NamesAreFirst (world : World) (served : ServedState) : Type 0 where
-  pub files : (n : ℕ) (file : FileId) → IsFileOf served.tree served.map.entries n file → file_named world.names n ≡ Some file
+  pub files : (n : ℕ) (file : FileId) → IsFileOf served.tree served.map.entries n file →
+      file_named world.names n ≡ Some file
   pub sound : IsSound served
   pub numbers : (n : ℕ) → IsSome (file_named world.names n) ↔ ((1 ≤ n) × (n < served.map.next))
 
 -- for the seated daemon, its numbers name what they were first given out for
 abbrev pub NumbersNameTheirFirstFile : World → State → Type 0
-NumbersNameTheirFirstFile world state = (seat : Seat) (served : ServedState) → IsSeated state seat served → NamesAreFirst world served
+NumbersNameTheirFirstFile world state =
+    (seat : Seat) (served : ServedState) → IsSeated state seat served → NamesAreFirst world served
 
 -- all replies that were accepted at one generation came from one daemon
 abbrev pub OneDaemonForEachGeneration : World → Type 0
-OneDaemonForEachGeneration world = (one other : Seat) → Contains world.answered one → Contains world.answered other → one.generation ≡ other.generation → one ≡ other
+OneDaemonForEachGeneration world =
+    (one other : Seat) → Contains world.answered one → Contains world.answered other →
+    one.generation ≡ other.generation → one ≡ other
 
 -- no forget was bad, or of the root
 abbrev pub IsGoodForget : Happened → Type 0
@@ -114,8 +124,10 @@ posted_from old (happened.Answered reply ∷ []) = old.broker.seat
 posted_from old outcome = None
 
 -- the seats from which the replies of events were posted, in the states through which they went
-abbrev pub posters : (old : State) (events : List Event) (outcomes : List (List Happened)) (end : State) → Steps old events outcomes end → List (Option Seat)
-posters old (event ∷ events) (outcome ∷ outcomes) end steps = posted_from old outcome ∷ posters steps.0 events outcomes end steps.2
+abbrev pub posters : (old : State) (events : List Event) (outcomes : List (List Happened)) (end : State) →
+    Steps old events outcomes end → List (Option Seat)
+posters old (event ∷ events) (outcome ∷ outcomes) end steps =
+    posted_from old outcome ∷ posters steps.0 events outcomes end steps.2
 posters old [] outcomes end steps = []
 posters old (event ∷ events) [] end steps = []
 
@@ -126,7 +138,9 @@ IsAnswered world None = Unit {0}
 
 -- each reply that was posted is one that the world saw posted, by that daemon at that generation
 abbrev pub RepliesAreAnswered : World → State → List Event → List (List Happened) → State → Type 0
-RepliesAreAnswered world start events outcomes end = (steps : Steps start events outcomes end) → AllByRecursion (IsAnswered world) (posters start events outcomes end steps)
+RepliesAreAnswered world start events outcomes end =
+    (steps : Steps start events outcomes end) →
+    AllByRecursion (IsAnswered world) (posters start events outcomes end steps)
 
 -- ---- what keeps them true
 
@@ -134,7 +148,8 @@ RepliesAreAnswered world start events outcomes end = (steps : Steps start events
 pub record AnsweredBefore (world : World) : Type 0 where
   pub one_daemon : OneDaemonForEachGeneration world
   pub at_most : (seat : Seat) → Contains world.answered seat → seat.generation ≤ world.last
-  pub holder : (seat other : Seat) → world.seat ≡ Some seat → Contains world.answered other → other.generation ≡ seat.generation → other ≡ seat
+  pub holder : (seat other : Seat) → world.seat ≡ Some seat → Contains world.answered other →
+      other.generation ≡ seat.generation → other ≡ seat
 
 -- the seat is of the last generation, and without one nothing is held
 pub record SeatIsLast (world : World) : Type 0 where
@@ -153,12 +168,13 @@ pub record Matches (world : World) (state : State) : Type 0 where
   pub knows : HolderKnows world state
 
 -- the events' moves are a run from before anything happened, and the world after it agrees with the state at the end
-pub record IsRunOfMoves (manifest : Manifest) (events : List Event) (outcomes : List (List Happened)) (end : State) : Type 0 where
+pub record IsRunOfMoves (manifest : Manifest) (events : List Event) (outcomes : List (List Happened))
+    (end : State) : Type 0 where
   pub run : IsRun (first_world manifest) (all_moves (first_world manifest) events outcomes)
   pub agrees : Agrees (world_after manifest events outcomes) end
 
--- what one event does: its moves may happen in the world, the state matches the world after them, no forget was bad, and
--- a reply was posted by the daemon that the world saw
+-- what one event does: its moves may happen in the world, the state matches the world after them, no forget was bad,
+-- and a reply was posted by the daemon that the world saw
 pub record MovesOn (world : World) (old : State) (event : Event) (outcome : List Happened) (new : State) : Type 0 where
   pub run : IsRun world (moves_of world event outcome)
   pub matches : Matches (after_all world (moves_of world event outcome)) new

@@ -31,7 +31,8 @@ pub record ServesAt (daemons : List Daemon) (place : ℕ) : Type 0 where
   pub is_there : slice_get daemons place ≡ Some (Serving served)
 
 -- the daemon at a place answers or applies a request
-pub record AppliesAt (old : List Daemon) (place : ℕ) (request : Request) (answer : Option Answer) (new : List Daemon) : Type 0 where
+pub record AppliesAt (old : List Daemon) (place : ℕ) (request : Request) (answer : Option Answer)
+    (new : List Daemon) : Type 0 where
   pub served : ServedState
   pub later : ServedState
   pub was : slice_get old place ≡ Some (Serving served)

@@ -17,8 +17,8 @@ use Rattle.world.specs.declared.event.Event.TheVariants.{Start, Mount, Do, Show}
 use Rattle.world.specs.declared.outcome.Refusal.{Refusal}
 use Rattle.world.specs.declared.outcome.Refusal.TheVariants as refusal
 
--- the manifest that every daemon is handed, how many loaded files a daemon keeps, the kernel's side, and the daemons in the
--- order in which they started
+-- the manifest that every daemon is handed, how many loaded files a daemon keeps, the kernel's side, and the daemons
+-- in the order in which they started
 pub record State : Type 0 where
   pub manifest : Manifest
   pub limit : ℕ
@@ -74,7 +74,7 @@ mount_refusal state None = Some refusal.NoDaemon
 mount_refusal state (Some Waiting) = option_map refusal_of_mount (mount_fault state.broker)
 mount_refusal state (Some (Serving served)) = Some refusal.WrongPhase
 
--- why an event is refused, if it is, want of memory apart: the first cause that holds
+-- why an event is refused, if it is, out of memory apart: the first cause that holds
 abbrev pub fault : State → Event → Option Refusal
 fault state Start = if nat_le most_daemons (length state.daemons) then Some refusal.Full else None
 fault state (Mount daemon) = mount_refusal state (daemon_of state daemon)

@@ -26,13 +26,15 @@ Refuses old refusal outcome new = (outcome ≡ happened.Refused refusal ∷ []) 
 -- a new daemon waits behind the others
 abbrev pub Starts : State → List Happened → State → Type 0
 Starts old outcome new =
-    (outcome ≡ happened.Started (record { 0 = length old.daemons + 1 }) ∷ []) × (new ≡ record old { daemons = old.daemons ++ Waiting ∷ [] })
+    (outcome ≡ happened.Started (record { 0 = length old.daemons + 1 }) ∷ [])
+    × (new ≡ record old { daemons = old.daemons ++ Waiting ∷ [] })
 
 -- a daemon has the seat, and serves the manifest's tree
 abbrev pub Mounts : State → DaemonId → List Happened → State → Type 0
 Mounts old daemon outcome new =
     (outcome ≡ happened.Mounted (old.broker.last + 1) ∷ [])
-    × (new ≡ with_daemon (record old { broker = mounted old.broker daemon }) daemon (Serving (new_served old.manifest old.limit)))
+    × (new ≡ with_daemon (record old { broker = mounted old.broker daemon })
+    daemon (Serving (new_served old.manifest old.limit)))
 
 -- what became of each item
 abbrev pub told_of : ServedState → List Item → List Happened
@@ -41,7 +43,8 @@ told_of served (item ∷ items) = happened.Forgot item (forgot served.map item.n
 
 -- an ask's answer reached the kernel under its unique; of a forget it is told what became of its items
 abbrev pub told : BrokerState → ServedState → Request → Option Answer → List Happened
-told broker served request (Some answer) = happened.Answered (record { unique = broker.next_unique; answer = answer }) ∷ []
+told broker served request (Some answer) =
+    happened.Answered (record { unique = broker.next_unique; answer = answer }) ∷ []
 told broker served request None = told_of served (items_of request)
 
 -- the broker after a request was issued and its answer, if it has one, reached the kernel
@@ -75,7 +78,8 @@ TakesMemory event = Unit {0}
 -- by the first cause against it, if there is one; else it is made, or memory was wanting
 abbrev pub StepBy : State → Event → Option Refusal → List Happened → State → Type 0
 StepBy old event (Some refusal) outcome new = Refuses old refusal outcome new
-StepBy old event None outcome new = Makes old event outcome new ⊎ (TakesMemory event × Refuses old NoMemory outcome new)
+StepBy old event None outcome new =
+    Makes old event outcome new ⊎ (TakesMemory event × Refuses old NoMemory outcome new)
 
 -- one event, with its outcome
 abbrev pub Step : State → Event → List Happened → State → Type 0
@@ -84,6 +88,7 @@ Step old event outcome new = StepBy old event (fault old event) outcome new
 -- one event after another, each with its outcome
 abbrev pub Steps : State → List Event → List (List Happened) → State → Type 0
 Steps old [] [] new = new ≡ old
-Steps old (event ∷ events) (outcome ∷ outcomes) new = (between : State) × Step old event outcome between × Steps between events outcomes new
+Steps old (event ∷ events) (outcome ∷ outcomes) new =
+    (between : State) × Step old event outcome between × Steps between events outcomes new
 Steps old [] (outcome ∷ outcomes) new = ⊥
 Steps old (event ∷ events) [] new = ⊥

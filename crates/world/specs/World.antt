@@ -1,6 +1,6 @@
--- The world as the kernel's programs may know it: what every number that was given in this mount names, what the kernel
--- holds, and what is under way. No daemon's state, no phase and no byte stands in it. The rules are those of lookup
--- counts in libfuse's `fuse_lowlevel.h`; the seat and its generations are this project's own.
+-- The world as the kernel's programs may know it: what every number that was given in this mount names, what the
+-- kernel holds, and what is under way. No daemon's state, no phase and no byte stands in it. The rules are those of
+-- lookup counts in libfuse's `fuse_lowlevel.h`; the seat and its generations are this project's own.
 use Rattle.std.specs.Prelude.{◌≡◌, ◌≢◌, ℕ, ◌+◌, ◌-◌, ◌<◌, ◌≤◌, ◌⊎◌, Bool, true, false, ◌&&◌, ◌==◌, List, [], ◌∷◌, ◌++◌, length, sum_by, count_by, Contains, Option, Some, None, IsSome, is_some, Result, if◌then◌else◌}
 use Rattle.std.specs.Option.{option_map, option_map_or}
 use Rattle.std.specs.List.{AllByRecursion}
@@ -26,8 +26,8 @@ use Rattle.fuse_ops.specs.Answers.{NumberFault, none_left, at_greatest, Numbers,
 use Rattle.broker_core.specs.declared.seat.Seat.{Seat}
 
 -- Who serves and at which generation; the last generation; the tree; the file that each number was given out for; and
--- bags: what the kernel holds, what is not worked yet (asks and single items), what is not delivered yet. Beside them who
--- answered at which generation, and the uniques that were used.
+-- bags: what the kernel holds, what is not worked yet (asks and single items), what is not delivered yet. Beside them
+-- who answered at which generation, and the uniques that were used.
 pub record World : Type 0 where
   pub manifest : Manifest
   pub seat : Option Seat
@@ -71,7 +71,9 @@ times n (m ∷ numbers) = (if m == n then 1 else 0) + times n numbers
 -- the bag with the number taken out so many times
 abbrev pub without_times : ℕ → ℕ → List ℕ → List ℕ
 without_times k n [] = []
-without_times k n (m ∷ numbers) = if m == n then (if k == 0 then m ∷ numbers else without_times (k - 1) n numbers) else m ∷ without_times k n numbers
+without_times k n (m ∷ numbers) =
+    if m == n then (if k == 0 then m ∷ numbers else without_times (k - 1) n numbers)
+    else m ∷ without_times k n numbers
 
 -- the answer gives this number out
 abbrev pub gives : ℕ → Answer → Bool
@@ -85,8 +87,8 @@ carries n reply = gives n reply.answer
 abbrev pub taken_back : ℕ → Item → ℕ
 taken_back n item = if item.node.0 == n then item.k else 0
 
--- How often a daemon is to count a number: as often as the kernel holds it, and once for each reply under way that gives
--- it out, and as often as the forgets under way take back.
+-- How often a daemon is to count a number: as often as the kernel holds it, and once for each reply under way that
+-- gives it out, and as often as the forgets under way take back.
 abbrev pub owed : World → ℕ → ℕ
 owed world n = times n world.held + count_by (carries n) world.replies + sum_by (taken_back n) world.items
 
@@ -138,8 +140,8 @@ IsAgainst world file None = MayBeGiven world file
 abbrev pub IsBacked : World → FileId → Type 0
 IsBacked world file = (kind_of world.tree file ≡ Some File) × (file.0 < length world.manifest.lines + 2)
 
--- What the world reads the table by. A backing that fails and memory that runs out are no part of it, so EIO may come for
--- every file that is backed and ENOMEM for every number that is given out, where no error before them does.
+-- What the world reads the table by. A backing that fails and memory that runs out are no part of it, so EIO may come
+-- for every file that is backed and ENOMEM for every number that is given out, where no error before them does.
 abbrev pub numbers_of : World → Numbers
 numbers_of world = record {
   IsAgainst = IsAgainst world;
@@ -161,7 +163,8 @@ pub record IsStale (world : World) (request : Request) : Type 0 where
 -- the answers to a request: those of the table, or that a number of it names nothing, where it is not live
 abbrev pub MayAnswer : World → Request → Answer → Type 0
 MayAnswer world request answer =
-    ((answer ≡ Error ESTALE) × IsStale world request) ⊎ Answers (numbers_of world) request (effect_in world request) answer
+    ((answer ≡ Error ESTALE) × IsStale world request)
+    ⊎ Answers (numbers_of world) request (effect_in world request) answer
 
 -- ---- moves
 
@@ -243,7 +246,8 @@ MayMove world end = IsSome world.seat
 
 -- the names after a number was given out for a file: it names the file from now on, if it named nothing
 abbrev pub names_after : List (ℕ × FileId) → Option Number → Option FileId → List (ℕ × FileId)
-names_after names (Some number) (Some file) = if is_some (file_named names number.0) then names else (number.0, file) ∷ names
+names_after names (Some number) (Some file) =
+    if is_some (file_named names number.0) then names else (number.0, file) ∷ names
 names_after names number file = names
 
 -- an ask leaves for its reply
@@ -259,7 +263,8 @@ worked world answer None = world
 -- the daemon answered at the seat's generation
 abbrev pub answered_by : World → DaemonId → List Seat
 answered_by world daemon =
-    option_map_or (λ (seat : Seat). record { generation = seat.generation; daemon = daemon } ∷ world.answered) world.seat world.answered
+    option_map_or (λ (seat : Seat). record { generation = seat.generation; daemon = daemon } ∷ world.answered)
+    world.seat world.answered
 
 -- the kernel holds once more what an answer gives out
 abbrev pub held_after : List ℕ → Answer → List ℕ
@@ -267,13 +272,18 @@ held_after held answer = option_map_or (λ (number : Number). number.0 ∷ held)
 
 -- a reply reaches the kernel
 abbrev pub delivered : World → Option Reply → World
-delivered world (Some reply) = record world { held = held_after world.held reply.answer; replies = without_where (is_replied reply.unique) world.replies }
+delivered world (Some reply) =
+    record world {
+      held = held_after world.held reply.answer;
+      replies = without_where (is_replied reply.unique) world.replies;
+    }
 delivered world None = world
 
 -- the world after each thing
 abbrev pub after : World → Move → World
 after world (issue ask) = record world { asks = world.asks ++ ask ∷ []; uniques = ask.unique ∷ world.uniques }
-after world (issue_item item) = record world { held = without_times item.k item.node.0 world.held; items = world.items ++ item ∷ [] }
+after world (issue_item item) =
+    record world { held = without_times item.k item.node.0 world.held; items = world.items ++ item ∷ [] }
 after world (work unique answer) = worked world answer (first_where (is_asked unique) world.asks)
 after world (work_item item) = record world { items = without_where (is_item item) world.items }
 after world (accept unique daemon) = record world { answered = answered_by world daemon }
@@ -284,7 +294,8 @@ after world (mount daemon) = record world {
   tree = tree_of world.manifest;
   names = (1, root) ∷ [];
 }
-after world (claim g daemon) = record world { seat = Some (record { generation = g + 1; daemon = daemon }); last = g + 1 }
+after world (claim g daemon) =
+    record world { seat = Some (record { generation = g + 1; daemon = daemon }); last = g + 1 }
 after world end = record world { seat = None; held = []; asks = []; items = []; replies = []; names = (1, root) ∷ [] }
 
 -- each thing may happen where it stands

@@ -18,7 +18,7 @@ pub(crate) enum Daemon {
 }
 
 impl Daemon {
-    /// Whether it has started and not yet mounted.
+    /// Returns whether it has started and not yet mounted.
     pub(crate) fn is_waiting(&self) -> bool
         ensures { result ≡ is_waiting self.now }
     {

@@ -20,7 +20,7 @@ pub fn run(
     limit: usize,
     events: &[Event],
 ) -> Result<(World, Vec<Outcome>), NoMemory>
-    // Each event is refused exactly for the first cause that holds, want of memory last, or else made.
+    // Each event is refused exactly for the first cause that holds, out of memory last, or else made.
     ensures steps { IfOk result (λ r. Steps (started manifest.now limit) events.now r.1.items r.0) }
 
     // What the events made is a run of moves, and the world after it agrees with the state.

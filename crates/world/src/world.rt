@@ -61,7 +61,7 @@ impl World {
         ensures new { IfOk result (λ world. world ≡ started manifest.now limit) }
         ensures matches { IfOk result (Matches (first_world manifest.now)) }
     {
-        let manifest = manifest.copy(alloc)?;
+        let manifest = manifest.share()?;
         let broker = Broker::new(alloc)?;
         Ok(World {
             alloc,

@@ -21,7 +21,7 @@ const FILE: Attr = Attr {
     nlink: 1,
 };
 
-/// What is served of the text, made again where memory was refused.
+/// Serves the text, made again where memory was refused.
 fn served(alloc: Global) -> Result<Served, Fail> {
     let manifest = match Manifest::read(alloc, TEXT) {
         Ok(manifest) => manifest,
@@ -44,7 +44,21 @@ fn look_up(alloc: Global, dir: u64, name: &[u8]) -> Result<Request, Fail> {
     })
 }
 
-/// The answer to a request, and the second one where memory was refused.
+fn attrs(number: u64, attr: Attr) -> Answer {
+    Answer::Attrs {
+        number: Number(number),
+        attr,
+    }
+}
+
+fn batch_of(alloc: Global, items: &[Item; 6]) -> Result<Batch, NoMemory> {
+    match Batch::of(alloc, items) {
+        Ok(batch) => Ok(batch),
+        Err(NoMemory) => Batch::of(alloc, items),
+    }
+}
+
+/// Answers a request, once more where memory was refused.
 fn answer(alloc: Global, served: &mut Served, request: &Request) -> Option<Answer> {
     match served.apply(alloc, request) {
         Some(Answer::Error(Errno::ENOMEM)) => served.apply(alloc, request),
@@ -59,18 +73,40 @@ fn item(node: u64, k: u64) -> Item {
     }
 }
 
-fn entry(number: u64, attr: Attr) -> Option<Answer> {
-    Some(Answer::Entry {
+fn entry(number: u64, attr: Attr) -> Answer {
+    Answer::Entry {
         number: Number(number),
         attr,
-    })
+    }
 }
 
-fn error(errno: Errno) -> Option<Answer> {
-    Some(Answer::Error(errno))
+/// Looks names up in turn, and returns whether each is answered so.
+fn are_answered(
+    alloc: Global,
+    served: &mut Served,
+    lookups: &[(u64, &[u8], Answer)],
+) -> Result<bool, Fail> {
+    for (dir, name, expected) in lookups {
+        let request = look_up(alloc, *dir, name)?;
+        if answer(alloc, served, &request) != Some(*expected) {
+            return Ok(false);
+        }
+    }
+    Ok(true)
 }
 
-/// Whether these are the counts of numbers 2 and 3, the number after them, and how many items were bad.
+/// Asks for attributes in turn, and returns whether each answer is so.
+fn are_shown(alloc: Global, served: &mut Served, shown: &[(u64, Answer)]) -> bool {
+    for (node, expected) in shown {
+        let node = Number(*node);
+        if served.apply(alloc, &Request::Getattr { node }) != Some(*expected) {
+            return false;
+        }
+    }
+    true
+}
+
+/// Returns whether these are the counts of numbers 2 and 3, the number after them, and how many items were bad.
 fn is_at(served: &Served, two: u64, three: u64, next: u64, bad: u64) -> bool {
     let map = served.map();
     if map.count(Number(2)) != two || map.count(Number(3)) != three {
@@ -81,44 +117,41 @@ fn is_at(served: &Served, two: u64, three: u64, next: u64, bad: u64) -> bool {
 
 #[test]
 fn answers_the_first_error_or_an_entry(rt: HostRuntime) -> Result<(), Fail> {
-    let alloc = rt.alloc();
-    let mut served = served(alloc)?;
-    let src = look_up(alloc, 1, b"src")?;
-    let unknown = look_up(alloc, 9, b"a")?;
-    let missing = look_up(alloc, 1, b"a")?;
-    let a = look_up(alloc, 2, b"a")?;
-    let below_file = look_up(alloc, 3, b"a")?;
-    assert_eq!(rt; answer(alloc, &mut served, &src), entry(2, DIRECTORY));
-    assert_eq!(rt; answer(alloc, &mut served, &unknown), error(Errno::ESTALE));
-    assert_eq!(rt; answer(alloc, &mut served, &missing), error(Errno::ENOENT));
-    assert_eq!(rt; answer(alloc, &mut served, &a), entry(3, FILE));
-    assert_eq!(rt;
-        answer(alloc, &mut served, &below_file),
-        error(Errno::ENOTDIR)
-    );
+    let mut served = served(rt.alloc())?;
+    let lookups = [
+        (1, b"src".as_slice(), entry(2, DIRECTORY)),
+        (9, b"a".as_slice(), Answer::Error(Errno::ESTALE)),
+        (1, b"a".as_slice(), Answer::Error(Errno::ENOENT)),
+        (2, b"a".as_slice(), entry(3, FILE)),
+        (3, b"a".as_slice(), Answer::Error(Errno::ENOTDIR)),
+    ];
+    assert!(rt; are_answered(rt.alloc(), &mut served, &lookups)?);
     assert!(rt; is_at(&served, 1, 1, 4, 0));
     Ok(())
 }
 
 #[test]
 fn gives_each_name_one_number(rt: HostRuntime) -> Result<(), Fail> {
-    let alloc = rt.alloc();
-    let mut served = served(alloc)?;
-    let src = look_up(alloc, 1, b"src")?;
-    let a = look_up(alloc, 2, b"a")?;
-    assert_eq!(rt; answer(alloc, &mut served, &src), entry(2, DIRECTORY));
-    assert_eq!(rt; answer(alloc, &mut served, &a), entry(3, FILE));
-    assert_eq!(rt; answer(alloc, &mut served, &src), entry(2, DIRECTORY));
+    let mut served = served(rt.alloc())?;
+    let lookups = [
+        (1, b"src".as_slice(), entry(2, DIRECTORY)),
+        (2, b"a".as_slice(), entry(3, FILE)),
+        (1, b"src".as_slice(), entry(2, DIRECTORY)),
+    ];
+    assert!(rt; are_answered(rt.alloc(), &mut served, &lookups)?);
     assert!(rt; is_at(&served, 2, 1, 4, 0));
     Ok(())
 }
 
 #[test]
 fn applies_each_item_of_a_batch_by_itself(rt: HostRuntime) -> Result<(), Fail> {
-    let alloc = rt.alloc();
-    let mut served = served(alloc)?;
-    let src = look_up(alloc, 1, b"src")?;
-    let a = look_up(alloc, 2, b"a")?;
+    let mut served = served(rt.alloc())?;
+    let lookups = [
+        (1, b"src".as_slice(), entry(2, DIRECTORY)),
+        (1, b"src".as_slice(), entry(2, DIRECTORY)),
+        (2, b"a".as_slice(), entry(3, FILE)),
+    ];
+    assert!(rt; are_answered(rt.alloc(), &mut served, &lookups)?);
     let items = [
         item(2, 1),
         item(9, 1),
@@ -127,16 +160,12 @@ fn applies_each_item_of_a_batch_by_itself(rt: HostRuntime) -> Result<(), Fail> {
         item(1, 3),
         item(3, 1),
     ];
-    let batch = match Batch::of(alloc, &items) {
-        Ok(batch) => batch,
-        Err(NoMemory) => Batch::of(alloc, &items)?,
-    };
-    assert_eq!(rt; answer(alloc, &mut served, &src), entry(2, DIRECTORY));
-    assert_eq!(rt; answer(alloc, &mut served, &src), entry(2, DIRECTORY));
-    assert_eq!(rt; answer(alloc, &mut served, &a), entry(3, FILE));
-    assert!(rt; is_at(&served, 2, 1, 4, 0));
-    let told = served.apply(alloc, &Request::BatchForget(batch));
-    assert_eq!(rt; told, None);
+    let batch = batch_of(rt.alloc(), &items)?;
+    assert!(rt;
+        served
+            .apply(rt.alloc(), &Request::BatchForget(batch))
+            .is_none()
+    );
     assert!(rt; is_at(&served, 1, 0, 4, 3));
     assert!(rt; served.map().entry(Number(3)).is_none());
     Ok(())
@@ -144,28 +173,51 @@ fn applies_each_item_of_a_batch_by_itself(rt: HostRuntime) -> Result<(), Fail> {
 
 #[test]
 fn forgets_one_item(rt: HostRuntime) -> Result<(), Fail> {
-    let alloc = rt.alloc();
-    let mut served = served(alloc)?;
-    let src = look_up(alloc, 1, b"src")?;
-    assert_eq!(rt; answer(alloc, &mut served, &src), entry(2, DIRECTORY));
-    assert_eq!(rt; answer(alloc, &mut served, &src), entry(2, DIRECTORY));
-    assert_eq!(rt; served.apply(alloc, &Request::Forget(item(2, 2))), None);
+    let mut served = served(rt.alloc())?;
+    let twice = [
+        (1, b"src".as_slice(), entry(2, DIRECTORY)),
+        (1, b"src".as_slice(), entry(2, DIRECTORY)),
+    ];
+    assert!(rt; are_answered(rt.alloc(), &mut served, &twice)?);
+    assert!(rt;
+        served
+            .apply(rt.alloc(), &Request::Forget(item(2, 2)))
+            .is_none()
+    );
     assert!(rt; is_at(&served, 0, 0, 3, 0));
-    assert_eq!(rt; answer(alloc, &mut served, &src), entry(3, DIRECTORY));
+    let again = [(1, b"src".as_slice(), entry(3, DIRECTORY))];
+    assert!(rt; are_answered(rt.alloc(), &mut served, &again)?);
+    Ok(())
+}
+
+#[test]
+fn shows_attributes_and_counts_nothing(rt: HostRuntime) -> Result<(), Fail> {
+    let mut served = served(rt.alloc())?;
+    let lookups = [
+        (1, b"src".as_slice(), entry(2, DIRECTORY)),
+        (2, b"a".as_slice(), entry(3, FILE)),
+    ];
+    assert!(rt; are_answered(rt.alloc(), &mut served, &lookups)?);
+    let shown = [
+        (1, attrs(1, DIRECTORY)),
+        (3, attrs(3, FILE)),
+        (2, attrs(2, DIRECTORY)),
+        (4, Answer::Error(Errno::ESTALE)),
+        (0, Answer::Error(Errno::ESTALE)),
+    ];
+    assert!(rt; are_shown(rt.alloc(), &mut served, &shown));
+    assert!(rt; is_at(&served, 1, 1, 4, 0));
     Ok(())
 }
 
 #[test]
 fn answers_enosys_to_what_is_not_served(rt: HostRuntime) -> Result<(), Fail> {
-    let alloc = rt.alloc();
-    let mut served = served(alloc)?;
-    let src = look_up(alloc, 1, b"src")?;
-    let node = Number(2);
-    let getattr = Request::Getattr { node };
-    let other = Request::Other { opcode: 26, node };
-    assert_eq!(rt; answer(alloc, &mut served, &src), entry(2, DIRECTORY));
-    assert_eq!(rt; served.apply(alloc, &getattr), error(Errno::ENOSYS));
-    assert_eq!(rt; served.apply(alloc, &other), error(Errno::ENOSYS));
-    assert!(rt; is_at(&served, 1, 0, 3, 0));
+    let mut served = served(rt.alloc())?;
+    let other = Request::Other {
+        opcode: 26,
+        node: Number(1),
+    };
+    assert!(rt; served.apply(rt.alloc(), &other) == Some(Answer::Error(Errno::ENOSYS)));
+    assert!(rt; is_at(&served, 0, 0, 2, 0));
     Ok(())
 }

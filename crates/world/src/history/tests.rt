@@ -24,7 +24,7 @@ const FILE: Attr = Attr {
     nlink: 1,
 };
 
-/// A name, made again where memory was refused.
+/// Makes a name, and once more where memory was refused.
 fn name(alloc: Global, bytes: &[u8]) -> Result<Name, Fail> {
     match Name::parse(alloc, bytes) {
         Ok(name) => Ok(name),
@@ -47,6 +47,13 @@ fn look_up(alloc: Global, dir: u64, bytes: &[u8]) -> Result<Event, Fail> {
 
 fn getattr(node: u64) -> Event {
     Event::Do(Request::Getattr { node: Number(node) })
+}
+
+fn open(node: u64) -> Event {
+    Event::Do(Request::Other {
+        opcode: 14,
+        node: Number(node),
+    })
 }
 
 fn forget(node: u64, k: u64) -> Event {
@@ -85,6 +92,16 @@ fn entry(unique: u64, number: u64, attr: Attr) -> Option<Happened> {
     }))
 }
 
+fn attrs(unique: u64, number: u64, attr: Attr) -> Option<Happened> {
+    Some(Happened::Answered(Reply {
+        unique,
+        answer: Answer::Attrs {
+            number: Number(number),
+            attr,
+        },
+    }))
+}
+
 fn error(unique: u64, errno: Errno) -> Option<Happened> {
     Some(Happened::Answered(Reply {
         unique,
@@ -100,7 +117,7 @@ fn first_of(outcome: &Outcome) -> Option<Happened> {
     outcome.happened().first().copied()
 }
 
-/// Whether each event had its outcome: one thing that happened, or nothing.
+/// Returns whether each event had its outcome: one thing that happened, or nothing.
 fn are(outcomes: &[Outcome], expected: &[Option<Happened>]) -> bool {
     if outcomes.len() != expected.len() {
         return false;
@@ -113,7 +130,8 @@ fn are(outcomes: &[Outcome], expected: &[Option<Happened>]) -> bool {
     true
 }
 
-/// The world after events that had these outcomes, in the first run or, as where memory was refused, in the second.
+/// Returns the world after events that had these outcomes, in the first run or, as where memory was refused, in the
+/// second.
 fn after(alloc: Global, events: &[Event], expected: &[Option<Happened>]) -> Result<World, Fail> {
     let manifest = manifest(alloc)?;
     if let Ok((world, outcomes)) = run(alloc, &manifest, 8, events) {
@@ -128,7 +146,7 @@ fn after(alloc: Global, events: &[Event], expected: &[Option<Happened>]) -> Resu
     Err("other outcomes")?
 }
 
-/// Whether a map's only number names `src` and is held once, and this one is given next.
+/// Returns whether a map's only number names `src` and is held once, and this one is given next.
 fn keeps_src_alone(map: &InodeMap, number: Number, next: u64) -> bool {
     if map.after(Number(0)) != Some(number) || map.after(number).is_some() {
         return false;
@@ -144,7 +162,7 @@ fn keeps_src_alone(map: &InodeMap, number: Number, next: u64) -> bool {
     }
 }
 
-/// Whether daemon 1 keeps this number of `src` alone, the kernel holds it once, and that one is given next.
+/// Returns whether daemon 1 keeps this number of `src` alone, the kernel holds it once, and that one is given next.
 fn keeps_alone(world: &World, number: u64, next: u64) -> bool {
     let Some(served) = world.served(DaemonId(1)) else {
         return false;
@@ -153,7 +171,7 @@ fn keeps_alone(world: &World, number: u64, next: u64) -> bool {
     keeps_src_alone(served.map(), number, next) && world.broker().held(number) == 1
 }
 
-/// What an event did, or, where it wanted memory, what it did when it came again.
+/// Returns what an event did, or, where memory ran out, what it did when it came again.
 fn made(world: &mut World, event: &Event) -> Option<Happened> {
     let happened = first_of(&world.step(event));
     if happened == refused(Refusal::NoMemory) || happened == error(1, Errno::ENOMEM) {
@@ -260,14 +278,15 @@ fn refuses_events_for_the_first_cause(rt: HostRuntime) -> Result<(), Fail> {
 }
 
 #[test]
-fn answers_enosys_and_takes_no_batch(rt: HostRuntime) -> Result<(), Fail> {
+fn shows_attributes_and_takes_no_batch(rt: HostRuntime) -> Result<(), Fail> {
     let alloc = rt.alloc();
     let events = [
         Event::Start,
         Event::Mount(DaemonId(1)),
         look_up(alloc, 1, b"src")?,
         forget_both(alloc, &[item(2, 1), item(2, 1)])?,
-        getattr(1),
+        getattr(2),
+        open(1),
         getattr(3),
         look_up(alloc, 1, b"missing")?,
     ];
@@ -276,9 +295,10 @@ fn answers_enosys_and_takes_no_batch(rt: HostRuntime) -> Result<(), Fail> {
         Some(Happened::Mounted(1)),
         entry(1, 2, DIRECTORY),
         refused(Refusal::BadForget),
-        error(2, Errno::ENOSYS),
+        attrs(2, 2, DIRECTORY),
+        error(3, Errno::ENOSYS),
         refused(Refusal::NotHeld),
-        error(3, Errno::ENOENT),
+        error(4, Errno::ENOENT),
     ];
     let world = after(alloc, &events, &expected)?;
     assert!(rt; keeps_alone(&world, 2, 3));

@@ -11,12 +11,12 @@ pub returns-in_default-clause-refused : goal.returns-in_default-clause-refused
 returns-in_default-clause-refused c =
     let some : 0 < length c.loop-rest.rest.now = let full : c.is_empty.result ≡ false = cc (c.loop-rest-test.true) in grind (arith, nat_tests) in
     let number = ap (λ n. n + 2) c.len-line.ensures.len in
-    sym c.loop-rest.invariant.0 ∙ ap (read_on c.loop-rest.reading (length c.loop-rest.reading + 2)) (parts-no_cut 10 c.loop-rest.rest.now (sym c.in_default.ensures.parts))
-    ∙ read_on-unended c.loop-rest.reading (length c.loop-rest.reading + 2) c.loop-rest.rest.now some ∙ sym (ap (λ n. Err (fault_at n BadLine)) number)
+    sym c.loop-rest.invariant.0 ∙ ap (read_on c.loop-rest.lines (length c.loop-rest.lines + 2)) (parts-no_cut 10 c.loop-rest.rest.now (sym c.in_default.ensures.parts))
+    ∙ read_on-unended c.loop-rest.lines (length c.loop-rest.lines + 2) c.loop-rest.rest.now some ∙ sym (ap (λ n. Err (fault_at n BadLine)) number)
 
 pub loop-rest-preserved : goal.loop-rest-preserved
 loop-rest-preserved c =
-    let old = c.loop-rest.reading in
+    let old = c.loop-rest.lines in
     let new = c.add.new.self in
     let text = c.in-Some.text.now in
     let after = c.in-Some.after.now in
@@ -28,7 +28,7 @@ loop-rest-preserved c =
 
 pub returns-in-Err-clause-refused : goal.returns-in-Err-clause-refused
 returns-in-Err-clause-refused c =
-    let old = c.loop-rest.reading in
+    let old = c.loop-rest.lines in
     let text = c.in-Some.text.now in
     let after = c.in-Some.after.now in
     let number = ap (λ n. n + 2) c.len-line.ensures.len in

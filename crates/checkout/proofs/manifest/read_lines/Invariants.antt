@@ -5,7 +5,7 @@ use Rattle.checkout.proofs.manifest.read_lines.Given as goal
 
 abbrev pub invariant-loop-rest : goal.invariant-loop-rest
 invariant-loop-rest l =
-    (read_on l.reading (length l.reading + 2) (lines_of l.rest) ≡ read_on [] 2 (lines_of l.bytes)) × (length l.reading + length (lines_of l.rest) ≡ length (lines_of l.bytes))
+    (read_on l.lines (length l.lines + 2) (lines_of l.rest) ≡ read_on [] 2 (lines_of l.bytes)) × (length l.lines + length (lines_of l.rest) ≡ length (lines_of l.bytes))
 
 abbrev pub decreases-loop-rest : goal.decreases-loop-rest
 decreases-loop-rest l = length l.rest

@@ -1,7 +1,8 @@
 use Rattle.std.proofs.Common.{Some, sym, subst}
 use Rattle.fuse_wire.specs.declared.ask.Request.{Request}
-use Rattle.fuse_ops.specs.Served.{Replay}
-use Rattle.fuse_ops.proofs.Replays.{lookup-replay, unserved-replay}
+use Rattle.fuse_wire.specs.declared.ask.Request.TheVariants.{Getattr}
+use Rattle.fuse_ops.specs.Served.{ServedState, Replay}
+use Rattle.fuse_ops.proofs.Replays.{lookup-replay, getattr-replay, unserved-replay}
 use Rattle.fuse_ops.proofs.served.Served.apply.Goals as goal
 
 pub returns-in-Lookup : goal.returns-in-Lookup
@@ -10,5 +11,14 @@ returns-in-Lookup c = record {
       (lookup-replay _ _ _ _ _ c.look_up.ensures.answer);
 }
 
+pub returns-in-Getattr : goal.returns-in-Getattr
+returns-in-Getattr c = record {
+  replay = subst (λ (request : Request). Replay c.args.self.now request (Some c.get_attr.result) c.get_attr.new.self) (sym c.in-Getattr.is)
+      (subst (λ (s : ServedState). Replay c.args.self.now (Getattr c.in-Getattr.node) (Some c.get_attr.result) s) (sym c.get_attr.ensures.unchanged)
+      (getattr-replay _ _ _ c.get_attr.ensures.answer));
+}
+
 pub returns-in_default : goal.returns-in_default
-returns-in_default c = record { replay = unserved-replay _ _ c.in_default.not-Lookup c.in_default.not-Forget c.in_default.not-BatchForget }
+returns-in_default c = record {
+  replay = unserved-replay _ _ c.in_default.not-Lookup c.in_default.not-Getattr c.in_default.not-Forget c.in_default.not-BatchForget;
+}

@@ -7,11 +7,10 @@ use Rattle.node_arena.proofs.nodes.Nodes.oldest.Goals as goal
 
 pub returns-clause-last : goal.returns-clause-last
 returns-clause-last g c =
-    ap (λ i. Some (slot_at i)) (c.prev-last.ensures.1 ∙ ap (prev_of c.self.inside.region) c.link.ensures.1)
-    ∙ sym (oldest_some c.self.inside.region c.self.inside.capacity c.self.inside.len c.self.invariant c.args.self.now c.self.view_is c.if-self-eq0.false)
+    let i = c.self.inside in let at = c.index.ensures ∙ c.prev-last.ensures.1 ∙ ap (prev_of i.region) c.link.ensures.1 in
+    ap (λ k. Some (slot_at k)) at ∙ sym (oldest_some i.region i.spare i.capacity i.len c.self.invariant c.args.self.now c.self.view_is c.if-self-eq0.false)
 
 pub returns-clause-held : goal.returns-clause-held
 returns-clause-held g c =
-    let at = c.prev-last.ensures.1 ∙ ap (prev_of c.self.inside.region) c.link.ensures.1 in
-    subst (λ i. IsHeld c.args.self.now (slot_at i)) (sym at)
-    (oldest_held c.self.inside.region c.self.inside.capacity c.self.inside.len c.self.invariant c.args.self.now c.self.view_is c.if-self-eq0.false)
+    let i = c.self.inside in let at = c.index.ensures ∙ c.prev-last.ensures.1 ∙ ap (prev_of i.region) c.link.ensures.1 in
+    subst (λ k. IsHeld c.args.self.now (slot_at k)) (sym at) (oldest_held i.region i.spare i.capacity i.len c.self.invariant c.args.self.now c.self.view_is c.if-self-eq0.false)

@@ -1,0 +1,179 @@
+-- What the calls of a tree leave, in the words of their callees.
+use Rattle.std.proofs.Common.{◌≡◌, ℕ, ◌+◌, ◌<◌, ◌≤◌, ◌==◌, ◌||◌, Bool, true, false, nat_lt, if◌then◌else◌, List, [], ◌∷◌, length, Option, Some, None, IsSome, IfSome, refl, sym, ap, subst, ◌∙◌, inl, inr, arith}
+use Rattle.std.proofs.lemmas.Bool.Decides.{nat_tests}
+use Rattle.std.proofs.lemmas.Option.{slice_get_within}
+use Rattle.std.specs.Option.{option_or, option_and_then}
+use Rattle.std.specs.Ordering.{nat_cmp}
+use Rattle.std.specs.FinMap.{FinMap, get, insert, remove, empty, same_map, get-remove, get-insert, get-empty}
+use Rattle.eden_base.proofs.MemberLemmas.{some-IsSome, some-is}
+use Rattle.eden_base.specs.Limits.{end_of_files}
+use Rattle.eden_base.specs.Name.{IsNameText}
+use Rattle.eden_base.specs.declared.attr.Kind.{Kind}
+use Rattle.eden_base.specs.declared.attr.Kind.TheVariants.{Dir}
+use Rattle.eden_base.specs.declared.attr.Perm.{Perm}
+use Rattle.eden_base.specs.declared.number.FileId.{FileId}
+use Rattle.checkout.specs.declared.made.MadeFile.{MadeFile}
+use Rattle.checkout.specs.Manifest.{Line, Manifest, IsManifest, IsDirBefore}
+use Rattle.checkout.specs.Overlay.{tree_over, gone_by, kids_in, lost_in, dir_made, still, IsOverlay}
+use Rattle.checkout.specs.Tally.{Tally, count_of}
+use Rattle.checkout.specs.Tree.{Tree, IsTree, link_cmp, kind_of, child_of, is_unlinked, is_full_dir, created, removed, tree_of, files_from, links_from}
+use Rattle.checkout.proofs.FlatLemmas.{link_cmp_total, link_cmp-same}
+use Rattle.checkout.proofs.LineCounts.{lost-le-kids, kids-le-length, lost_in-none}
+use Rattle.checkout.proofs.ManifestIsTree.{tree_of-IsTree}
+use Rattle.checkout.proofs.ManifestTree.{file_with, same_id, line_of_link}
+use Rattle.checkout.proofs.MapLemmas.{get-remove_same, get-remove_other, get-insert_same, get-insert_other, tied_key, removed_nothing, removed_again}
+use Rattle.checkout.proofs.OverlayCreate.{made_in, tree_over-created, create-IsOverlay}
+use Rattle.checkout.proofs.OverlayLaws.{child-over, child_added, child_cases}
+use Rattle.checkout.proofs.OverlayRemove.{unlinked, tree_over-removed_added, remove_added-IsOverlay, tree_over-removed, remove-IsOverlay}
+use Rattle.checkout.proofs.UnionLaws.{files_over-nothing, links_over-nothing}
+
+-- before any request
+pub start-is : (m : Manifest) (gone : ℕ → Bool) → ((q : ℕ) → gone q ≡ false) → tree_over m empty empty gone (length m.lines + 2) ≡ tree_of m
+start-is m gone none =
+    let files = files_over-nothing (files_from 2 m.lines) in
+    let links = links_over-nothing gone (links_from 2 m.lines) none in
+    λ i. record { manifest = m; files = files i; links = links i; next_file = length m.lines + 2 }
+
+pub start-IsOverlay : (m : Manifest) (gone : ℕ → Bool) (lost : ℕ → ℕ) → IsManifest m → ((q : ℕ) → gone q ≡ false) → ((q : ℕ) → lost q ≡ 0) → IsOverlay m empty empty gone lost (length m.lines + 2)
+start-IsOverlay m gone lost is none no_loss = record {
+  is_manifest = is;
+  is_tree = subst IsTree (sym (start-is m gone none)) (tree_of-IsTree m is);
+  made_are_later = λ file h. let e = get-empty {X = MadeFile} nat_cmp file in absurd (let s : IsSome {T = MadeFile} None = subst IsSome e h in cc (s));
+  added_are_made = λ dir name file h. let e = get-empty {X = FileId} link_cmp (dir.0, name) in absurd (cc (e, h));
+  made_are_added = λ file dir h. let e = ap (option_and_then (λ (x : MadeFile). x.dir)) (get-empty {X = MadeFile} nat_cmp file.0) in absurd (cc (e, h));
+  added_are_apart = λ dir name h. let e = get-empty {X = FileId} link_cmp (dir, name) in absurd (let s : IsSome {T = FileId} None = subst IsSome e h in cc (s));
+  lost_are_counted = λ dir. no_loss dir ∙ sym (lost_in-none gone none dir 2 m.lines);
+}
+
+module _ (m : Manifest) (made : FinMap nat_cmp MadeFile) (added : FinMap link_cmp FileId) (gone : ℕ → Bool) (lost : ℕ → ℕ) (next : ℕ) (is : IsOverlay m made added gone lost next) (self : Tree) (view : tree_over m made added gone next ≡ self) (dir : FileId) (name : List ℕ) where
+  abbrev tree : Tree
+  tree = tree_over m made added gone next
+
+  module _ (free : child_of self dir name ≡ None) where
+    free_here : child_of tree dir name ≡ None
+    free_here = ap (λ (t : Tree). child_of t dir name) view ∙ free
+
+    none_added : get added (dir.0, name) ≡ None
+    none_added =
+        elim (get added (dir.0, name)) as (λ o. get added (dir.0, name) ≡ o → o ≡ None) [
+          | None ↦ λ e. refl
+          | Some f ↦ λ e. let there = child_added m made added gone lost next is dir name f e in absurd (cc (there, free_here))
+        ] refl
+
+    -- a link that was added, and taken out again
+    pub undone : (bytes bytes' : List ℕ) (file : FileId) (added' added'' : FinMap link_cmp FileId) → bytes ≡ name → bytes' ≡ name → added' ≡ insert added (dir.0, bytes) file → added'' ≡ remove added' (dir.0, bytes') → added'' ≡ added
+    undone bytes bytes' file added' added'' e e' a a' =
+        a' ∙ ap (λ (n : List ℕ). remove added' (dir.0, n)) e' ∙ ap (λ x. remove x (dir.0, name)) (a ∙ ap (λ (n : List ℕ). insert added (dir.0, n) file) e)
+        ∙ removed_again link_cmp_total link_cmp-same added (dir.0, name) file none_added
+
+    pub create-step : (kind : Kind) (perm : Perm) (made' : FinMap nat_cmp MadeFile) (added' : FinMap link_cmp FileId) (bytes : List ℕ) → kind_of self dir ≡ Some Dir → is_unlinked self dir ≡ false → IsNameText bytes → next < end_of_files →
+        bytes ≡ name → made' ≡ insert made next (made_in dir kind perm) → added' ≡ insert added (dir.0, bytes) (file_with next) →
+        IsOverlay m made' added' gone lost (next + 1) × (tree_over m made' added' gone (next + 1) ≡ created self dir name kind perm)
+    create-step kind perm made' added' bytes is_dir is_reached is_name fits e f a =
+        let a' = a ∙ ap (λ (n : List ℕ). insert added (dir.0, n) (file_with next)) e in
+        rw (f, a') (
+          create-IsOverlay m made added gone lost next is dir name kind perm (ap (λ (t : Tree). kind_of t dir) view ∙ is_dir) (ap (λ (t : Tree). is_unlinked t dir) view ∙ is_reached) free_here (subst IsNameText e is_name) fits,
+          tree_over-created m made added gone next dir name kind perm ∙ ap (λ (t : Tree). created t dir name kind perm) view,
+        )
+
+  module _ (not_full : IfSome (child_of self dir name) (λ file. is_full_dir self file ≡ false)) where
+    not_full_here : (file : FileId) → child_of tree dir name ≡ Some file → is_full_dir tree file ≡ false
+    not_full_here file h =
+        let there = sym (ap (λ (t : Tree). child_of t dir name) view) ∙ h in
+        let p : is_full_dir self file ≡ false = subst (λ o. IfSome o (λ f. is_full_dir self f ≡ false)) there not_full in
+        ap (λ (t : Tree). is_full_dir t file) view ∙ p
+
+    -- an added link gives a made file
+    pub is_made : (bytes : List ℕ) (file : FileId) → bytes ≡ name → get added (dir.0, bytes) ≡ Some file → IsSome (get made file.0)
+    is_made bytes file e here =
+        elim (get made file.0) as (λ o. option_and_then (λ (x : MadeFile). x.dir) o ≡ Some dir → IsSome o) [ None ↦ λ h. absurd (cc) | Some x ↦ λ h. refl ] (is.added_are_made dir bytes file here)
+
+    pub remove_added-step : (bytes : List ℕ) (file : FileId) (made' : FinMap nat_cmp MadeFile) (added' : FinMap link_cmp FileId) → bytes ≡ name → get added (dir.0, bytes) ≡ Some file →
+        IfSome (get made file.0) (λ x. made' ≡ insert made file.0 (unlinked x)) → added' ≡ remove added (dir.0, bytes) →
+        IsOverlay m made' added' gone lost next × (tree_over m made' added' gone next ≡ removed self dir name) × (child_of self dir name ≡ Some file)
+    remove_added-step bytes file made' added' e here unlink a =
+        let here' = sym (ap (λ (n : List ℕ). get added (dir.0, n)) e) ∙ here in
+        let x = some-is _ (is_made bytes file e here) in
+        let f : made' ≡ insert made file.0 (unlinked x.0) = subst (λ o. IfSome o (λ y. made' ≡ insert made file.0 (unlinked y))) x.1 unlink in
+        let a' = a ∙ ap (λ (n : List ℕ). remove added (dir.0, n)) e in
+        let there = child_added m made added gone lost next is dir name file here' in
+        let empty_or_file = not_full_here file there in
+        rw (f, a') (
+          remove_added-IsOverlay m made added gone lost next is dir name file here' x.0 x.1 empty_or_file,
+          tree_over-removed_added m made added gone lost next is dir name file here' x.0 x.1 empty_or_file ∙ ap (λ (t : Tree). removed t dir name) view,
+          sym (ap (λ (t : Tree). child_of t dir name) view) ∙ there,
+        )
+
+    module _ (bytes bytes' : List ℕ) (e : bytes ≡ name) (e' : bytes' ≡ name) (none : get added (dir.0, bytes) ≡ None) where
+      none_here : get added (dir.0, name) ≡ None
+      none_here = sym (ap (λ (n : List ℕ). get added (dir.0, n)) e) ∙ none
+
+      -- what is not an added link is one of the manifest's
+      pub line_link : (file : FileId) → child_of self dir name ≡ Some file → (get (links_from 2 m.lines) (dir.0, name) ≡ Some file) × (gone file.0 ≡ false)
+      line_link file h =
+          elim (child_cases m made added gone lost next is dir name file (ap (λ (t : Tree). child_of t dir name) view ∙ h)) [ inl a ↦ absurd (cc (a, none_here)) | inr w ↦ w ]
+
+      pub is_found : (found : Option FileId) → IsSome (child_of self dir name) → found ≡ get (links_from 2 m.lines) (dir.0, bytes') → IsSome found
+      is_found found there f =
+          let w = some-is _ there in
+          some-IsSome found w.0 (f ∙ ap (λ (n : List ℕ). get (links_from 2 m.lines) (dir.0, n)) e' ∙ (line_link w.0 w.1).0)
+
+      -- the file that was found, and that both counts have room
+      pub record IsFound (file : FileId) : Type 0 where
+        pub child : child_of self dir name ≡ Some file
+        pub here : get (links_from 2 m.lines) (dir.0, name) ≡ Some file
+        pub left : gone file.0 ≡ false
+        pub file_within : file.0 < length m.lines + 2
+        pub dir_within : dir.0 < length m.lines + 2
+        pub fits : lost dir.0 ≤ 65535
+
+      pub found-is : (found : Option FileId) (file : FileId) → IsSome (child_of self dir name) → found ≡ get (links_from 2 m.lines) (dir.0, bytes') → found ≡ Some file → IsFound file
+      found-is found file there f g =
+          let w = some-is _ there in
+          let at = line_link w.0 w.1 in
+          let found_here : get (links_from 2 m.lines) (dir.0, name) ≡ Some file = sym (f ∙ ap (λ (n : List ℕ). get (links_from 2 m.lines) (dir.0, n)) e') ∙ g in
+          let same : w.0 ≡ file = let x = at.0 in cc (x, found_here) in
+          let r = line_of_link m.lines 2 dir.0 name file found_here in
+          let within = slice_get_within m.lines r.place r.line r.here in
+          let dir_before = (is.is_manifest.lines.each r.place r.line r.here).dir_before in
+          let counted = is.lost_are_counted dir.0 in
+          let kids = lost-le-kids gone dir.0 2 m.lines in
+          let all = kids-le-length dir.0 m.lines in
+          let few = is.is_manifest.lines.few in
+          record {
+            child = w.1 ∙ ap (λ x. Some x) same;
+            here = found_here;
+            left = ap (λ (x : FileId). gone x.0) (sym same) ∙ at.1;
+            file_within = let id = r.file_is in omega (arith, id, within);
+            dir_within = elim dir_before [ inl one ↦ let d = r.dir_is in omega (arith, one, d) | inr v ↦ let d = r.dir_is in omega (arith, v.2, v.3, d, within) ];
+            fits = omega (arith, counted, kids, all, few);
+          }
+
+      pub remove_line-step : (file : FileId) (added' : FinMap link_cmp FileId) (gone' : ℕ → Bool) (lost' : ℕ → ℕ) → IsFound file → added' ≡ remove added (dir.0, bytes) →
+          ((q : ℕ) → gone' q ≡ ((q == file.0) || gone q)) → ((q : ℕ) → lost' q ≡ (if q == dir.0 then lost q + 1 else lost q)) →
+          IsOverlay m made added' gone' lost' next × (tree_over m made added' gone' next ≡ removed self dir name)
+      remove_line-step file added' gone' lost' at a one_more counted =
+          let a' = a ∙ removed_nothing link_cmp_total link_cmp-same added (dir.0, bytes) none in
+          let full = not_full_here file (ap (λ (t : Tree). child_of t dir name) view ∙ at.child) in
+          rw a' (
+            remove-IsOverlay m made added gone lost next is dir name file at.here none_here at.left full gone' lost' one_more counted,
+            tree_over-removed m made added gone lost next is dir name file at.here none_here at.left full gone' lost' one_more counted ∙ ap (λ (t : Tree). removed t dir name) view,
+          )
+
+above_zero : (n : ℕ) → nat_lt 0 (n + 1) ≡ true
+above_zero n = grind (arith, nat_tests)
+
+zero_from : (n : ℕ) → nat_lt 0 n ≡ false → n ≡ 0
+zero_from n k = grind (arith, nat_tests)
+
+-- a number that was counted once more is counted
+pub gone_by-raised : (old new : Tally) (file : ℕ) → ((q : ℕ) → count_of new q ≡ (if q == file then count_of old q + 1 else count_of old q)) → (q : ℕ) → gone_by new q ≡ ((q == file) || gone_by old q)
+gone_by-raised old new file raised q =
+    ap (nat_lt 0) (raised q) ∙ (elim (q == file) as (λ b. nat_lt 0 (if b then count_of old q + 1 else count_of old q) ≡ (b || gone_by old q)) [
+      | true ↦ above_zero (count_of old q)
+      | false ↦ refl
+    ])
+
+-- a file that is not gone was never counted
+pub not_counted : (tally : Tally) (file : ℕ) → gone_by tally file ≡ false → count_of tally file ≡ 0
+not_counted tally file h = zero_from (count_of tally file) h

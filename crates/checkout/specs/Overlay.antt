@@ -1,0 +1,76 @@
+-- A tree as what differs from its manifest: the files that were made and their links, and the manifest's files whose
+-- link is gone.
+use Rattle.std.specs.Prelude.{◌≡◌, ℕ, ◌+◌, ◌≤◌, ◌==◌, ◌&&◌, Bool, true, not, nat_lt, nat_le, List, [], ◌∷◌, ◌++◌, length, map, Option, Some, None, IsSome, if◌then◌else◌}
+use Rattle.std.specs.Option.{option_and_then}
+use Rattle.std.specs.Ordering.{nat_cmp}
+use Rattle.std.specs.FinMap.{FinMap, get, entries, from_entries, retain_keys}
+use Rattle.eden_base.specs.declared.number.FileId.{FileId}
+use Rattle.checkout.specs.declared.made.MadeFile.{MadeFile}
+use Rattle.checkout.specs.Manifest.{File, Line, Manifest, IsManifest}
+use Rattle.checkout.specs.Tally.{Tally, count_of}
+use Rattle.checkout.specs.Tree.{Tree, IsTree, link_cmp, made_file, files_from, links_from}
+
+-- the files that were counted once or more
+abbrev pub gone_by : Tally → ℕ → Bool
+gone_by tally file = nat_lt 0 (count_of tally file)
+
+-- a file of the manifest, below the root
+abbrev pub is_line : Manifest → FileId → Bool
+is_line m file = nat_le 2 file.0 && nat_lt file.0 (length m.lines + 2)
+
+-- a made file as the tree has it
+abbrev pub file_made : MadeFile → File
+file_made m = made_file m.kind m.perm
+
+-- made files, and those of a manifest
+abbrev pub files_over : FinMap nat_cmp MadeFile → FinMap nat_cmp File → FinMap nat_cmp File
+files_over made base = from_entries (map (λ (e : ℕ × MadeFile). (e.0, file_made e.1)) (entries made) ++ entries base)
+
+-- a link of the manifest stays where its file's is not gone
+abbrev pub stays : (ℕ → Bool) → Option FileId → Bool
+stays gone None = true
+stays gone (Some file) = not (gone file.0)
+
+-- what a link of the manifest gives still
+abbrev pub still : (ℕ → Bool) → Option FileId → Option FileId
+still gone None = None
+still gone (Some file) = if gone file.0 then None else Some file
+
+-- links that were added, and those of a manifest that are not gone
+abbrev pub links_over : FinMap link_cmp FileId → (ℕ → Bool) → FinMap link_cmp FileId → FinMap link_cmp FileId
+links_over added gone base = from_entries (entries added ++ entries (retain_keys base (λ k. stays gone (get base k))))
+
+-- the tree that differs so from a manifest's
+abbrev pub tree_over : Manifest → FinMap nat_cmp MadeFile → FinMap link_cmp FileId → (ℕ → Bool) → ℕ → Tree
+tree_over m made added gone next = record {
+  manifest = m;
+  files = files_over made (files_from 2 m.lines);
+  links = links_over added gone (links_from 2 m.lines);
+  next_file = next;
+}
+
+-- how many lines stand in a directory
+abbrev pub kids_in : ℕ → List Line → ℕ
+kids_in dir [] = 0
+kids_in dir (l ∷ ls) = (if l.dir.0 == dir then 1 else 0) + kids_in dir ls
+
+-- how many of them are gone, where the first line is of this file
+abbrev pub lost_in : (ℕ → Bool) → ℕ → ℕ → List Line → ℕ
+lost_in gone dir id [] = 0
+lost_in gone dir id (l ∷ ls) = (if (l.dir.0 == dir) && gone id then 1 else 0) + lost_in gone dir (id + 1) ls
+
+-- the directory of a made file that has a link
+abbrev pub dir_made : FinMap nat_cmp MadeFile → ℕ → Option FileId
+dir_made made file = option_and_then (λ (m : MadeFile). m.dir) (get made file)
+
+-- what holds of such differences
+pub record IsOverlay (m : Manifest) (made : FinMap nat_cmp MadeFile) (added : FinMap link_cmp FileId) (gone : ℕ → Bool) (lost : ℕ → ℕ) (next : ℕ) : Type 0 where
+  pub is_manifest : IsManifest m
+  pub is_tree : IsTree (tree_over m made added gone next)
+  pub made_are_later : (file : ℕ) → IsSome (get made file) → length m.lines + 2 ≤ file
+  -- a link that was added gives a made file, which has its directory; and back
+  pub added_are_made : (dir : FileId) (name : List ℕ) (file : FileId) → get added (dir.0, name) ≡ Some file → dir_made made file.0 ≡ Some dir
+  pub made_are_added : (file dir : FileId) → dir_made made file.0 ≡ Some dir → (name : List ℕ) × (get added (dir.0, name) ≡ Some file)
+  -- and stands where the manifest has no link, or one that is gone
+  pub added_are_apart : (dir : ℕ) (name : List ℕ) → IsSome (get added (dir, name)) → still gone (get (links_from 2 m.lines) (dir, name)) ≡ None
+  pub lost_are_counted : (dir : ℕ) → lost dir ≡ lost_in gone dir 2 m.lines

@@ -1,0 +1,79 @@
+//! The files that were made since the manifest.
+ghost use Rattle.std.specs.Prelude.{◌≡◌, IsSome, IfSome, None, OnOk, OnErr};
+ghost use Rattle.std.specs.FinMap.{empty, get, insert};
+
+use eden_base::{FileId, Kind, NoMemory, Perm};
+use std::alloc::Global;
+use std::collections::BTreeMap;
+use std::marker::Model;
+
+/// A file that was made. It stays when its link goes.
+#[derive(Clone, Copy)]
+pub struct MadeFile {
+    pub kind: Kind,
+    pub perm: Perm,
+    /// The directory in which its link stands, if it has one.
+    pub dir: Option<FileId>,
+}
+
+/// They are kept by their ids.
+#[derive(Drop)]
+pub struct MadeFiles {
+    files: BTreeMap<u64, MadeFile>,
+}
+
+impl Model for MadeFiles {
+    ghost use Rattle.std.specs.Ordering.{nat_cmp};
+    ghost use Rattle.std.specs.FinMap.{FinMap, from_entries};
+    ghost use Rattle.checkout.specs.declared.made.MadeFile.{MadeFile};
+    ghost use Rattle.checkout.specs.MadeCodes.{made_code};
+
+    ghost Value = { FinMap nat_cmp MadeFile };
+
+    ghost coded = { made_code };
+
+    ghost view = { λ a. from_entries a.files.entries };
+}
+
+impl MadeFiles {
+    /// Returns no files.
+    pub fn new(alloc: Global) -> MadeFiles
+        ensures { result ≡ empty }
+    {
+        MadeFiles {
+            files: BTreeMap::new(alloc),
+        }
+    }
+
+    /// Returns a file that was made.
+    pub fn get(&self, file: FileId) -> Option<MadeFile>
+        ensures { result ≡ get self.now file.0 }
+    {
+        self.files.get(&file.0).copied()
+    }
+
+    /// Adds a file, or puts one in the place of the file with its id.
+    pub fn insert(&mut self, file: FileId, made: MadeFile) -> Result<(), NoMemory>
+        ensures ok { OnOk result (self.new ≡ insert self.old file.0 made) }
+        ensures err { OnErr result (self.new ≡ self.old) }
+        ensures absent { OnErr result (get self.old file.0 ≡ None) }
+    {
+        self.files.insert(file.0, made)?;
+        Ok(())
+    }
+
+    /// Takes a file's directory from it. Takes no memory.
+    pub fn unlink(&mut self, file: FileId)
+        requires { IsSome (get self.old file.0) }
+        ensures { IfSome (get self.old file.0) (λ m.
+            self.new ≡ insert self.old file.0 (record { kind = m.kind; perm = m.perm; dir = None })) }
+    {
+        let made = self.get(file).unwrap();
+        let unlinked = MadeFile {
+            kind: made.kind,
+            perm: made.perm,
+            dir: None,
+        };
+        self.insert(file, unlinked).unwrap();
+    }
+}

@@ -1,0 +1,20 @@
+//! What becomes of a claim of the seat.
+use thiserror::Error;
+
+/// Why a daemon cannot claim the seat. The first that holds is told, in this order, in the words that a printed
+/// refusal has for it.
+#[derive(Clone, Copy, Debug, PartialEq, Eq, Error)]
+pub enum ClaimFault {
+    /// No daemon has the seat.
+    #[error("Ended")]
+    Ended,
+    /// The seat is not at the generation that is claimed, but at this one.
+    #[error("Stale {now}")]
+    Stale { now: u64 },
+    /// So many asks that were taken have no reply yet.
+    #[error("Unanswered {asks}")]
+    Unanswered { asks: u64 },
+    /// The seat is at the last generation.
+    #[error("LastGeneration")]
+    LastGeneration,
+}

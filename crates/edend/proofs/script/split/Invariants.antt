@@ -1,9 +1,0 @@
-use Rattle.std.proofs.Common.{length}
-use Rattle.edend.proofs.ScriptLemmas.{IsRest}
-use Rattle.edend.proofs.script.split.Given as goal
-
-abbrev pub invariant-loop-rest : goal.invariant-loop-rest
-invariant-loop-rest l = IsRest l.script l.rest l.number
-
-abbrev pub decreases-loop-rest : goal.decreases-loop-rest
-decreases-loop-rest l = length l.rest

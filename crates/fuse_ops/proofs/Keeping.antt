@@ -1,0 +1,64 @@
+-- What a daemon knows stays sound whatever it is asked.
+use Rattle.std.proofs.Common.{◌≡◌, ℕ, Bool, true, false, List, Option, Some, None, Result, Ok, Err, OnOk, OnErr, refl, sym, ap, subst, inl, inr, ◌⊎◌}
+use Rattle.std.specs.Option.{option_map_or}
+use Rattle.eden_base.specs.declared.attr.Attr.{Attr}
+use Rattle.eden_base.specs.declared.attr.Kind.{Kind}
+use Rattle.eden_base.specs.declared.attr.Kind.TheVariants.{Dir, File}
+use Rattle.eden_base.specs.declared.errno.Errno.{Errno}
+use Rattle.eden_base.specs.declared.errno.Errno.TheVariants.{ENOENT}
+use Rattle.eden_base.specs.declared.number.FileId.{FileId}
+use Rattle.eden_base.specs.declared.number.Number.{Number}
+use Rattle.eden_base.proofs.NumberTests.{eq-or}
+use Rattle.checkout.specs.Tree.{Tree, IsTree, child_of, kind_of}
+use Rattle.inode_map.specs.InodeMap.{MapState, forgotten, given, give_fault, is_bad_item}
+use Rattle.inode_map.specs.declared.inode_map.GiveFault.{GiveFault}
+use Rattle.fuse_ops.specs.Answers.{found_in, found_in_dir}
+use Rattle.fuse_ops.specs.Gifts.{served_over}
+use Rattle.fuse_ops.specs.Served.{ServedState, IsLocated}
+use Rattle.fuse_ops.specs.Soundness.{IsSound}
+use Rattle.fuse_ops.specs.Work.{Finds, IsFoundAs}
+use Rattle.fuse_ops.proofs.ForgettingLaw.{forgets-well, bad-keeps}
+use Rattle.fuse_ops.proofs.GivingLaw.{gives-well}
+
+-- what is found under a name in a directory is its child there
+pub found-child : (tree : Tree) (dir file : FileId) (name : List ℕ) → found_in tree (Some dir) name ≡ Ok file → child_of tree dir name ≡ Some file
+found-child tree dir file name found = by_kind (kind_of tree dir) found where
+  by_child : (child : Option FileId) → option_map_or (λ (f : FileId). Ok f) child (Err ENOENT) ≡ Ok file → child ≡ Some file
+  by_child None e = absurd (let none : ⊥ = cc in none)
+  by_child (Some f) e = let same : f ≡ file = cc in ap Some same
+
+  by_kind : (kind : Option Kind) → found_in_dir tree dir name kind ≡ Ok file → child_of tree dir name ≡ Some file
+  by_kind (Some Dir) e = by_child (child_of tree dir name) e
+  by_kind (Some File) e = absurd (let none : ⊥ = cc in none)
+  by_kind None e = absurd (let none : ⊥ = cc in none)
+
+-- after an item of a forget
+pub forgotten-sound : (served : ServedState) (n k : ℕ) → IsTree served.tree → IsSound served → IsSound (served_over served.tree (forgotten served.map n k))
+forgotten-sound served n k is sound = by_root (eq-or n 1) where
+  by_bad : (n ≡ 1 → ⊥) → (bad : Bool) → is_bad_item served.map.entries n k ≡ bad → IsSound (served_over served.tree (forgotten served.map n k))
+  by_bad other true e = (bad-keeps served n k sound (inr e)).sound
+  by_bad other false e = ((forgets-well served n k is sound other e).1).sound
+
+  by_root : (n ≡ 1) ⊎ (n ≡ 1 → ⊥) → IsSound (served_over served.tree (forgotten served.map n k))
+  by_root (inl one) = (bad-keeps served n k sound (inl one)).sound
+  by_root (inr other) = by_bad other (is_bad_item served.map.entries n k) refl
+
+-- after the number of a file that was found was given
+given-sound : (served : ServedState) (dir : Number) (name : List ℕ) (attr : Attr) → IsTree served.tree → IsSound served → Finds served dir.0 name (Ok attr) →
+    give_fault served.map dir.0 name ≡ None → IsSound (served_over served.tree (given served.map dir name))
+given-sound served dir name attr is sound finds clear = by_file finds.dir_file finds.located (found_in served.tree finds.dir_file name) refl finds.found where
+  by_file : (above : Option FileId) → IsLocated served dir.0 above → (found : Result FileId Errno) → found_in served.tree above name ≡ found → IsFoundAs served found (Ok attr) →
+      IsSound (served_over served.tree (given served.map dir name))
+  by_file above at (Err errno) e told = absurd told
+  by_file None at (Ok file) e told = absurd (let none : ⊥ = cc in none)
+  by_file (Some above) at (Ok file) e told =
+      (gives-well served dir name above file (record { is_tree = is; sound = sound; at = at; child = found-child served.tree above file name e }) clear).sound
+
+-- after a gift, made or refused
+pub gift-sound : (served : ServedState) (new : MapState) (dir : Number) (name : List ℕ) (attr : Attr) (told : Result Number GiveFault) → IsTree served.tree → IsSound served →
+    Finds served dir.0 name (Ok attr) → OnOk told (new ≡ given served.map dir name) → OnOk told (give_fault served.map dir.0 name ≡ None) → OnErr told (new ≡ served.map) →
+    IsSound (served_over served.tree new)
+gift-sound served new dir name attr (Ok number) is sound finds made clear kept =
+    subst (λ (m : MapState). IsSound (served_over served.tree m)) (sym made) (given-sound served dir name attr is sound finds clear)
+gift-sound served new dir name attr (Err fault) is sound finds made clear kept =
+    subst (λ (m : MapState). IsSound (served_over served.tree m)) (sym kept) sound

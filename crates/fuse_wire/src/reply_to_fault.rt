@@ -1,0 +1,44 @@
+//! What a refused request is answered.
+ghost use Rattle.std.specs.Prelude.{◌≡◌};
+ghost use Rattle.fuse_wire.specs.FaultReply.{errno_of_fault, is_forget, fault_reply_of};
+
+use crate::header::Header;
+use crate::opcode::Opcode;
+use crate::{Answer, Reply, WireFault};
+use eden_base::{Errno, NameFault};
+
+/// Returns the reply to bytes that `read_request` refused. A forget has none, nor have bytes without a whole header.
+/// It takes no memory.
+pub fn fault_reply(bytes: &[u8], fault: &WireFault) -> Option<Reply>
+    ensures reply { result ≡ fault_reply_of bytes.now fault.now }
+{
+    if bytes.len() < Header::LEN {
+        return None;
+    }
+    let header = Header::of(bytes);
+    if is_forget(Opcode::of(header.opcode)) {
+        return None;
+    }
+    Some(Reply {
+        unique: header.unique,
+        answer: Answer::Error(errno_of_fault(fault)),
+    })
+}
+
+/// Returns whether the request is a forget, to which the kernel waits for no reply.
+fn is_forget(opcode: Opcode) -> bool
+    ensures { result ≡ is_forget opcode }
+{
+    matches!(opcode, Opcode::Forget | Opcode::BatchForget)
+}
+
+/// Returns the error that the program which asked is told.
+fn errno_of_fault(fault: &WireFault) -> Errno
+    ensures { result ≡ errno_of_fault fault.now }
+{
+    match fault {
+        WireFault::BadName(NameFault::TooLong) => Errno::ENAMETOOLONG,
+        WireFault::NoMemory => Errno::ENOMEM,
+        _ => Errno::EINVAL,
+    }
+}

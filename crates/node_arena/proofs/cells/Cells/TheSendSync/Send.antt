@@ -1,7 +1,0 @@
-use denote.RattleType.{RattleType}
-use denote.Param.Send.{IsSend}
-use Rattle.node_arena.proofs.Crosses.{Cells-send}
-use Rattle.node_arena.specs.contracts.cells.Cells.{the_row}
-
-pub send : (R : RattleType) → IsSend R → IsSend (the_row R)
-send = Cells-send

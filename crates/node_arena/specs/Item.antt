@@ -1,0 +1,19 @@
+-- The content of a node.
+use Rattle.std.specs.Prelude.{ℕ, Option, Some, None}
+use Rattle.node_arena.specs.declared.item.Item.{Item}
+use Rattle.node_arena.specs.declared.item.Item.TheVariants.{Vacant, Held}
+
+module _ {T : Type 0} where
+  -- the index of the node
+  abbrev pub index_in : Item T → ℕ
+  index_in (Vacant i) = i
+  index_in (Held i x) = i
+
+  -- its value
+  abbrev pub value_in : Item T → Option T
+  value_in (Vacant i) = None
+  value_in (Held i x) = Some x
+
+  -- the same node with the value w
+  abbrev pub item_with : Item T → T → Item T
+  item_with it w = Held (index_in it) w

@@ -1,0 +1,7 @@
+mod Leaving
+mod OutLaws
+mod Rows
+mod SeatLaws
+mod SessionLaws
+mod Steps
+mod VersionLaws

@@ -1,0 +1,5 @@
+pub mod Histories
+pub mod Laws
+pub mod Node
+pub mod Phases
+pub mod Versions

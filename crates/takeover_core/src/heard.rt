@@ -1,0 +1,25 @@
+//! What comes of a message.
+use crate::Message;
+
+/// What a daemon makes of a message that it hears.
+#[derive(Debug, Drop, PartialEq, Eq)]
+pub enum Heard {
+    /// It is not for this phase or session, and changes nothing.
+    Ignored,
+    /// It is taken, and nothing is to be said.
+    Heard,
+    /// This is to be said.
+    Say(Message),
+    /// The data is to be made: `Node::data_made` or `Node::data_failed` follows.
+    MakeData {
+        session: u32,
+        generation: u64,
+        version: u16,
+    },
+    /// The message's data is to be read and raised: `Node::raised` follows.
+    GotData {
+        session: u32,
+        generation: u64,
+        version: u16,
+    },
+}

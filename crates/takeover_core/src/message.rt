@@ -1,0 +1,37 @@
+//! What one daemon says to another.
+use crate::{ImageBytes, Versions};
+
+/// A message of a takeover. A session is one attempt at it, numbered from 1 by the daemon that serves.
+#[derive(Debug, Drop, PartialEq, Eq)]
+pub enum Message {
+    /// A new daemon can read images of these versions.
+    Offer(Versions),
+    /// The serving daemon begins a session, with an image of this version.
+    Choice {
+        session: u32,
+        version: u16,
+    },
+    /// None of the offered versions is one that the serving daemon writes.
+    NoCommon,
+    /// The serving daemon takes no offer now.
+    Busy,
+    /// The serving daemon has nothing in hand and nothing unposted any more.
+    Ready {
+        session: u32,
+        generation: u64,
+    },
+    /// The new daemon is still there.
+    Pong {
+        session: u32,
+    },
+    /// The inode map at this generation.
+    Data {
+        session: u32,
+        generation: u64,
+        bytes: ImageBytes,
+    },
+    /// The session is over without a takeover.
+    Failed {
+        session: u32,
+    },
+}

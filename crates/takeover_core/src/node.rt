@@ -1,0 +1,450 @@
+//! The phases of one daemon.
+ghost use Rattle.std.specs.Prelude.{◌≡◌, ℕ, List, Some, None, IsTrue, IfOk, IfErr, OnOk, OnErr};
+ghost use Rattle.takeover_core.specs.Node.{new_node};
+ghost use Rattle.takeover_core.specs.Phases.{after, heard, said, drain_fault, is_raising, is_making, is_holding, may_take, claim_wanted, Mounted, Hear, Raised, Drained, DataMade, DataFailed, GiveUp, Claimed, Crash};
+
+use crate::{Heard, ImageBytes, Message, Phase, Versions};
+use eden_base::{ClaimFault, LAST_GENERATION, LAST_SESSION};
+use std::marker::Model;
+use thiserror::Error;
+
+/// Why a daemon is not drained. The first that holds is told, in this order, in the words that a printed refusal has
+/// for it.
+#[derive(Clone, Copy, Debug, PartialEq, Eq, Error)]
+pub enum DrainFault {
+    /// It is not draining.
+    #[error("WrongPhase")]
+    WrongPhase,
+    /// So many asks and items are in hand, and so many replies not posted.
+    #[error("Undrained {in_hand} {unposted}")]
+    Undrained { in_hand: usize, unposted: usize },
+}
+
+/// A daemon's part in takeovers: its phase, the image versions that it reads and writes, and the sessions that it has
+/// begun. Clauses see it as a `NodeState`. No call takes memory.
+#[derive(Drop)]
+pub struct Node {
+    phase: Phase,
+    versions: Versions,
+    sessions: u32,
+}
+
+impl Model for Node {
+    ghost use Rattle.takeover_core.specs.Node.{NodeState, node_state_code};
+
+    ghost Value = { NodeState };
+
+    ghost coded = { node_state_code };
+
+    ghost view = { λ n. record {
+      phase = n.phase;
+      versions = n.versions;
+      sessions = n.sessions;
+    } };
+}
+
+impl Node {
+    /// Returns a daemon that was just started.
+    pub fn waiting(versions: Versions) -> Node
+        ensures node { result ≡ new_node versions }
+    {
+        Node {
+            phase: Phase::Waiting,
+            versions,
+            sessions: 0,
+        }
+    }
+
+    /// Returns how far it is.
+    pub fn phase(&self) -> Phase
+        ensures phase { result ≡ self.now.phase }
+    {
+        self.phase
+    }
+
+    /// Returns what a new daemon says first.
+    pub fn offer(&self) -> Message
+        ensures offer { result ≡ Message.Offer self.now.versions }
+    {
+        Message::Offer(self.versions.copy())
+    }
+
+    /// Returns the same daemon once more.
+    pub fn copy(&self) -> Node
+        ensures copy { result ≡ self.now }
+    {
+        Node {
+            phase: self.phase,
+            versions: self.versions.copy(),
+            sessions: self.sessions,
+        }
+    }
+
+    /// Begins to serve, where the broker gave this daemon the seat.
+    pub fn mounted(&mut self, generation: u64)
+        requires waiting { self.old.phase ≡ Phase.Waiting }
+        ensures after { self.new ≡ after self.old (Mounted generation) }
+    {
+        self.phase = Phase::Serving { generation };
+    }
+
+    /// Hears a message of another daemon, and returns what is to be done.
+    pub fn hear(&mut self, message: &Message) -> Heard
+        ensures heard { result ≡ heard self.old (Hear message.now) }
+        ensures after { self.new ≡ after self.old (Hear message.now) }
+    {
+        match message {
+            Message::Offer(offered) => self.hear_offer(offered),
+            Message::Choice { session, version } => self.hear_choice(*session, *version),
+            Message::NoCommon => self.hear_refusal(),
+            Message::Busy => self.hear_refusal(),
+            Message::Ready {
+                session,
+                generation,
+            } => self.hear_ready(*session, *generation),
+            Message::Pong { session } => self.hear_pong(*session),
+            Message::Data {
+                session,
+                generation,
+                ..
+            } => self.hear_data(*session, *generation),
+            Message::Failed { session } => self.hear_failed(*session),
+        }
+    }
+
+    fn hear_offer(&mut self, offered: &Versions) -> Heard
+        ensures heard { result ≡ heard self.old (Hear (Message.Offer offered.now)) }
+        ensures after { self.new ≡ after self.old (Hear (Message.Offer offered.now)) }
+    {
+        match self.phase {
+            Phase::Serving { generation } => Heard::Say(self.take_offer(generation, offered)),
+            Phase::Draining { .. }
+            | Phase::Pinged { .. }
+            | Phase::Making { .. }
+            | Phase::Handed { .. } => { Heard::Say(Message::Busy) }
+            _ => Heard::Ignored,
+        }
+    }
+
+    /// Begins the next session, unless there is no version for it, or no number.
+    fn take_offer(&mut self, generation: u64, offered: &Versions) -> Message
+        requires serving { self.old.phase ≡ Phase.Serving generation }
+        ensures heard { heard self.old (Hear (Message.Offer offered.now)) ≡ Heard.Say result }
+        ensures after { self.new ≡ after self.old (Hear (Message.Offer offered.now)) }
+    {
+        let Some(version) = self.versions.greatest_common(offered) else {
+            return Message::NoCommon;
+        };
+        if self.sessions == LAST_SESSION || generation == LAST_GENERATION {
+            return Message::Busy;
+        }
+        self.sessions += 1;
+        let session = self.sessions;
+        self.phase = Phase::Draining {
+            generation,
+            session,
+            version,
+        };
+        Message::Choice { session, version }
+    }
+
+    fn hear_choice(&mut self, session: u32, version: u16) -> Heard
+        ensures heard { result ≡ heard self.old (Hear (Message.Choice session version)) }
+        ensures after { self.new ≡ after self.old (Hear (Message.Choice session version)) }
+    {
+        match self.phase {
+            Phase::Waiting if self.versions.contains(version) => {
+                self.phase = Phase::Chosen { session, version };
+                Heard::Heard
+            }
+            _ => Heard::Ignored,
+        }
+    }
+
+    /// Hears that the offer was not taken.
+    fn hear_refusal(&mut self) -> Heard
+        ensures heard_no_common { result ≡ heard self.old (Hear Message.NoCommon) }
+        ensures heard_busy { result ≡ heard self.old (Hear Message.Busy) }
+        ensures after_no_common { self.new ≡ after self.old (Hear Message.NoCommon) }
+        ensures after_busy { self.new ≡ after self.old (Hear Message.Busy) }
+    {
+        match self.phase {
+            Phase::Waiting => {
+                self.phase = Phase::Gone;
+                Heard::Heard
+            }
+            _ => Heard::Ignored,
+        }
+    }
+
+    fn hear_ready(&mut self, ready: u32, generation: u64) -> Heard
+        ensures heard { result ≡ heard self.old (Hear (Message.Ready ready generation)) }
+        ensures after { self.new ≡ after self.old (Hear (Message.Ready ready generation)) }
+    {
+        match self.phase {
+            Phase::Chosen { session, .. } if session == ready => Heard::Say(Message::Pong {
+                session,
+            }),
+            _ => Heard::Ignored,
+        }
+    }
+
+    fn hear_pong(&mut self, ponged: u32) -> Heard
+        ensures heard { result ≡ heard self.old (Hear (Message.Pong ponged)) }
+        ensures after { self.new ≡ after self.old (Hear (Message.Pong ponged)) }
+    {
+        match self.phase {
+            Phase::Pinged {
+                generation,
+                session,
+                version,
+            } if session == ponged => {
+                self.phase = Phase::Making {
+                    generation,
+                    session,
+                    version,
+                };
+                Heard::MakeData {
+                    session,
+                    generation,
+                    version,
+                }
+            }
+            _ => Heard::Ignored,
+        }
+    }
+
+    /// Hears the data, whatever its bytes are: they are read by whoever has the message.
+    fn hear_data(&mut self, handed: u32, generation: u64) -> Heard
+        ensures heard { (bytes : List ℕ) →
+            result ≡ heard self.old (Hear (Message.Data handed generation bytes)) }
+        ensures after { (bytes : List ℕ) →
+            self.new ≡ after self.old (Hear (Message.Data handed generation bytes)) }
+    {
+        match self.phase {
+            Phase::Chosen { session, version } if session == handed => {
+                self.phase = Phase::Raising {
+                    session,
+                    generation,
+                };
+                Heard::GotData {
+                    session,
+                    generation,
+                    version,
+                }
+            }
+            _ => Heard::Ignored,
+        }
+    }
+
+    fn hear_failed(&mut self, failed: u32) -> Heard
+        ensures heard { result ≡ heard self.old (Hear (Message.Failed failed)) }
+        ensures after { self.new ≡ after self.old (Hear (Message.Failed failed)) }
+    {
+        match self.phase {
+            Phase::Chosen { session, .. } if session == failed => self.phase = Phase::Gone,
+            Phase::Draining {
+                generation,
+                session,
+                ..
+            }
+            | Phase::Pinged {
+                generation,
+                session,
+                ..
+            }
+            | Phase::Making {
+                generation,
+                session,
+                ..
+            } if session == failed => { self.phase = Phase::Serving { generation } }
+            Phase::Handed {
+                generation,
+                session,
+            } if session == failed => { self.phase = Phase::Holding { generation } }
+            _ => return Heard::Ignored,
+        }
+        Heard::Heard
+    }
+
+    /// Takes in whether the data was read and raised, and returns the message that is to be said, if there is one.
+    pub fn raised(&mut self, succeeded: bool) -> Option<Message>
+        requires raising { IsTrue (is_raising self.old.phase) }
+        ensures message { result ≡ said (heard self.old (Raised succeeded)) }
+        ensures after { self.new ≡ after self.old (Raised succeeded) }
+    {
+        match self.phase {
+            Phase::Raising { generation, .. } if succeeded => {
+                self.phase = Phase::Holding { generation };
+                None
+            }
+            Phase::Raising { session, .. } => {
+                self.phase = Phase::Gone;
+                Some(Message::Failed { session })
+            }
+            _ => unreachable!(),
+        }
+    }
+
+    /// Says that the daemon is ready to hand over, where it drains and has nothing left: so many asks and items in
+    /// hand, and so many replies not posted.
+    pub fn drained(&mut self, in_hand: usize, unposted: usize) -> Result<Message, DrainFault>
+        ensures ready { IfOk result (λ message.
+            heard self.old (Drained in_hand unposted) ≡ Heard.Say message) }
+        ensures nothing_left { OnOk result ((in_hand ≡ 0) × (unposted ≡ 0)) }
+        ensures refused { IfErr result (λ fault.
+            drain_fault self.old.phase in_hand unposted ≡ Some fault) }
+        ensures after { self.new ≡ after self.old (Drained in_hand unposted) }
+        ensures unchanged { OnErr result (self.new ≡ self.old) }
+    {
+        match self.phase {
+            Phase::Draining {
+                generation,
+                session,
+                version,
+            } => {
+                if in_hand > 0 || unposted > 0 {
+                    return Err(DrainFault::Undrained { in_hand, unposted });
+                }
+                self.phase = Phase::Pinged {
+                    generation,
+                    session,
+                    version,
+                };
+                Ok(Message::Ready {
+                    session,
+                    generation,
+                })
+            }
+            _ => Err(DrainFault::WrongPhase),
+        }
+    }
+
+    /// Hands the data over, in the bytes' own memory, and returns the message that is to be said. From here on the
+    /// daemon does not serve without a claim.
+    pub fn data_made(&mut self, bytes: ImageBytes) -> Message
+        requires making { IsTrue (is_making self.old.phase) }
+        ensures message { Some result ≡ said (heard self.old (DataMade bytes)) }
+        ensures after { self.new ≡ after self.old (DataMade bytes) }
+    {
+        match self.phase {
+            Phase::Making {
+                generation,
+                session,
+                ..
+            } => {
+                self.phase = Phase::Handed {
+                    generation,
+                    session,
+                };
+                Message::Data {
+                    session,
+                    generation,
+                    bytes,
+                }
+            }
+            _ => unreachable!(),
+        }
+    }
+
+    /// Takes in that the data could not be made, and returns the message that is to be said. The daemon serves on.
+    pub fn data_failed(&mut self) -> Message
+        requires making { IsTrue (is_making self.old.phase) }
+        ensures message { Some result ≡ said (heard self.old DataFailed) }
+        ensures after { self.new ≡ after self.old DataFailed }
+    {
+        match self.phase {
+            Phase::Making {
+                generation,
+                session,
+                ..
+            } => {
+                self.phase = Phase::Serving { generation };
+                Message::Failed { session }
+            }
+            _ => unreachable!(),
+        }
+    }
+
+    /// Ends the daemon's part in a takeover, as where the other daemon cannot be reached any more.
+    pub fn give_up(&mut self) -> Heard
+        ensures heard { result ≡ heard self.old GiveUp }
+        ensures after { self.new ≡ after self.old GiveUp }
+    {
+        match self.phase {
+            Phase::Waiting | Phase::Chosen { .. } => {
+                self.phase = Phase::Gone;
+                Heard::Heard
+            }
+            Phase::Draining {
+                generation,
+                session,
+                ..
+            }
+            | Phase::Pinged {
+                generation,
+                session,
+                ..
+            }
+            | Phase::Making {
+                generation,
+                session,
+                ..
+            } => {
+                self.phase = Phase::Serving { generation };
+                Heard::Say(Message::Failed { session })
+            }
+            Phase::Handed {
+                generation,
+                session,
+            } => {
+                self.phase = Phase::Holding { generation };
+                Heard::Say(Message::Failed { session })
+            }
+            _ => Heard::Ignored,
+        }
+    }
+
+    /// Returns whether the daemon may take requests: while it serves, and while it drains, since a round of its workers
+    /// takes until it sees that it is to stop.
+    pub fn may_take(&self) -> bool
+        ensures may_take { result ≡ may_take self.now.phase }
+    {
+        matches!(&self.phase, Phase::Serving { .. } | Phase::Draining { .. })
+    }
+
+    /// Returns the generation that the daemon wants to claim the seat from, if it does.
+    pub fn claim_wanted(&self) -> Option<u64>
+        ensures generation { result ≡ claim_wanted self.now.phase }
+    {
+        match self.phase {
+            Phase::Holding { generation } => Some(generation),
+            _ => None,
+        }
+    }
+
+    /// Takes in the answer to the claim: the generation at which the daemon serves from here on, or why it may not. It
+    /// may claim once more only where asks were unanswered.
+    pub fn claimed(&mut self, answer: Result<u64, ClaimFault>)
+        requires holding { IsTrue (is_holding self.old.phase) }
+        ensures after { self.new ≡ after self.old (Claimed answer) }
+    {
+        match answer {
+            Ok(generation) => self.phase = Phase::Serving { generation },
+            Err(ClaimFault::Unanswered { .. }) => {}
+            Err(_) => self.phase = Phase::Gone,
+        }
+    }
+
+    /// Ends the daemon.
+    pub fn crash(&mut self)
+        ensures after { self.new ≡ after self.old Crash }
+    {
+        self.phase = Phase::Gone;
+    }
+}
+
+#[cfg(test)]
+mod table_tests;
+#[cfg(test)]
+mod tests;

@@ -1,0 +1,221 @@
+//! Worked examples.
+ghost use Rattle.std.specs.Prelude.{◌≤◌, length};
+
+use super::{DrainFault, Node};
+use crate::{Heard, ImageBytes, Message, Phase, Versions};
+use arrayvec::ArrayString;
+use eden_base::ClaimFault;
+use std::alloc::Global;
+use std::fmt::Write;
+use std::test::Fail;
+
+fn offer(versions: &[u16]) -> Message
+    requires { length versions.now ≤ 8 }
+{
+    Message::Offer(Versions::of(versions))
+}
+
+/// A daemon of version 1 that serves at this generation and has begun so many sessions.
+fn serving(generation: u64, sessions: u32) -> Node {
+    Node {
+        phase: Phase::Serving { generation },
+        versions: Versions::of(&[1]),
+        sessions,
+    }
+}
+
+#[test]
+fn chooses_a_common_version_once(rt: HostRuntime) {
+    let mut node = serving(1, 0);
+    assert_eq!(rt; node.hear(&offer(&[9])), Heard::Say(Message::NoCommon));
+    assert_eq!(rt; node.hear(&offer(&[])), Heard::Say(Message::NoCommon));
+    assert_eq!(rt; node.phase(), Phase::Serving { generation: 1 });
+    let choice = Message::Choice {
+        session: 1,
+        version: 1,
+    };
+    assert_eq!(rt; node.hear(&offer(&[9, 1])), Heard::Say(choice));
+}
+
+#[test]
+fn chooses_the_greatest_common_version(rt: HostRuntime) {
+    let own = Versions::of(&[2, 1, 3]);
+    for (offered, greatest) in [
+        (&[1, 2, 9][..], Some(2)),
+        (&[3, 0, 3], Some(3)),
+        (&[0, 9], None),
+    ] {
+        assert_eq!(rt; own.greatest_common(&Versions::of(offered)), greatest);
+    }
+}
+
+#[test]
+fn is_busy_from_the_choice_until_the_data_is_out(rt: HostRuntime) {
+    let generation = 1;
+    let session = 1;
+    let version = 1;
+    let phases = [
+        Phase::Draining {
+            generation,
+            session,
+            version,
+        },
+        Phase::Pinged {
+            generation,
+            session,
+            version,
+        },
+        Phase::Making {
+            generation,
+            session,
+            version,
+        },
+        Phase::Handed {
+            generation,
+            session,
+        },
+    ];
+    for phase in phases {
+        for versions in [&[9, 1][..], &[9][..], &[][..]] {
+            let mut node = Node {
+                phase,
+                versions: Versions::of(&[1]),
+                sessions: 1,
+            };
+            assert_eq!(rt; node.hear(&offer(versions)), Heard::Say(Message::Busy));
+            assert_eq!(rt; node.phase(), phase);
+        }
+    }
+}
+
+#[test]
+fn begins_the_last_session_and_none_after_it(rt: HostRuntime) {
+    let mut node = serving(1, 4_294_967_294);
+    let choice = Message::Choice {
+        session: 4_294_967_295,
+        version: 1,
+    };
+    assert_eq!(rt; node.hear(&offer(&[1])), Heard::Say(choice));
+    assert_eq!(rt;
+        node.give_up(),
+        Heard::Say(Message::Failed {
+            session: 4_294_967_295
+        })
+    );
+    assert_eq!(rt; node.hear(&offer(&[1])), Heard::Say(Message::Busy));
+    assert_eq!(rt; node.hear(&offer(&[9])), Heard::Say(Message::NoCommon));
+    assert_eq!(rt; node.phase(), Phase::Serving { generation: 1 });
+}
+
+#[test]
+fn is_busy_at_the_last_generation(rt: HostRuntime) {
+    let mut node = serving(9_223_372_036_854_775_807, 0);
+    assert_eq!(rt; node.hear(&offer(&[1])), Heard::Say(Message::Busy));
+    assert_eq!(rt; node.hear(&offer(&[9])), Heard::Say(Message::NoCommon));
+    let mut before = serving(9_223_372_036_854_775_806, 0);
+    let choice = Message::Choice {
+        session: 1,
+        version: 1,
+    };
+    assert_eq!(rt; before.hear(&offer(&[1])), Heard::Say(choice));
+}
+
+/// Returns what is said.
+fn said(heard: Heard) -> Result<Message, Fail> {
+    match heard {
+        Heard::Say(message) => Ok(message),
+        _ => Err("nothing is said")?,
+    }
+}
+
+/// Makes the data, of no bytes, where the daemon is about to.
+fn data_of(alloc: Global, node: &mut Node) -> Result<Message, Fail> {
+    let bytes = ImageBytes::of(Vec::new(alloc));
+    match node.phase() {
+        Phase::Making { .. } => Ok(node.data_made(bytes)),
+        _ => Err("no data is to be made")?,
+    }
+}
+
+#[test]
+fn hands_the_data_over(rt: HostRuntime) -> Result<(), Fail> {
+    let mut old = serving(1, 0);
+    let mut new = Node::waiting(Versions::of(&[1]));
+    let choice = said(old.hear(&new.offer()))?;
+    assert_eq!(rt; new.hear(&choice), Heard::Heard);
+    let ready = old.drained(0, 0)?;
+    let pong = said(new.hear(&ready))?;
+    let make = Heard::MakeData {
+        session: 1,
+        generation: 1,
+        version: 1,
+    };
+    assert_eq!(rt; old.hear(&pong), make);
+    let data = data_of(rt.alloc(), &mut old)?;
+    let got = Heard::GotData {
+        session: 1,
+        generation: 1,
+        version: 1,
+    };
+    assert_eq!(rt; new.hear(&data), got);
+    Ok(())
+}
+
+#[test]
+fn claims_what_it_raised(rt: HostRuntime) -> Result<(), Fail> {
+    let mut new = Node {
+        phase: Phase::Raising {
+            session: 1,
+            generation: 1,
+        },
+        versions: Versions::of(&[1]),
+        sessions: 0,
+    };
+    assert_eq!(rt; new.raised(true), None);
+    assert_eq!(rt; new.claim_wanted(), Some(1));
+    assert!(rt; !new.may_take());
+    new.claimed(Ok(2));
+    assert_eq!(rt; new.claim_wanted(), None);
+    assert!(rt; new.may_take());
+    Ok(())
+}
+
+#[test]
+fn tells_what_is_left_to_drain(rt: HostRuntime) {
+    let mut waiting = Node::waiting(Versions::of(&[1]));
+    assert_eq!(rt; waiting.drained(1, 1), Err(DrainFault::WrongPhase));
+    let mut node = Node {
+        phase: Phase::Draining {
+            generation: 1,
+            session: 1,
+            version: 1,
+        },
+        versions: Versions::of(&[1]),
+        sessions: 1,
+    };
+    for (in_hand, unposted) in [(1, 0), (0, 1), (2, 3)] {
+        let fault = DrainFault::Undrained { in_hand, unposted };
+        assert_eq!(rt; node.drained(in_hand, unposted), Err(fault));
+    }
+}
+
+#[test]
+fn has_words_for_each_refusal(rt: HostRuntime) -> Result<(), Fail> {
+    let mut words: ArrayString<80> = ArrayString::new();
+    write!(words, "{}, ", DrainFault::WrongPhase)?;
+    write!(
+        words,
+        "{}, ",
+        DrainFault::Undrained {
+            in_hand: 1,
+            unposted: 0
+        }
+    )?;
+    write!(words, "{}, ", ClaimFault::Ended)?;
+    write!(words, "{}, ", ClaimFault::Stale { now: 2 })?;
+    write!(words, "{}, ", ClaimFault::Unanswered { asks: 1 })?;
+    write!(words, "{}", ClaimFault::LastGeneration)?;
+    let printed = "WrongPhase, Undrained 1 0, Ended, Stale 2, Unanswered 1, LastGeneration";
+    assert_eq!(rt; words.as_str(), printed);
+    Ok(())
+}

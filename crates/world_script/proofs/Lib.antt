@@ -1,0 +1,9 @@
+pub mod CommandLemmas
+pub mod EndingLemmas
+pub mod LineLemmas
+pub mod NumberLemmas
+pub mod OctalLemmas
+pub mod PlainWords
+pub mod PrintLemmas
+pub mod RunLemmas
+pub mod ScriptLemmas

@@ -1,0 +1,15 @@
+use Rattle.std.proofs.Common.{ℕ, ◌-◌, List, Option}
+use Rattle.std.specs.Io.KnownBytes.{Appends}
+use Rattle.inode_map.specs.InodeMap.{AreNumbers}
+use Rattle.world_script.specs.Printed.{kept_lines}
+use Rattle.world_script.proofs.NumberLemmas.{above}
+use Rattle.world_script.proofs.print.print_all_kept.Given as goal
+
+-- with the lines of the numbers above the last one, all lines are written
+abbrev pub invariant-loop-number : goal.invariant-loop-number
+invariant-loop-number g l =
+    AreNumbers 2 l.map.next l.map.entries → (end : Option (List ℕ)) → Appends (g.W.Write.contents l.out) end (kept_lines l.broker (above l.last.0 l.map.entries)) →
+    Appends (g.W.Write.contents l.initial.out) end (kept_lines l.broker l.map.entries)
+
+abbrev pub decreases-loop-number : goal.decreases-loop-number
+decreases-loop-number g l = l.map.next - l.last.0

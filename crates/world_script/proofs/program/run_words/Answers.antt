@@ -1,0 +1,6 @@
+-- What is wrong with the words is answered.
+use Rattle.world_script.proofs.EndingLemmas.{ends-answered}
+use Rattle.world_script.proofs.program.run_words.Goals as goal
+
+pub returns-in-Err : goal.returns-in-Err
+returns-in-Err g c = record { ends = ends-answered _ _ _ _ _ _ c.in-Err.ensures.refused c.answer.ensures }

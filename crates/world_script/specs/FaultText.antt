@@ -1,0 +1,20 @@
+-- The words that a fault is told by. (This project's own.)
+use Rattle.std.specs.Prelude.{ℕ, List, [], ◌∷◌, ◌++◌, codes}
+use Rattle.std.specs.Fmt.{decimal}
+use Rattle.checkout.specs.Words.{kind_text}
+use Rattle.world_script.specs.declared.fault.Fault.{Fault}
+use Rattle.world_script.specs.declared.fault.Fault.TheVariants.{CannotRead, TooLong, NoEvents, BadManifest, BadLine, NoMemory, CannotWrite}
+
+-- what is wrong
+abbrev pub fault_text : Fault → List ℕ
+fault_text CannotRead = codes "cannot read"
+fault_text TooLong = codes "too long"
+fault_text NoEvents = codes "no events"
+fault_text (BadManifest fault) = codes "line " ++ decimal fault.line ++ codes ": " ++ kind_text fault.kind
+fault_text (BadLine line) = codes "line " ++ decimal line ++ codes ": bad line"
+fault_text NoMemory = codes "no memory"
+fault_text CannotWrite = codes "cannot write"
+
+-- `fault: TEXT`
+abbrev pub fault_line : Fault → List ℕ
+fault_line fault = codes "fault: " ++ fault_text fault ++ 10 ∷ []

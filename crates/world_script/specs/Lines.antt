@@ -1,0 +1,50 @@
+-- The lines of a text, and the line `--` that parts a script. (This project's own.)
+use Rattle.std.specs.Prelude.{◌≡◌, ℕ, ◌+◌, ◌==◌, Bool, true, List, [], ◌∷◌, length, map, take, drop, Option, Some, None, is_none, position, codes, if◌then◌else◌}
+use Rattle.std.specs.List.{onto_first, before_first, after_first}
+use Rattle.world.specs.declared.event.Event.{Event}
+use Rattle.world_script.specs.EventLine.{event_of}
+use Rattle.world_script.specs.Words.{is_word}
+
+-- the byte that ends a line
+abbrev pub is_lf : ℕ → Bool
+is_lf byte = byte == 10
+
+-- the lines, each ended by LF, which the last may lack
+abbrev pub lines_of : List ℕ → List (List ℕ)
+lines_of [] = []
+lines_of (byte ∷ bytes) = if is_lf byte then [] ∷ lines_of bytes else onto_first byte (lines_of bytes)
+
+-- the line that ends a manifest
+abbrev pub is_marker : List ℕ → Bool
+is_marker line = is_word line (codes "--")
+
+-- the lines behind the first marker
+abbrev pub lines_behind : List (List ℕ) → Option (List (List ℕ))
+lines_behind [] = None
+lines_behind (line ∷ lines) = if is_marker line then Some lines else lines_behind lines
+
+-- a script's manifest, the text behind the first marker, and the number of that text's first line
+pub record IsSplit (script manifest events : List ℕ) (first : ℕ) : Type 0 where
+  pub manifest_is : manifest ≡ take (length manifest) script
+  pub marker_is : is_marker (before_first is_lf (drop (length manifest) script)) ≡ true
+  pub events_are : events ≡ after_first is_lf (drop (length manifest) script)
+  pub behind : lines_behind (lines_of script) ≡ Some (lines_of events)
+  pub first_is : first + length (lines_of events) ≡ length (lines_of script) + 1
+
+-- the place of the first line that says no event
+abbrev pub first_bad : List (List ℕ) → Option ℕ
+first_bad lines = position is_none (map event_of lines)
+
+-- the events that the lines behind a script's marker say
+pub record SaysEvents (script : List ℕ) (events : List Event) : Type 0 where
+  pub lines : List (List ℕ)
+  pub behind : lines_behind (lines_of script) ≡ Some lines
+  pub each : map Some events ≡ map event_of lines
+
+-- the number of the first line behind a script's marker that says no event
+pub record IsBadLine (script : List ℕ) (number : ℕ) : Type 0 where
+  pub lines : List (List ℕ)
+  pub place : ℕ
+  pub behind : lines_behind (lines_of script) ≡ Some lines
+  pub is_first : first_bad lines ≡ Some place
+  pub number_is : number + length lines ≡ length (lines_of script) + place + 1

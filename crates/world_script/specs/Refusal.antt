@@ -1,0 +1,63 @@
+-- Why a script is refused: the first of no line `--`, a bad manifest, and a bad line behind it. (This project's own.)
+use Rattle.std.specs.Prelude.{◌≡◌, ℕ, ◌+◌, ◌<◌, ◌≤◌, Bool, true, false, List, length, ⊤, Some, None, Ok, Err, option_map}
+use Rattle.checkout.specs.Manifest.{Manifest}
+use Rattle.checkout.specs.declared.fault.ManifestFault.{ManifestFault}
+use Rattle.checkout.specs.declared.fault.ManifestFaultKind.{ManifestFaultKind}
+use Rattle.checkout.specs.declared.fault.ManifestFaultKind.TheVariants as kind
+use Rattle.world_script.specs.declared.fault.Fault.{Fault}
+use Rattle.world_script.specs.declared.fault.Fault.TheVariants.{CannotRead, TooLong, NoEvents, BadManifest, BadLine, NoMemory, CannotWrite}
+use Rattle.world_script.specs.Lines.{lines_of, lines_behind, first_bad, IsBadLine}
+use Rattle.world_script.specs.Script.{SaysManifest, IsGood}
+
+-- the fault of a manifest's, by its kind
+abbrev pub fault_by_kind : ManifestFault → ManifestFaultKind → Fault
+fault_by_kind fault kind.NoMemory = NoMemory
+fault_by_kind fault _ = BadManifest fault
+
+-- want of memory is no fault of the manifest's
+abbrev pub fault_of_manifest : ManifestFault → Fault
+fault_of_manifest fault = fault_by_kind fault fault.kind
+
+-- why lines, of which the first has this number, were not all read as events
+abbrev pub IsEventsRefusal : List (List ℕ) → ℕ → Fault → Type 0
+IsEventsRefusal lines first (BadLine line) = option_map (λ i. first + i) (first_bad lines) ≡ Some line
+IsEventsRefusal lines first NoMemory = ⊤
+IsEventsRefusal lines first _ = ⊥
+
+-- the text before the first marker is a manifest
+abbrev pub HasManifest : List ℕ → Type 0
+HasManifest script = (manifest : Manifest) × SaysManifest script (Ok manifest)
+
+-- why a script was not read
+abbrev pub IsScriptRefusal : List ℕ → Fault → Type 0
+IsScriptRefusal script NoEvents = lines_behind (lines_of script) ≡ None
+IsScriptRefusal script (BadManifest fault) = SaysManifest script (Err fault)
+IsScriptRefusal script (BadLine line) = HasManifest script × IsBadLine script line
+IsScriptRefusal script NoMemory = ⊤
+IsScriptRefusal script _ = ⊥
+
+-- why a script's bytes were not read
+abbrev pub IsReadRefusal : Fault → Type 0
+IsReadRefusal CannotRead = ⊤
+IsReadRefusal TooLong = ⊤
+IsReadRefusal NoMemory = ⊤
+IsReadRefusal _ = ⊥
+
+-- the fault comes before anything of a script is run
+abbrev pub comes_first : Fault → Bool
+comes_first CannotWrite = false
+comes_first _ = true
+
+-- why a script that was read whole is refused; a longer one is `too long`, whatever it says
+abbrev pub IsShortRefusal : List ℕ → Fault → Type 0
+IsShortRefusal script fault = (length script ≤ 1048576) × IsScriptRefusal script fault
+
+-- why a script was not run to its end
+abbrev pub IsRunRefusal : List ℕ → Fault → Type 0
+IsRunRefusal script CannotRead = ⊤
+IsRunRefusal script TooLong = 1048576 < length script
+IsRunRefusal script NoEvents = IsShortRefusal script NoEvents
+IsRunRefusal script (BadManifest fault) = IsShortRefusal script (BadManifest fault)
+IsRunRefusal script (BadLine line) = IsShortRefusal script (BadLine line)
+IsRunRefusal script NoMemory = ⊤
+IsRunRefusal script CannotWrite = IsGood script

@@ -1,0 +1,77 @@
+-- What a script says, what it prints, and what is promised of it. (This project's own.)
+use Rattle.std.specs.Prelude.{◌≡◌, ℕ, ◌≤◌, List, [], ◌∷◌, ◌++◌, length, Option, Result, Ok}
+use Rattle.std.specs.List.{AllByRecursion}
+use Rattle.std.specs.Io.KnownBytes.{Appends}
+use Rattle.checkout.specs.Manifest.{Manifest}
+use Rattle.checkout.specs.ManifestText.{manifest_of}
+use Rattle.checkout.specs.declared.fault.ManifestFault.{ManifestFault}
+use Rattle.world.specs.State.{State, started}
+use Rattle.world.specs.Step.{Step}
+use Rattle.world.specs.World.{IsRun, first_world}
+use Rattle.world.specs.Agreement.{all_moves, world_after, Matches, IsRunOfMoves, CountsAreOwed, NumbersNameTheirFirstFile, OneDaemonForEachGeneration, RepliesAreAnswered, IsGoodForget}
+use Rattle.world.specs.declared.event.Event.{Event}
+use Rattle.world.specs.declared.outcome.Happened.{Happened}
+use Rattle.world_script.specs.Lines.{IsSplit, SaysEvents}
+use Rattle.world_script.specs.Printed.{printed}
+
+-- what the text before the first marker says as a manifest: the manifest, or its first fault
+pub record SaysManifest (script : List ℕ) (said : Result Manifest ManifestFault) : Type 0 where
+  pub text : List ℕ
+  pub events : List ℕ
+  pub first : ℕ
+  pub split : IsSplit script text events first
+  pub said_is : manifest_of text ≡ said
+
+-- the script may be run
+pub record IsGood (script : List ℕ) : Type 0 where
+  pub manifest : Manifest
+  pub events : List Event
+  pub says_manifest : SaysManifest script (Ok manifest)
+  pub says_events : SaysEvents script events
+  pub len : length script ≤ 1048576
+
+-- events happen one after another, each with its outcome, each prints what came of it, and this is all that they print
+abbrev pub Prints : State → List Event → List (List Happened) → List ℕ → State → Type 0
+Prints old [] [] text new = (text ≡ []) × (new ≡ old)
+Prints old (event ∷ events) (outcome ∷ outcomes) text new =
+    (between : State) × (rest : List ℕ)
+    × Step old event outcome between × (text ≡ printed between event outcome ++ rest)
+    × Prints between events outcomes rest new
+Prints old _ _ text new = ⊥
+
+-- What is promised of events, their outcomes and the state after them. There is a world, which knows no daemon's
+-- state: the one that the events' moves lead to from before anything happened. The moves are a run, so each of them is
+-- legal where it stands, and the state matches the world after them. What a match gives stands behind it, under the
+-- names that the clauses of `run` in `world` have.
+pub record IsPromised (manifest : Manifest) (limit : ℕ) (events : List Event)
+    (outcomes : List (List Happened)) (last : State) : Type 0 where
+  pub run : IsRun (first_world manifest) (all_moves (first_world manifest) events outcomes)
+  pub matches : Matches (world_after manifest events outcomes) last
+  -- seat, last generation, held counts and tree are the world's, nothing is under way, and the seated daemon serves
+  pub events_are_a_run_of_moves : IsRunOfMoves manifest events outcomes last
+  -- the seated daemon counts each number as often as the world owes it, which is how often the kernel holds it
+  pub counts_are_what_is_owed : CountsAreOwed (world_after manifest events outcomes) last
+  -- each of its numbers names the file that the number was first given out for in this mount
+  pub numbers_name_their_first_file : NumbersNameTheirFirstFile (world_after manifest events outcomes) last
+  -- all replies that were accepted at one generation came from one daemon
+  pub one_daemon_for_each_generation : OneDaemonForEachGeneration (world_after manifest events outcomes)
+  -- each reply that was posted is one that the world saw posted, by that daemon at that generation
+  pub replies_are_answered :
+      RepliesAreAnswered (world_after manifest events outcomes) (started manifest limit) events outcomes last
+  -- no forget was bad, or of the root
+  pub no_bad_forget : AllByRecursion (AllByRecursion IsGoodForget) outcomes
+
+-- events happen from this state on, and what they print is written behind what was there
+pub record RunsEvents (start : State) (events : List Event) (before after : Option (List ℕ)) : Type 0 where
+  pub outcomes : List (List Happened)
+  pub text : List ℕ
+  pub last : State
+  pub prints : Prints start events outcomes text last
+  pub written : Appends before after text
+
+-- a script that may be run was: its events happen from the start with its manifest, what they print is written, and
+-- they keep what is promised
+pub record Runs (script : List ℕ) (limit : ℕ) (before after : Option (List ℕ)) : Type 0 where
+  pub good : IsGood script
+  pub runs : RunsEvents (started good.manifest limit) good.events before after
+  pub promised : IsPromised good.manifest limit good.events runs.outcomes runs.last

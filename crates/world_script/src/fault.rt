@@ -1,0 +1,97 @@
+//! Why a script was not run to its end.
+ghost use Rattle.world_script.specs.declared.fault.Fault.TheVariants.{NoMemory as WantOfMemory};
+ghost use Rattle.std.specs.Prelude.{◌≡◌, None, OnOk, Some};
+ghost use Rattle.std.specs.Io.KnownBytes.{Appends};
+ghost use Rattle.world_script.specs.FaultText.{fault_line, fault_text};
+ghost use Rattle.world_script.specs.Refusal.{fault_of_manifest};
+
+use checkout::{ManifestFault, ManifestFaultKind};
+use eden_base::NoMemory;
+use std::alloc::{AllocError, AllocFailed};
+use std::error::Error;
+use std::fmt;
+use std::io::{self, Write};
+
+/// A fault ends the program. All but the last come before anything of a script is run or printed; of several the one
+/// that stands first here is told, and out of memory where it comes.
+#[derive(Clone, Copy, Debug, PartialEq, Eq)]
+pub enum Fault {
+    /// The script's reader failed, or took too many reads.
+    CannotRead,
+    /// The script has more than 1,048,576 bytes.
+    TooLong,
+    /// The script has no line `--`.
+    NoEvents,
+    /// The first faulty line of the manifest.
+    BadManifest(ManifestFault),
+    /// The first line behind the line `--` that says no event. Lines are counted from the script's first.
+    BadLine(usize),
+    NoMemory,
+    /// What happened could not be printed.
+    CannotWrite,
+}
+
+/// Writes the line that tells a fault.
+pub fn write_fault<W: Write>(out: &mut W, fault: Fault) -> io::Result<()>
+    ensures line { OnOk result (Appends (W.contents out.old) (W.contents out.new)
+        (fault_line fault)) }
+{
+    writeln!(out, "fault: {fault}")
+}
+
+impl fmt::Display for Fault {
+    ghost output = { λ fault. Some (fault_text fault) };
+
+    fn fmt<W: fmt::Write>(&self, f: &mut fmt::Formatter<W>) -> fmt::Result {
+        match self {
+            Fault::CannotRead => f.write_str("cannot read"),
+            Fault::TooLong => f.write_str("too long"),
+            Fault::NoEvents => f.write_str("no events"),
+            Fault::BadManifest(fault) => {
+                let line = fault.line;
+                let kind = fault.kind;
+                write!(f, "line {line}: {kind}")
+            }
+            Fault::BadLine(line) => write!(f, "line {line}: bad line"),
+            Fault::NoMemory => f.write_str("no memory"),
+            Fault::CannotWrite => f.write_str("cannot write"),
+        }
+    }
+}
+
+impl Error for Fault {}
+
+impl From<NoMemory> for Fault {
+    ghost from_gives = { λ _ fault. fault ≡ WantOfMemory };
+
+    fn from(_refused: NoMemory) -> Fault {
+        Fault::NoMemory
+    }
+}
+
+impl From<AllocError> for Fault {
+    ghost from_gives = { λ _ fault. fault ≡ WantOfMemory };
+
+    fn from(_refused: AllocError) -> Fault {
+        Fault::NoMemory
+    }
+}
+
+impl<T: Drop> From<AllocFailed<T>> for Fault {
+    ghost from_gives = { λ _ fault. fault ≡ WantOfMemory };
+
+    fn from(_refused: AllocFailed<T>) -> Fault {
+        Fault::NoMemory
+    }
+}
+
+impl From<ManifestFault> for Fault {
+    ghost from_gives = { λ fault gives. gives ≡ fault_of_manifest fault };
+
+    fn from(fault: ManifestFault) -> Fault {
+        match fault.kind {
+            ManifestFaultKind::NoMemory => Fault::NoMemory,
+            _ => Fault::BadManifest(fault),
+        }
+    }
+}

@@ -1,0 +1,26 @@
+//! A script of what happens to a mount and its daemons: read, run, and printed line by line; and the words of the
+//! command line that name it.
+#![tactic(auto)]
+
+mod command_line;
+mod ending;
+mod event_line;
+mod fault;
+mod input;
+mod lines;
+mod number;
+mod print;
+mod program;
+mod run;
+mod run_error;
+mod script;
+mod sources;
+#[cfg(test)]
+mod tests;
+
+pub use ending::Ending;
+pub use fault::{Fault, write_fault};
+pub use program::{run_program, run_words, words_of};
+pub use run::{DEFAULT_LIMIT, run_script, run_world};
+pub use run_error::RunError;
+pub use sources::{Sources, System, run_path};

@@ -1,0 +1,27 @@
+//! Decimal numbers.
+ghost use Rattle.std.specs.Prelude.{◌≡◌};
+ghost use Rattle.world_script.specs.Number.{number_of, with_digit};
+
+/// Reads the number that decimal digits write, where it fits 64 bits. Zeros may stand in front, and a sign may not.
+pub fn number(digits: &[u8]) -> Option<u64>
+    ensures { result ≡ number_of digits.now }
+{
+    if digits.is_empty() {
+        return None;
+    }
+    let mut value = 0;
+    for byte in digits {
+        value = with_digit(value, *byte)?;
+    }
+    Some(value)
+}
+
+/// Returns the number with one more digit.
+fn with_digit(value: u64, byte: u8) -> Option<u64>
+    ensures { result ≡ with_digit value byte }
+{
+    if !byte.is_ascii_digit() {
+        return None;
+    }
+    value.checked_mul(10)?.checked_add(u64::from(byte - b'0'))
+}

@@ -1,0 +1,74 @@
+//! A script, run.
+ghost use Rattle.std.specs.Prelude.{◌≡◌, true, IfErr, IfSome, OnOk};
+ghost use Rattle.std.specs.Io.KnownBytes.{Keeps};
+ghost use Rattle.world_script.specs.Refusal.{IsRunRefusal, comes_first};
+ghost use Rattle.world_script.specs.Script.{Runs, RunsEvents};
+
+use crate::input::read_whole;
+use crate::print::print_event;
+use crate::script::Script;
+use crate::{Fault, RunError};
+use std::alloc::Global;
+use std::io::{self, Read, Write};
+use world::{Event, World};
+
+/// How many nodes a daemon keeps loaded where the caller has no wish of its own.
+pub const DEFAULT_LIMIT: usize = 1024;
+
+/// Runs the script that a reader gives, and writes a line for each event that has one, in order. Nothing is run or
+/// written before the whole script is known to be good. An event that is refused is no fault: its line says so.
+/// `limit`, from 1 to 65,536, is how many nodes a daemon keeps loaded, which has no effect yet. A line is written in
+/// pieces, so the writer does well to gather them, as a `BufWriter` does; it is flushed after the last.
+pub fn run_world<R: Read, W: Write>(
+    alloc: Global,
+    reader: &mut R,
+    limit: usize,
+    writer: &mut W,
+) -> Result<(), Fault>
+    ensures runs { OnOk result (IfSome (R.remaining reader.old) (λ script.
+        Runs script limit (W.contents writer.old) (W.contents writer.new))) }
+    ensures refused { IfErr result (λ fault.
+        IfSome (R.remaining reader.old) (λ script. IsRunRefusal script fault)) }
+    ensures unwritten { IfErr result (λ fault. comes_first fault ≡ true
+        → Keeps (W.contents writer.old) (W.contents writer.new)) }
+{
+    match run_script(alloc, reader, limit, writer) {
+        Ok(()) => Ok(()),
+        Err(error) => Err(error.fault),
+    }
+}
+
+/// Runs a script as `run_world` does, and returns the system's error beside the fault.
+pub fn run_script<R: Read, W: Write>(
+    alloc: Global,
+    reader: &mut R,
+    limit: usize,
+    writer: &mut W,
+) -> Result<(), RunError>
+    ensures runs { OnOk result (IfSome (R.remaining reader.old) (λ script.
+        Runs script limit (W.contents writer.old) (W.contents writer.new))) }
+    ensures refused { IfErr result (λ error.
+        IfSome (R.remaining reader.old) (λ script. IsRunRefusal script error.fault)) }
+    ensures unwritten { IfErr result (λ error. comes_first error.fault ≡ true
+        → Keeps (W.contents writer.old) (W.contents writer.new)) }
+{
+    let bytes = read_whole(alloc, reader)?;
+    let script = Script::read(alloc, bytes.as_slice())?;
+    let mut world = World::new(alloc, &script.manifest, limit)?;
+    match play(&mut world, script.events.as_slice(), writer) {
+        Ok(()) => Ok(()),
+        Err(error) => Err(RunError::with_cause(Fault::CannotWrite, error)),
+    }
+}
+
+/// Lets all events happen in turn, and prints each.
+fn play<W: Write>(world: &mut World, events: &[Event], out: &mut W) -> io::Result<()>
+    ensures { OnOk result (RunsEvents world.old events.now
+        (W.contents out.old) (W.contents out.new)) }
+{
+    for event in events {
+        let outcome = world.step(event);
+        print_event(out, world, event, &outcome)?;
+    }
+    out.flush()
+}

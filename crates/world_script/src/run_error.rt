@@ -1,0 +1,51 @@
+//! A fault, and what the system says of it.
+ghost use Rattle.std.specs.Prelude.{◌≡◌};
+ghost use Rattle.world_script.specs.declared.fault.Fault.TheVariants.{NoMemory as OutOfMemory};
+
+use crate::Fault;
+use eden_base::NoMemory;
+use std::alloc::AllocError;
+use std::io;
+
+/// Why a script was not run to its end: the fault, and the error of the reader or the writer behind it, if one is.
+#[derive(Drop)]
+pub struct RunError {
+    pub fault: Fault,
+    pub cause: Option<io::Error>,
+}
+
+impl RunError {
+    /// Joins a fault and its cause.
+    pub fn with_cause(fault: Fault, cause: io::Error) -> RunError
+        ensures { result.fault ≡ fault }
+    {
+        RunError {
+            fault,
+            cause: Some(cause),
+        }
+    }
+}
+
+impl From<Fault> for RunError {
+    ghost from_gives = { λ fault error. error.fault ≡ fault };
+
+    fn from(fault: Fault) -> RunError {
+        RunError { fault, cause: None }
+    }
+}
+
+impl From<NoMemory> for RunError {
+    ghost from_gives = { λ _ error. error.fault ≡ OutOfMemory };
+
+    fn from(_refused: NoMemory) -> RunError {
+        RunError::from(Fault::NoMemory)
+    }
+}
+
+impl From<AllocError> for RunError {
+    ghost from_gives = { λ _ error. error.fault ≡ OutOfMemory };
+
+    fn from(_refused: AllocError) -> RunError {
+        RunError::from(Fault::NoMemory)
+    }
+}

@@ -1,0 +1,81 @@
+//! Where scripts come from.
+ghost use Rattle.std.specs.Prelude.{None, IfErr, IfOk, IfSome, List, Option, ℕ, OnOk, true, ◌≡◌};
+ghost use Rattle.std.specs.Io.KnownBytes.{Keeps};
+ghost use Rattle.world_script.specs.Refusal.{IsRunRefusal, comes_first};
+ghost use Rattle.world_script.specs.Script.{Runs};
+ghost use Rattle.world_script.specs.Source.{script_at};
+
+use crate::{DEFAULT_LIMIT, Fault, RunError, run_script};
+use std::alloc::Global;
+use std::fs;
+use std::io::{self, Read, Write};
+use std::rt::Files;
+
+/// The word for standard input.
+pub const STANDARD_INPUT: &str = "-";
+
+/// Standard input, and files by their paths. A contract knows the bytes of those that say them, as one over memory
+/// does.
+pub trait Sources {
+    type Input: Read + Drop;
+
+    type File: Read + Drop;
+
+    /// The bytes of standard input, where they are known.
+    ghost input_bytes: { Self → Option (List ℕ) } = { λ _. None };
+
+    /// The bytes of the file at a path, where they are known.
+    ghost file_bytes: { Self → List ℕ → Option (List ℕ) } = { λ _ _. None };
+
+    /// Returns standard input.
+    fn input(&self) -> Self::Input
+        ensures bytes { Keeps (input_bytes self.now) (Self.Input.remaining result) };
+
+    /// Opens the file at a path.
+    fn open(&self, path: &str) -> io::Result<Self::File>
+        ensures bytes { IfOk result (λ file.
+            Keeps (file_bytes self.now path.now) (Self.File.remaining file)) };
+}
+
+/// The files and the standard input of the system.
+#[derive(Drop)]
+pub struct System<'a, R>(pub &'a R);
+
+impl<R: Files + Input> Sources for System<'_, R> {
+    type Input = R::Reader;
+
+    type File = R::File;
+
+    fn input(&self) -> R::Reader {
+        self.0.reader()
+    }
+
+    fn open(&self, path: &str) -> io::Result<R::File> {
+        fs::open(self.0, path)
+    }
+}
+
+/// Runs the script at a path, or that of standard input at `-`.
+pub fn run_path<S: Sources, W: Write>(
+    alloc: Global,
+    sources: &S,
+    path: &str,
+    out: &mut W,
+) -> Result<(), RunError>
+    ensures runs { OnOk result (IfSome
+        (script_at (S.input_bytes sources.now) (S.file_bytes sources.now) path.now)
+        (λ script. Runs script DEFAULT_LIMIT (W.contents out.old) (W.contents out.new))) }
+    ensures refused { IfErr result (λ error. IfSome
+        (script_at (S.input_bytes sources.now) (S.file_bytes sources.now) path.now)
+        (λ script. IsRunRefusal script error.fault)) }
+    ensures unwritten { IfErr result (λ error. comes_first error.fault ≡ true
+        → Keeps (W.contents out.old) (W.contents out.new)) }
+{
+    if path == STANDARD_INPUT {
+        return run_script(alloc, &mut sources.input(), DEFAULT_LIMIT, out);
+    }
+    match sources.open(path) {
+        Ok(mut file) => run_script(alloc, &mut file, DEFAULT_LIMIT, out),
+        Err(error) => Err(RunError::with_cause(Fault::CannotRead, error)),
+    }
+}

@@ -1,0 +1,64 @@
+//! Lines that say no event.
+use super::{MANIFEST, prints};
+
+const BAD_LINES: [&[u8]; 47] = [
+    b"\n",
+    b" \n",
+    b"\r\n",
+    b"--\n",
+    b"start \n",
+    b" start\n",
+    b"start\r\n",
+    b"Start\n",
+    b"start 1\n",
+    b"start 1 2\n",
+    b"show \n",
+    b"show 1\n",
+    b"mount\n",
+    b"mount \n",
+    b"mount  1\n",
+    b"mount 1 \n",
+    b"mount +1\n",
+    b"mount -1\n",
+    b"mount 1x\n",
+    b"mount 0x1\n",
+    b"mount 18446744073709551616\n",
+    b"mount 1\r\n",
+    b"do\n",
+    b"do \n",
+    b"do lookup\n",
+    b"do lookup 1\n",
+    b"do lookup 1 \n",
+    b"do lookup 1 .\n",
+    b"do lookup 1 ..\n",
+    b"do lookup 1 a/b\n",
+    b"do lookup 1 a\0\n",
+    b"do lookup x a\n",
+    b"do  lookup 1 a\n",
+    b"do forget 1\n",
+    b"do forget 1 \n",
+    b"do forget 1 2 3\n",
+    b"do forget 1 18446744073709551616\n",
+    b"do getattr\n",
+    b"do getattr \n",
+    b"do getattr 1 2\n",
+    b"do other 15\n",
+    b"do other 3 1\n",
+    b"do other 42 1\n",
+    b"do other 4294967296 1\n",
+    b"do create 1 0644 a\n",
+    b"issue lookup 1 src\n",
+    b"take 1\n",
+];
+
+#[test]
+fn refuses_lines_that_say_no_event(rt: HostRuntime) {
+    let mut place = 0u32;
+    for line in BAD_LINES {
+        assert!(rt;
+            prints(rt.alloc(), MANIFEST, line, b"fault: line 7: bad line\n"),
+            "at {place}"
+        );
+        place = place.saturating_add(1);
+    }
+}

@@ -1,0 +1,176 @@
+//! Words, what the program prints for them, and how it ends.
+use crate::{Ending, Fault, Sources, run_program};
+use std::alloc::{AllocError, Global};
+use std::io::{self, BufWriter, ErrorKind, Write};
+
+/// A script on standard input, and two in files.
+const INPUT: &[u8] = b"commit 0123456789abcdef0123456789abcdef01234567\n--\nstart\n";
+
+const SHOWS: &[u8] = b"commit 0123456789abcdef0123456789abcdef01234567\n--\nshow\n";
+
+const BAD: &[u8] = b"commit 0123456789abcdef0123456789abcdef01234567\n--\nstart\nstop\n";
+
+/// Standard input and files in memory.
+#[derive(Drop)]
+struct Memory;
+
+impl Sources for Memory {
+    type Input = &'static [u8];
+
+    type File = &'static [u8];
+
+    fn input(&self) -> &'static [u8] {
+        INPUT
+    }
+
+    fn open(&self, path: &str) -> io::Result<&'static [u8]> {
+        match path {
+            "shows" => Ok(SHOWS),
+            "bad" => Ok(BAD),
+            _ => Err(io::Error::from(ErrorKind::NotFound)),
+        }
+    }
+}
+
+/// A writer that takes so many bytes.
+#[derive(Drop)]
+struct Room {
+    text: Vec<u8>,
+    room: usize,
+}
+
+impl Write for Room {
+    fn write(&mut self, buf: &[u8]) -> io::Result<usize> {
+        let taken = buf.len().min(self.room);
+        if taken < buf.len() {
+            return Err(io::Error::from(ErrorKind::StorageFull));
+        }
+        self.room -= taken;
+        self.text.extend_from_slice(buf)?;
+        Ok(taken)
+    }
+
+    fn flush(&mut self) -> io::Result<()> {
+        Ok(())
+    }
+}
+
+/// Words behind the program's name, the room on standard output, the ending, and what both streams get.
+type Row = (
+    &'static [&'static str],
+    usize,
+    Ending,
+    &'static [u8],
+    &'static [u8],
+);
+
+const ROWS: [Row; 11] = [
+    (&[], 4096, Ending::Ran, b"daemon 1\n", b""),
+    (&["world", "-"], 4096, Ending::Ran, b"daemon 1\n", b""),
+    (&["world", "shows"], 4096, Ending::Ran, b"seat none\n", b""),
+    (
+        &["world", "bad"],
+        4096,
+        Ending::Told(Fault::BadLine(4)),
+        b"fault: line 4: bad line\n",
+        b"",
+    ),
+    (
+        &["world", "none"],
+        4096,
+        Ending::Told(Fault::CannotRead),
+        b"fault: cannot read\n",
+        b"edend: none: entity not found\n",
+    ),
+    (
+        &["--help"],
+        4096,
+        Ending::Shown,
+        b"Graceful restart of a FUSE daemon",
+        b"",
+    ),
+    (&["--version"], 4096, Ending::Shown, b"edend 0.1.0\n", b""),
+    (&["worlds"], 4096, Ending::Refused, b"", b"error: "),
+    (&["world"], 4096, Ending::Refused, b"", b"error: "),
+    // Output that can't be written.
+    (
+        &["world", "shows"],
+        9,
+        Ending::Untold(Fault::CannotWrite),
+        b"",
+        b"edend: standard output: no storage space\n",
+    ),
+    (
+        &["--version"],
+        0,
+        Ending::Untold(Fault::CannotWrite),
+        b"",
+        b"edend: standard output: no storage space\n",
+    ),
+];
+
+/// Returns the words, with the program's name in front.
+fn words_of(alloc: Global, words: &[&str]) -> Result<Vec<String>, AllocError> {
+    let mut all = Vec::new(alloc);
+    all.push(String::from_str(alloc, "edend")?)?;
+    for word in words {
+        all.push(String::from_str(alloc, word)?)?;
+    }
+    Ok(all)
+}
+
+/// Returns whether the words end as the row says. Text of the row is whole, unless it ends without LF.
+fn ends_so(alloc: Global, row: Row) -> io::Result<bool> {
+    let (words, room, want, want_out, want_err) = row;
+    let words = words_of(alloc, words)?;
+    let out = Room {
+        text: Vec::new(alloc),
+        room,
+    };
+    let lines = BufWriter::new(alloc, out)?;
+    let mut err = Vec::new(alloc);
+    let (out, ending) = run_program(alloc, Ok(words), &Memory, lines, &mut err);
+    Ok(
+        ending == want
+            && is_text(out.text.as_slice(), want_out)
+            && is_text(err.as_slice(), want_err),
+    )
+}
+
+fn is_text(text: &[u8], want: &[u8]) -> bool {
+    if want.is_empty() || want.ends_with(b"\n") {
+        text == want
+    } else {
+        text.starts_with(want)
+    }
+}
+
+/// Each is run again where an allocation may have been refused.
+#[test]
+fn ends_as_the_words_ask(rt: HostRuntime) {
+    let mut place = 0u32;
+    for row in ROWS {
+        let is_so = matches!(ends_so(rt.alloc(), row), Ok(true))
+            || matches!(ends_so(rt.alloc(), row), Ok(true));
+        assert!(rt; is_so, "at {place}");
+        place = place.saturating_add(1);
+    }
+}
+
+/// Returns whether words that are no text are refused, with the usage.
+fn refuses_no_text(alloc: Global) -> io::Result<bool> {
+    let words = Err(io::Error::from(ErrorKind::InvalidData));
+    let lines = BufWriter::new(alloc, Vec::new(alloc))?;
+    let mut err = Vec::new(alloc);
+    let (out, ending) = run_program(alloc, words, &Memory, lines, &mut err);
+    let want =
+        b"error: a word of the command line is not UTF-8\n\nUsage: edend [COMMAND]\n\nFor more information, try '--help'.\n";
+    Ok(ending == Ending::Refused && out.is_empty() && err.as_slice() == want.as_slice())
+}
+
+#[test]
+fn refuses_words_that_are_no_text(rt: HostRuntime) {
+    let is_so = matches!(refuses_no_text(rt.alloc()), Ok(true))
+        || matches!(refuses_no_text(rt.alloc()), Ok(true));
+    assert!(rt; is_so);
+}

@@ -1,0 +1,130 @@
+//! Worked scripts, each with all that it prints.
+use super::{MANIFEST, prints};
+
+/// The start of a script, its rest, and the printed lines.
+const ROWS: [(&[u8], &[u8], &[u8]); 25] = [
+    (
+        MANIFEST,
+        b"start\nmount 1\nshow\n",
+        b"daemon 1\nmounted 1\nseat 1 1 next 2\n",
+    ),
+    (
+        MANIFEST,
+        b"start\nmount 1\ndo lookup 1 src\ndo lookup 1 src\nshow\ndo forget 2 2\nshow\ndo lookup 1 src\nshow\n",
+        b"daemon 1\nmounted 1\nanswer 1 entry 2 dir 0755 0 2\nanswer 2 entry 2 dir 0755 0 2\nseat 1 1 next 3\nnumber 2 held 2 up 0 down 0 count 2 at 1 src\nforgot Dropped\nseat 1 1 next 3\nanswer 3 entry 3 dir 0755 0 2\nseat 1 1 next 4\nnumber 3 held 1 up 0 down 0 count 1 at 1 src\n",
+    ),
+    // The last line may lack its LF.
+    (
+        MANIFEST,
+        b"start\nmount 1\nshow",
+        b"daemon 1\nmounted 1\nseat 1 1 next 2\n",
+    ),
+    // Refusals and errors.
+    (
+        MANIFEST,
+        b"show\nmount 1\ndo lookup 1 src\nstart\nmount 2\ndo forget 2 1\nmount 1\nmount 1\nstart\nmount 2\ndo lookup 1 nope\ndo lookup 1 README\ndo lookup 2 x\ndo lookup 9 x\ndo forget 1 1\ndo forget 2 2\ndo forget 2 0\ndo lookup 1 README\ndo forget 2 1\ndo forget 2 1\nshow\n",
+        b"seat none\nrefused NoDaemon\nrefused NotMounted\ndaemon 1\nrefused NoDaemon\nrefused NotMounted\nmounted 1\nrefused WrongPhase\ndaemon 2\nrefused Seated\nanswer 1 error ENOENT\nanswer 2 entry 2 file 0644 7 1\nanswer 3 error ENOTDIR\nrefused NotHeld\nrefused BadForget\nrefused BadForget\nrefused BadForget\nanswer 4 entry 2 file 0644 7 1\nforgot Lowered\nforgot Dropped\nseat 1 1 next 3\n",
+    ),
+    // Attributes, and a request that is not served.
+    (
+        MANIFEST,
+        b"start\nmount 1\ndo getattr 1\ndo getattr 2\ndo lookup 1 README\ndo getattr 2\ndo other 15 1\ndo other 0 2\ndo other 4294967295 2\ndo forget 2 1\ndo getattr 2\nshow\n",
+        b"daemon 1\nmounted 1\nanswer 1 attr 1 dir 0755 0 2\nrefused NotHeld\nanswer 2 entry 2 file 0644 7 1\nanswer 3 attr 2 file 0644 7 1\nanswer 4 error ENOSYS\nanswer 5 error ENOSYS\nanswer 6 error ENOSYS\nforgot Dropped\nrefused NotHeld\nseat 1 1 next 3\n",
+    ),
+    // Zeros in front, and names to the end of the line.
+    (
+        MANIFEST,
+        b"start\nmount 0000000000000000000000000000000000000001\ndo lookup 1  src\ndo lookup 1 src \ndo lookup 1 src\r\ndo lookup 01 README\ndo forget 2 18446744073709551615\nshow",
+        b"daemon 1\nmounted 1\nanswer 1 error ENOENT\nanswer 2 error ENOENT\nanswer 3 error ENOENT\nanswer 4 entry 2 file 0644 7 1\nrefused BadForget\nseat 1 1 next 3\nnumber 2 held 1 up 0 down 0 count 1 at 1 README\n",
+    ),
+    // Names are bytes.
+    (
+        b"commit 0123456789abcdef0123456789abcdef01234567\ndir \xff\xc3\nfile 4755 18 \xff\xc3/\xe9 -- \n--\n",
+        b"start\nmount 1\ndo lookup 1 \xff\xc3\ndo lookup 2 \xe9 -- \nshow\n",
+        b"daemon 1\nmounted 1\nanswer 1 entry 2 dir 0755 0 2\nanswer 2 entry 3 file 4755 18 1\nseat 1 1 next 4\nnumber 2 held 1 up 0 down 0 count 1 at 1 \xff\xc3\nnumber 3 held 1 up 0 down 0 count 1 at 2 \xe9 -- \n",
+    ),
+    // The first bad line is told, and nothing is run.
+    (
+        MANIFEST,
+        b"start\nmount 1\nfoo\nbar\n",
+        b"fault: line 9: bad line\n",
+    ),
+    // The manifest ends at the first line that is just `--`.
+    (
+        b"commit 0123456789abcdef0123456789abcdef01234567\n",
+        b"--",
+        b"",
+    ),
+    (
+        b"commit 0123456789abcdef0123456789abcdef01234567\n",
+        b"--\r\nstart\n",
+        b"fault: no events\n",
+    ),
+    (b"", b"", b"fault: no events\n"),
+    (b"foo", b"", b"fault: no events\n"),
+    (b"", b"--\nstart\n", b"fault: line 1: NoCommit\n"),
+    (
+        b"commit 0123456789abcdef0123456789abcdef01234567\r\n",
+        b"--\nstart\n",
+        b"fault: line 1: NoCommit\n",
+    ),
+    (
+        b"commit 0123456789abcdef0123456789abcdef01234567\n\n",
+        b"--\nstart\n",
+        b"fault: line 2: BadLine\n",
+    ),
+    (
+        b"commit 0123456789abcdef0123456789abcdef01234567\ndir a\n",
+        b"link a b\n--\nstart\n",
+        b"fault: line 3: BadLine\n",
+    ),
+    (
+        b"commit 0123456789abcdef0123456789abcdef01234567\n",
+        b"file 644 1 z\n--\nstart\n",
+        b"fault: line 2: BadMode\n",
+    ),
+    (
+        b"commit 0123456789abcdef0123456789abcdef01234567\n",
+        b"file 0644 01 z\n--\nstart\n",
+        b"fault: line 2: BadSize\n",
+    ),
+    (
+        b"commit 0123456789abcdef0123456789abcdef01234567\n",
+        b"file 0644 9223372036854775808 z\n--\nstart\n",
+        b"fault: line 2: BadSize\n",
+    ),
+    (
+        b"commit 0123456789abcdef0123456789abcdef01234567\n",
+        b"dir src/\n--\nstart\n",
+        b"fault: line 2: BadPath\n",
+    ),
+    (
+        b"commit 0123456789abcdef0123456789abcdef01234567\n",
+        b"file 0644 1 x/y\n--\nstart\n",
+        b"fault: line 2: NoParent\n",
+    ),
+    (
+        b"commit 0123456789abcdef0123456789abcdef01234567\ndir src\n",
+        b"dir src\n--\nstart\n",
+        b"fault: line 3: Twice\n",
+    ),
+    // The manifest's fault comes before a bad line.
+    (
+        b"commit 0123456789abcdef0123456789abcdef01234567\ndir src\n",
+        b"dir src\n--\nfoo\n",
+        b"fault: line 3: Twice\n",
+    ),
+    // No line `--` comes before a fault of the manifest.
+    (b"dir src/\n", b"start\n", b"fault: no events\n"),
+    // A second line `--` is a bad line.
+    (MANIFEST, b"start\n--\n", b"fault: line 8: bad line\n"),
+];
+
+#[test]
+fn prints_what_each_event_did_or_a_fault(rt: HostRuntime) {
+    let mut place = 0u32;
+    for (first, second, lines) in ROWS {
+        assert!(rt; prints(rt.alloc(), first, second, lines), "at {place}");
+        place = place.saturating_add(1);
+    }
+}
