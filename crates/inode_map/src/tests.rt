@@ -1,4 +1,6 @@
 //! Which numbers an inode map gives, and which files they name in a tree.
+ghost use Rattle.std.specs.Prelude.{◌≤◌};
+
 use crate::{Forgot, GiveFault, InodeMap};
 use checkout::{Manifest, ManifestFault, ManifestFaultKind, Tree};
 use eden_base::{FileId, Name, NameFault, NoMemory, Number, Place};
@@ -27,7 +29,7 @@ fn given_below(alloc: Global, map: &mut InodeMap, name: &Name, depth: u64) -> Op
 fn gives_each_name_one_number(rt: HostRuntime) -> Result<(), Fail> {
     let a = parsed(rt.alloc(), b"a")?;
     let b = parsed(rt.alloc(), b"b")?;
-    let mut map = InodeMap::new(rt.alloc(), 4)?;
+    let mut map = map_of(rt.alloc(), 4)?;
     assert!(rt; given(rt.alloc(), &mut map, Number::ROOT, &a) == Some(Number(2)));
     assert!(rt; given(rt.alloc(), &mut map, Number::ROOT, &b) == Some(Number(3)));
     assert!(rt; given(rt.alloc(), &mut map, Number::ROOT, &a) == Some(Number(2)));
@@ -84,13 +86,45 @@ fn nested_so_deep(alloc: Global, depth: usize) -> Result<Vec<u8>, AllocError> {
     Ok(text)
 }
 
+/// Makes a map, and makes it again where memory was short.
+fn map_of(alloc: Global, limit: usize) -> Result<InodeMap, NoMemory>
+    requires { 1 ≤ limit }
+{
+    match InodeMap::new(alloc, limit) {
+        Err(_refused) => InodeMap::new(alloc, limit),
+        told => told,
+    }
+}
+
+/// Gives a number in room that was made before, and makes the room again where memory was short.
+fn given_ready(alloc: Global, map: &mut InodeMap, parent: Number, name: Name) -> Option<Number> {
+    if map.reserve(alloc).is_err() {
+        map.reserve(alloc).ok()?;
+    }
+    map.give_ready(parent, name).ok()
+}
+
+#[test]
+fn gives_numbers_in_room_that_was_made_before(rt: HostRuntime) -> Result<(), Fail> {
+    let mut map = map_of(rt.alloc(), 2)?;
+    let a = parsed(rt.alloc(), b"a")?;
+    assert!(rt; given_ready(rt.alloc(), &mut map, Number::ROOT, a) == Some(Number(2)));
+    let b = parsed(rt.alloc(), b"b")?;
+    assert!(rt; given_ready(rt.alloc(), &mut map, Number(2), b) == Some(Number(3)));
+    let again = parsed(rt.alloc(), b"b")?;
+    assert!(rt; given_ready(rt.alloc(), &mut map, Number(2), again) == Some(Number(3)));
+    assert!(rt; map.next() == 4 && map.count(Number(2)) == 1 && map.count(Number(3)) == 2);
+    assert!(rt; map.known(Number::ROOT) && map.known(Number(3)) && !map.known(Number(4)));
+    Ok(())
+}
+
 #[test]
 fn finds_each_file_of_a_deep_path(rt: HostRuntime) -> Result<(), Fail> {
     let text = nested(rt.alloc())?;
     let manifest = read(rt.alloc(), text.as_slice())?;
     let tree = tree_of(rt.alloc(), &manifest)?;
     let a = parsed(rt.alloc(), b"a")?;
-    let mut map = InodeMap::new(rt.alloc(), 4)?;
+    let mut map = map_of(rt.alloc(), 4)?;
     let last = given_below(rt.alloc(), &mut map, &a, 101);
     assert!(rt; last == Some(Number(102)));
     for id in 1..102u64 {
@@ -104,7 +138,7 @@ fn finds_each_file_of_a_deep_path(rt: HostRuntime) -> Result<(), Fail> {
 #[test]
 fn goes_over_its_numbers_and_forgets_upwards(rt: HostRuntime) -> Result<(), Fail> {
     let a = parsed(rt.alloc(), b"a")?;
-    let mut map = InodeMap::new(rt.alloc(), 4)?;
+    let mut map = map_of(rt.alloc(), 4)?;
     assert!(rt; given_below(rt.alloc(), &mut map, &a, 3) == Some(Number(4)));
     assert!(rt; map.after(Number::ROOT) == Some(Number(2)));
     assert!(rt; map.after(Number(3)) == Some(Number(4)) && map.after(Number(4)) == None);
