@@ -1,5 +1,5 @@
 -- What a manifest says is a tree.
-use Rattle.std.proofs.Common.{◌≡◌, ℕ, zero, suc, ◌+◌, ◌<◌, ◌-◌, List, [], ◌∷◌, ◌++◌, length, Option, Some, None, IsSome, refl, sym, ap, subst, ◌∙◌, inl, inr, arith}
+use Rattle.std.proofs.Common.{◌≡◌, ℕ, zero, suc, ◌+◌, ◌<◌, List, [], ◌∷◌, ◌++◌, length, Option, Some, None, IsSome, refl, sym, ap, subst, ◌∙◌, inl, inr, arith}
 use Rattle.std.specs.List.{slice_get}
 use Rattle.std.specs.Option.{option_map, option_and_then}
 use Rattle.std.specs.FinMap.{get}
@@ -11,7 +11,7 @@ use Rattle.checkout.specs.Manifest.{File, Line, Manifest, IsDirBefore, IsManifes
 use Rattle.checkout.specs.Tree.{Tree, files_from, root, tree_of, kind_of, child_of, file_at, IsTree}
 use Rattle.checkout.proofs.MoreLines.{apart}
 use Rattle.checkout.proofs.PathLaws.{file_at-append}
-use Rattle.checkout.proofs.ManifestTree.{file_with, same_id, IsLinkOf, line_of_link, link_of_line, root_of_files, file_of_line, id_of_file, line_at}
+use Rattle.checkout.proofs.ManifestTree.{file_with, same_id, IsLinkOf, line_of_link, link_of_line, root_of_files, file_of_line, id_of_file}
 
 module _ (m : Manifest) (is : IsManifest m) where
   abbrev tree : Tree

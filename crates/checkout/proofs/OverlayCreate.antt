@@ -1,5 +1,5 @@
 -- A file that is made in a tree laid over a manifest's.
-use Rattle.std.proofs.Common.{◌≡◌, ℕ, ◌+◌, ◌<◌, ◌≤◌, Bool, true, false, cond, List, length, Option, Some, None, IsSome, refl, sym, ap, subst, ◌∙◌, inl, inr, arith}
+use Rattle.std.proofs.Common.{◌≡◌, ℕ, ◌+◌, ◌<◌, ◌≤◌, Bool, true, false, cond, List, length, Some, None, refl, sym, ap, subst, ◌∙◌, inl, inr, arith}
 use Rattle.std.specs.Option.{option_map, option_or, option_and_then}
 use Rattle.std.specs.Ordering.{nat_cmp, eq_by_cmp}
 use Rattle.std.specs.Cmp.{nat_cmp_total}
@@ -13,7 +13,7 @@ use Rattle.eden_base.specs.declared.attr.Perm.{Perm}
 use Rattle.eden_base.specs.declared.number.FileId.{FileId}
 use Rattle.checkout.specs.declared.made.MadeFile.{MadeFile}
 use Rattle.checkout.specs.Manifest.{File, Manifest}
-use Rattle.checkout.specs.Tree.{Tree, link_cmp, kind_of, child_of, is_unlinked, next_file, made_file, created, files_from, links_from, IsTree}
+use Rattle.checkout.specs.Tree.{Tree, link_cmp, kind_of, child_of, is_unlinked, created, files_from, links_from, IsTree}
 use Rattle.checkout.specs.Overlay.{file_made, still, files_over, links_over, tree_over, dir_made, IsOverlay}
 use Rattle.checkout.proofs.CreateLaws.{created-IsTree, linked_is_below, next_is_later}
 use Rattle.checkout.proofs.FlatLemmas.{link_cmp_total, link_cmp-same}

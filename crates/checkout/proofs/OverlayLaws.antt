@@ -1,22 +1,22 @@
 -- What stands in a tree that is laid over a manifest's.
-use Rattle.std.proofs.Common.{◌≡◌, ℕ, zero, suc, ◌+◌, ◌-◌, ◌<◌, ◌≤◌, ◌==◌, ◌&&◌, ◌||◌, Bool, true, false, not, nat_lt, nat_le, if◌then◌else◌, List, length, Option, Some, None, IsSome, is_some, refl, sym, ap, ◌∙◌, ◌⊎◌, inl, inr, arith, eq-eqb}
+use Rattle.std.proofs.Common.{◌≡◌, ℕ, ◌+◌, ◌-◌, ◌<◌, ◌≤◌, ◌==◌, ◌&&◌, ◌||◌, Bool, true, false, not, nat_lt, nat_le, if◌then◌else◌, List, length, Option, Some, None, IsSome, is_some, refl, sym, ap, ◌∙◌, ◌⊎◌, inl, inr, arith, eq-eqb}
 use Rattle.std.proofs.Math.Bool.{and-false}
 use Rattle.std.proofs.lemmas.Bool.Decides.{nat_tests}
 use Rattle.std.proofs.lemmas.Option.{slice_get_within}
-use Rattle.std.specs.List.{list_any, slice_get}
+use Rattle.std.specs.List.{list_any}
 use Rattle.std.specs.Ordering.{nat_cmp}
 use Rattle.std.specs.Option.{option_and_then, option_or}
 use Rattle.std.specs.FinMap.{FinMap, get, entries}
 use Rattle.eden_base.proofs.MemberLemmas.{some-IsSome}
 use Rattle.eden_base.specs.declared.number.FileId.{FileId}
 use Rattle.checkout.specs.declared.made.MadeFile.{MadeFile}
-use Rattle.checkout.specs.Manifest.{Line, Manifest}
+use Rattle.checkout.specs.Manifest.{Manifest}
 use Rattle.checkout.specs.Tree.{Tree, link_cmp, child_of, has_links, is_linked, links_from}
-use Rattle.checkout.specs.Overlay.{still, links_over, tree_over, kids_in, lost_in, dir_made, is_line, IsOverlay}
+use Rattle.checkout.specs.Overlay.{still, tree_over, kids_in, lost_in, dir_made, is_line, IsOverlay}
 use Rattle.checkout.proofs.FlatLemmas.{link_cmp_total, has_link, has_no_link}
 use Rattle.checkout.proofs.LineCounts.{left_from_lost, lost_from_left}
 use Rattle.checkout.proofs.LinkLaws.{linked_from_child, child_from_linked}
-use Rattle.checkout.proofs.ManifestTree.{file_with, same_id, IsLinkOf, line_of_link, link_of_line, line_at}
+use Rattle.checkout.proofs.ManifestTree.{file_with, same_id, line_of_link, link_of_line, line_at}
 use Rattle.checkout.proofs.MapLemmas.{key_from_any}
 use Rattle.checkout.proofs.MoreLines.{apart}
 use Rattle.checkout.proofs.UnionLaws.{get-links_over}

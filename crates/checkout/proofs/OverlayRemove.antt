@@ -1,5 +1,5 @@
 -- A link that is taken from a tree laid over a manifest's.
-use Rattle.std.proofs.Common.{◌≡◌, ℕ, ◌+◌, ◌<◌, ◌≤◌, ◌==◌, ◌||◌, Bool, true, false, cond, if◌then◌else◌, List, length, Option, Some, None, IsSome, refl, sym, ap, subst, ◌∙◌, inl, inr, arith, eq-eqb}
+use Rattle.std.proofs.Common.{◌≡◌, ℕ, ◌+◌, ◌==◌, ◌||◌, Bool, true, false, cond, if◌then◌else◌, List, Some, None, refl, sym, ap, subst, ◌∙◌, inl, inr, arith, eq-eqb}
 use Rattle.std.proofs.Math.Bool.{or-true}
 use Rattle.std.proofs.lemmas.Bool.Decides.{nat_tests}
 use Rattle.std.specs.Option.{option_map, option_or, option_and_then}
@@ -10,14 +10,14 @@ use Rattle.eden_base.proofs.MemberLemmas.{some-IsSome, some-is}
 use Rattle.eden_base.specs.declared.number.FileId.{FileId}
 use Rattle.checkout.specs.declared.made.MadeFile.{MadeFile}
 use Rattle.checkout.specs.Manifest.{File, Manifest}
-use Rattle.checkout.specs.Tree.{Tree, link_cmp, child_of, is_full_dir, removed, files_from, links_from, tree_of, IsTree}
+use Rattle.checkout.specs.Tree.{Tree, link_cmp, is_full_dir, removed, files_from, links_from, IsTree}
 use Rattle.checkout.specs.Overlay.{file_made, still, files_over, links_over, tree_over, dir_made, lost_in, IsOverlay}
 use Rattle.checkout.proofs.FlatLemmas.{link_cmp_total, link_cmp-same}
 use Rattle.checkout.proofs.LineCounts.{lost-one_more}
 use Rattle.checkout.proofs.ManifestIsTree.{tree_of-IsTree}
 use Rattle.checkout.proofs.ManifestTree.{same_id, line_of_link}
 use Rattle.checkout.proofs.MapLemmas.{get-insert_cases, get-insert_same, get-insert_other, get-remove_cases, get-remove_other, get-remove_same, tied_key}
-use Rattle.checkout.proofs.OverlayLaws.{child_added, child_left, still-cases, still-stays}
+use Rattle.checkout.proofs.OverlayLaws.{child_added, child_left}
 use Rattle.checkout.proofs.RemoveLaws.{removed-IsTree}
 use Rattle.checkout.proofs.UnionLaws.{get-files_over, get-links_over}
 

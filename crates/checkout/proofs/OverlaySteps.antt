@@ -1,10 +1,10 @@
 -- What the calls of a tree leave, in the words of their callees.
-use Rattle.std.proofs.Common.{◌≡◌, ℕ, ◌+◌, ◌<◌, ◌≤◌, ◌==◌, ◌||◌, Bool, true, false, nat_lt, if◌then◌else◌, List, [], ◌∷◌, length, Option, Some, None, IsSome, IfSome, refl, sym, ap, subst, ◌∙◌, inl, inr, arith}
+use Rattle.std.proofs.Common.{◌≡◌, ℕ, ◌+◌, ◌<◌, ◌≤◌, ◌==◌, ◌||◌, Bool, true, false, nat_lt, if◌then◌else◌, List, length, Option, Some, None, IsSome, IfSome, refl, sym, ap, subst, ◌∙◌, inl, inr, arith}
 use Rattle.std.proofs.lemmas.Bool.Decides.{nat_tests}
 use Rattle.std.proofs.lemmas.Option.{slice_get_within}
-use Rattle.std.specs.Option.{option_or, option_and_then}
+use Rattle.std.specs.Option.{option_and_then}
 use Rattle.std.specs.Ordering.{nat_cmp}
-use Rattle.std.specs.FinMap.{FinMap, get, insert, remove, empty, same_map, get-remove, get-insert, get-empty}
+use Rattle.std.specs.FinMap.{FinMap, get, insert, remove, empty, get-empty}
 use Rattle.eden_base.proofs.MemberLemmas.{some-IsSome, some-is}
 use Rattle.eden_base.specs.Limits.{end_of_files}
 use Rattle.eden_base.specs.Name.{IsNameText}
@@ -13,17 +13,17 @@ use Rattle.eden_base.specs.declared.attr.Kind.TheVariants.{Dir}
 use Rattle.eden_base.specs.declared.attr.Perm.{Perm}
 use Rattle.eden_base.specs.declared.number.FileId.{FileId}
 use Rattle.checkout.specs.declared.made.MadeFile.{MadeFile}
-use Rattle.checkout.specs.Manifest.{Line, Manifest, IsManifest, IsDirBefore}
-use Rattle.checkout.specs.Overlay.{tree_over, gone_by, kids_in, lost_in, dir_made, still, IsOverlay}
+use Rattle.checkout.specs.Manifest.{Manifest, IsManifest}
+use Rattle.checkout.specs.Overlay.{tree_over, gone_by, IsOverlay}
 use Rattle.checkout.specs.Tally.{Tally, count_of}
 use Rattle.checkout.specs.Tree.{Tree, IsTree, link_cmp, kind_of, child_of, is_unlinked, is_full_dir, created, removed, tree_of, files_from, links_from}
 use Rattle.checkout.proofs.FlatLemmas.{link_cmp_total, link_cmp-same}
 use Rattle.checkout.proofs.LineCounts.{lost-le-kids, kids-le-length, lost_in-none}
 use Rattle.checkout.proofs.ManifestIsTree.{tree_of-IsTree}
-use Rattle.checkout.proofs.ManifestTree.{file_with, same_id, line_of_link}
-use Rattle.checkout.proofs.MapLemmas.{get-remove_same, get-remove_other, get-insert_same, get-insert_other, tied_key, removed_nothing, removed_again}
+use Rattle.checkout.proofs.ManifestTree.{file_with, line_of_link}
+use Rattle.checkout.proofs.MapLemmas.{removed_nothing, removed_again}
 use Rattle.checkout.proofs.OverlayCreate.{made_in, tree_over-created, create-IsOverlay}
-use Rattle.checkout.proofs.OverlayLaws.{child-over, child_added, child_cases}
+use Rattle.checkout.proofs.OverlayLaws.{child_added, child_cases}
 use Rattle.checkout.proofs.OverlayRemove.{unlinked, tree_over-removed_added, remove_added-IsOverlay, tree_over-removed, remove-IsOverlay}
 use Rattle.checkout.proofs.UnionLaws.{files_over-nothing, links_over-nothing}
 

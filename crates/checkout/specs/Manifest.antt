@@ -1,7 +1,6 @@
 -- What a manifest says: the commit of a checkout, and its files in an order in which each directory stands before
 -- what it holds. (This project's own; a manifest stands for the store of objects that EdenFS asks.)
 use Rattle.std.specs.Prelude.{◌≡◌, ◌≢◌, ℕ, ◌+◌, ◌-◌, ◌<◌, ◌≤◌, ◌⊎◌, List, length, slice_get, Option, Some, None, nat_lt, if◌then◌else◌}
-use Rattle.eden_base.specs.declared.attr.Kind.{Kind}
 use Rattle.eden_base.specs.declared.attr.Kind.TheVariants.{Dir}
 use Rattle.eden_base.specs.declared.number.FileId.{FileId}
 use Rattle.eden_base.specs.Limits.{greatest_size}

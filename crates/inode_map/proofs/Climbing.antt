@@ -1,5 +1,5 @@
 -- Ways up from a number, one step after another.
-use Rattle.std.proofs.Common.{◌≡◌, ℕ, Bool, true, false, not, get_or, suc, ◌+◌, ◌≤◌, List, [], ◌∷◌, ◌++◌, None, Some, refl, sym, ap, ◌∙◌, subst, arith, length, length-append}
+use Rattle.std.proofs.Common.{◌≡◌, ℕ, Bool, true, false, not, suc, ◌+◌, ◌≤◌, List, [], ◌∷◌, ◌++◌, None, Some, refl, sym, ap, ◌∙◌, subst, arith, length, length-append}
 use Rattle.std.specs.Prelude.{◌==◌}
 use Rattle.eden_base.proofs.MemberLemmas.{some-same}
 use Rattle.eden_base.proofs.NumberTests.{eq-true, true-eq}
@@ -8,7 +8,7 @@ use Rattle.eden_base.specs.declared.number.Number.{Number}
 use Rattle.eden_base.specs.declared.place.Place.TheVariants.{Linked, Unlinked}
 use Rattle.checkout.specs.Tree.{Tree, child_of}
 use Rattle.inode_map.specs.EntryPlaces.{StepsUp, Climbs}
-use Rattle.inode_map.specs.InodeMap.{has_number, entry_of, IsFileOf, is_child}
+use Rattle.inode_map.specs.InodeMap.{entry_of, IsFileOf, is_child}
 use Rattle.inode_map.specs.declared.inode_map.Kept.{Kept}
 use Rattle.inode_map.proofs.FileLemmas.{IsFileOf-same, linked-child, linked-marked, linked-dir, linked-name, unknown-no_file}
 use Rattle.inode_map.proofs.Heights.{HasHeight, at_root, in_none, in_dir, named-height, height-bound}

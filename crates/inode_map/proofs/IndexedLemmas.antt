@@ -1,5 +1,5 @@
 -- The index of the linked entries, and what it has after a change of them.
-use Rattle.std.proofs.Common.{◌≡◌, ℕ, ◌+◌, Bool, true, false, ◌&&◌, ◌||◌, List, [], ◌∷◌, ◌++◌, Option, Some, None, refl, sym, ap, ◌∙◌, subst, inl, inr, ◌⊎◌, cond}
+use Rattle.std.proofs.Common.{◌≡◌, ℕ, Bool, true, false, ◌&&◌, ◌||◌, List, [], ◌∷◌, ◌++◌, Option, Some, None, refl, sym, ap, ◌∙◌, subst, inl, inr, ◌⊎◌}
 use Rattle.std.specs.Prelude.{◌==◌, nat_eq, if◌then◌else◌}
 use Rattle.std.specs.Option.{option_map}
 use Rattle.std.specs.List.{list_any}
@@ -10,7 +10,7 @@ use Rattle.eden_base.specs.declared.number.FileId.{FileId}
 use Rattle.eden_base.specs.declared.number.Number.{Number}
 use Rattle.eden_base.specs.declared.place.Place.{Place}
 use Rattle.eden_base.specs.declared.place.Place.TheVariants.{Linked, Unlinked}
-use Rattle.eden_base.specs.First.{first_where, changed_where, without_where}
+use Rattle.eden_base.specs.First.{first_where, changed_where}
 use Rattle.inode_map.proofs.Changing.{KeepsPlace, changed-extends, changed-extended, new_or_old, append-extends}
 use Rattle.inode_map.proofs.EntryLemmas.{entry_of-first, append-same}
 use Rattle.inode_map.proofs.FileLemmas.{linked-marked, linked-dir, linked-name}

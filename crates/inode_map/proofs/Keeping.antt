@@ -1,12 +1,12 @@
 -- What is loaded or remembered of numbers, where entries change or leave; and how a change of one entry is said.
-use Rattle.std.proofs.Common.{◌≡◌, ℕ, zero, suc, ◌+◌, ◌<◌, Bool, true, false, cond, List, [], ◌∷◌, ◌++◌, take, get_or, length, Option, Some, None, is_some, refl, sym, ap, ◌∙◌, subst, inl, inr, ◌⊎◌, arith}
+use Rattle.std.proofs.Common.{◌≡◌, ℕ, zero, suc, ◌<◌, Bool, true, false, cond, List, [], ◌∷◌, ◌++◌, take, get_or, length, Option, Some, None, is_some, refl, sym, ap, ◌∙◌, subst, inl, inr, ◌⊎◌}
 use Rattle.std.specs.Prelude.{◌==◌, not}
-use Rattle.std.specs.List.{filter, AllByRecursion}
+use Rattle.std.specs.List.{filter}
 use Rattle.std.specs.Option.{option_map, option_map_or}
 use Rattle.eden_base.proofs.FirstLemmas.{Each-kept, Each-without_where, first_where-nowhere}
 use Rattle.eden_base.proofs.NumberTests.{eq-true, eq-false, eq-or}
 use Rattle.eden_base.specs.First.{first_where, changed_where, without_where}
-use Rattle.inode_map.proofs.EntryLemmas.{changed-same, changed-other, append-same, append-other, without-other, without-same}
+use Rattle.inode_map.proofs.EntryLemmas.{changed-same, changed-other, append-other, without-other, without-same}
 use Rattle.inode_map.specs.InodeMap.{MapState, left_with, has_number, entry_of, is_kept, is_loaded_of, loaded_number, used, AreNumbers}
 use Rattle.inode_map.specs.Table.{AreOfKept, file_number, of_kept, is_other}
 use Rattle.inode_map.specs.declared.inode_map.Kept.{Kept}

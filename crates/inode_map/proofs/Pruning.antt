@@ -1,15 +1,15 @@
 -- The table and what is loaded while entries of no use leave, one after another; and which one may be of no use after a
 -- name was taken away.
-use Rattle.std.proofs.Common.{◌≡◌, ℕ, suc, ◌<◌, Bool, true, false, ◌||◌, List, [], ◌∷◌, length, Option, Some, None, cond, refl, sym, ap, ◌∙◌, subst, inl, inr, ◌⊎◌, arith}
-use Rattle.std.specs.Prelude.{nat_lt, if◌then◌else◌}
+use Rattle.std.proofs.Common.{◌≡◌, ℕ, suc, ◌<◌, Bool, true, false, ◌||◌, List, [], ◌∷◌, length, Some, None, cond, refl, sym, ap, ◌∙◌, subst, inl, inr, ◌⊎◌, arith}
+use Rattle.std.specs.Prelude.{nat_lt}
 use Rattle.std.specs.List.{filter, list_any}
 use Rattle.std.specs.Option.{option_map}
 use Rattle.eden_base.proofs.MemberLemmas.{some-same, length-without_where}
-use Rattle.eden_base.proofs.NumberTests.{eq-true, eq-false, eq-or, true-eq}
+use Rattle.eden_base.proofs.NumberTests.{eq-false, eq-or}
 use Rattle.eden_base.specs.declared.number.FileId.{FileId}
 use Rattle.eden_base.specs.declared.number.Number.{Number}
 use Rattle.eden_base.specs.declared.place.Place.{Place}
-use Rattle.eden_base.specs.declared.place.Place.TheVariants.{Linked, Unlinked}
+use Rattle.eden_base.specs.declared.place.Place.TheVariants.{Linked}
 use Rattle.eden_base.specs.First.{first_where, changed_where, without_where}
 use Rattle.inode_map.specs.EntryPlaces.{AreOfUseBut, dir_of}
 use Rattle.inode_map.specs.InodeMap.{has_number, entry_of, place_of_kept, is_in, is_kid_of, is_of_use, is_useless, left_of_use, loaded_number, marked, AreNumbers}
@@ -21,7 +21,7 @@ use Rattle.inode_map.proofs.EntryLemmas.{entry_of-number, numbers-without, chang
 use Rattle.inode_map.proofs.Giving.{AreKept}
 use Rattle.inode_map.proofs.Keeping.{of_kept-all, of_kept-without}
 use Rattle.inode_map.proofs.Striking.{useless-entry, left_of_use-all, left_of_use-one}
-use Rattle.inode_map.proofs.Walking.{all-of_use, left-of_use, struck-keeps}
+use Rattle.inode_map.proofs.Walking.{left-of_use, struck-keeps}
 
 -- what was struck so far
 pub record Pruned (old now : TableState) (before after : LoadedState) : Type 0 where

@@ -3,9 +3,8 @@
 use Rattle.std.proofs.Common.{◌≡◌, ℕ, suc, ◌+◌, ◌<◌, ◌≤◌, Bool, true, false, cond, List, [], ◌∷◌, ◌++◌, length, Option, Some, None, is_some, refl, sym, ap, ◌∙◌, subst, inl, inr, ◌⊎◌, arith}
 use Rattle.std.specs.Prelude.{◌==◌, nat_lt}
 use Rattle.std.proofs.lemmas.Bool.Decides.{nat_tests}
-use Rattle.std.specs.Option.{option_map}
 use Rattle.std.specs.Map.{set_value}
-use Rattle.std.specs.Ordering.{nat_cmp, match_ordering, is_lt}
+use Rattle.std.specs.Ordering.{nat_cmp, is_lt}
 use Rattle.std.specs.Cmp.{nat_cmp_is}
 use Rattle.std.specs.declared.cmp.Ordering.{Ordering}
 use Rattle.std.specs.declared.cmp.Ordering.TheVariants.{Less, Equal, Greater}
@@ -14,11 +13,10 @@ use Rattle.std.specs.BTreeMap.{is_at, insert_entry}
 use Rattle.std.specs.BTreeMap.Range.{entries_between}
 use Rattle.eden_base.specs.declared.number.FileId.{FileId}
 use Rattle.eden_base.specs.declared.number.Number.{Number}
-use Rattle.eden_base.specs.First.{first_where}
 use Rattle.eden_base.proofs.NumberTests.{eq-true, eq-false, eq-or}
 use Rattle.inode_map.proofs.IndexLemmas.{at-same, at-other}
 use Rattle.inode_map.proofs.SlotLemmas.{slot_of, slots-bound, slots-none}
-use Rattle.inode_map.specs.InodeMap.{number_after, number_of_kept, is_above}
+use Rattle.inode_map.specs.InodeMap.{number_after}
 use Rattle.inode_map.specs.Table.{kept_of, kept_from, file_first, files_from, AreSlots}
 use Rattle.inode_map.specs.declared.inode_map.Kept.{Kept}
 use Rattle.inode_map.specs.declared.table.Held.{Held}

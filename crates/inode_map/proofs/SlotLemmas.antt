@@ -1,19 +1,16 @@
 -- The slots of the map of entries, read as entries.
-use Rattle.std.proofs.Common.{◌≡◌, ℕ, suc, ◌+◌, ◌<◌, ◌≤◌, Bool, true, false, cond, List, [], ◌∷◌, ◌++◌, length, Option, Some, None, IsSome, is_some, refl, sym, ap, ◌∙◌, subst, inl, inr, ◌⊎◌, arith}
-use Rattle.std.specs.Prelude.{◌==◌, not, if◌then◌else◌}
+use Rattle.std.proofs.Common.{◌≡◌, ℕ, ◌+◌, ◌<◌, ◌≤◌, Bool, true, false, cond, List, [], ◌∷◌, length, Option, Some, None, IsSome, is_some, refl, sym, ap, ◌∙◌, subst, inl, inr, ◌⊎◌, arith}
+use Rattle.std.specs.Prelude.{◌==◌}
 use Rattle.std.specs.Option.{option_map, option_and_then}
-use Rattle.std.specs.List.{filter, AllByRecursion}
-use Rattle.std.specs.Map.{lookup, set_value, remove_entry}
+use Rattle.std.specs.Map.{lookup}
 use Rattle.std.specs.Ordering.{nat_cmp}
 use Rattle.std.specs.BTreeMap.{is_at}
 use Rattle.eden_base.specs.declared.number.FileId.{FileId}
-use Rattle.eden_base.specs.declared.number.Number.{Number}
-use Rattle.eden_base.specs.First.{changed_where, without_where}
 use Rattle.eden_base.proofs.FirstLemmas.{Each-kept}
 use Rattle.eden_base.proofs.NumberTests.{eq-true, eq-false, eq-or}
 use Rattle.inode_map.proofs.IndexLemmas.{at-same, at-other}
-use Rattle.inode_map.specs.InodeMap.{has_number, entry_of, is_kept, file_remembered, AreNumbers}
-use Rattle.inode_map.specs.Table.{kept_of, kept_from, file_first, files_from, AreSlots, AreOfKept, file_number, is_other}
+use Rattle.inode_map.specs.InodeMap.{entry_of, is_kept, file_remembered, AreNumbers}
+use Rattle.inode_map.specs.Table.{kept_of, kept_from, file_first, files_from, AreSlots, AreOfKept, file_number}
 use Rattle.inode_map.specs.declared.inode_map.Kept.{Kept}
 use Rattle.inode_map.specs.declared.table.Held.{Held}
 

@@ -1,15 +1,15 @@
 -- The slots of the map of entries after a write, a removal, an addition.
-use Rattle.std.proofs.Common.{◌≡◌, ℕ, suc, ◌+◌, ◌<◌, ◌≤◌, Bool, true, false, cond, List, [], ◌∷◌, ◌++◌, length, Option, Some, None, IsSome, is_some, refl, sym, ap, ◌∙◌, subst, inl, inr, ◌⊎◌, arith}
-use Rattle.std.specs.Prelude.{◌==◌, not, if◌then◌else◌}
+use Rattle.std.proofs.Common.{◌≡◌, ℕ, ◌+◌, ◌<◌, ◌≤◌, Bool, true, false, cond, List, [], ◌∷◌, Option, Some, None, refl, sym, ap, ◌∙◌, subst, inl, inr, ◌⊎◌, arith}
+use Rattle.std.specs.Prelude.{◌==◌}
 use Rattle.std.specs.List.{filter}
-use Rattle.std.specs.Map.{lookup, set_value, remove_entry}
-use Rattle.std.specs.Ordering.{nat_cmp, match_ordering}
-use Rattle.std.specs.BTreeMap.{is_at, insert_entry}
+use Rattle.std.specs.Map.{set_value, remove_entry}
+use Rattle.std.specs.Ordering.{nat_cmp}
+use Rattle.std.specs.BTreeMap.{is_at}
 use Rattle.eden_base.specs.declared.number.FileId.{FileId}
 use Rattle.eden_base.specs.First.{changed_where, without_where}
 use Rattle.eden_base.proofs.NumberTests.{eq-true, eq-false, eq-or}
 use Rattle.inode_map.proofs.IndexLemmas.{at-same, at-other}
-use Rattle.inode_map.proofs.SlotLemmas.{slot_of, slots-bound, slots-lower, slots-none}
+use Rattle.inode_map.proofs.SlotLemmas.{slot_of, slots-lower}
 use Rattle.inode_map.specs.InodeMap.{has_number}
 use Rattle.inode_map.specs.Table.{kept_of, kept_from, file_first, files_from, AreSlots, is_other}
 use Rattle.inode_map.specs.declared.inode_map.Kept.{Kept}

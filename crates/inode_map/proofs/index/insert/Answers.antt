@@ -1,5 +1,5 @@
 -- A name that is written into its directory is written into the index.
-use Rattle.std.proofs.Common.{◌≡◌, ℕ, Some, None, IsSome, cond, refl, ap, sym, ◌∙◌}
+use Rattle.std.proofs.Common.{◌≡◌, ℕ, Some, None, cond, refl, ap, sym, ◌∙◌}
 use Rattle.std.specs.Ordering.{nat_cmp}
 use Rattle.std.specs.Option.{option_and_then}
 use Rattle.std.specs.Cmp.Lexicographic.{slice_cmp}

@@ -1,7 +1,7 @@
 -- A name that is taken out of its directory is taken out of the index.
-use Rattle.std.proofs.Common.{◌≡◌, ℕ, Some, None, IsSome, cond, refl, ap, sym, ◌∙◌}
+use Rattle.std.proofs.Common.{◌≡◌, Some, None, cond, refl, ap, sym, ◌∙◌}
 use Rattle.std.specs.Ordering.{nat_cmp}
-use Rattle.std.specs.BTreeMap.{BTreeMap, get, is_at}
+use Rattle.std.specs.BTreeMap.{get, is_at}
 use Rattle.inode_map.specs.declared.index.Directory.{Directory}
 use Rattle.inode_map.proofs.IndexLemmas.{cond-cond, no_names, directory-written, names-written}
 use Rattle.inode_map.proofs.index.remove.Goals as goal

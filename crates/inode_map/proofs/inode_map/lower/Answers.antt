@@ -1,7 +1,7 @@
 -- The entry's count is lowered.
-use Rattle.std.proofs.Common.{List, ◌≡◌, ◌-◌, Some, refl, sym, ap, ◌∙◌}
-use Rattle.inode_map.specs.InodeMap.{has_number, entry_of, lowered}
-use Rattle.inode_map.specs.Table.{TableState, kept_of, counted}
+use Rattle.std.proofs.Common.{List, ◌-◌, refl, sym, ap, ◌∙◌}
+use Rattle.inode_map.specs.InodeMap.{has_number}
+use Rattle.inode_map.specs.Table.{kept_of, counted}
 use Rattle.inode_map.specs.declared.inode_map.Kept.{Kept}
 use Rattle.inode_map.proofs.Forgetting.{less}
 use Rattle.inode_map.proofs.Keeping.{changed-alike}

@@ -1,5 +1,5 @@
 -- What is found in a slot is the entry.
-use Rattle.std.proofs.Common.{ap, sym, ◌∙◌, Some, None}
+use Rattle.std.proofs.Common.{ap, ◌∙◌}
 use Rattle.std.specs.Option.{option_map}
 use Rattle.inode_map.proofs.SlotLemmas.{held-entry, slot_held}
 use Rattle.inode_map.specs.Table.{kept_of}

@@ -1,10 +1,7 @@
 -- The way is climbed a number after another.
-use Rattle.std.proofs.Common.{◌≡◌, ◌≤◌, ap, refl, sym, ◌∙◌, arith, length, Some, None}
-use Rattle.std.specs.Option.{option_map}
-use Rattle.eden_base.specs.declared.number.Number.{Number}
-use Rattle.inode_map.specs.InodeMap.{entry_of, is_root, is_marked}
+use Rattle.std.proofs.Common.{◌≤◌, refl, sym, ◌∙◌, arith, length}
+use Rattle.inode_map.specs.InodeMap.{is_root, is_marked}
 use Rattle.inode_map.specs.Table.{kept_of, kept_from}
-use Rattle.inode_map.specs.declared.inode_map.Kept.{Kept}
 use Rattle.inode_map.proofs.Climbing.{Climbs-append, long-no_file, unknown-way, step-read, ne-tested, eq-tested}
 use Rattle.inode_map.proofs.SlotLemmas.{kept-len}
 use Rattle.inode_map.proofs.way.climb.Goals as goal

@@ -1,8 +1,7 @@
 -- The way is gone down again by its names.
-use Rattle.std.proofs.Common.{◌≡◌, ap, sym, ◌∙◌, Some, None}
+use Rattle.std.proofs.Common.{ap, sym, ◌∙◌}
 use Rattle.checkout.specs.Tree.{child_of}
 use Rattle.inode_map.specs.Table.{kept_of, kept_from}
-use Rattle.inode_map.specs.declared.inode_map.Kept.{Kept}
 use Rattle.eden_base.proofs.MemberLemmas.{some-none}
 use Rattle.inode_map.specs.InodeMap.{entry_of}
 use Rattle.inode_map.proofs.Climbing.{Climbs-split, step-down, no-child-no_file, step-name, step-no_mark}

@@ -1,5 +1,5 @@
 -- What is used is loaded.
-use Rattle.std.proofs.Common.{◌≡◌, sym, subst}
+use Rattle.std.proofs.Common.{sym, subst}
 use Rattle.inode_map.specs.Inside.{IsConsistent}
 use Rattle.inode_map.specs.Recency.{LoadedState}
 use Rattle.inode_map.proofs.Keeping.{used-kept}

@@ -1,5 +1,5 @@
 -- The number that the place has is counted once more.
-use Rattle.std.proofs.Common.{◌≡◌, ◌+◌, IsSome, Some, refl, sym, ap, ◌∙◌, subst, arith}
+use Rattle.std.proofs.Common.{◌≡◌, ◌+◌, IsSome, refl, sym, subst, arith}
 use Rattle.eden_base.proofs.MemberLemmas.{some-IsSome}
 use Rattle.eden_base.specs.First.{changed_where}
 use Rattle.inode_map.specs.InodeMap.{MapState, has_number, entry_of, given, loaded_number, AreNumbers}

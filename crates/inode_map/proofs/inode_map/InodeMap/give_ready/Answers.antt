@@ -1,5 +1,5 @@
 -- The next number is added.
-use Rattle.std.proofs.Common.{◌≡◌, ◌+◌, ◌++◌, ◌∷◌, [], lit<, refl, sym, ap, ◌∙◌, subst, arith}
+use Rattle.std.proofs.Common.{lit<, refl, sym, subst, arith}
 use Rattle.inode_map.specs.InodeMap.{new_entry, loaded_number}
 use Rattle.inode_map.specs.Inside.{IsConsistent}
 use Rattle.inode_map.specs.Table.{TableState}

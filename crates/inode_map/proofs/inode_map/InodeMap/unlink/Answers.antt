@@ -1,5 +1,5 @@
 -- An entry loses its name, and what is of no use then is struck.
-use Rattle.std.proofs.Common.{◌≡◌, Some, List, refl, sym, subst, ap, ◌∙◌}
+use Rattle.std.proofs.Common.{Some, List, refl, sym, subst, ap, ◌∙◌}
 use Rattle.eden_base.specs.First.{changed_where}
 use Rattle.inode_map.specs.EntryPlaces.{AreOfUseBut}
 use Rattle.inode_map.specs.Inside.{IsConsistent}

@@ -1,10 +1,9 @@
 -- What stays is of other numbers.
 use Rattle.std.proofs.Common.{◌≡◌, List, None, sym, ap, ◌∙◌, subst, arith}
 use Rattle.std.specs.List.{filter}
-use Rattle.eden_base.specs.First.{first_where, without_where, IsFirstPlace}
+use Rattle.eden_base.specs.First.{first_where, IsFirstPlace}
 use Rattle.inode_map.specs.declared.loaded.LoadedAttr.{LoadedAttr}
 use Rattle.inode_map.specs.InodeMap.{is_loaded_of, loaded_number}
-use Rattle.inode_map.specs.Recency.{LoadedState}
 use Rattle.inode_map.specs.Table.{is_other}
 use Rattle.inode_map.proofs.Keeping.{others-without, others-all}
 use Rattle.inode_map.proofs.loaded.Loaded.remove.Goals as goal

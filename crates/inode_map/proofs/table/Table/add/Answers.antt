@@ -1,20 +1,16 @@
 -- The number that is reserved is given.
-use Rattle.std.proofs.Common.{◌≡◌, ℕ, ◌+◌, ◌++◌, ◌∷◌, [], false, true, Bool, List, Option, Some, None, refl, sym, ap, ◌∙◌, subst, arith, is_some}
-use Rattle.std.specs.BTreeMap.{BTreeMap}
-use Rattle.eden_base.specs.First.{changed_where, without_where}
-use Rattle.eden_base.specs.declared.number.FileId.{FileId}
-use Rattle.eden_base.specs.declared.number.Number.{Number}
-use Rattle.eden_base.specs.declared.place.Place.TheVariants.{Linked, Unlinked}
-use Rattle.inode_map.specs.InodeMap.{has_number, entry_of, entry_at, place_of_kept, new_entry, marked}
+use Rattle.std.proofs.Common.{◌≡◌, ◌++◌, ◌∷◌, [], true, List, Some, None, refl, sym, ap, ◌∙◌, subst}
+use Rattle.eden_base.specs.declared.place.Place.TheVariants.{Linked}
+use Rattle.inode_map.specs.InodeMap.{entry_at}
 use Rattle.inode_map.specs.Links.{link_of}
-use Rattle.inode_map.specs.Table.{TableState, kept_of, kept_from, files_from, IsIndexed}
+use Rattle.inode_map.specs.Table.{TableState, kept_of, kept_from, IsIndexed}
 use Rattle.inode_map.specs.declared.inode_map.Kept.{Kept}
 use Rattle.inode_map.specs.declared.table.Held.{Held}
 use Rattle.inode_map.proofs.Giving.{next-none}
 use Rattle.inode_map.proofs.IndexedLemmas.{indexed-added}
 use Rattle.inode_map.proofs.SlotGrowth.{filled-found, filled-slots, filled-kept, filled-files}
-use Rattle.inode_map.proofs.SlotLemmas.{slot_of, slots-numbers}
-use Rattle.inode_map.proofs.TableLemmas.{is-reserved, view_of}
+use Rattle.inode_map.proofs.SlotLemmas.{slots-numbers}
+use Rattle.inode_map.proofs.TableLemmas.{is-reserved}
 use Rattle.inode_map.proofs.table.Table.add.Goals as goal
 
 pub unreachable-requires : goal.unreachable-requires

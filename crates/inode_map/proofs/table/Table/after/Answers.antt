@@ -1,17 +1,5 @@
 -- The first slot behind a number tells the least entry above it.
-use Rattle.std.proofs.Common.{◌≡◌, ℕ, ◌+◌, ◌++◌, ◌∷◌, [], false, true, Bool, List, Option, Some, None, refl, sym, ap, ◌∙◌, subst, arith, is_some}
-use Rattle.std.specs.BTreeMap.{BTreeMap}
-use Rattle.eden_base.specs.First.{changed_where, without_where}
-use Rattle.eden_base.specs.declared.number.FileId.{FileId}
-use Rattle.eden_base.specs.declared.number.Number.{Number}
-use Rattle.eden_base.specs.declared.place.Place.TheVariants.{Linked, Unlinked}
-use Rattle.inode_map.specs.InodeMap.{has_number, entry_of, entry_at, place_of_kept, new_entry, marked}
-use Rattle.inode_map.specs.Links.{link_of}
-use Rattle.inode_map.specs.Table.{TableState, kept_of, kept_from, files_from, IsIndexed}
-use Rattle.inode_map.specs.declared.inode_map.Kept.{Kept}
-use Rattle.inode_map.specs.declared.table.Held.{Held}
-use Rattle.std.specs.Ordering.{nat_cmp}
-use Rattle.inode_map.specs.InodeMap.{number_after}
+use Rattle.std.proofs.Common.{sym, ap, ◌∙◌}
 use Rattle.inode_map.proofs.SlotGrowth.{first-after, first_number, first-none, first-some}
 use Rattle.inode_map.proofs.table.Table.after.Goals as goal
 

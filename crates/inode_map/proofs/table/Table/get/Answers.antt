@@ -1,5 +1,5 @@
 -- What is remembered stands in the slot of the entry.
-use Rattle.std.proofs.Common.{ap, sym, ◌∙◌}
+use Rattle.std.proofs.Common.{ap, ◌∙◌}
 use Rattle.std.specs.Option.{option_and_then}
 use Rattle.inode_map.specs.declared.table.Held.{Held}
 use Rattle.inode_map.proofs.SlotLemmas.{held-file, files-kept}

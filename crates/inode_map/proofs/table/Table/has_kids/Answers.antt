@@ -1,5 +1,5 @@
 -- The index has the names of a directory.
-use Rattle.std.proofs.Common.{◌≡◌, Bool, true, false, ap, sym, ◌∙◌, refl}
+use Rattle.std.proofs.Common.{◌≡◌, Bool, true, false}
 use Rattle.std.specs.List.{list_any}
 use Rattle.inode_map.proofs.SlotLemmas.{slots-numbers}
 use Rattle.inode_map.proofs.IndexedLemmas.{indexed-kids, indexed-kid}

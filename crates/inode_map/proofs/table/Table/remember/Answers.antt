@@ -1,10 +1,8 @@
 -- A file is written in the slot of its entry.
-use Rattle.std.proofs.Common.{◌≡◌, ℕ, List, Option, Some, None, refl, sym, ap, ◌∙◌, subst}
-use Rattle.std.specs.BTreeMap.{BTreeMap}
-use Rattle.eden_base.specs.First.{changed_where}
+use Rattle.std.proofs.Common.{◌≡◌, List, Some, refl, sym, ap, ◌∙◌, subst}
 use Rattle.inode_map.specs.InodeMap.{has_number}
 use Rattle.inode_map.specs.Links.{link_of}
-use Rattle.inode_map.specs.Table.{TableState, kept_of, kept_from, files_from, counted, IsIndexed}
+use Rattle.inode_map.specs.Table.{kept_from, IsIndexed}
 use Rattle.inode_map.specs.declared.inode_map.Kept.{Kept}
 use Rattle.inode_map.specs.declared.table.Held.{Held}
 use Rattle.inode_map.proofs.SlotLemmas.{slot_of}

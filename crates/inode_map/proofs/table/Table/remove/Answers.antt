@@ -1,19 +1,13 @@
 -- An entry is taken out of its slot and out of the index.
-use Rattle.std.proofs.Common.{◌≡◌, ℕ, ◌+◌, ◌++◌, ◌∷◌, [], false, true, Bool, List, Option, Some, None, refl, sym, ap, ◌∙◌, subst, arith, is_some}
-use Rattle.std.specs.BTreeMap.{BTreeMap}
-use Rattle.eden_base.specs.First.{changed_where, without_where}
-use Rattle.eden_base.specs.declared.number.FileId.{FileId}
-use Rattle.eden_base.specs.declared.number.Number.{Number}
-use Rattle.eden_base.specs.declared.place.Place.TheVariants.{Linked, Unlinked}
-use Rattle.inode_map.specs.InodeMap.{has_number, entry_of, entry_at, place_of_kept, new_entry, marked}
+use Rattle.std.proofs.Common.{◌≡◌, List, Some, refl, sym, ap, ◌∙◌, subst, arith}
+use Rattle.eden_base.specs.First.{without_where}
+use Rattle.inode_map.specs.InodeMap.{has_number, place_of_kept}
 use Rattle.inode_map.specs.Links.{link_of}
-use Rattle.inode_map.specs.Table.{TableState, kept_of, kept_from, files_from, IsIndexed}
+use Rattle.inode_map.specs.Table.{kept_of, kept_from, IsIndexed}
 use Rattle.inode_map.specs.declared.inode_map.Kept.{Kept}
-use Rattle.inode_map.specs.declared.table.Held.{Held}
 use Rattle.std.specs.Option.{option_map}
-use Rattle.inode_map.proofs.EntryLemmas.{without-other, without-same}
-use Rattle.inode_map.proofs.IndexedLemmas.{Loses, indexed-lost, indexed-left}
-use Rattle.inode_map.proofs.SlotLemmas.{slot_of, slots-numbers}
+use Rattle.inode_map.proofs.IndexedLemmas.{indexed-lost, indexed-left}
+use Rattle.inode_map.proofs.SlotLemmas.{slot_of}
 use Rattle.inode_map.proofs.SlotWrites.{removed-slots, removed-kept, removed-files}
 use Rattle.inode_map.proofs.TableLemmas.{never-none, never-reserved, slot-entry, without-loses}
 use Rattle.inode_map.proofs.table.Table.remove.Goals as goal
