@@ -10,14 +10,14 @@ use std::time::{CpuClock, Duration};
 /// How often each call is made.
 const ROUNDS: u32 = 1_000_000;
 
-/// The next number of a fixed sequence (Knuth's MMIX generator).
+/// Returns the next number of a fixed sequence (Knuth's MMIX generator).
 fn next_random(state: u64) -> u64 {
     state
         .wrapping_mul(6_364_136_223_846_793_005)
         .wrapping_add(1_442_695_040_888_963_407)
 }
 
-/// One of the slots, where there is one.
+/// Picks one of the slots, where there is one.
 fn pick(slots: &[Slot], random: u64) -> Option<Slot> {
     if slots.is_empty() {
         return None;
@@ -25,7 +25,7 @@ fn pick(slots: &[Slot], random: u64) -> Option<Slot> {
     Some(slots[(random >> 33) as usize % slots.len()])
 }
 
-/// An arena that is full, and its slots.
+/// Makes an arena that is full, and lists its slots.
 fn filled(alloc: Global, capacity: usize) -> Result<(Nodes<u64>, Vec<Slot>)> {
     let mut nodes = Nodes::new(alloc, capacity.clamp(1, 65_536))?;
     let mut slots = Vec::new(alloc);
@@ -37,7 +37,7 @@ fn filled(alloc: Global, capacity: usize) -> Result<(Nodes<u64>, Vec<Slot>)> {
     Ok((nodes, slots))
 }
 
-/// `oldest` and `touch` of what it answers.
+/// Calls `oldest`, and `touch` of what it answers.
 fn touch_oldest(rt: &impl CpuClock, nodes: &mut Nodes<u64>) -> Result<Duration> {
     let start = rt.thread_cpu_time()?;
     for _ in 0..ROUNDS {
@@ -48,7 +48,7 @@ fn touch_oldest(rt: &impl CpuClock, nodes: &mut Nodes<u64>) -> Result<Duration> 
     Ok(rt.thread_cpu_time()?.saturating_sub(start))
 }
 
-/// `oldest`, `remove` of what it answers, and `add`.
+/// Calls `oldest`, `remove` of what it answers, and `add`.
 fn replace_oldest(rt: &impl CpuClock, nodes: &mut Nodes<u64>) -> Result<Duration> {
     let start = rt.thread_cpu_time()?;
     for _ in 0..ROUNDS {
@@ -60,7 +60,7 @@ fn replace_oldest(rt: &impl CpuClock, nodes: &mut Nodes<u64>) -> Result<Duration
     Ok(rt.thread_cpu_time()?.saturating_sub(start))
 }
 
-/// `is_held` and `touch`, of slots in a random order.
+/// Calls `is_held` and `touch` of slots in a random order.
 fn touch_any(rt: &impl CpuClock, nodes: &mut Nodes<u64>, slots: &[Slot]) -> Result<Duration> {
     let mut random = 1;
     let start = rt.thread_cpu_time()?;
@@ -75,7 +75,7 @@ fn touch_any(rt: &impl CpuClock, nodes: &mut Nodes<u64>, slots: &[Slot]) -> Resu
     Ok(rt.thread_cpu_time()?.saturating_sub(start))
 }
 
-/// `is_held`, `get` and `get_mut`, of slots in a random order.
+/// Calls `is_held`, `get` and `get_mut` of slots in a random order.
 fn write_any(rt: &impl CpuClock, nodes: &mut Nodes<u64>, slots: &[Slot]) -> Result<Duration> {
     let mut random = 1;
     let start = rt.thread_cpu_time()?;

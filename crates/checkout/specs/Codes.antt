@@ -23,15 +23,18 @@ file_id_code = code_by ℕ coded_ℕ (λ f. f.0) (λ n. record { 0 = n }) (λ _.
 
 abbrev pub file_code : Coded File
 file_code =
-    code_by (Kind × (Perm × ℕ)) (coded× kind_code (coded× perm_code coded_ℕ)) (λ f. (f.kind, (f.perm, f.size))) (λ p. record { kind = p.0; perm = p.1.0; size = p.1.1 }) (λ _. refl)
+    code_by (Kind × (Perm × ℕ)) (coded× kind_code (coded× perm_code coded_ℕ)) (λ f. (f.kind, (f.perm, f.size)))
+    (λ p. record { kind = p.0; perm = p.1.0; size = p.1.1 }) (λ _. refl)
 
 abbrev pub line_code : Coded Line
 line_code =
-    code_by (FileId × (List ℕ × File)) (coded× file_id_code (coded× (coded_list coded_ℕ) file_code)) (λ l. (l.dir, (l.name, l.file))) (λ p. record { dir = p.0; name = p.1.0; file = p.1.1 }) (λ _. refl)
+    code_by (FileId × (List ℕ × File)) (coded× file_id_code (coded× (coded_list coded_ℕ) file_code))
+    (λ l. (l.dir, (l.name, l.file))) (λ p. record { dir = p.0; name = p.1.0; file = p.1.1 }) (λ _. refl)
 
 abbrev pub manifest_code : Coded Manifest
 manifest_code =
-    code_by (List ℕ × List Line) (coded× (coded_list coded_ℕ) (coded_list line_code)) (λ m. (m.commit, m.lines)) (λ p. record { commit = p.0; lines = p.1 }) (λ _. refl)
+    code_by (List ℕ × List Line) (coded× (coded_list coded_ℕ) (coded_list line_code)) (λ m. (m.commit, m.lines))
+    (λ p. record { commit = p.0; lines = p.1 }) (λ _. refl)
 
 abbrev pub directory_code : Coded (map.FinMap (slice_cmp nat_cmp) FileId)
 directory_code = map.code (coded_list coded_ℕ) file_id_code
@@ -41,7 +44,10 @@ links_code = map.code (coded× coded_ℕ (coded_list coded_ℕ)) file_id_code
 
 abbrev pub tree_code : Coded Tree
 tree_code =
-    code_by (Manifest × (map.FinMap nat_cmp File × (map.FinMap link_cmp FileId × ℕ))) (coded× manifest_code (coded× (map.code coded_ℕ file_code) (coded× links_code coded_ℕ))) (λ t. (t.manifest, (t.files, (t.links, t.next_file)))) (λ p. record { manifest = p.0; files = p.1.0; links = p.1.1.0; next_file = p.1.1.1 }) (λ _. refl)
+    code_by (Manifest × (map.FinMap nat_cmp File × (map.FinMap link_cmp FileId × ℕ)))
+    (coded× manifest_code (coded× (map.code coded_ℕ file_code) (coded× links_code coded_ℕ)))
+    (λ t. (t.manifest, (t.files, (t.links, t.next_file))))
+    (λ p. record { manifest = p.0; files = p.1.0; links = p.1.1.0; next_file = p.1.1.1 }) (λ _. refl)
 
 abbrev pub lines_code : Coded (List Line)
 lines_code = coded_list line_code

@@ -28,14 +28,18 @@ most_lines = 65535
 
 -- the root, or the directory of an earlier line
 abbrev pub IsDirBefore : List Line → ℕ → FileId → Type 0
-IsDirBefore lines i dir = (dir.0 ≡ 1) ⊎ ((j : ℕ) × (above : Line) × (j < i) × (dir.0 ≡ j + 2) × (slice_get lines j ≡ Some above) × (above.file.kind ≡ Dir))
+IsDirBefore lines i dir =
+    (dir.0 ≡ 1)
+    ⊎ ((j : ℕ) × (above : Line) × (j < i) × (dir.0 ≡ j + 2) × (slice_get lines j ≡ Some above)
+    × (above.file.kind ≡ Dir))
 
 -- what holds of each line
 pub record IsLine (lines : List Line) (i : ℕ) (line : Line) : Type 0 where
   pub name : IsNameText line.name
   pub size : line.file.size ≤ greatest_size
   pub dir_before : IsDirBefore lines i line.dir
-  pub place_is_new : (j : ℕ) (other : Line) → j < i → slice_get lines j ≡ Some other → other.dir ≡ line.dir → other.name ≢ line.name
+  pub place_is_new : (j : ℕ) (other : Line) → j < i → slice_get lines j ≡ Some other → other.dir ≡ line.dir →
+      other.name ≢ line.name
 
 -- lines that each stand below an earlier one, no two at one place
 pub record AreLines (lines : List Line) : Type 0 where

@@ -24,7 +24,8 @@ lines_of text = parts 10 text
 
 -- the commit that the first line names, in hexadecimal digits of either case
 abbrev pub commit_of : List ℕ → Option (List ℕ)
-commit_of line = option_and_then (λ (digits : List ℕ). result_ok (decode_sized digits 20)) (after (codes "commit ") line)
+commit_of line =
+    option_and_then (λ (digits : List ℕ). result_ok (decode_sized digits 20)) (after (codes "commit ") line)
 
 -- what a line says of its file, where it says so, and its path
 pub record Entry : Type 0 where
@@ -41,11 +42,16 @@ dir_entry path = record { kind = Dir; perm = Some dir_perm; size = Some 0; path 
 abbrev pub file_entry : List ℕ → Option Entry
 file_entry rest =
     option_and_then (λ (m : List ℕ × List ℕ).
-    option_map (λ (s : List ℕ × List ℕ). record { kind = RegularFile; perm = mode_of m.0; size = size_of s.0; path = s.1 }) (cut 32 m.1)) (cut 32 rest)
+    option_map
+    (λ (s : List ℕ × List ℕ). record { kind = RegularFile; perm = mode_of m.0; size = size_of s.0; path = s.1 })
+    (cut 32 m.1))
+    (cut 32 rest)
 
 -- a line is a directory's or a file's
 abbrev pub entry_of : List ℕ → Option Entry
-entry_of line = option_or (option_map dir_entry (after (codes "dir ") line)) (option_and_then file_entry (after (codes "file ") line))
+entry_of line =
+    option_or (option_map dir_entry (after (codes "dir ") line))
+    (option_and_then file_entry (after (codes "file ") line))
 
 -- the names of a path
 abbrev pub names_of : List ℕ → List (List ℕ)
@@ -80,7 +86,8 @@ abbrev pub place_fault : List Line → List ℕ → Option ManifestFaultKind
 place_fault lines path =
     if not (list_all is_name (names_of path)) then Some BadPath
     else if is_none (parent_of lines path) then Some NoParent
-    else if is_some (child_of (tree_so_far lines) (unwrap_or (parent_of lines path) root) (last (names_of path))) then Some Twice
+    else if is_some (child_of (tree_so_far lines) (unwrap_or (parent_of lines path) root) (last (names_of path)))
+    then Some Twice
     else if nat_le most_lines (length lines) then Some TooManyLines
     else None
 
@@ -120,7 +127,8 @@ read_on lines number [] = Ok lines
 read_on lines number ([] ∷ []) = Ok lines
 read_on lines number ((b ∷ bs) ∷ []) = Err (fault_at number BadLine)
 read_on lines number (text ∷ next ∷ more) =
-    on_line (line_of_text lines text) (λ line. read_on (lines ++ line ∷ []) (number + 1) (next ∷ more)) (λ fault. Err (fault_at number fault))
+    on_line (line_of_text lines text) (λ line. read_on (lines ++ line ∷ []) (number + 1) (next ∷ more))
+    (λ fault. Err (fault_at number fault))
 
 -- a commit with lines
 abbrev pub with_commit : List ℕ → Result (List Line) ManifestFault → Result Manifest ManifestFault

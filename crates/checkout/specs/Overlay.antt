@@ -64,13 +64,17 @@ abbrev pub dir_made : FinMap nat_cmp MadeFile → ℕ → Option FileId
 dir_made made file = option_and_then (λ (m : MadeFile). m.dir) (get made file)
 
 -- what holds of such differences
-pub record IsOverlay (m : Manifest) (made : FinMap nat_cmp MadeFile) (added : FinMap link_cmp FileId) (gone : ℕ → Bool) (lost : ℕ → ℕ) (next : ℕ) : Type 0 where
+pub record IsOverlay (m : Manifest) (made : FinMap nat_cmp MadeFile) (added : FinMap link_cmp FileId)
+    (gone : ℕ → Bool) (lost : ℕ → ℕ) (next : ℕ) : Type 0 where
   pub is_manifest : IsManifest m
   pub is_tree : IsTree (tree_over m made added gone next)
   pub made_are_later : (file : ℕ) → IsSome (get made file) → length m.lines + 2 ≤ file
   -- a link that was added gives a made file, which has its directory; and back
-  pub added_are_made : (dir : FileId) (name : List ℕ) (file : FileId) → get added (dir.0, name) ≡ Some file → dir_made made file.0 ≡ Some dir
-  pub made_are_added : (file dir : FileId) → dir_made made file.0 ≡ Some dir → (name : List ℕ) × (get added (dir.0, name) ≡ Some file)
+  pub added_are_made : (dir : FileId) (name : List ℕ) (file : FileId) → get added (dir.0, name) ≡ Some file →
+      dir_made made file.0 ≡ Some dir
+  pub made_are_added : (file dir : FileId) → dir_made made file.0 ≡ Some dir →
+      (name : List ℕ) × (get added (dir.0, name) ≡ Some file)
   -- and stands where the manifest has no link, or one that is gone
-  pub added_are_apart : (dir : ℕ) (name : List ℕ) → IsSome (get added (dir, name)) → still gone (get (links_from 2 m.lines) (dir, name)) ≡ None
+  pub added_are_apart : (dir : ℕ) (name : List ℕ) → IsSome (get added (dir, name)) →
+      still gone (get (links_from 2 m.lines) (dir, name)) ≡ None
   pub lost_are_counted : (dir : ℕ) → lost dir ≡ lost_in gone dir 2 m.lines

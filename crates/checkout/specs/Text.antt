@@ -47,7 +47,8 @@ perm_of bits = record { bits = min bits 4095; in_range = min-le_right bits 4095 
 -- four octal digits
 abbrev pub mode_of : List ℕ → Option Perm
 mode_of digits =
-    if length digits == 4 && list_all is_octal digits then Some (perm_of (fold (λ n d. 8 * n + (d - 48)) 0 digits)) else None
+    if length digits == 4 && list_all is_octal digits then Some (perm_of (fold (λ n d. 8 * n + (d - 48)) 0 digits))
+    else None
 
 -- the number that decimal digits write
 abbrev pub decimal : List ℕ → ℕ

@@ -74,12 +74,16 @@ nlink_of tree file kind = if is_unlinked tree file then 0 else nlink_of_kind kin
 
 -- what a daemon tells the kernel of a file of the tree
 abbrev pub attr_of : Tree → FileId → Option Attr
-attr_of tree file = option_map (λ (f : File). record { kind = f.kind; perm = f.perm; size = f.size; nlink = nlink_of tree file f.kind }) (file_of tree file)
+attr_of tree file =
+    option_map
+    (λ (f : File). record { kind = f.kind; perm = f.perm; size = f.size; nlink = nlink_of tree file f.kind })
+    (file_of tree file)
 
 -- the permissions of a file that was made after the manifest
 abbrev pub perm_made : Tree → FileId → Option Perm
 perm_made tree file =
-    if nat_lt file.0 (length tree.manifest.lines + 2) then None else option_map (λ (f : File). f.perm) (file_of tree file)
+    if nat_lt file.0 (length tree.manifest.lines + 2) then None
+    else option_map (λ (f : File). f.perm) (file_of tree file)
 
 -- a directory in which a link stands
 abbrev pub is_full_dir : Tree → FileId → Bool
@@ -153,17 +157,23 @@ pub record IsTree (tree : Tree) : Type 0 where
   pub ids_below_next : (file : FileId) → IsSome (file_of tree file) → file.0 < tree.next_file
   pub next_fits : tree.next_file ≤ end_of_files
   -- the manifest's files are as they stand there, and the root with them
-  pub has_manifest_files : (file : FileId) (f : File) → file_of (tree_of tree.manifest) file ≡ Some f → file_of tree file ≡ Some f
+  pub has_manifest_files : (file : FileId) (f : File) → file_of (tree_of tree.manifest) file ≡ Some f →
+      file_of tree file ≡ Some f
   -- all others came later, and are empty
   pub others_are_later : (file : FileId) (f : File) → file_of tree file ≡ Some f →
       (file_of (tree_of tree.manifest) file ≡ Some f) ⊎ ((length tree.manifest.lines + 2 ≤ file.0) × (f.size ≡ 0))
-  pub links_have_names : (dir : FileId) (name : List ℕ) (file : FileId) → child_of tree dir name ≡ Some file → IsNameText name
-  pub links_give_files : (dir : FileId) (name : List ℕ) (file : FileId) → child_of tree dir name ≡ Some file → IsSome (file_of tree file)
-  pub links_stand_in_dirs : (dir : FileId) (name : List ℕ) (file : FileId) → child_of tree dir name ≡ Some file → kind_of tree dir ≡ Some Dir
-  pub root_has_no_link : (dir : FileId) (name : List ℕ) (file : FileId) → child_of tree dir name ≡ Some file → 1 < file.0
+  pub links_have_names : (dir : FileId) (name : List ℕ) (file : FileId) → child_of tree dir name ≡ Some file →
+      IsNameText name
+  pub links_give_files : (dir : FileId) (name : List ℕ) (file : FileId) → child_of tree dir name ≡ Some file →
+      IsSome (file_of tree file)
+  pub links_stand_in_dirs : (dir : FileId) (name : List ℕ) (file : FileId) → child_of tree dir name ≡ Some file →
+      kind_of tree dir ≡ Some Dir
+  pub root_has_no_link : (dir : FileId) (name : List ℕ) (file : FileId) → child_of tree dir name ≡ Some file →
+      1 < file.0
   -- no file stands twice
   pub links_are_apart : (dir other_dir : FileId) (name other_name : List ℕ) (file : FileId) →
-      child_of tree dir name ≡ Some file → child_of tree other_dir other_name ≡ Some file → (dir ≡ other_dir) × (name ≡ other_name)
+      child_of tree dir name ≡ Some file → child_of tree other_dir other_name ≡ Some file →
+      (dir ≡ other_dir) × (name ≡ other_name)
   -- each linked file is reached from the root
   pub links_are_reached : (dir : FileId) (name : List ℕ) (file : FileId) → child_of tree dir name ≡ Some file →
       (path : List (List ℕ)) × (file_at tree root path ≡ Some file)

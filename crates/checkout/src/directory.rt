@@ -50,7 +50,7 @@ impl Directory {
         self.files.get(name).copied()
     }
 
-    /// Whether no name stands in it.
+    /// Returns whether no name stands in it.
     pub fn is_empty(&self) -> bool
         ensures { IsTrue result ↔ (self.now ≡ empty) }
     {

@@ -15,14 +15,14 @@ pub fn after<'a>(front: &[u8], text: &'a [u8]) -> Option<&'a [u8]>
     text.strip_prefix(front)
 }
 
-/// Whether the bytes are a name, as `Name::parse` has it.
+/// Returns whether the bytes are a name, as `Name::parse` has it.
 fn is_name(bytes: &[u8]) -> bool
     ensures { result ≡ is_name bytes.now }
 {
     Name::fault(bytes).is_none()
 }
 
-/// Whether all that the slashes of a path part are names.
+/// Returns whether all that the slashes of a path part are names.
 pub fn is_path(path: &[u8]) -> bool
     ensures { result ≡ list_all is_name (parts 47 path.now) }
 {
@@ -79,7 +79,7 @@ pub fn size_of(digits: &[u8]) -> Option<u64>
     value_of(digits)
 }
 
-/// Whether a zero stands before another digit.
+/// Returns whether a zero stands before another digit.
 fn has_leading_zero(digits: &[u8]) -> bool
     ensures { result ≡ has_leading_zero digits.now }
 {
@@ -89,7 +89,7 @@ fn has_leading_zero(digits: &[u8]) -> bool
     }
 }
 
-/// Whether the bytes are decimal digits.
+/// Returns whether the bytes are decimal digits.
 fn is_decimal(digits: &[u8]) -> bool
     ensures { result ≡ list_all is_decimal digits.now }
 {

@@ -51,7 +51,7 @@ impl Links {
         self.directories.get(&dir.0)?.get(name)
     }
 
-    /// Whether a name stands in the directory.
+    /// Returns whether a name stands in the directory.
     pub fn has_links(&self, dir: FileId) -> bool
         ensures { result ≡ list_any (λ link. link.0.0 == dir.0) (entries self.now) }
     {

@@ -12,7 +12,7 @@ const SMALL: &[u8] =
 
 const HEAD: &[u8] = b"commit 0123456789abcdef0123456789abcdef01234567\n";
 
-/// The fault of a text, if it is no manifest.
+/// Returns the fault of a text, if it is no manifest.
 fn fault_of(alloc: Global, text: &[u8]) -> Option<ManifestFault> {
     match Manifest::read(alloc, text) {
         Ok(_) => None,
@@ -26,7 +26,7 @@ fn joined(alloc: Global, front: &[u8], back: &[u8]) -> Result<Vec<u8>, AllocErro
     Ok(text)
 }
 
-/// That each of these texts, parted by semicolons, is refused so with an LF after it, below these lines.
+/// Asserts that each of these texts, parted by semicolons, is refused so with an LF after it, below these lines.
 fn each_is(
     rt: &impl Abort,
     alloc: Global,
@@ -214,7 +214,7 @@ fn takes_a_directory_of_directories_for_one_with_entries(rt: HostRuntime) -> Res
     Ok(())
 }
 
-/// What the backing of a manifest tells of its file 4, which it has.
+/// Asks what the backing of a manifest tells of its file 4, which it has.
 fn told(manifest: &Manifest) -> Option<(u16, u64, u64)> {
     let mut backing = ManifestBacking::of(manifest);
     match manifest.content(FileId(4)) {
@@ -241,7 +241,7 @@ fn tells_a_fault_as_a_script_does(rt: HostRuntime) -> Result<(), Fail> {
     Ok(())
 }
 
-/// A manifest of a commit and this many files.
+/// Makes a manifest of a commit and this many files.
 fn many(alloc: Global, files: u32) -> Result<Vec<u8>, AllocError> {
     let mut text = Vec::from_slice(alloc, HEAD)?;
     for i in 0..files {
@@ -315,7 +315,7 @@ const SMALL_LINES: [(usize, u64, &[u8], Kind, u16, u64); 4] = [
     (3, 1, b"README", Kind::File, 0o644, 7),
 ];
 
-/// That a manifest has a line; takes no memory.
+/// Asserts that a manifest has a line; takes no memory.
 fn has_line(
     rt: &impl Abort,
     manifest: &Manifest,
@@ -331,7 +331,7 @@ fn has_line(
     }
 }
 
-/// That the manifest is what `SMALL` says; takes no memory.
+/// Asserts that the manifest is what `SMALL` says; takes no memory.
 fn is_small(rt: &impl Abort, manifest: &Manifest) {
     let commit = manifest.commit();
     assert_eq!(rt; (commit[0], commit[7], commit[19]), (0x01, 0xef, 0x67));
@@ -341,7 +341,7 @@ fn is_small(rt: &impl Abort, manifest: &Manifest) {
     assert_eq!(rt; manifest.lines().len(), 4);
 }
 
-/// What `SMALL` says, read again where memory was refused.
+/// Reads what `SMALL` says, again where memory was refused.
 fn read_small(rt: &impl Abort, alloc: Global) -> Result<Manifest, Fail> {
     match Manifest::read(alloc, SMALL) {
         Ok(manifest) => Ok(manifest),
@@ -362,7 +362,7 @@ fn reads_and_shares_again_after_memory_was_refused(rt: HostRuntime) -> Result<()
     Ok(())
 }
 
-/// The tree of `SMALL`, made again where memory was refused.
+/// Makes the tree of `SMALL`, again where memory was refused.
 fn small_tree(rt: &impl Abort, alloc: Global) -> Result<Tree, Fail> {
     let manifest = read_small(rt, alloc)?;
     match Tree::of(alloc, &manifest) {
@@ -446,7 +446,7 @@ fn takes_out(
     Ok(())
 }
 
-/// What a tree tells of files: their kind, count of links, and whether they are empty directories.
+/// Collects what a tree tells of files: their kind, count of links, and whether they are empty directories.
 fn tells(rt: &impl Abort, tree: &Tree, files: &[(u64, Kind, u32, bool)]) {
     for (file, kind, nlink, empty) in files {
         let file = FileId(*file);

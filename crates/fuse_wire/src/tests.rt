@@ -16,7 +16,7 @@ const FILE: Attr = Attr {
     nlink: 1,
 };
 
-/// `read_request`, and once more where memory was refused.
+/// Calls `read_request`, and once more where memory was refused.
 fn read(alloc: Global, bytes: &[u8]) -> Result<Ask, WireFault>
     ensures sendable { IfOk result (λ ask. IsSendable ask.what) }
 {
@@ -27,7 +27,7 @@ fn read(alloc: Global, bytes: &[u8]) -> Result<Ask, WireFault>
     }
 }
 
-/// `write_request`, and once more where memory was refused.
+/// Calls `write_request`, and once more where memory was refused.
 fn write(alloc: Global, ask: &Ask) -> Result<Vec<u8>, NoMemory>
     requires { IsSendable ask.now.what }
 {
@@ -37,7 +37,7 @@ fn write(alloc: Global, ask: &Ask) -> Result<Vec<u8>, NoMemory>
     }
 }
 
-/// `Request::copy`, and once more where memory was refused.
+/// Calls `Request::copy`, and once more where memory was refused.
 fn copy(alloc: Global, request: &Request) -> Result<Request, NoMemory>
     ensures copy { IfOk result (λ copy. copy ≡ request.now) }
 {
@@ -47,7 +47,7 @@ fn copy(alloc: Global, request: &Request) -> Result<Request, NoMemory>
     }
 }
 
-/// `NameRoom::new`, and once more where memory was refused.
+/// Calls `NameRoom::new`, and once more where memory was refused.
 fn room(alloc: Global) -> Result<NameRoom, NoMemory> {
     match NameRoom::new(alloc) {
         Ok(room) => Ok(room),
@@ -55,7 +55,7 @@ fn room(alloc: Global) -> Result<NameRoom, NoMemory> {
     }
 }
 
-/// `BatchRoom::new`, and once more where memory was refused.
+/// Calls `BatchRoom::new`, and once more where memory was refused.
 fn batch_room(alloc: Global) -> Result<BatchRoom, NoMemory> {
     match BatchRoom::new(alloc) {
         Ok(room) => Ok(room),
@@ -63,7 +63,7 @@ fn batch_room(alloc: Global) -> Result<BatchRoom, NoMemory> {
     }
 }
 
-/// `Batch::of`, and once more where memory was refused.
+/// Calls `Batch::of`, and once more where memory was refused.
 fn batch_of(alloc: Global, items: &Items) -> Result<Batch, NoMemory>
     ensures items { IfOk result (λ batch. batch ≡ items.now) }
 {
@@ -73,7 +73,7 @@ fn batch_of(alloc: Global, items: &Items) -> Result<Batch, NoMemory>
     }
 }
 
-/// `Batch::copy`, and once more where memory was refused.
+/// Calls `Batch::copy`, and once more where memory was refused.
 fn copy_of(alloc: Global, batch: &Batch) -> Result<Batch, NoMemory> {
     match batch.copy(alloc) {
         Ok(copy) => Ok(copy),

@@ -212,7 +212,9 @@ attr_of loaded n = option_map attr_in (first_where (is_loaded_of n) loaded)
 
 -- one that is loaded becomes the most recent
 abbrev pub used : List LoadedAttr → ℕ → List LoadedAttr
-used loaded n = option_map_or (λ (found : LoadedAttr). found ∷ without_where (is_loaded_of n) loaded) (first_where (is_loaded_of n) loaded) loaded
+used loaded n =
+    option_map_or (λ (found : LoadedAttr). found ∷ without_where (is_loaded_of n) loaded)
+    (first_where (is_loaded_of n) loaded) loaded
 
 -- an attribute becomes the most recent, and the oldest makes place for it at the limit
 abbrev pub load : ℕ → List LoadedAttr → Number → Attr → List LoadedAttr
@@ -232,7 +234,9 @@ remembered files n file = insert_entry nat_cmp files n file
 
 -- the entry stands under some name
 abbrev pub IsLinked : List Kept → ℕ → Type 0
-IsLinked entries n = (kept : Kept) × (dir : Number) × (name : List ℕ) × (entry_of entries n ≡ Some kept) × (kept.place ≡ Linked dir name)
+IsLinked entries n =
+    (kept : Kept) × (dir : Number) × (name : List ℕ) × (entry_of entries n ≡ Some kept)
+    × (kept.place ≡ Linked dir name)
 
 -- its name was taken away
 abbrev pub marked : FileId → Kept → Kept
@@ -256,7 +260,8 @@ pub record AreEntries (entries : List Kept) (next : ℕ) : Type 0 where
 
 -- a map with entries of which nothing is loaded or remembered
 abbrev pub map_of : List Kept → ℕ → ℕ → MapState
-map_of entries next limit = record { entries = entries; next = next; bad_items = 0; loaded = []; limit = limit; spare = 0; remembered = [] }
+map_of entries next limit =
+    record { entries = entries; next = next; bad_items = 0; loaded = []; limit = limit; spare = 0; remembered = [] }
 
 -- nothing was given yet but the root, which is no entry
 abbrev pub new_map : ℕ → MapState

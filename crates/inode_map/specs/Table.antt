@@ -60,12 +60,15 @@ IsSlots slots = (next : ℕ) × (ready : Bool) × AreSlots 2 next ready slots
 
 -- what the index has of the entries: each linked one at its place, and nothing else
 pub record IsIndexed (entries : List Kept) (link : ℕ → List ℕ → Option ℕ) : Type 0 where
-  pub stands : (dir : ℕ) (name : List ℕ) (n : ℕ) → link dir name ≡ Some n → (kept : Kept) × (entry_of entries n ≡ Some kept) × (kept.place ≡ Linked (record { 0 = dir }) name)
-  pub found : (n : ℕ) (kept : Kept) (dir : Number) (name : List ℕ) → entry_of entries n ≡ Some kept → kept.place ≡ Linked dir name → link dir.0 name ≡ Some n
+  pub stands : (dir : ℕ) (name : List ℕ) (n : ℕ) → link dir name ≡ Some n →
+      (kept : Kept) × (entry_of entries n ≡ Some kept) × (kept.place ≡ Linked (record { 0 = dir }) name)
+  pub found : (n : ℕ) (kept : Kept) (dir : Number) (name : List ℕ) → entry_of entries n ≡ Some kept →
+      kept.place ≡ Linked dir name → link dir.0 name ≡ Some n
 
 -- the number stands in this directory
 abbrev pub IsIn : List Kept → ℕ → Number → Type 0
-IsIn entries n dir = (kept : Kept) × (name : List ℕ) × (entry_of entries n ≡ Some kept) × (kept.place ≡ Linked dir name)
+IsIn entries n dir =
+    (kept : Kept) × (name : List ℕ) × (entry_of entries n ≡ Some kept) × (kept.place ≡ Linked dir name)
 
 -- the number is another
 abbrev pub is_other : ℕ → ℕ → Bool
@@ -77,7 +80,8 @@ counted count kept = record kept { count = count }
 
 -- the table without an entry
 abbrev pub without_entry : TableState → ℕ → List Kept → TableState
-without_entry table n entries = record table { entries = entries; remembered = filter (λ (file : ℕ × FileId). is_other n file.0) table.remembered }
+without_entry table n entries =
+    record table { entries = entries; remembered = filter (λ (file : ℕ × FileId). is_other n file.0) table.remembered }
 
 -- each is of a number with an entry
 abbrev pub AreOfKept : {X : Type 0} → (X → ℕ) → List Kept → List X → Type 0
@@ -93,4 +97,7 @@ of_kept number entries xs = filter (λ x. is_kept entries (number x)) xs
 
 -- the table with the entries of use alone
 abbrev pub pruned : TableState → TableState
-pruned table = record table { entries = left_of_use table.entries; remembered = of_kept file_number (left_of_use table.entries) table.remembered }
+pruned table = record table {
+  entries = left_of_use table.entries;
+  remembered = of_kept file_number (left_of_use table.entries) table.remembered;
+}

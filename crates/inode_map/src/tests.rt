@@ -66,7 +66,7 @@ fn tree_of(alloc: Global, manifest: &Manifest) -> Result<Tree, NoMemory> {
     }
 }
 
-/// The text of a hundred directories, each in the one before, made again where memory was short.
+/// Writes the text of a hundred directories, each in the one before, again where memory was short.
 fn nested(alloc: Global) -> Result<Vec<u8>, AllocError> {
     match nested_so_deep(alloc, 100) {
         Err(_refused) => nested_so_deep(alloc, 100),
@@ -74,7 +74,7 @@ fn nested(alloc: Global) -> Result<Vec<u8>, AllocError> {
     }
 }
 
-/// The text of directories, each in the one before.
+/// Writes the text of directories, each in the one before.
 fn nested_so_deep(alloc: Global, depth: usize) -> Result<Vec<u8>, AllocError> {
     let mut text = Vec::from_slice(alloc, b"commit 0123456789abcdef0123456789abcdef01234567\n")?;
     let mut path = Vec::from_slice(alloc, b"dir a")?;

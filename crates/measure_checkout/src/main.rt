@@ -9,7 +9,7 @@ use std::time::Instant;
 
 const LINES: [u32; 3] = [1000, 8000, 65536];
 
-/// A manifest of this many lines: directories of 63 files each.
+/// Makes the text of a manifest of this many lines: directories of 63 files each.
 fn manifest_text(alloc: Global, lines: u32) -> Result<Vec<u8>, AllocError> {
     let mut text = Vec::new(alloc);
     text.extend_from_slice(b"commit 0123456789abcdef0123456789abcdef01234567\n")?;
@@ -25,7 +25,7 @@ fn manifest_text(alloc: Global, lines: u32) -> Result<Vec<u8>, AllocError> {
     Ok(text)
 }
 
-/// A manifest of this many lines. Says how long it took to read.
+/// Reads a manifest of this many lines. Says how long it took to read.
 fn read_manifest(rt: &HostRuntime, lines: u32) -> Result<Manifest> {
     let text = manifest_text(rt.alloc(), lines)?;
     let started = Instant::now(rt)?;
@@ -35,7 +35,7 @@ fn read_manifest(rt: &HostRuntime, lines: u32) -> Result<Manifest> {
     Ok(manifest)
 }
 
-/// The tree of a manifest. Says how long it took to make.
+/// Makes the tree of a manifest. Says how long it took to make.
 fn make_tree(rt: &HostRuntime, manifest: &Manifest) -> Result<Tree> {
     let started = Instant::now(rt)?;
     let tree = Tree::of(rt.alloc(), manifest)?;
@@ -51,7 +51,7 @@ struct Sought {
     name: Name,
 }
 
-/// The files among the first 1,000 lines of such a manifest.
+/// Lists the files among the first 1,000 lines of such a manifest.
 fn sought_files(alloc: Global) -> Result<Vec<Sought>> {
     let mut files = Vec::new(alloc);
     for i in 2..1000u64 {

@@ -24,7 +24,7 @@ const FORMS: [&str; 11] = [
     "bad-name",
 ];
 
-/// The opcode and the body of a form.
+/// Returns the opcode and the body of a form.
 fn body_of(alloc: Global, form: &str) -> Result<(u8, Vec<u8>), AllocError> {
     match form {
         "getattr" => Ok((3, Vec::from_slice(alloc, &[0; 16])?)),
@@ -37,7 +37,7 @@ fn body_of(alloc: Global, form: &str) -> Result<(u8, Vec<u8>), AllocError> {
     }
 }
 
-/// The body of a BATCH_FORGET of 256 items, which tells so many more.
+/// Writes the body of a BATCH_FORGET of 256 items, which tells so many more.
 fn batch(alloc: Global, excess: u8) -> Result<Vec<u8>, AllocError> {
     let mut body = Vec::from_slice(alloc, &[excess, 1, 0, 0, 0, 0, 0, 0])?;
     for i in 0..256u64 {
@@ -47,7 +47,7 @@ fn batch(alloc: Global, excess: u8) -> Result<Vec<u8>, AllocError> {
     Ok(body)
 }
 
-/// A message of a form, with this unique, on the root.
+/// Writes a message of a form, with this unique, on the root.
 fn message(alloc: Global, form: &str, unique: u32) -> Result<Vec<u8>, AllocError> {
     let (opcode, body) = body_of(alloc, form)?;
     let excess = if form == "bad-length" { 1 } else { 0 };
@@ -64,7 +64,7 @@ fn message(alloc: Global, form: &str, unique: u32) -> Result<Vec<u8>, AllocError
     Ok(bytes)
 }
 
-/// The messages of a form.
+/// Writes the messages of a form.
 fn messages(alloc: Global, form: &str) -> Result<Vec<Vec<u8>>> {
     let mut texts = Vec::new(alloc);
     for unique in 0..MESSAGES {
@@ -89,7 +89,7 @@ fn read_all(alloc: Global, texts: &[Vec<u8>], asks: &mut Vec<Ask>) -> Result<(),
     Ok(())
 }
 
-/// The sum of all uniques.
+/// Sums all uniques.
 fn uniques(asks: &[Ask]) -> u64 {
     let mut sum = 0u64;
     for ask in asks {

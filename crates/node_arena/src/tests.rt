@@ -38,7 +38,7 @@ fn expect_oldest<T>(rt: &impl Abort, nodes: &Nodes<T>, oldest: Option<Slot>, len
     assert_eq!(rt; nodes.len(), len);
 }
 
-/// The values, the least recently used first. Each is touched once, so the order stays.
+/// Lists the values, the least recently used first. Each is touched once, so the order stays.
 fn values_from_oldest(alloc: Global, nodes: &mut Nodes<char>) -> Result<String, Fail> {
     let mut values = String::new(alloc);
     for _ in 0..nodes.len() {
@@ -195,7 +195,7 @@ fn drops_nothing_where_no_value_is_held(rt: HostRuntime) -> Result<(), Fail> {
     Ok(())
 }
 
-/// The next number of a fixed sequence (Knuth's MMIX generator).
+/// Returns the next number of a fixed sequence (Knuth's MMIX generator).
 fn next_random(state: u64) -> u64 {
     state
         .wrapping_mul(6_364_136_223_846_793_005)

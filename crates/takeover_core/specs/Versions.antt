@@ -1,5 +1,5 @@
--- Which versions two daemons have in common. (EdenFS's new daemon sends the versions that it supports; that the greatest
--- is chosen is this project's own.)
+-- Which versions two daemons have in common. (EdenFS's new daemon sends the versions that it supports; that the
+-- greatest is chosen is this project's own.)
 use Rattle.std.specs.Prelude.{ℕ, Bool, ◌==◌, max, List, filter, Option}
 use Rattle.std.specs.List.{list_any, reduce}
 

@@ -2,48 +2,48 @@
 //! Each law is the contract of a function that does nothing, over the definitions that the contracts of `Node` cite.
 ghost use Rattle.takeover_core.specs.Laws.{ServesOnlyWhereGiven, EndedStaysEnded, ServesAgainOnlyByClaim, MakesDataOnce, TakesWhileServing, ClaimsWhileHolding, CanBeLeft, GoneForGood, ChoosesGreatestCommon};
 
-/// A daemon that has the seat at a generation mounted or claimed it at that generation.
+/// States that a daemon that has the seat at a generation mounted or claimed it at that generation.
 pub fn serves_only_where_given()
     ensures law { ServesOnlyWhereGiven }
 {}
 
-/// A session that a daemon began and that ended is never taken up again, whatever comes late.
+/// States that a session that a daemon began and that ended is never taken up again, whatever comes late.
 pub fn ended_stays_ended()
     ensures law { EndedStaysEnded }
 {}
 
-/// A daemon whose data is out serves again only once a claim succeeded.
+/// States that a daemon whose data is out serves again only once a claim succeeded.
 pub fn serves_again_only_by_claim()
     ensures law { ServesAgainOnlyByClaim }
 {}
 
-/// A daemon says the data of a session at most once.
+/// States that a daemon says the data of a session at most once.
 pub fn makes_data_once()
     ensures law { MakesDataOnce }
 {}
 
-/// A daemon takes requests in Serving and Draining alone.
+/// States that a daemon takes requests in Serving and Draining alone.
 pub fn takes_while_serving()
     ensures law { TakesWhileServing }
 {}
 
-/// A daemon wants to claim in Holding alone.
+/// States that a daemon wants to claim in Holding alone.
 pub fn claims_while_holding()
     ensures law { ClaimsWhileHolding }
 {}
 
-/// Some event but a crash leads out of each phase but Gone: out of Serving an offer, unless sessions or generations are
-/// used up.
+/// States that some event but a crash leads out of each phase but Gone: out of Serving an offer, unless sessions or
+/// generations are used up.
 pub fn can_be_left()
     ensures law { CanBeLeft }
 {}
 
-/// A daemon that is gone stays gone.
+/// States that a daemon that is gone stays gone.
 pub fn gone_for_good()
     ensures law { GoneForGood }
 {}
 
-/// A session is begun with the greatest version that both daemons have.
+/// States that a session is begun with the greatest version that both daemons have.
 pub fn chooses_greatest_common()
     ensures law { ChoosesGreatestCommon }
 {}

@@ -15,7 +15,9 @@ world_app = with_rule (new_app (codes "world")) script_rule
 
 -- the program, which has a version and that command
 abbrev pub edend_app : App
-edend_app = with_subcommand (record { top = record (new_shape (codes "edend")) { has_version = true }; subs = [] }) world_app.top
+edend_app =
+    with_subcommand
+    (record { top = record (new_shape (codes "edend")) { has_version = true }; subs = [] }) world_app.top
 
 -- standard input
 abbrev pub standard_input : Text
@@ -25,7 +27,8 @@ standard_input = codes "-"
 abbrev pub script_in : Option (Text × List Row) → Text
 script_in None = standard_input
 script_in (Some command) =
-    if bytes_eq command.0 (codes "world") then unwrap_or (first_of (codes "SCRIPT") command.1) standard_input else standard_input
+    if bytes_eq command.0 (codes "world") then unwrap_or (first_of (codes "SCRIPT") command.1) standard_input
+    else standard_input
 
 -- the script that the words name, of which the first is the program's name
 abbrev pub script_named : List Text → Text
@@ -40,5 +43,6 @@ is_option (byte ∷ next ∷ rest) = byte == 45
 -- the words as anyone would write them: the program's name alone, or with `world` and a script behind it
 abbrev pub NamesPlainly : List Text → Text → Type 0
 NamesPlainly (program ∷ []) script = script ≡ standard_input
-NamesPlainly (program ∷ command ∷ word ∷ []) script = (command ≡ codes "world") × (word ≡ script) × (is_option word ≡ false)
+NamesPlainly (program ∷ command ∷ word ∷ []) script =
+    (command ≡ codes "world") × (word ≡ script) × (is_option word ≡ false)
 NamesPlainly _ script = ⊥

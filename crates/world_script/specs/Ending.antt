@@ -77,7 +77,8 @@ abbrev pub Ends : Kinds → Option (List ℕ) → Option (List ℕ) → Option (
 -- nothing is wrong with the words, and the script was run with all of its lines written
 Ends wrong script before after Ran = (wrong ≡ []) × IfSome script (λ bytes. Runs bytes 1024 before after)
 -- the fault's line is all that was written, unless lines could not be
-Ends wrong script before after (Told fault) = IsFault wrong script fault × (comes_first fault ≡ true → Appends before after (fault_line fault))
+Ends wrong script before after (Told fault) =
+    IsFault wrong script fault × (comes_first fault ≡ true → Appends before after (fault_line fault))
 Ends wrong script before after (Untold fault) = IsFault wrong script fault
 Ends wrong script before after Shown = AskToShow wrong
 -- something is wrong with the words, and it is no wish for help or the version

@@ -18,7 +18,8 @@ lookup_in name dir = if is_none (name_fault name) then Some (Lookup (record { 0 
 -- `N NAME`
 abbrev pub lookup_of : List ℕ → Option Request
 lookup_of words =
-    option_and_then (λ (parts : List ℕ × List ℕ). option_and_then (lookup_in parts.1) (number_of parts.0)) (cut 32 words)
+    option_and_then (λ (parts : List ℕ × List ℕ). option_and_then (lookup_in parts.1) (number_of parts.0))
+    (cut 32 words)
 
 -- the forget of a number, so many times
 abbrev pub forget_both : Option ℕ → Option ℕ → Option Request

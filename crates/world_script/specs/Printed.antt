@@ -105,7 +105,8 @@ seat_lines state _ _ = no_seat
 -- what `show` prints
 abbrev pub world_lines : State → List ℕ
 world_lines state =
-    seat_lines state state.broker.seat (option_and_then (λ (seat : Seat). served_of state seat.daemon) state.broker.seat)
+    seat_lines state state.broker.seat
+    (option_and_then (λ (seat : Seat). served_of state seat.daemon) state.broker.seat)
 
 -- the line of the last thing that happened, if anything did
 abbrev pub last_line : Option Happened → List ℕ

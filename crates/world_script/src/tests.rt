@@ -51,8 +51,8 @@ impl Write for Expected<'_> {
     }
 }
 
-/// Whether the script of two parts prints just these lines, that of its fault with them. It is run again where it does
-/// not, since an allocation may have been refused; all else is the same each time.
+/// Returns whether the script of two parts prints just these lines, that of its fault with them. It is run again where
+/// it does not, since an allocation may have been refused; all else is the same each time.
 fn prints(alloc: Global, first: &[u8], second: &[u8], lines: &[u8]) -> bool {
     prints_once(alloc, first, second, lines) || prints_once(alloc, first, second, lines)
 }

@@ -13,7 +13,7 @@ const FILE: Attr = Attr {
     nlink: 1,
 };
 
-/// A broker whose daemon 1 serves at generation 1.
+/// Makes a broker whose daemon 1 serves at generation 1.
 fn served(alloc: Global) -> Result<Broker, Fail> {
     let mut broker = Broker::new(alloc)?;
     broker.try_mount(DaemonId(1))?;

@@ -15,7 +15,7 @@ fn offer(versions: &[u16]) -> Message
     Message::Offer(Versions::of(versions))
 }
 
-/// A daemon of version 1 that serves at this generation and has begun so many sessions.
+/// Makes a daemon of version 1 that serves at this generation and has begun so many sessions.
 fn serving(generation: u64, sessions: u32) -> Node {
     Node {
         phase: Phase::Serving { generation },

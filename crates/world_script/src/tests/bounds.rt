@@ -4,7 +4,7 @@ use std::alloc::{AllocError, Global};
 
 const HEAD: &[u8] = b"commit 0123456789abcdef0123456789abcdef01234567\n";
 
-/// A manifest of so many lines, the commit's with them.
+/// Makes a manifest of so many lines, the commit's with them.
 fn manifest_of(alloc: Global, lines: usize) -> Result<Vec<u8>, AllocError> {
     let mut text = Vec::from_slice(alloc, HEAD)?;
     for number in 1..lines {
@@ -22,7 +22,7 @@ fn manifest_of(alloc: Global, lines: usize) -> Result<Vec<u8>, AllocError> {
     Ok(text)
 }
 
-/// A line `--`, and so many lines that show the world.
+/// Writes a line `--`, and so many lines that show the world.
 fn shows(alloc: Global, lines: usize) -> Result<Vec<u8>, AllocError> {
     let mut text = Vec::from_slice(alloc, b"--\n".as_slice())?;
     for _ in 0..lines {
@@ -31,7 +31,7 @@ fn shows(alloc: Global, lines: usize) -> Result<Vec<u8>, AllocError> {
     Ok(text)
 }
 
-/// What so many of these lines print.
+/// Writes what so many of these lines print.
 fn no_seats(alloc: Global, lines: usize) -> Result<Vec<u8>, AllocError> {
     let mut text = Vec::new(alloc);
     for _ in 0..lines {

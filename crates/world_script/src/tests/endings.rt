@@ -145,7 +145,7 @@ fn is_text(text: &[u8], want: &[u8]) -> bool {
     }
 }
 
-/// Each is run again where an allocation may have been refused.
+/// Runs each again where an allocation may have been refused.
 #[test]
 fn ends_as_the_words_ask(rt: HostRuntime) {
     let mut place = 0u32;

@@ -62,7 +62,7 @@ const ENDS: [(AfterText, Result<(), Fault>, usize); 4] = [
     (AfterText::IsInterrupted, Err(Fault::CannotRead), 2_097_152),
 ];
 
-/// Whether this comes of a reader that goes on so, after so many reads, with nothing written.
+/// Returns whether this comes of a reader that goes on so, after so many reads, with nothing written.
 fn reads_so(alloc: Global, after: AfterText, want: Result<(), Fault>, reads: usize) -> bool {
     let mut reader = Stutter {
         rest: MANIFEST,
@@ -74,7 +74,7 @@ fn reads_so(alloc: Global, after: AfterText, want: Result<(), Fault>, reads: usi
     ran == want && reader.reads == reads && out.writes == 0
 }
 
-/// Each is read again where an allocation may have been refused.
+/// Reads each again where an allocation may have been refused.
 #[test]
 fn reads_to_the_end_and_no_further(rt: HostRuntime) {
     for (after, want, reads) in ENDS {
@@ -111,7 +111,7 @@ impl Write for Full {
 const THREE_LINES: &[u8] =
     b"commit 0123456789abcdef0123456789abcdef01234567\n--\nstart\nmount 1\nshow\n";
 
-/// Whether this comes of a writer that takes so many bytes, after so many writes.
+/// Returns whether this comes of a writer that takes so many bytes, after so many writes.
 fn writes_so(alloc: Global, room: usize, want: Result<(), Fault>, writes: u32) -> bool {
     let mut reader = THREE_LINES;
     let Ok(mut out) = BufWriter::new(alloc, Full { room, writes: 0 }) else {
@@ -121,7 +121,7 @@ fn writes_so(alloc: Global, room: usize, want: Result<(), Fault>, writes: u32) -
     ran == want && out.get_ref().writes == writes
 }
 
-/// Each is written again where an allocation may have been refused.
+/// Writes each again where an allocation may have been refused.
 #[test]
 fn writes_all_lines_at_once_or_tells_that_it_cannot(rt: HostRuntime) {
     for (room, want, writes) in [
