@@ -11,7 +11,7 @@ use crate::links::Links;
 use crate::made::{MadeFile, MadeFiles};
 use crate::tally::Tally;
 use crate::{Content, CreateFault, Manifest};
-use eden_base::{Attr, FileId, Kind, Name, NoMemory, Perm};
+use eden_base::{Attr, END_OF_FILES, FileId, Kind, Name, NoMemory, Perm};
 use std::alloc::Global;
 use std::marker::Model;
 
@@ -48,9 +48,6 @@ impl Model for Tree {
 }
 
 impl Tree {
-    /// The file id after the last that may be given.
-    const END_OF_FILES: u64 = 9223372036854775807;
-
     /// Makes the tree that the manifest says, before any request.
     pub fn of(alloc: Global, manifest: &Manifest) -> Result<Tree, NoMemory>
         ensures tree { IfOk result (λ tree. tree ≡ tree_of manifest.now) }
@@ -210,7 +207,7 @@ impl Tree {
         ensures unchanged { OnErr result (self.new ≡ self.old) }
         ensures is_tree { IsTree self.new }
     {
-        if self.next_file >= Tree::END_OF_FILES {
+        if self.next_file >= END_OF_FILES {
             return Err(CreateFault::NoFileId);
         }
         let file = FileId(self.next_file);

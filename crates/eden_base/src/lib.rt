@@ -15,7 +15,9 @@ mod text;
 pub use attr::{Attr, Kind, Perm};
 pub use claim::ClaimFault;
 pub use errno::Errno;
-pub use limits::{END_OF_NUMBERS, GREATEST_COUNT, GREATEST_SIZE, LAST_GENERATION, LAST_SESSION};
+pub use limits::{
+    END_OF_FILES, END_OF_NUMBERS, GREATEST_COUNT, GREATEST_SIZE, LAST_GENERATION, LAST_SESSION,
+};
 pub use memory::NoMemory;
 pub use name::{Name, NameFault};
 pub use name_room::NameRoom;

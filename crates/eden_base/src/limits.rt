@@ -6,6 +6,9 @@ pub const GREATEST_COUNT: u64 = (1 << 32) - 1;
 /// The number after the last that may be given.
 pub const END_OF_NUMBERS: u64 = (1 << 63) - 1;
 
+/// The file id after the last that may be given: `i64::MAX`.
+pub const END_OF_FILES: u64 = (1 << 63) - 1;
+
 /// How many bytes a file may have: an offset in it is a number of 64 bits with a sign.
 pub const GREATEST_SIZE: u64 = (1 << 63) - 1;
 
