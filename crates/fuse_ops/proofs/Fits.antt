@@ -79,7 +79,7 @@ entry-no_root tree next es is fits n file other (is_root _ _ one same) r = other
 entry-no_root tree next es is fits n file other (is_child _ _ kept dir name above not e l up c) r = let low : 1 < file.0 = is.root_has_no_link above name file c in omega arith
 entry-no_root tree next es is fits n file other (is_marked _ _ kept not e l) r = unlinked_is_no_root tree file (marked-unlinked tree next es fits n kept file e l (is_marked n file kept not e l)) r
 
-root-named : (tree : Tree) (es : List Kept) (n : ℕ) (file : FileId) → n ≡ 1 → IsFileOf tree es n file → file.0 ≡ 1
+pub root-named : (tree : Tree) (es : List Kept) (n : ℕ) (file : FileId) → n ≡ 1 → IsFileOf tree es n file → file.0 ≡ 1
 root-named tree es n file one at = ap (λ (f : FileId). f.0) (IsFileOf-same tree es n file root at (is_root n root one refl))
 
 -- Numbers that name one file are one number.

@@ -30,12 +30,12 @@ counted_enough es n k h = in_ (k == 0) (nat_lt (count_of es n) k) refl refl h wh
   in_ false false e f h' = (let some : k ≡ 0 → ⊥ = false-ne k 0 e in omega arith, grind (arith, nat_tests))
 
 -- what each number that leaves keeps, of the entries that were counted less
-record IsLeft (tree : Tree) (next : ℕ) (old new : List Kept) : Type 0 where
-  fits : Fits tree next new
-  counts : (m : ℕ) → count_of new m ≡ count_of old m
-  names : (m : ℕ) (file : FileId) → IsFileOf tree new m file → IsFileOf tree old m file
+pub record IsLeft (tree : Tree) (next : ℕ) (old new : List Kept) : Type 0 where
+  pub fits : Fits tree next new
+  pub counts : (m : ℕ) → count_of new m ≡ count_of old m
+  pub names : (m : ℕ) (file : FileId) → IsFileOf tree new m file → IsFileOf tree old m file
 
-one-left : (tree : Tree) (next : ℕ) (old es : List Kept) (n : ℕ) → is_useless es n ≡ true → IsLeft tree next old es → IsLeft tree next old (without_where (has_number n) es)
+pub one-left : (tree : Tree) (next : ℕ) (old es : List Kept) (n : ℕ) → is_useless es n ≡ true → IsLeft tree next old es → IsLeft tree next old (without_where (has_number n) es)
 one-left tree next old es n useless l = record {
   fits = fits-left tree next es n l.fits useless;
   counts = λ m. left-count tree next es n l.fits useless m ∙ l.counts m;

@@ -1,10 +1,8 @@
 -- What a daemon knows stays sound whatever it is asked.
-use Rattle.std.proofs.Common.{◌≡◌, ℕ, Bool, true, false, List, Option, Some, None, Result, Ok, Err, OnOk, OnErr, refl, sym, ap, subst, inl, inr, ◌⊎◌}
+use Rattle.std.proofs.Common.{◌≡◌, ℕ, Bool, true, false, List, Option, Some, None, Result, Ok, Err, OnOk, OnErr, refl, sym, ap, ◌∙◌, subst, inl, inr, ◌⊎◌}
 use Rattle.std.specs.Option.{option_map_or}
-use Rattle.eden_base.specs.declared.attr.Attr.{Attr}
 use Rattle.eden_base.specs.declared.attr.Kind.{Kind}
 use Rattle.eden_base.specs.declared.attr.Kind.TheVariants.{Dir, File}
-use Rattle.eden_base.specs.declared.errno.Errno.{Errno}
 use Rattle.eden_base.specs.declared.errno.Errno.TheVariants.{ENOENT}
 use Rattle.eden_base.specs.declared.number.FileId.{FileId}
 use Rattle.eden_base.specs.declared.number.Number.{Number}
@@ -16,7 +14,8 @@ use Rattle.fuse_ops.specs.Answers.{found_in, found_in_dir}
 use Rattle.fuse_ops.specs.Gifts.{served_over}
 use Rattle.fuse_ops.specs.Served.{ServedState, IsLocated}
 use Rattle.fuse_ops.specs.Soundness.{IsSound}
-use Rattle.fuse_ops.specs.Work.{Finds, IsFoundAs}
+use Rattle.fuse_ops.specs.Work.{Finds}
+use Rattle.fuse_ops.specs.declared.served.Found.{Found}
 use Rattle.fuse_ops.proofs.ForgettingLaw.{forgets-well, bad-keeps}
 use Rattle.fuse_ops.proofs.GivingLaw.{gives-well}
 
@@ -44,21 +43,20 @@ forgotten-sound served n k is sound = by_root (eq-or n 1) where
   by_root (inr other) = by_bad other (is_bad_item served.map.entries n k) refl
 
 -- after the number of a file that was found was given
-given-sound : (served : ServedState) (dir : Number) (name : List ℕ) (attr : Attr) → IsTree served.tree → IsSound served → Finds served dir.0 name (Ok attr) →
+given-sound : (served : ServedState) (dir : Number) (name : List ℕ) (told : Found) → IsTree served.tree → IsSound served → Finds served dir.0 name (Ok told) →
     give_fault served.map dir.0 name ≡ None → IsSound (served_over served.tree (given served.map dir name))
-given-sound served dir name attr is sound finds clear = by_file finds.dir_file finds.located (found_in served.tree finds.dir_file name) refl finds.found where
-  by_file : (above : Option FileId) → IsLocated served dir.0 above → (found : Result FileId Errno) → found_in served.tree above name ≡ found → IsFoundAs served found (Ok attr) →
-      IsSound (served_over served.tree (given served.map dir name))
-  by_file above at (Err errno) e told = absurd told
-  by_file None at (Ok file) e told = absurd (let none : ⊥ = cc in none)
-  by_file (Some above) at (Ok file) e told =
-      (gives-well served dir name above file (record { is_tree = is; sound = sound; at = at; child = found-child served.tree above file name e }) clear).sound
+given-sound served dir name told is sound finds clear = (gives-well served dir name told.dir told.file (record {
+  is_tree = is;
+  sound = sound;
+  at = subst (IsLocated served dir.0) finds.found.0 finds.located;
+  child = found-child served.tree told.dir told.file name (ap (λ (o : Option FileId). found_in served.tree o name) (sym finds.found.0) ∙ finds.found.1);
+}) clear).sound
 
 -- after a gift, made or refused
-pub gift-sound : (served : ServedState) (new : MapState) (dir : Number) (name : List ℕ) (attr : Attr) (told : Result Number GiveFault) → IsTree served.tree → IsSound served →
-    Finds served dir.0 name (Ok attr) → OnOk told (new ≡ given served.map dir name) → OnOk told (give_fault served.map dir.0 name ≡ None) → OnErr told (new ≡ served.map) →
+pub gift-sound : (served : ServedState) (new : MapState) (dir : Number) (name : List ℕ) (found : Found) (told : Result Number GiveFault) → IsTree served.tree → IsSound served →
+    Finds served dir.0 name (Ok found) → OnOk told (new ≡ given served.map dir name) → OnOk told (give_fault served.map dir.0 name ≡ None) → OnErr told (new ≡ served.map) →
     IsSound (served_over served.tree new)
-gift-sound served new dir name attr (Ok number) is sound finds made clear kept =
-    subst (λ (m : MapState). IsSound (served_over served.tree m)) (sym made) (given-sound served dir name attr is sound finds clear)
-gift-sound served new dir name attr (Err fault) is sound finds made clear kept =
+gift-sound served new dir name found (Ok number) is sound finds made clear kept =
+    subst (λ (m : MapState). IsSound (served_over served.tree m)) (sym made) (given-sound served dir name found is sound finds clear)
+gift-sound served new dir name found (Err fault) is sound finds made clear kept =
     subst (λ (m : MapState). IsSound (served_over served.tree m)) (sym kept) sound

@@ -2,9 +2,15 @@ pub mod Fits
 pub mod FitsAdded
 pub mod FitsChanged
 pub mod FitsLeft
+pub mod FitsOver
 pub mod ForgettingLaw
 pub mod GivingLaw
 pub mod Keeping
 pub mod Known
+pub mod Making
+pub mod MakingLaw
 pub mod PlaceNumbers
 pub mod Replays
+pub mod Shapes
+pub mod Taking
+pub mod UnnamingLaw

@@ -1,79 +1,183 @@
 -- What `apply` does is a step of the replay.
-use Rattle.std.proofs.Common.{◌≡◌, ℕ, ◌<◌, List, Option, Some, None, Result, Ok, Err, refl, sym, ap, ◌∙◌, inl, inr, arith}
+use Rattle.std.proofs.Common.{◌≡◌, ℕ, ◌<◌, true, false, List, Option, Some, None, Result, Ok, Err, refl, sym, ap, ◌∙◌, subst, inl, inr, arith}
+use Rattle.std.specs.List.{AllByRecursion}
+use Rattle.eden_base.specs.declared.attr.Attr.{Attr}
+use Rattle.eden_base.specs.declared.attr.Kind.{Kind}
+use Rattle.eden_base.specs.declared.attr.Kind.TheVariants.{Dir, File}
+use Rattle.eden_base.specs.declared.attr.Perm.{Perm}
 use Rattle.eden_base.specs.declared.errno.Errno.{Errno}
-use Rattle.eden_base.specs.declared.errno.Errno.TheVariants.{ENOSYS}
+use Rattle.eden_base.specs.declared.errno.Errno.TheVariants.{ENOSYS, ESTALE}
 use Rattle.eden_base.specs.declared.number.FileId.{FileId}
 use Rattle.eden_base.specs.declared.number.Number.{Number}
-use Rattle.fuse_wire.specs.Given.{given_out}
+use Rattle.checkout.specs.Tree.{Tree, IsTree, attr_of, is_full_dir, removed, created, next_file}
 use Rattle.fuse_wire.specs.declared.ask.Request.{Request}
-use Rattle.fuse_wire.specs.declared.ask.Request.TheVariants.{Lookup, Getattr, Forget, BatchForget}
-use Rattle.fuse_wire.specs.declared.item.Item.{Item}
+use Rattle.fuse_wire.specs.declared.ask.Request.TheVariants.{Lookup, Getattr, Create, Mkdir, Unlink, Rmdir, Other}
 use Rattle.fuse_wire.specs.declared.reply.Answer.{Answer}
 use Rattle.fuse_wire.specs.declared.reply.Answer.TheVariants.{Entry, Opened, Attrs, Done, Error}
-use Rattle.inode_map.specs.InodeMap.{IsGiveRefusal}
+use Rattle.inode_map.specs.InodeMap.{IsGiveRefusal, give_fault, given, number_given}
 use Rattle.inode_map.specs.declared.inode_map.GiveFault.{GiveFault}
 use Rattle.inode_map.specs.declared.inode_map.GiveFault.TheVariants.{NoNumber, TooMany, NoMemory}
-use Rattle.fuse_ops.specs.Answers.{none_left, at_greatest, found_in, enters, Answers, tree_after}
-use Rattle.fuse_ops.specs.Served.{ServedState, IsLocated, numbers_at, number_fault, map_after, Replay}
-use Rattle.fuse_ops.specs.Work.{errno_of, GivesEntry, GivesFound, LooksUp, Shows, ShowsFile}
+use Rattle.fuse_ops.specs.Answers.{none_left, at_greatest, Effect, comes_to, found_in, free_in, enters, makes, takes, takes_from, unless, against_unlink, against_rmdir, telling, Answers, AnswersFile}
+use Rattle.checkout.proofs.CreateLaws.{created-IsTree}
+use Rattle.checkout.proofs.RemoveLaws.{removed-IsTree}
+use Rattle.fuse_ops.proofs.Keeping.{found-child}
+use Rattle.fuse_ops.proofs.Making.{free-place}
+use Rattle.fuse_ops.specs.Served.{ServedState, PlainState, plain, IsLocated, numbers_at, number_fault, place_told, served_after, Replay}
+use Rattle.fuse_ops.specs.Work.{errno_of, GivesEntry, GivesFound, LooksUp, Shows, ShowsFile, IsSamePlainly, MakesIn, Makes, TakesName, Takes}
+use Rattle.fuse_ops.proofs.Shapes.{GoesTo, TellsEntry, TakesPlace, lookup-goes, create-goes, mkdir-goes, unlink-goes, rmdir-goes, entered, lookup-tells, create-tells, mkdir-tells, unlink-takes, rmdir-takes, unlink-frees, rmdir-frees, unless-found, error-after, entry-after, done-after, given-bad_items, taken-bad_items}
 
--- the state after an answer to a lookup that came to this
-abbrev after_lookup : ServedState → Number → List ℕ → Result FileId Errno → Answer → ServedState
-after_lookup old dir name found answer = record {
-  map = map_after old.map (Some (dir, name)) (given_out answer);
-  tree = tree_after old.tree (enters old.tree found) answer;
+-- an answer that the table has for what a request comes to, and what it makes
+record Legally (old : ServedState) (request : Request) (result : Result Effect Errno) (answer : Answer) (new : ServedState) : Type 0 where
+  answers : Answers (numbers_at old.map (place_told request)) request result answer
+  makes : plain new ≡ plain (served_after old request result answer)
+  bad_items : new.map.bad_items ≡ old.map.bad_items
+  keeps_tree : IsTree old.tree → IsTree new.tree
+
+-- the whole of it, where a request goes to a directory
+replays : (old : ServedState) (request : Request) (dir : Number) (comes : Tree → Option FileId → Result Effect Errno) (above : Option FileId) (answer : Answer) (new : ServedState) →
+    GoesTo request dir comes → IsLocated old dir.0 above → Legally old request (comes old.tree above) answer new → Replay old request (Some answer) new
+replays old request dir comes above answer new goes at l =
+    let came : comes_to old.tree (λ n. above) request ≡ comes old.tree above = goes.comes old.tree (λ n. above) in (
+      goes.ask,
+      record {
+        files = λ n. above;
+        locates = subst (λ (nodes : List Number). AllByRecursion (λ (node : Number). IsLocated old node.0 above) nodes) (sym goes.looks) (at, tt);
+        answers = subst (λ (r : Result Effect Errno). Answers (numbers_at old.map (place_told request)) request r answer) (sym came) l.answers;
+        makes = l.makes ∙ ap (λ (r : Result Effect Errno). plain (served_after old request r answer)) (sym came);
+        bad_items = l.bad_items;
+        keeps_tree = l.keeps_tree;
+      },
+    )
+
+-- the tree is another's
+tree-same : (old new : ServedState) → plain new ≡ plain old → IsTree old.tree → IsTree new.tree
+tree-same old new e is = subst (λ (p : PlainState). IsTree p.tree) (sym e) is
+
+-- an error is told as it is, and changes nothing
+error-legally : (old : ServedState) (request : Request) (errno : Errno) (new : ServedState) → IsSamePlainly old new → Legally old request (Err errno) (Error errno) new
+error-legally old request errno new same = record {
+  answers = refl;
+  makes = same.plainly ∙ sym (ap plain (error-after old request (Err errno) errno));
+  bad_items = same.bad_items;
+  keeps_tree = tree-same old new same.plainly;
 }
 
--- what a lookup answers by the table, and makes
-record Answered (old : ServedState) (dir : Number) (name : List ℕ) (found : Result FileId Errno) (answer : Answer) (new : ServedState) : Type 0 where
-  answers : Answers (numbers_at old.map (Some (dir, name))) (Lookup dir name) (enters old.tree found) answer
-  makes : new ≡ after_lookup old dir name found answer
+-- ---- an entry
 
--- an error leaves what there was
-kept : (old : ServedState) (dir : Number) (name : List ℕ) (found : Result FileId Errno) (answer : Answer) (errno : Errno) (new : ServedState) → answer ≡ Error errno → new ≡ old →
-    new ≡ after_lookup old dir name found answer
-kept old dir name found answer errno new e same = same ∙ ap (λ (a : Answer). after_lookup old dir name found a) (sym e)
-
-refused_in : (old : ServedState) (dir : Number) (name : List ℕ) (file : FileId) (errno : Errno) (fault : GiveFault) → IsGiveRefusal old.map dir.0 name fault → errno ≡ errno_of fault →
-    Answers (numbers_at old.map (Some (dir, name))) (Lookup dir name) (enters old.tree (Ok file)) (Error errno)
-refused_in old dir name file errno NoNumber refusal e = (Some none_left, sym (ap number_fault refusal), ap Error e)
-refused_in old dir name file errno TooMany refusal e = (Some at_greatest, sym (ap number_fault refusal), ap Error e)
-refused_in old dir name file errno NoMemory refusal e = (None, sym (ap number_fault refusal.1), inr (inr (ap Error e, refusal.0)))
-
-gives_in : (old : ServedState) (dir : Number) (name : List ℕ) (file : FileId) (answer : Answer) (new : ServedState) → GivesEntry old dir name file answer new → Answered old dir name (Ok file) answer new
-gives_in old dir name file (Entry number attr) new (clear, is, attr_is, makes) = record {
-  answers = (None, sym (ap number_fault clear), inl (record { number = number; attr = attr; is = refl; is_number = ap (λ (n : Number). n.0) is; is_attr = attr_is }));
-  makes = makes;
+entry-legally : (old : ServedState) (request : Request) (dir : Number) (name : List ℕ) (tree : Tree) (file : FileId) (number : Number) (attr : Attr) (new : ServedState) → TellsEntry request dir name →
+    give_fault old.map dir.0 name ≡ None → number ≡ number_given old.map dir.0 name → attr_of tree file ≡ Some attr → (IsTree old.tree → IsTree tree) → IsSamePlainly (record { map = given old.map dir name; tree = tree }) new →
+    Legally old request (Ok (entered tree file)) (telling request number attr) new
+entry-legally old request dir name tree file number attr new tells clear is is_attr stays same = record {
+  answers = subst (λ (p : Option (Number × List ℕ)). AnswersFile (numbers_at old.map p) request tree (Some file) true (telling request number attr)) (sym tells.told)
+      (None, sym (ap number_fault clear), inl (record { number = number; attr = attr; is = refl; is_number = ap (λ (n : Number). n.0) is; is_attr = is_attr }));
+  makes = same.plainly ∙ sym (ap plain (entry-after old request dir name (entered tree file) (telling request number attr) number tells (tells.gives number attr)));
+  bad_items = same.bad_items ∙ given-bad_items old.map dir name;
+  keeps_tree = λ was. tree-same (record { map = given old.map dir name; tree = tree }) new same.plainly (stays was);
 }
-gives_in old dir name file (Error errno) new ((fault, refusal, e), same) = record { answers = refused_in old dir name file errno fault refusal e; makes = same }
+
+refused_in : (old : ServedState) (request : Request) (dir : Number) (name : List ℕ) (tree : Tree) (file : FileId) (errno : Errno) (fault : GiveFault) → IsGiveRefusal old.map dir.0 name fault → errno ≡ errno_of fault →
+    AnswersFile (numbers_at old.map (Some (dir, name))) request tree (Some file) true (Error errno)
+refused_in old request dir name tree file errno NoNumber refusal e = (Some none_left, sym (ap number_fault refusal), ap Error e)
+refused_in old request dir name tree file errno TooMany refusal e = (Some at_greatest, sym (ap number_fault refusal), ap Error e)
+refused_in old request dir name tree file errno NoMemory refusal e = (None, sym (ap number_fault refusal.1), inr (inr (ap Error e, refusal.0)))
+
+refused-legally : (old : ServedState) (request : Request) (dir : Number) (name : List ℕ) (tree : Tree) (file : FileId) (errno : Errno) (fault : GiveFault) (new : ServedState) → TellsEntry request dir name →
+    IsGiveRefusal old.map dir.0 name fault → errno ≡ errno_of fault → IsSamePlainly old new → Legally old request (Ok (entered tree file)) (Error errno) new
+refused-legally old request dir name tree file errno fault new tells refusal e same = record {
+  answers = subst (λ (p : Option (Number × List ℕ)). AnswersFile (numbers_at old.map p) request tree (Some file) true (Error errno)) (sym tells.told) (refused_in old request dir name tree file errno fault refusal e);
+  makes = same.plainly ∙ sym (ap plain (error-after old request (Ok (entered tree file)) errno));
+  bad_items = same.bad_items;
+  keeps_tree = tree-same old new same.plainly;
+}
+
+-- ---- a lookup
+
+same_of : (old new : ServedState) → new ≡ old → IsSamePlainly old new
+same_of old new e = record { plainly = ap plain e; bad_items = ap (λ (s : ServedState). s.map.bad_items) e }
+
+gives_in : (old : ServedState) (dir : Number) (name : List ℕ) (file : FileId) (answer : Answer) (new : ServedState) → GivesEntry old dir name file answer new → Legally old (Lookup dir name) (enters old.tree (Ok file)) answer new
+gives_in old dir name file (Entry number attr) new (clear, is, attr_is, makes) =
+    entry-legally old (Lookup dir name) dir name old.tree file number attr new (lookup-tells dir name) clear is attr_is (λ was. was) (same_of (record old { map = given old.map dir name }) new makes)
+gives_in old dir name file (Error errno) new ((fault, refusal, e), same) = refused-legally old (Lookup dir name) dir name old.tree file errno fault new (lookup-tells dir name) refusal e (same_of old new same)
 gives_in old dir name file (Opened number attr) new h = absurd h
 gives_in old dir name file (Attrs number attr) new h = absurd h
 gives_in old dir name file Done new h = absurd h
 
-found_in' : (old : ServedState) (dir : Number) (name : List ℕ) (found : Result FileId Errno) (answer : Answer) (new : ServedState) → GivesFound old dir name found answer new → Answered old dir name found answer new
-found_in' old dir name (Ok file) answer new h = gives_in old dir name file answer new h
-found_in' old dir name (Err errno) answer new (e, same) = record { answers = e; makes = kept old dir name (Err errno) answer errno new e same }
+gives_found : (old : ServedState) (dir : Number) (name : List ℕ) (found : Result FileId Errno) (answer : Answer) (new : ServedState) → GivesFound old dir name found answer new → Legally old (Lookup dir name) (enters old.tree found) answer new
+gives_found old dir name (Ok file) answer new h = gives_in old dir name file answer new h
+gives_found old dir name (Err errno) answer new (e, same) = subst (λ (a : Answer). Legally old (Lookup dir name) (Err errno) a new) (sym e) (error-legally old (Lookup dir name) errno new (same_of old new same))
 
 -- a lookup is a legal step
 pub lookup-replay : (old : ServedState) (dir : Number) (name : List ℕ) (answer : Answer) (new : ServedState) → LooksUp old dir name answer new → Replay old (Lookup dir name) (Some answer) new
 lookup-replay old dir name answer new l =
-    let a = found_in' old dir name (found_in old.tree l.dir_file name) answer new l.gives in
-    (refl, record { files = λ n. l.dir_file; locates = (l.located, tt); answers = a.answers; makes = a.makes })
+    replays old (Lookup dir name) dir (λ tree above. enters tree (found_in tree above name)) l.dir_file answer new (lookup-goes dir name) l.located (gives_found old dir name (found_in old.tree l.dir_file name) answer new l.gives)
 
--- a request that no row serves yet is answered so, and changes nothing
-pub unserved-replay : (old : ServedState) (request : Request) → ((dir : Number) (name : List ℕ) → request ≡ Lookup dir name → ⊥) → ((node : Number) → request ≡ Getattr node → ⊥) →
-    ((item : Item) → request ≡ Forget item → ⊥) → ((items : List Item) → request ≡ BatchForget items → ⊥) → Replay old request (Some (Error ENOSYS)) old
-unserved-replay old (Lookup dir name) a g b d = absurd (a dir name refl)
-unserved-replay old (Getattr node) a g b d = absurd (g node refl)
-unserved-replay old (Forget item) a g b d = absurd (b item refl)
-unserved-replay old (BatchForget items) a g b d = absurd (d items refl)
-unserved-replay old request a g b d = (refl, record { files = λ n. None; locates = tt; answers = refl; makes = refl })
+-- ---- a file that is made
+
+-- the answer with what was told of the file
+abbrev pub made_answer : Request → Result (Number × Attr) Errno → Answer
+made_answer request (Ok (number, attr)) = telling request number attr
+made_answer request (Err errno) = Error errno
+
+makes_in : (old : ServedState) (request : Request) (dir : Number) (name : List ℕ) (kind : Kind) (perm : Perm) (free : Result FileId Errno) (told : Result (Number × Attr) Errno) (new : ServedState) → TellsEntry request dir name →
+    (o : Option FileId) × (free_in old.tree o name ≡ free) → MakesIn old dir name kind perm free told new → Legally old request (makes old.tree name kind perm free) (made_answer request told) new
+makes_in old request dir name kind perm (Err errno) told new tells free (e, same) = subst (λ (t : Result (Number × Attr) Errno). Legally old request (Err errno) (made_answer request t) new) (sym e) (error-legally old request errno new same)
+makes_in old request dir name kind perm (Ok above) (Ok (number, attr)) new tells free (clear, is, attr_is, is_name, same) =
+    let place = (free-place old.tree (free.0) name above free.1).1 in
+    entry-legally old request dir name (created old.tree above name kind perm) (next_file old.tree) number attr new tells clear is attr_is
+    (λ was. created-IsTree old.tree above name kind perm was place.is_dir place.reached place.free is_name place.fits) same
+makes_in old request dir name kind perm (Ok above) (Err errno) new tells free ((fault, refusal, e), same) =
+    refused-legally old request dir name (created old.tree above name kind perm) (next_file old.tree) errno fault new tells refusal e same
+
+pub create-replay : (old : ServedState) (dir : Number) (name : List ℕ) (perm : Perm) (told : Result (Number × Attr) Errno) (new : ServedState) → Makes old dir name File perm told new →
+    Replay old (Create dir name perm) (Some (made_answer (Create dir name perm) told)) new
+create-replay old dir name perm told new m =
+    replays old (Create dir name perm) dir _ m.dir_file _ new (create-goes dir name perm) m.located (makes_in old (Create dir name perm) dir name _ perm (free_in old.tree m.dir_file name) told new (create-tells dir name perm) (m.dir_file, refl) m.makes)
+
+pub mkdir-replay : (old : ServedState) (dir : Number) (name : List ℕ) (perm : Perm) (told : Result (Number × Attr) Errno) (new : ServedState) → Makes old dir name Dir perm told new →
+    Replay old (Mkdir dir name perm) (Some (made_answer (Mkdir dir name perm) told)) new
+mkdir-replay old dir name perm told new m =
+    replays old (Mkdir dir name perm) dir _ m.dir_file _ new (mkdir-goes dir name perm) m.located (makes_in old (Mkdir dir name perm) dir name _ perm (free_in old.tree m.dir_file name) told new (mkdir-tells dir name perm) (m.dir_file, refl) m.makes)
+
+-- ---- a name that is taken away
+
+takes_in : (old : ServedState) (request : Request) (dir : Number) (name : List ℕ) (against : FileId → Option Errno) (above : Option FileId) (answer : Answer) (new : ServedState) → TakesPlace request dir name → ((file : FileId) → against file ≡ None → is_full_dir old.tree file ≡ false) →
+    TakesName old dir above name (unless against (found_in old.tree above name)) answer new → Legally old request (takes_from old.tree against above name) answer new
+takes_in old request dir name against None answer new place frees (e, same) = subst (λ (a : Answer). Legally old request (Err ESTALE) a new) (sym e) (error-legally old request ESTALE new (same_of old new same))
+takes_in old request dir name against (Some above) answer new place frees h = in_ (unless against (found_in old.tree (Some above) name)) refl h where
+  found : Result FileId Errno
+  found = found_in old.tree (Some above) name
+
+  in_ : (r : Result FileId Errno) → unless against (found_in old.tree (Some above) name) ≡ r → TakesName old dir (Some above) name r answer new → Legally old request (takes old.tree above name r) answer new
+  in_ (Err errno) r (e, same) = subst (λ (a : Answer). Legally old request (Err errno) a new) (sym e) (error-legally old request errno new (same_of old new same))
+  in_ (Ok file) r (e, made) = subst (λ (a : Answer). Legally old request (Ok effect) a new) (sym e) (record {
+    answers = refl;
+    makes = ap plain (made ∙ sym (done-after old request dir name effect file place refl));
+    bad_items = ap (λ (s : ServedState). s.map.bad_items) made ∙ taken-bad_items old.map dir name file;
+    keeps_tree = λ was. subst (λ (s : ServedState). IsTree s.tree) (sym made) (removed-IsTree old.tree above name file was (found-child old.tree above file name (unless-found against found file r).0) (frees file (unless-found against found file r).1));
+  }) where
+    effect : Effect
+    effect = record { tree = removed old.tree above name; file = None; counts = false; unnamed = Some file }
+
+pub unlink-replay : (old : ServedState) (dir : Number) (name : List ℕ) (answer : Answer) (new : ServedState) → Takes old dir name (against_unlink old.tree) answer new → Replay old (Unlink dir name) (Some answer) new
+unlink-replay old dir name answer new t =
+    replays old (Unlink dir name) dir (λ tree above. takes_from tree (against_unlink tree) above name) t.dir_file answer new (unlink-goes dir name) t.located (takes_in old (Unlink dir name) dir name (against_unlink old.tree) t.dir_file answer new (unlink-takes dir name) (unlink-frees old.tree) t.takes)
+
+pub rmdir-replay : (old : ServedState) (dir : Number) (name : List ℕ) (answer : Answer) (new : ServedState) → Takes old dir name (against_rmdir old.tree) answer new → Replay old (Rmdir dir name) (Some answer) new
+rmdir-replay old dir name answer new t =
+    replays old (Rmdir dir name) dir (λ tree above. takes_from tree (against_rmdir tree) above name) t.dir_file answer new (rmdir-goes dir name) t.located (takes_in old (Rmdir dir name) dir name (against_rmdir old.tree) t.dir_file answer new (rmdir-takes dir name) (rmdir-frees old.tree) t.takes)
+
+-- ---- the others
+
+-- a request that is served by none is answered so, and changes nothing
+pub other-replay : (old : ServedState) (opcode : ℕ) (node : Number) → Replay old (Other opcode node) (Some (Error ENOSYS)) old
+other-replay old opcode node = (refl, record { files = λ n. None; locates = tt; answers = refl; makes = refl; bad_items = refl; keeps_tree = λ was. was })
 
 -- a GETATTR is a legal step, which leaves what there was
 pub getattr-replay : (old : ServedState) (node : Number) (answer : Answer) → Shows old node answer → Replay old (Getattr node) (Some answer) old
 getattr-replay old node answer s = by_file s.file s.located s.shows where
   by_file : (file : Option FileId) → IsLocated old node.0 file → ShowsFile old node file answer → Replay old (Getattr node) (Some answer) old
-  by_file None at e = rw e (refl, record { files = λ n. None; locates = (at, tt); answers = refl; makes = refl })
+  by_file None at e = rw e (refl, record { files = λ n. None; locates = (at, tt); answers = refl; makes = refl; bad_items = refl; keeps_tree = λ was. was })
   by_file (Some file) at (attr, is_attr, e) = rw e (
     refl,
     record {
@@ -81,5 +185,7 @@ getattr-replay old node answer s = by_file s.file s.located s.shows where
       locates = (at, tt);
       answers = inl (record { number = node; attr = attr; is = refl; is_number = (0, (let low : 0 < 1 = omega arith in low), refl); is_attr = is_attr });
       makes = refl;
+      bad_items = refl;
+      keeps_tree = λ was. was;
     },
   )

@@ -1,29 +1,33 @@
 -- What each request is answered, as a table: first what it comes to in the tree, then what stands against a number,
 -- then what may fail. The world's moves and what `apply` promises read the same rows. The requests are those of
 -- `linux/fuse.h`; which errors there are, and in which order they are told, is this project's own.
-use Rattle.std.specs.Prelude.{◌≡◌, ℕ, ◌⊎◌, Bool, true, false, List, [], ◌∷◌, Contains, Option, Some, None, Result, Ok, Err}
+use Rattle.std.specs.Prelude.{◌≡◌, ℕ, ◌⊎◌, Bool, true, false, nat_le, List, [], ◌∷◌, Contains, Option, Some, None, is_some, Result, Ok, Err, if◌then◌else◌}
 use Rattle.std.specs.Option.{option_map_or}
+use Rattle.eden_base.specs.Limits.{end_of_files}
 use Rattle.eden_base.specs.declared.attr.Attr.{Attr}
 use Rattle.eden_base.specs.declared.attr.Kind.{Kind}
 use Rattle.eden_base.specs.declared.attr.Kind.TheVariants.{Dir, File}
+use Rattle.eden_base.specs.declared.attr.Perm.{Perm}
 use Rattle.eden_base.specs.declared.errno.Errno.{Errno}
-use Rattle.eden_base.specs.declared.errno.Errno.TheVariants.{ESTALE, ENOTDIR, ENOENT, ENOSPC, EOVERFLOW, EIO, ENOMEM, ENOSYS}
+use Rattle.eden_base.specs.declared.errno.Errno.TheVariants.{ESTALE, ENOTDIR, EISDIR, ENOENT, EEXIST, ENOTEMPTY, ENOSPC, EOVERFLOW, EIO, ENOMEM, ENOSYS}
 use Rattle.eden_base.specs.declared.number.FileId.{FileId}
 use Rattle.eden_base.specs.declared.number.Number.{Number}
-use Rattle.checkout.specs.Tree.{Tree, kind_of, child_of, attr_of}
+use Rattle.checkout.specs.Tree.{Tree, kind_of, child_of, attr_of, is_dir, has_links, is_unlinked, next_file, created, removed}
 use Rattle.fuse_wire.specs.Ask.{nodes}
 use Rattle.fuse_wire.specs.declared.ask.Request.{Request}
-use Rattle.fuse_wire.specs.declared.ask.Request.TheVariants.{Lookup, Getattr}
+use Rattle.fuse_wire.specs.declared.ask.Request.TheVariants.{Lookup, Getattr, Create, Mkdir, Unlink, Rmdir}
 use Rattle.fuse_wire.specs.declared.reply.Answer.{Answer}
-use Rattle.fuse_wire.specs.declared.reply.Answer.TheVariants.{Entry, Attrs, Done, Error}
+use Rattle.fuse_wire.specs.declared.reply.Answer.TheVariants.{Entry, Opened, Attrs, Done, Error}
 
 -- ---- by the tree
 
--- a success: the tree after it, the file of that tree that the answer tells, and whether its number is held once more
+-- a success: the tree after it, the file of that tree that the answer tells, whether its number is held once more, and
+-- the file that lost its name
 pub record Effect : Type 0 where
   pub tree : Tree
   pub file : Option FileId
   pub counts : Bool
+  pub unnamed : Option FileId
 
 -- the file under a name in a directory of this kind
 abbrev pub found_in_dir : Tree → FileId → List ℕ → Option Kind → Result FileId Errno
@@ -39,30 +43,90 @@ found_in tree None name = Err ESTALE
 
 -- an entry for a file of a tree that stays as it is
 abbrev pub enters : Tree → Result FileId Errno → Result Effect Errno
-enters tree (Ok file) = Ok (record { tree = tree; file = Some file; counts = true })
+enters tree (Ok file) = Ok (record { tree = tree; file = Some file; counts = true; unnamed = None })
 enters tree (Err errno) = Err errno
 
 -- the attributes of a file of a tree that stays as it is, where a number names this file or none
 abbrev pub shows : Tree → Option FileId → Result Effect Errno
-shows tree (Some file) = Ok (record { tree = tree; file = Some file; counts = false })
+shows tree (Some file) = Ok (record { tree = tree; file = Some file; counts = false; unnamed = None })
 shows tree None = Err ESTALE
+
+-- a directory of this kind in which a new file may get a name
+abbrev pub free_in_dir : Tree → FileId → List ℕ → Option Kind → Result FileId Errno
+free_in_dir tree dir name (Some Dir) =
+    if is_unlinked tree dir then Err ENOENT
+    else if is_some (child_of tree dir name) then Err EEXIST
+    else if nat_le end_of_files tree.next_file then Err ENOSPC
+    else Ok dir
+free_in_dir tree dir name (Some File) = Err ENOTDIR
+free_in_dir tree dir name None = Err ENOTDIR
+
+-- the same, where a number names this file or none
+abbrev pub free_in : Tree → Option FileId → List ℕ → Result FileId Errno
+free_in tree (Some dir) name = free_in_dir tree dir name (kind_of tree dir)
+free_in tree None name = Err ESTALE
+
+-- an entry for a file that is made
+abbrev pub makes : Tree → List ℕ → Kind → Perm → Result FileId Errno → Result Effect Errno
+makes tree name kind perm (Ok dir) = Ok (record {
+  tree = created tree dir name kind perm;
+  file = Some (next_file tree);
+  counts = true;
+  unnamed = None;
+})
+makes tree name kind perm (Err errno) = Err errno
+
+-- what stands against taking a name away: UNLINK takes no directory's
+abbrev pub against_unlink : Tree → FileId → Option Errno
+against_unlink tree file = if is_dir (kind_of tree file) then Some EISDIR else None
+
+-- and RMDIR an empty directory's alone
+abbrev pub against_rmdir : Tree → FileId → Option Errno
+against_rmdir tree file =
+    if is_dir (kind_of tree file) then (if has_links tree file then Some ENOTEMPTY else None) else Some ENOTDIR
+
+-- a file that was found and against which nothing stands
+abbrev pub unless : (FileId → Option Errno) → Result FileId Errno → Result FileId Errno
+unless against (Ok file) = option_map_or (λ (errno : Errno). Err errno) (against file) (Ok file)
+unless against (Err errno) = Err errno
+
+-- a name taken out of a directory
+abbrev pub takes : Tree → FileId → List ℕ → Result FileId Errno → Result Effect Errno
+takes tree dir name (Ok file) =
+    Ok (record { tree = removed tree dir name; file = None; counts = false; unnamed = Some file })
+takes tree dir name (Err errno) = Err errno
+
+-- the same, where a number names this directory or none
+abbrev pub takes_from : Tree → (FileId → Option Errno) → Option FileId → List ℕ → Result Effect Errno
+takes_from tree against (Some dir) name = takes tree dir name (unless against (found_in tree (Some dir) name))
+takes_from tree against None name = Err ESTALE
 
 -- the numbers whose files a row looks at
 abbrev pub looks_at : Request → List Number
 looks_at (Lookup dir name) = dir ∷ []
 looks_at (Getattr node) = node ∷ []
+looks_at (Create dir name perm) = dir ∷ []
+looks_at (Mkdir dir name perm) = dir ∷ []
+looks_at (Unlink dir name) = dir ∷ []
+looks_at (Rmdir dir name) = dir ∷ []
 looks_at request = []
 
 -- what a request comes to, where `files` tells the file that a number names; one row a request
 abbrev pub comes_to : Tree → (ℕ → Option FileId) → Request → Result Effect Errno
 comes_to tree files (Lookup dir name) = enters tree (found_in tree (files dir.0) name)
 comes_to tree files (Getattr node) = shows tree (files node.0)
+comes_to tree files (Create dir name perm) = makes tree name File perm (free_in tree (files dir.0) name)
+comes_to tree files (Mkdir dir name perm) = makes tree name Dir perm (free_in tree (files dir.0) name)
+comes_to tree files (Unlink dir name) = takes_from tree (against_unlink tree) (files dir.0) name
+comes_to tree files (Rmdir dir name) = takes_from tree (against_rmdir tree) (files dir.0) name
 comes_to tree files request = Err ENOSYS
 
 -- how a success tells a number and attributes; those of other requests tell that they were done
 abbrev pub telling : Request → Number → Attr → Answer
 telling (Lookup dir name) number attr = Entry number attr
 telling (Getattr node) number attr = Attrs number attr
+telling (Create dir name perm) number attr = Opened number attr
+telling (Mkdir dir name perm) number attr = Entry number attr
 telling request number attr = Done
 
 -- ---- by the number
@@ -127,6 +191,12 @@ abbrev pub tree_after : Tree → Result Effect Errno → Answer → Tree
 tree_after tree result (Error errno) = tree
 tree_after tree (Ok effect) answer = effect.tree
 tree_after tree (Err errno) answer = tree
+
+-- the file that lost its name by an answer, if one did
+abbrev pub file_unnamed : Result Effect Errno → Answer → Option FileId
+file_unnamed result (Error errno) = None
+file_unnamed (Ok effect) answer = effect.unnamed
+file_unnamed (Err errno) answer = None
 
 -- the file that is told, if one is
 abbrev pub file_told : Result Effect Errno → Option FileId

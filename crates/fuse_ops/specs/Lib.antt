@@ -1,4 +1,5 @@
 pub mod Answers
+pub mod Changes
 pub mod Gifts
 pub mod Served
 pub mod Soundness

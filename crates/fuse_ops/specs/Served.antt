@@ -1,26 +1,40 @@
 -- What a daemon serves: its numbers and the tree of its checkout, and one step of it by a request and its answer.
 -- (EdenFS's documents on inode lifetime; libfuse's rules for lookup counts, `fuse_lowlevel.h`.)
-use Rattle.std.specs.Prelude.{◌≡◌, ℕ, max, true, false, List, [], ◌∷◌, MatchOption, Option, Some, None}
+use Rattle.std.specs.Prelude.{◌≡◌, ℕ, max, true, false, List, [], ◌∷◌, MatchOption, Option, Some, None, Result}
+use Rattle.std.specs.Option.{option_map_or}
 use Rattle.std.specs.List.{AllByRecursion}
 use Rattle.eden_base.specs.declared.number.FileId.{FileId}
 use Rattle.eden_base.specs.declared.number.Number.{Number}
 use Rattle.checkout.specs.Manifest.{Manifest}
-use Rattle.checkout.specs.Tree.{Tree, tree_of}
+use Rattle.checkout.specs.Tree.{Tree, IsTree, tree_of}
 use Rattle.fuse_wire.specs.Ask.{is_ask, items_of}
 use Rattle.fuse_wire.specs.Given.{given_out}
 use Rattle.fuse_wire.specs.declared.ask.Request.{Request}
-use Rattle.fuse_wire.specs.declared.ask.Request.TheVariants.{Lookup}
+use Rattle.fuse_wire.specs.declared.ask.Request.TheVariants.{Lookup, Create, Mkdir, Unlink, Rmdir}
 use Rattle.fuse_wire.specs.declared.item.Item.{Item}
 use Rattle.fuse_wire.specs.declared.reply.Answer.{Answer}
-use Rattle.inode_map.specs.InodeMap.{MapState, IsFileOf, new_map, entry_at, give_fault, given, number_given, forgotten}
+use Rattle.eden_base.specs.declared.errno.Errno.{Errno}
+use Rattle.inode_map.specs.InodeMap.{MapState, IsFileOf, new_map, entry_at, give_fault, given, number_given, forgotten, unlinked}
+use Rattle.inode_map.specs.declared.inode_map.Kept.{Kept}
 use Rattle.inode_map.specs.declared.inode_map.GiveFault.{GiveFault}
 use Rattle.inode_map.specs.declared.inode_map.GiveFault.TheVariants.{NoNumber, TooMany, NoMemory}
-use Rattle.fuse_ops.specs.Answers.{NumberFault, none_left, at_greatest, Numbers, looks_at, comes_to, Answers, tree_after}
+use Rattle.fuse_ops.specs.Answers.{NumberFault, none_left, at_greatest, Numbers, Effect, looks_at, comes_to, Answers, tree_after, file_unnamed}
 
 -- the numbers that a daemon gave, and the tree of its checkout
 pub record ServedState : Type 0 where
   pub map : MapState
   pub tree : Tree
+
+-- what is kept of that whatever is loaded, remembered or made ready: the numbers with place and count, the next one,
+-- and the tree
+pub record PlainState : Type 0 where
+  pub entries : List Kept
+  pub next : ℕ
+  pub tree : Tree
+
+-- the plain state in what a daemon serves
+abbrev pub plain : ServedState → PlainState
+plain served = record { entries = served.map.entries; next = served.map.next; tree = served.tree }
 
 -- a daemon that begins to serve a checkout; its limit of loaded attributes is 1 at least
 abbrev pub new_served : Manifest → ℕ → ServedState
@@ -40,7 +54,15 @@ Locates served request files =
 -- the directory and the name whose number a request's success tells, where it tells an entry
 abbrev pub place_told : Request → Option (Number × List ℕ)
 place_told (Lookup dir name) = Some (dir, name)
+place_told (Create dir name perm) = Some (dir, name)
+place_told (Mkdir dir name perm) = Some (dir, name)
 place_told request = None
+
+-- the directory and the name that a request's success takes away
+abbrev pub place_taken : Request → Option (Number × List ℕ)
+place_taken (Unlink dir name) = Some (dir, name)
+place_taken (Rmdir dir name) = Some (dir, name)
+place_taken request = None
 
 -- why a place's number is not given, in the words of the table
 abbrev pub number_fault : Option GiveFault → Option NumberFault
@@ -65,15 +87,33 @@ abbrev pub map_after : MapState → Option (Number × List ℕ) → Option Numbe
 map_after map (Some (dir, name)) (Some number) = given map dir name
 map_after map place number = map
 
+-- the map after a place lost its name: the number that it has, if any, names the file by a mark
+abbrev pub name_taken : MapState → Number → List ℕ → FileId → MapState
+name_taken map dir name file =
+    option_map_or (λ (kept : Kept). unlinked map kept.number.0 file) (entry_at map.entries dir.0 name) map
+
+-- the map after an answer by which a file lost its name, if one did
+abbrev pub map_without : MapState → Option (Number × List ℕ) → Option FileId → MapState
+map_without map (Some (dir, name)) (Some file) = name_taken map dir name file
+map_without map place file = map
+
+-- what the daemon knows after an answer
+abbrev pub served_after : ServedState → Request → Result Effect Errno → Answer → ServedState
+served_after old request result answer = record {
+  map = map_without (map_after old.map (place_told request) (given_out answer))
+      (place_taken request) (file_unnamed result answer);
+  tree = tree_after old.tree result answer;
+}
+
 -- a legal answer to an ask, and what the daemon knows after it
 pub record IsLegal (old : ServedState) (request : Request) (answer : Answer) (new : ServedState) : Type 0 where
   pub files : ℕ → Option FileId
   pub locates : Locates old request files
   pub answers : Answers (numbers_at old.map (place_told request)) request (comes_to old.tree files request) answer
-  pub makes : new ≡ record {
-    map = map_after old.map (place_told request) (given_out answer);
-    tree = tree_after old.tree (comes_to old.tree files request) answer;
-  }
+  pub makes : plain new ≡ plain (served_after old request (comes_to old.tree files request) answer)
+  pub bad_items : new.map.bad_items ≡ old.map.bad_items
+  -- files and links stay a tree
+  pub keeps_tree : IsTree old.tree → IsTree new.tree
 
 -- each item by itself, in order
 abbrev pub forgotten_all : MapState → List Item → MapState

@@ -1,32 +1,37 @@
 -- What the code of a served state says of its answers.
-use Rattle.std.specs.Prelude.{◌≡◌, ℕ, List, Option, Some, None, Result, Ok, Err}
+use Rattle.std.specs.Prelude.{◌≡◌, ℕ, ◌<◌, ◌≤◌, ◌⊎◌, List, Option, Some, None, Result, Ok, Err}
+use Rattle.eden_base.specs.Limits.{end_of_numbers}
+use Rattle.eden_base.specs.Name.{IsNameText}
+use Rattle.eden_base.specs.declared.attr.Kind.{Kind}
+use Rattle.eden_base.specs.declared.attr.Perm.{Perm}
 use Rattle.eden_base.specs.declared.attr.Attr.{Attr}
 use Rattle.eden_base.specs.declared.errno.Errno.{Errno}
 use Rattle.eden_base.specs.declared.errno.Errno.TheVariants.{ESTALE, ENOSPC, EOVERFLOW, ENOMEM}
 use Rattle.eden_base.specs.declared.number.FileId.{FileId}
 use Rattle.eden_base.specs.declared.number.Number.{Number}
-use Rattle.checkout.specs.Tree.{attr_of}
+use Rattle.checkout.specs.Tree.{Tree, child_of, attr_of, next_file, created, removed}
 use Rattle.fuse_wire.specs.declared.reply.Answer.{Answer}
-use Rattle.fuse_wire.specs.declared.reply.Answer.TheVariants.{Entry, Attrs, Error}
+use Rattle.fuse_wire.specs.declared.reply.Answer.TheVariants.{Entry, Attrs, Done, Error}
 use Rattle.inode_map.specs.InodeMap.{IsGiveRefusal, give_fault, given, number_given}
 use Rattle.inode_map.specs.declared.inode_map.GiveFault.{GiveFault}
 use Rattle.inode_map.specs.declared.inode_map.GiveFault.TheVariants.{NoNumber, TooMany, NoMemory}
-use Rattle.fuse_ops.specs.Answers.{found_in}
-use Rattle.fuse_ops.specs.Served.{ServedState, IsLocated}
+use Rattle.fuse_ops.specs.Answers.{found_in, free_in, unless}
+use Rattle.fuse_ops.specs.Served.{ServedState, IsLocated, plain, name_taken}
+use Rattle.fuse_ops.specs.declared.served.Found.{Found}
 
--- the attributes of the file under a name in a number's directory, or the error that is told in their place
-abbrev pub IsFoundAs : ServedState → Result FileId Errno → Result Attr Errno → Type 0
-IsFoundAs served (Ok file) (Ok attr) = attr_of served.tree file ≡ Some attr
-IsFoundAs served (Err errno) (Err told) = told ≡ errno
-IsFoundAs served found told = ⊥
+-- the directory of a number and the file under a name in it, or the error that is told in their place
+abbrev pub IsFoundAs : Tree → Option FileId → List ℕ → Result Found Errno → Type 0
+IsFoundAs tree dir name (Ok found) =
+    (dir ≡ Some found.dir) × (found_in tree dir name ≡ Ok found.file) × (attr_of tree found.file ≡ Some found.attr)
+IsFoundAs tree dir name (Err errno) = found_in tree dir name ≡ Err errno
 
 -- the file that the number of a directory names, and what a name in it gives
-pub record Finds (served : ServedState) (dir : ℕ) (name : List ℕ) (told : Result Attr Errno) : Type 0 where
+pub record Finds (served : ServedState) (dir : ℕ) (name : List ℕ) (told : Result Found Errno) : Type 0 where
   pub dir_file : Option FileId
   pub located : IsLocated served dir dir_file
-  pub found : IsFoundAs served (found_in served.tree dir_file name) told
+  pub found : IsFoundAs served.tree dir_file name told
 
--- what a lookup is answered where no number can be given
+-- what is answered where no number can be given
 abbrev pub errno_of : GiveFault → Errno
 errno_of NoNumber = ENOSPC
 errno_of TooMany = EOVERFLOW
@@ -65,3 +70,65 @@ pub record Shows (served : ServedState) (node : Number) (answer : Answer) : Type
   pub file : Option FileId
   pub located : IsLocated served node.0 file
   pub shows : ShowsFile served node file answer
+
+-- why the next number is not made ready: there is none, or memory was refused
+abbrev pub IsNextRefusal : ℕ → Errno → Type 0
+IsNextRefusal next errno =
+    ((errno ≡ ENOSPC) × (end_of_numbers ≤ next)) ⊎ ((errno ≡ ENOMEM) × (next < end_of_numbers))
+
+-- neither a number, nor a place, nor the tree changed, and no forget was bad
+pub record IsSamePlainly (old new : ServedState) : Type 0 where
+  pub plainly : plain new ≡ plain old
+  pub bad_items : new.map.bad_items ≡ old.map.bad_items
+
+-- the number and the attributes of a file that was made under a free name, and what the daemon knows after it; or why
+-- it was not made
+abbrev pub MakesFile : ServedState → Number → List ℕ → FileId → Tree → Result (Number × Attr) Errno → ServedState → Type 0
+MakesFile old dir name file tree (Ok (number, attr)) new =
+    (give_fault old.map dir.0 name ≡ None) × (number ≡ number_given old.map dir.0 name)
+    × (attr_of tree file ≡ Some attr) × IsNameText name
+    × IsSamePlainly (record { map = given old.map dir name; tree = tree }) new
+MakesFile old dir name file tree (Err errno) new =
+    ((fault : GiveFault) × IsGiveRefusal old.map dir.0 name fault × (errno ≡ errno_of fault)) × IsSamePlainly old new
+
+-- an error is told as it is, and in a directory a file is made
+abbrev pub MakesIn : ServedState → Number → List ℕ → Kind → Perm → Result FileId Errno → Result (Number × Attr) Errno →
+    ServedState → Type 0
+MakesIn old dir name kind perm (Ok above) told new =
+    MakesFile old dir name (next_file old.tree) (created old.tree above name kind perm) told new
+MakesIn old dir name kind perm (Err errno) told new = (told ≡ Err errno) × IsSamePlainly old new
+
+-- a file is made under a name in the directory of a number
+pub record Makes (old : ServedState) (dir : Number) (name : List ℕ) (kind : Kind) (perm : Perm)
+    (told : Result (Number × Attr) Errno) (new : ServedState) : Type 0 where
+  pub dir_file : Option FileId
+  pub located : IsLocated old dir.0 dir_file
+  pub makes : MakesIn old dir name kind perm (free_in old.tree dir_file name) told new
+
+-- the directory of a number in which a name is free, or the error that is told in its place
+pub record IsFree (served : ServedState) (dir : ℕ) (name : List ℕ) (told : Result FileId Errno) : Type 0 where
+  pub dir_file : Option FileId
+  pub located : IsLocated served dir dir_file
+  pub free : free_in served.tree dir_file name ≡ told
+
+-- a name was taken out of the directory of a number
+abbrev pub NameIsTaken : ServedState → Number → FileId → List ℕ → ServedState → Type 0
+NameIsTaken old number dir name new =
+    (file : FileId) × (child_of old.tree dir name ≡ Some file)
+    × (new ≡ record { map = name_taken old.map number name file; tree = removed old.tree dir name })
+
+-- an error is told as it is, and else the name is taken away
+abbrev pub TakesName : ServedState → Number → Option FileId → List ℕ → Result FileId Errno → Answer → ServedState →
+    Type 0
+TakesName old dir (Some above) name (Ok file) answer new =
+    (answer ≡ Done)
+    × (new ≡ record { map = name_taken old.map dir name file; tree = removed old.tree above name })
+TakesName old dir None name (Ok file) answer new = ⊥
+TakesName old dir above name (Err errno) answer new = (answer ≡ Error errno) × (new ≡ old)
+
+-- a name is taken away from its file, where nothing stands against that
+pub record Takes (old : ServedState) (dir : Number) (name : List ℕ) (against : FileId → Option Errno)
+    (answer : Answer) (new : ServedState) : Type 0 where
+  pub dir_file : Option FileId
+  pub located : IsLocated old dir.0 dir_file
+  pub takes : TakesName old dir dir_file name (unless against (found_in old.tree dir_file name)) answer new

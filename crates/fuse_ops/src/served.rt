@@ -1,12 +1,18 @@
 //! The numbers and the tree that one daemon serves.
-ghost use Rattle.std.specs.Prelude.{◌≡◌, true, IfOk};
-ghost use Rattle.inode_map.specs.InodeMap.{forgotten};
+ghost use Rattle.std.specs.Prelude.{◌≡◌, ◌<◌, true, false, Some, IsSome, IfOk, IfErr, IfSome, OnOk, OnErr};
+ghost use Rattle.eden_base.specs.Limits.{end_of_numbers};
+ghost use Rattle.checkout.specs.Tree.{child_of, is_full_dir};
+ghost use Rattle.fuse_wire.specs.declared.ask.Request.TheVariants.{Create, Mkdir};
+ghost use Rattle.inode_map.specs.InodeMap.{forgotten, IsFileOf};
+ghost use Rattle.fuse_ops.specs.Answers.{against_unlink, against_rmdir};
 ghost use Rattle.fuse_ops.specs.Served.{new_served, forgotten_all, Replay};
 ghost use Rattle.fuse_ops.specs.Soundness.{IsSound};
-ghost use Rattle.fuse_ops.specs.Work.{errno_of, Finds, LooksUp, Shows};
+ghost use Rattle.fuse_ops.specs.Work.{errno_of, Finds, IsFree, IsNextRefusal, LooksUp, Makes, NameIsTaken, Shows, Takes};
 
 use checkout::{Manifest, Tree};
-use eden_base::{Attr, Errno, Kind, Name, NoMemory, Number};
+use eden_base::{
+    Attr, END_OF_FILES, END_OF_NUMBERS, Errno, FileId, Kind, Name, NoMemory, Number, Perm,
+};
 use fuse_wire::{Answer, Item, Request};
 use inode_map::{GiveFault, InodeMap};
 use std::alloc::Global;
@@ -36,6 +42,14 @@ impl Model for Served {
     ghost invariant = { λ s. IsTree s.tree × IsSound (record { map = s.map; tree = s.tree }) };
 }
 
+/// The directory of a number, and the file under a name in it.
+#[derive(Clone, Copy)]
+struct Found {
+    dir: FileId,
+    file: FileId,
+    attr: Attr,
+}
+
 impl Served {
     /// Returns a daemon that begins to serve what a manifest says. So many attributes may be loaded at once, and
     /// one at least; every file counts as loaded yet.
@@ -63,13 +77,18 @@ impl Served {
         &self.tree
     }
 
-    /// Answers an ask, or applies the items of a forget, which has no answer.
+    /// Answers an ask, or applies the items of a forget, which has no answer. An error changes no number, no place and
+    /// no tree.
     pub fn apply(&mut self, alloc: Global, request: &Request) -> Option<Answer>
         ensures replay { Replay self.old request.now result self.new }
     {
         match request {
             Request::Lookup { dir, name } => Some(self.look_up(alloc, *dir, name)),
             Request::Getattr { node } => Some(self.get_attr(*node)),
+            Request::Create { dir, name, perm } => Some(self.create(alloc, *dir, name, *perm)),
+            Request::Mkdir { dir, name, perm } => Some(self.make_dir(alloc, *dir, name, *perm)),
+            Request::Unlink { dir, name } => Some(self.unlink(*dir, name)),
+            Request::Rmdir { dir, name } => Some(self.remove_dir(*dir, name)),
             Request::Forget(item) => {
                 self.forget(*item);
                 None
@@ -78,7 +97,7 @@ impl Served {
                 self.forget_all(items.as_slice());
                 None
             }
-            _ => Some(Answer::Error(Errno::ENOSYS)),
+            Request::Other { .. } => Some(Answer::Error(Errno::ENOSYS)),
         }
     }
 
@@ -86,18 +105,19 @@ impl Served {
     fn look_up(&mut self, alloc: Global, dir: Number, name: &Name) -> Answer
         ensures answer { LooksUp self.old dir name.now result self.new }
     {
-        let attr = match self.find(dir, name) {
-            Ok(attr) => attr,
+        let found = match self.find(dir, name) {
+            Ok(found) => found,
             Err(errno) => return Answer::Error(errno),
         };
+        let attr = found.attr;
         match self.map.give(alloc, dir, name) {
             Ok(number) => Answer::Entry { number, attr },
             Err(fault) => Answer::Error(errno_of(fault)),
         }
     }
 
-    /// Returns what the kernel is told of the file under a name in the directory of a number.
-    fn find(&mut self, dir: Number, name: &Name) -> Result<Attr, Errno>
+    /// Finds the directory of a number, and the file under a name in it.
+    fn find(&mut self, dir: Number, name: &Name) -> Result<Found, Errno>
         ensures found { Finds self.old dir.0 name.now result }
         ensures unchanged { self.new ≡ self.old }
     {
@@ -107,8 +127,125 @@ impl Served {
         }
         let file = self.tree.child(dir, name).ok_or(Errno::ENOENT)?;
         match self.tree.attr(file) {
-            Some(attr) => Ok(attr),
+            Some(attr) => Ok(Found { dir, file, attr }),
             None => unreachable!(),
+        }
+    }
+
+    /// Answers a CREATE.
+    fn create(&mut self, alloc: Global, dir: Number, name: &Name, perm: Perm) -> Answer
+        ensures replay { Replay self.old (Create dir name.now perm) (Some result) self.new }
+    {
+        match self.make(alloc, dir, name, Kind::File, perm) {
+            Ok((number, attr)) => Answer::Opened { number, attr },
+            Err(errno) => Answer::Error(errno),
+        }
+    }
+
+    /// Answers a MKDIR.
+    fn make_dir(&mut self, alloc: Global, dir: Number, name: &Name, perm: Perm) -> Answer
+        ensures replay { Replay self.old (Mkdir dir name.now perm) (Some result) self.new }
+    {
+        match self.make(alloc, dir, name, Kind::Dir, perm) {
+            Ok((number, attr)) => Answer::Entry { number, attr },
+            Err(errno) => Answer::Error(errno),
+        }
+    }
+
+    /// Makes a file under a name in the directory of a number, and gives its number. All memory is taken before
+    /// anything changes.
+    fn make(
+        &mut self,
+        alloc: Global,
+        dir: Number,
+        name: &Name,
+        kind: Kind,
+        perm: Perm,
+    ) -> Result<(Number, Attr), Errno>
+        ensures makes { Makes self.old dir name.now kind perm result self.new }
+    {
+        let above = self.free_place(dir, name)?;
+        let own = match ready(&mut self.map, alloc, name) {
+            Ok(own) => own,
+            Err(errno) => return Err(errno),
+        };
+        let Ok(file) = self.tree.create(above, name, kind, perm) else {
+            return Err(Errno::ENOMEM);
+        };
+        let Ok(number) = self.map.give_ready(dir, own) else {
+            unreachable!()
+        };
+        match self.tree.attr(file) {
+            Some(attr) => Ok((number, attr)),
+            None => unreachable!(),
+        }
+    }
+
+    /// Finds the directory of a number, where a name is free in it and a file may be made.
+    fn free_place(&mut self, dir: Number, name: &Name) -> Result<FileId, Errno>
+        ensures free { IsFree self.old dir.0 name.now result }
+        ensures unchanged { self.new ≡ self.old }
+    {
+        let dir = self.map.locate(&self.tree, dir).ok_or(Errno::ESTALE)?;
+        if self.tree.kind(dir) != Some(Kind::Dir) {
+            return Err(Errno::ENOTDIR);
+        }
+        if dir != FileId::ROOT && !self.tree.is_linked(dir) {
+            return Err(Errno::ENOENT);
+        }
+        if self.tree.child(dir, name).is_some() {
+            return Err(Errno::EEXIST);
+        }
+        if self.tree.next_file().0 >= END_OF_FILES {
+            return Err(Errno::ENOSPC);
+        }
+        Ok(dir)
+    }
+
+    /// Answers an UNLINK. It takes no memory.
+    fn unlink(&mut self, dir: Number, name: &Name) -> Answer
+        ensures takes { Takes self.old dir name.now (against_unlink self.old.tree) result self.new }
+    {
+        let found = match self.find(dir, name) {
+            Ok(found) => found,
+            Err(errno) => return Answer::Error(errno),
+        };
+        if found.attr.kind == Kind::Dir {
+            return Answer::Error(Errno::EISDIR);
+        }
+        self.take_name(dir, found.dir, name);
+        Answer::Done
+    }
+
+    /// Answers an RMDIR. It takes no memory.
+    fn remove_dir(&mut self, dir: Number, name: &Name) -> Answer
+        ensures takes { Takes self.old dir name.now (against_rmdir self.old.tree) result self.new }
+    {
+        let found = match self.find(dir, name) {
+            Ok(found) => found,
+            Err(errno) => return Answer::Error(errno),
+        };
+        if found.attr.kind != Kind::Dir {
+            return Answer::Error(Errno::ENOTDIR);
+        }
+        if !self.tree.is_empty_dir(found.file) {
+            return Answer::Error(Errno::ENOTEMPTY);
+        }
+        self.take_name(dir, found.dir, name);
+        Answer::Done
+    }
+
+    /// Takes a name out of the directory of a number. The number of its file, where it has one, keeps the file.
+    fn take_name(&mut self, number: Number, dir: FileId, name: &Name)
+        requires dir { IsFileOf self.old.tree self.old.map.entries number.0 dir }
+        requires there { IsSome (child_of self.old.tree dir name.now) }
+        requires not_full { IfSome (child_of self.old.tree dir name.now) (λ file. is_full_dir self.old.tree file ≡ false) }
+        ensures taken { NameIsTaken self.old number dir name.now self.new }
+    {
+        let kept = self.map.number_for(number, name);
+        let file = self.tree.remove(dir, name);
+        if let Some(kept) = kept {
+            self.map.unlink(kept, file);
         }
     }
 
@@ -143,7 +280,27 @@ impl Served {
     }
 }
 
-/// Returns what a lookup is answered where no number could be given.
+/// Takes the memory for the next number under a name, and returns the name to give it for.
+fn ready(map: &mut InodeMap, alloc: Global, name: &Name) -> Result<Name, Errno>
+    ensures name { IfOk result (λ own. own ≡ name.now) }
+    ensures room { OnOk result (map.new ≡ record map.old { spare = 1 }) }
+    ensures left { OnOk result (map.old.next < end_of_numbers) }
+    ensures refused { IfErr result (IsNextRefusal map.old.next) }
+    ensures unchanged { OnErr result (map.new ≡ map.old) }
+{
+    if map.next() >= END_OF_NUMBERS {
+        return Err(Errno::ENOSPC);
+    }
+    let Ok(own) = name.copy(alloc) else {
+        return Err(Errno::ENOMEM);
+    };
+    match map.reserve(alloc) {
+        Ok(()) => Ok(own),
+        Err(_) => Err(Errno::ENOMEM),
+    }
+}
+
+/// Returns what is answered where no number could be given.
 fn errno_of(fault: GiveFault) -> Errno
     ensures { result ≡ errno_of fault }
 {

@@ -32,7 +32,8 @@ use Rattle.world.specs.declared.outcome.Happened.{Happened}
 use Rattle.world.specs.declared.outcome.Happened.TheVariants as happened
 use Rattle.world.specs.declared.outcome.Refusal.{Refusal}
 use Rattle.world.specs.declared.outcome.Refusal.TheVariants as refusal
-use Rattle.world.proofs.Answering.{Worked, answers-worked}
+use Rattle.world.proofs.Answering.{answers-worked}
+use Rattle.world.proofs.Worked.{Worked}
 use Rattle.world.proofs.Daemons.{may_mount, served_of-more, serving-is, seated-knows, goes-on}
 use Rattle.world.proofs.Forgetting.{Forgotten, forgets-well, less_owed}
 use Rattle.world.proofs.Knowing.{knows-along, new-knows}

@@ -11,14 +11,36 @@ use Rattle.inode_map.specs.InodeMap.{MapState, IsFileOf, is_root, entry_of, coun
 use Rattle.inode_map.specs.declared.inode_map.Kept.{Kept}
 use Rattle.inode_map.proofs.FileLemmas.{IsFileOf-same, named-known}
 use Rattle.fuse_ops.specs.Gifts.{served_over, Gave}
-use Rattle.fuse_ops.specs.Served.{ServedState, new_served}
+use Rattle.fuse_ops.specs.Changes.{KeepsNames}
+use Rattle.fuse_ops.specs.Served.{ServedState, PlainState, plain, new_served}
 use Rattle.fuse_ops.proofs.GivingLaw.{new-sound}
+use Rattle.fuse_ops.proofs.Making.{sound-plainly}
 use Rattle.world.specs.World.{World, file_named, owed, IsLive, IsNumberOf}
 use Rattle.world.specs.Agreement.{Knows}
 
 -- what is owed no more and no less is known the same
 pub knows-along : (tree : Tree) (names : List (ℕ × FileId)) (owes other : ℕ → ℕ) (served : ServedState) → ((n : ℕ) → owes n ≡ other n) → Knows tree names owes served → Knows tree names other served
 knows-along tree names owes other served same k = record { tree_is = k.tree_is; counts = λ n d. k.counts n d ∙ same n; files = k.files; sound = k.sound; numbers = k.numbers }
+
+-- what is loaded, remembered or made ready is no part of it
+pub knows-plain : (tree : Tree) (names : List (ℕ × FileId)) (owes : ℕ → ℕ) (a b : ServedState) → plain a ≡ plain b → Knows tree names owes b → Knows tree names owes a
+knows-plain tree names owes a b e k = record {
+  tree_is = ap (λ (p : PlainState). p.tree) e ∙ k.tree_is;
+  counts = λ n d. ap (λ (p : PlainState). count_of p.entries n) e ∙ k.counts n d;
+  files = λ n file at. k.files n file (subst (λ (p : PlainState). IsFileOf p.tree p.entries n file) e at);
+  sound = sound-plainly b a e k.sound;
+  numbers = λ n. subst (λ (p : PlainState). IsSome (file_named names n) ↔ ((1 ≤ n) × (n < p.next))) (sym e) (k.numbers n);
+}
+
+-- what numbers name and how often is known still where a file came or lost its name
+pub kept-knows : (tree : Tree) (names : List (ℕ × FileId)) (owes : ℕ → ℕ) (old new : ServedState) → KeepsNames old new → Knows tree names owes old → Knows new.tree names owes new
+kept-knows tree names owes old new keeps k = record {
+  tree_is = refl;
+  counts = λ n d. keeps.counts n ∙ k.counts n d;
+  files = λ n file at. k.files n file (keeps.names n file at);
+  sound = keeps.sound;
+  numbers = λ n. subst (λ (next : ℕ). IsSome (file_named names n) ↔ ((1 ≤ n) × (n < next))) (sym keeps.next) (k.numbers n);
+}
 
 -- the kernel's count of a number is the daemon's
 counted_entry : (es : List Kept) (n : ℕ) → 0 < count_of es n → IsSome (entry_of es n)
@@ -28,20 +50,20 @@ counted_entry es n some = in_ (entry_of es n) refl some where
   in_ (Some k) e h = some-IsSome (entry_of es n) k e
 
 -- what is live names a file, for the daemon too
-pub live-named : (w : World) (m : MapState) → Knows w.tree w.names (owed w) (served_over w.tree m) → (n : ℕ) → IsLive w n → (file : FileId) × IsFileOf w.tree m.entries n file
-live-named w m k n (inl one) = (root, is_root n root one refl)
-live-named w m k n (inr some) = in_ (eq-or n 1) where
-  in_ : (n ≡ 1) ⊎ (n ≡ 1 → ⊥) → (file : FileId) × IsFileOf w.tree m.entries n file
+pub live-named : (w : World) (tree : Tree) (m : MapState) → Knows tree w.names (owed w) (served_over tree m) → (n : ℕ) → IsLive w n → (file : FileId) × IsFileOf tree m.entries n file
+live-named w tree m k n (inl one) = (root, is_root n root one refl)
+live-named w tree m k n (inr some) = in_ (eq-or n 1) where
+  in_ : (n ≡ 1) ⊎ (n ≡ 1 → ⊥) → (file : FileId) × IsFileOf tree m.entries n file
   in_ (inl one) = (root, is_root n root one refl)
   in_ (inr other) = let c : count_of m.entries n ≡ owed w n = k.counts n other in
       let f = (k.sound).names_a_file n (counted_entry m.entries n (omega arith)) in (f.0, f.1)
 
 -- a live number of the file names it for the daemon
-pub number-names : (w : World) (m : MapState) → Knows w.tree w.names (owed w) (served_over w.tree m) → (n : ℕ) (file : FileId) → IsNumberOf w file n → IsFileOf w.tree m.entries n file
-number-names w m k n file is =
-    let f = live-named w m k n is.live in
+pub number-names : (w : World) (tree : Tree) (m : MapState) → Knows tree w.names (owed w) (served_over tree m) → (n : ℕ) (file : FileId) → IsNumberOf w file n → IsFileOf tree m.entries n file
+number-names w tree m k n file is =
+    let f = live-named w tree m k n is.live in
     let same : f.0 ≡ file = (let s : Some f.0 ≡ Some file = sym (k.files n f.0 f.1) ∙ is.named in cc) in
-    subst (λ (x : FileId). IsFileOf w.tree m.entries n x) same f.1
+    subst (λ (x : FileId). IsFileOf tree m.entries n x) same f.1
 
 -- the names after a number was given out for the file
 abbrev pub named : List (ℕ × FileId) → ℕ → FileId → List (ℕ × FileId)
@@ -60,9 +82,9 @@ is-named names n file (inl e) = record {
 }
 
 -- what the daemon knows after it gave the number
-pub gave-knows : (w : World) (m new : MapState) (n : ℕ) (file : FileId) → Knows w.tree w.names (owed w) (served_over w.tree m) → Gave w.tree m new n file →
-    Knows w.tree (named w.names n file) (λ j. owed w j + (if n == j then 1 else 0)) (served_over w.tree new)
-gave-knows w m new n file k g = record {
+pub gave-knows : (w : World) (tree : Tree) (m new : MapState) (n : ℕ) (file : FileId) → Knows tree w.names (owed w) (served_over tree m) → Gave tree m new n file →
+    Knows tree (named w.names n file) (λ j. owed w j + (if n == j then 1 else 0)) (served_over tree new)
+gave-knows w tree m new n file k g = record {
   tree_is = refl;
   counts = λ j d. count_in j d (n == j) refl;
   files = λ j other at. file_in j other at (eq-or j n);
@@ -71,7 +93,7 @@ gave-knows w m new n file k g = record {
 } where
   old_named : (file_named w.names n ≡ None) ⊎ (file_named w.names n ≡ Some file)
   old_named = old_in g.old_or_next where
-    old_in : (IsFileOf w.tree m.entries n file × (new.next ≡ m.next)) ⊎ ((n ≡ m.next) × (new.next ≡ m.next + 1)) → (file_named w.names n ≡ None) ⊎ (file_named w.names n ≡ Some file)
+    old_in : (IsFileOf tree m.entries n file × (new.next ≡ m.next)) ⊎ ((n ≡ m.next) × (new.next ≡ m.next + 1)) → (file_named w.names n ≡ None) ⊎ (file_named w.names n ≡ Some file)
     old_in (inl (at, e)) = inr (k.files n file at)
     old_in (inr (is, e)) = inl (none_in (file_named w.names n) refl) where
       none_in : (o : Option FileId) → file_named w.names n ≡ o → o ≡ None
@@ -87,17 +109,17 @@ gave-knows w m new n file k g = record {
       subst (λ (i : ℕ). count_of new.entries i ≡ owed w i + 1) same one
   count_in j d false e = let c : count_of new.entries j ≡ owed w j = g.others_count j (λ s. false-ne n j e (sym s)) ∙ k.counts j d in omega arith
 
-  file_in : (j : ℕ) (other : FileId) → IsFileOf w.tree new.entries j other → (j ≡ n) ⊎ (j ≡ n → ⊥) → file_named (named w.names n file) j ≡ Some other
+  file_in : (j : ℕ) (other : FileId) → IsFileOf tree new.entries j other → (j ≡ n) ⊎ (j ≡ n → ⊥) → file_named (named w.names n file) j ≡ Some other
   file_in j other at (inl same) =
-      let there : IsFileOf w.tree new.entries n other = subst (λ (i : ℕ). IsFileOf w.tree new.entries i other) same at in
-      subst (λ (i : ℕ). file_named (named w.names n file) i ≡ Some other) (sym same) (is.here ∙ ap Some (IsFileOf-same w.tree new.entries n file other g.names there))
+      let there : IsFileOf tree new.entries n other = subst (λ (i : ℕ). IsFileOf tree new.entries i other) same at in
+      subst (λ (i : ℕ). file_named (named w.names n file) i ≡ Some other) (sym same) (is.here ∙ ap Some (IsFileOf-same tree new.entries n file other g.names there))
   file_in j other at (inr d) = is.others j d ∙ k.files j other ((g.others_name j other d).0 at)
 
-  next_in : (IsFileOf w.tree m.entries n file × (new.next ≡ m.next)) ⊎ ((n ≡ m.next) × (new.next ≡ m.next + 1)) → (new.next ≡ m.next) ⊎ ((n ≡ m.next) × (new.next ≡ m.next + 1))
+  next_in : (IsFileOf tree m.entries n file × (new.next ≡ m.next)) ⊎ ((n ≡ m.next) × (new.next ≡ m.next + 1)) → (new.next ≡ m.next) ⊎ ((n ≡ m.next) × (new.next ≡ m.next + 1))
   next_in (inl (at, e)) = inl e
   next_in (inr r) = inr r
 
-  number_in : (j : ℕ) → (j ≡ n) ⊎ (j ≡ n → ⊥) → (IsFileOf w.tree m.entries n file × (new.next ≡ m.next)) ⊎ ((n ≡ m.next) × (new.next ≡ m.next + 1)) →
+  number_in : (j : ℕ) → (j ≡ n) ⊎ (j ≡ n → ⊥) → (IsFileOf tree m.entries n file × (new.next ≡ m.next)) ⊎ ((n ≡ m.next) × (new.next ≡ m.next + 1)) →
       IsSome (file_named (named w.names n file) j) ↔ ((1 ≤ j) × (j < new.next))
   number_in j (inl same) next =
       let low : 2 ≤ n = g.low in let high : n < new.next = g.high in

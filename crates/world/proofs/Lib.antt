@@ -1,4 +1,7 @@
 mod Knowing
+mod Worked
+mod Entering
+mod Placed
 mod Answering
 mod Forgetting
 mod Quiet

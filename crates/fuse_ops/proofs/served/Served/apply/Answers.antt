@@ -2,7 +2,7 @@ use Rattle.std.proofs.Common.{Some, sym, subst}
 use Rattle.fuse_wire.specs.declared.ask.Request.{Request}
 use Rattle.fuse_wire.specs.declared.ask.Request.TheVariants.{Getattr}
 use Rattle.fuse_ops.specs.Served.{ServedState, Replay}
-use Rattle.fuse_ops.proofs.Replays.{lookup-replay, getattr-replay, unserved-replay}
+use Rattle.fuse_ops.proofs.Replays.{lookup-replay, getattr-replay, unlink-replay, rmdir-replay, other-replay}
 use Rattle.fuse_ops.proofs.served.Served.apply.Goals as goal
 
 pub returns-in-Lookup : goal.returns-in-Lookup
@@ -18,7 +18,17 @@ returns-in-Getattr c = record {
       (getattr-replay _ _ _ c.get_attr.ensures.answer));
 }
 
-pub returns-in_default : goal.returns-in_default
-returns-in_default c = record {
-  replay = unserved-replay _ _ c.in_default.not-Lookup c.in_default.not-Getattr c.in_default.not-Forget c.in_default.not-BatchForget;
+pub returns-in-Unlink : goal.returns-in-Unlink
+returns-in-Unlink c = record {
+  replay = subst (λ (request : Request). Replay c.args.self.now request (Some c.unlink.result) c.unlink.new.self) (sym c.in-Unlink.is)
+      (unlink-replay _ _ _ _ _ c.unlink.ensures.takes);
 }
+
+pub returns-in-Rmdir : goal.returns-in-Rmdir
+returns-in-Rmdir c = record {
+  replay = subst (λ (request : Request). Replay c.args.self.now request (Some c.remove_dir.result) c.remove_dir.new.self) (sym c.in-Rmdir.is)
+      (rmdir-replay _ _ _ _ _ c.remove_dir.ensures.takes);
+}
+
+pub returns-in-Other : goal.returns-in-Other
+returns-in-Other c = record { replay = rw (c.in-Other.is) (other-replay _ _ _) }

@@ -1,0 +1,204 @@
+-- What making a file comes to: why a place is free, and what stands against its number.
+use Rattle.std.proofs.Common.{◌≡◌, ℕ, ◌+◌, ◌<◌, ◌≤◌, Bool, true, false, List, [], ◌∷◌, ◌++◌, Option, Some, None, is_some, Result, Ok, Err, refl, sym, ap, ◌∙◌, subst, inl, inr, arith}
+use Rattle.std.specs.Prelude.{nat_le, if◌then◌else◌}
+use Rattle.std.proofs.lemmas.Bool.Decides.{nat_tests}
+use Rattle.eden_base.proofs.MemberLemmas.{some-IsSome, first-passes}
+use Rattle.eden_base.specs.First.{changed_where}
+use Rattle.eden_base.specs.Name.{IsNameText}
+use Rattle.eden_base.specs.Limits.{end_of_files, end_of_numbers}
+use Rattle.eden_base.specs.declared.attr.Attr.{Attr}
+use Rattle.eden_base.specs.declared.attr.Kind.{Kind}
+use Rattle.eden_base.specs.declared.attr.Kind.TheVariants.{Dir, File}
+use Rattle.eden_base.specs.declared.attr.Perm.{Perm}
+use Rattle.eden_base.specs.declared.errno.Errno.{Errno}
+use Rattle.eden_base.specs.declared.errno.Errno.TheVariants.{ENOENT, EEXIST, ENOSPC}
+use Rattle.eden_base.specs.declared.number.FileId.{FileId}
+use Rattle.eden_base.specs.declared.number.Number.{Number}
+use Rattle.checkout.proofs.CreateLaws.{child_of-created}
+use Rattle.checkout.specs.Tree.{Tree, IsTree, child_of, kind_of, attr_of, is_unlinked, next_file, created}
+use Rattle.inode_map.proofs.EntryLemmas.{entry_of-first}
+use Rattle.inode_map.proofs.FileLemmas.{IsFileOf-same, linked-child}
+use Rattle.inode_map.proofs.Places.{stands-place}
+use Rattle.inode_map.specs.InodeMap.{MapState, stands_at, once_more, new_entry, entry_of, entry_at, give_fault, give_fault_at, given, number_given, IsFileOf}
+use Rattle.inode_map.specs.declared.inode_map.GiveFault.TheVariants.{NoNumber, NoMemory}
+use Rattle.inode_map.specs.declared.inode_map.Kept.{Kept}
+use Rattle.fuse_ops.specs.Answers.{free_in, free_in_dir}
+use Rattle.fuse_ops.specs.Gifts.{served_over, Gave}
+use Rattle.fuse_ops.specs.Served.{ServedState, PlainState, plain, IsLocated}
+use Rattle.fuse_ops.specs.Soundness.{IsSound}
+use Rattle.fuse_ops.specs.Work.{IsFree, IsNextRefusal, IsSamePlainly, MakesIn, Makes}
+use Rattle.fuse_ops.proofs.Fits.{Fits, sound-fits, sound-of_use, fits-sound, not-one}
+use Rattle.fuse_ops.proofs.GivingLaw.{gives-well}
+use Rattle.fuse_ops.proofs.MakingLaw.{carried-made, making-keeps}
+use Rattle.inode_map.specs.EntryPlaces.{AreOfUseBut}
+
+-- what is loaded, remembered or made ready is no matter to soundness
+pub sound-plainly : (old new : ServedState) → plain new ≡ plain old → IsSound old → IsSound new
+sound-plainly old new e sound =
+    fits-sound new (subst (λ (p : PlainState). Fits p.tree p.next p.entries) (sym e) (sound-fits old sound))
+    (subst (λ (p : PlainState). AreOfUseBut None p.entries) (sym e) (sound-of_use old sound))
+
+-- a directory of the tree where a name is free, with an id left for its file
+pub record IsFreePlace (tree : Tree) (above : FileId) (name : List ℕ) : Type 0 where
+  pub is_dir : kind_of tree above ≡ Some Dir
+  pub reached : is_unlinked tree above ≡ false
+  pub free : child_of tree above name ≡ None
+  pub fits : tree.next_file < end_of_files
+
+none_of : (o : Option FileId) → is_some o ≡ false → o ≡ None
+none_of None e = refl
+none_of (Some x) e = absurd (let none : ⊥ = cc in none)
+
+-- what `free_in` looked for
+pub free-place : (tree : Tree) (o : Option FileId) (name : List ℕ) (above : FileId) → free_in tree o name ≡ Ok above → (o ≡ Some above) × IsFreePlace tree above name
+free-place tree None name above e = absurd (let none : ⊥ = cc in none)
+free-place tree (Some dir) name above e = by_kind (kind_of tree dir) refl e where
+  by_tests : kind_of tree dir ≡ Some Dir → (a b c : Bool) → is_unlinked tree dir ≡ a → is_some (child_of tree dir name) ≡ b → nat_le end_of_files tree.next_file ≡ c →
+      (if a then Err ENOENT else if b then Err EEXIST else if c then Err ENOSPC else Ok dir) ≡ Ok above → (Some dir ≡ Some above) × IsFreePlace tree above name
+  by_tests is true b c ea eb ec h = absurd (let none : ⊥ = cc in none)
+  by_tests is false true c ea eb ec h = absurd (let none : ⊥ = cc in none)
+  by_tests is false false true ea eb ec h = absurd (let none : ⊥ = cc in none)
+  by_tests is false false false ea eb ec h =
+      let same : dir ≡ above = cc in
+      (ap Some same, subst (λ (x : FileId). IsFreePlace tree x name) same (record { is_dir = is; reached = ea; free = none_of (child_of tree dir name) eb; fits = grind (arith, nat_tests) }))
+
+  by_kind : (kind : Option Kind) → kind_of tree dir ≡ kind → free_in_dir tree dir name kind ≡ Ok above → (Some dir ≡ Some above) × IsFreePlace tree above name
+  by_kind None k h = absurd (let none : ⊥ = cc in none)
+  by_kind (Some File) k h = absurd (let none : ⊥ = cc in none)
+  by_kind (Some Dir) k h = by_tests k (is_unlinked tree dir) (is_some (child_of tree dir name)) (nat_le end_of_files tree.next_file) refl refl refl h
+
+-- no number has a place at which nothing stands in the tree
+pub free-absent : (served : ServedState) (dir : ℕ) (above : FileId) (name : List ℕ) → IsSound served → IsFileOf served.tree served.map.entries dir above → child_of served.tree above name ≡ None → entry_at served.map.entries dir name ≡ None
+free-absent served dir above name sound at free = in_ (entry_at served.map.entries dir name) refl where
+  in_ : (o : Option Kept) → entry_at served.map.entries dir name ≡ o → o ≡ None
+  in_ None e = refl
+  in_ (Some kept) e =
+      let entry : entry_of served.map.entries kept.number.0 ≡ Some kept = entry_of-first served.map.entries 2 served.map.next (stands_at dir name) kept sound.numbers e in
+      let linked = stands-place dir name kept (first-passes served.map.entries (stands_at dir name) kept e) in
+      let g = sound.names_a_file kept.number.0 (some-IsSome (entry_of served.map.entries kept.number.0) kept entry) in
+      let c = linked-child served.tree served.map.entries kept.number.0 kept (record { 0 = dir }) name g.0 (not-one served.map.entries served.map.next kept.number.0 kept sound.numbers entry) entry linked g.1 in
+      let same : c.dir_file ≡ above = IsFileOf-same served.tree served.map.entries dir c.dir_file above c.at at in
+      let there : child_of served.tree above name ≡ Some g.0 = ap (λ (x : FileId). child_of served.tree x name) (sym same) ∙ c.child in
+      absurd (let none : ⊥ = cc in none)
+
+-- so it is given the next number, unless there is none
+pub clear_next : (map : MapState) (dir : ℕ) (name : List ℕ) → entry_at map.entries dir name ≡ None → map.next < end_of_numbers → give_fault map dir name ≡ None
+clear_next map dir name absent few =
+    let t : nat_le end_of_numbers map.next ≡ false = grind (arith, nat_tests) in
+    ap (give_fault_at map) absent ∙ ap (λ (b : Bool). if b then Some NoNumber else None) t
+
+pub full_next : (map : MapState) (dir : ℕ) (name : List ℕ) → entry_at map.entries dir name ≡ None → end_of_numbers ≤ map.next → give_fault map dir name ≡ Some NoNumber
+full_next map dir name absent many =
+    let t : nat_le end_of_numbers map.next ≡ true = grind (arith, nat_tests) in
+    ap (give_fault_at map) absent ∙ ap (λ (b : Bool). if b then Some NoNumber else None) t
+
+-- a file may be made at a number's name
+pub record MayMake (served : ServedState) (dir : Number) (name : List ℕ) (above : FileId) : Type 0 where
+  pub is_tree : IsTree served.tree
+  pub sound : IsSound served
+  pub free : IsFree served dir.0 name (Ok above)
+
+-- as the code meets it: what the fields say, and what was found of the whole
+pub may-make : (served now : ServedState) (dir : Number) (name : List ℕ) (above : FileId) → served ≡ now → IsTree served.tree → IsSound served → IsFree now dir.0 name (Ok above) → MayMake served dir name above
+may-make served now dir name above same is sound free = record { is_tree = is; sound = sound; free = subst (λ (s : ServedState). IsFree s dir.0 name (Ok above)) (sym same) free }
+
+module _ (served : ServedState) (dir : Number) (name : List ℕ) (above : FileId) (may : MayMake served dir name above) where
+  place : ((may.free).dir_file ≡ Some above) × IsFreePlace served.tree above name
+  place = free-place served.tree (may.free).dir_file name above (may.free).free
+
+  at : IsFileOf served.tree served.map.entries dir.0 above
+  at = subst (IsLocated served dir.0) place.0 (may.free).located
+
+  absent : entry_at served.map.entries dir.0 name ≡ None
+  absent = free-absent served dir.0 above name may.sound at (place.1).free
+
+  makes_so : (kind : Kind) (perm : Perm) (told : Result (Number × Attr) Errno) (new : ServedState) → MakesIn served dir name kind perm (Ok above) told new → Makes served dir name kind perm told new
+  makes_so kind perm told new m = record {
+    dir_file = (may.free).dir_file;
+    located = (may.free).located;
+    makes = subst (λ (r : Result FileId Errno). MakesIn served dir name kind perm r told new) (sym (may.free).free) m;
+  }
+
+  -- nothing was made
+  pub next-refused : (kind : Kind) (perm : Perm) (errno : Errno) (new : ServedState) → IsNextRefusal served.map.next errno → IsSamePlainly served new → Makes served dir name kind perm (Err errno) new
+  next-refused kind perm errno new (inl (e, many)) same = makes_so kind perm (Err errno) new ((NoNumber, full_next served.map dir.0 name absent many, e), same)
+  next-refused kind perm errno new (inr (e, few)) same = makes_so kind perm (Err errno) new ((NoMemory, (absent, clear_next served.map dir.0 name absent few), e), same)
+
+  -- a file was made, and its number given
+  pub made : (kind : Kind) (perm : Perm) (number : Number) (attr : Attr) (new : ServedState) → served.map.next < end_of_numbers → number ≡ number_given served.map dir.0 name →
+      attr_of (created served.tree above name kind perm) (next_file served.tree) ≡ Some attr → IsNameText name → IsSamePlainly (record { map = given served.map dir name; tree = created served.tree above name kind perm }) new →
+      Makes served dir name kind perm (Ok (number, attr)) new
+  made kind perm number attr new few is is_attr is_name same = makes_so kind perm (Ok (number, attr)) new (clear_next served.map dir.0 name absent few, is, is_attr, is_name, same)
+
+  -- what the daemon knows then fits together
+  pub made-gave : (kind : Kind) (perm : Perm) → served.map.next < end_of_numbers → IsTree (created served.tree above name kind perm) →
+      Gave (created served.tree above name kind perm) served.map (given served.map dir name) (number_given served.map dir.0 name).0 (next_file served.tree)
+  made-gave kind perm few is =
+      gives-well (record served { tree = created served.tree above name kind perm }) dir name above (next_file served.tree) (record {
+        is_tree = is;
+        sound = (making-keeps served above name kind perm may.is_tree may.sound (place.1).free).sound;
+        at = (carried-made served.tree served.map.next served.map.entries above name kind perm may.is_tree (sound-fits served may.sound) (place.1).free).forward dir.0 above at;
+        child = child_of-created served.tree above name kind perm;
+      }) (clear_next served.map dir.0 name absent few)
+
+-- ---- what a map was made ready for
+
+-- a map that stays
+pub same-map : (tree : Tree) (old new : MapState) → new ≡ old → IsSamePlainly (served_over tree old) (served_over tree new)
+same-map tree old new e = record { plainly = ap (λ (m : MapState). plain (served_over tree m)) e; bad_items = ap (λ (m : MapState). m.bad_items) e }
+
+-- room for a number is no part of the plain state
+pub same-spare : (tree : Tree) (old new : MapState) → new ≡ record old { spare = 1 } → IsSamePlainly (served_over tree old) (served_over tree new)
+same-spare tree old new e = record { plainly = ap (λ (m : MapState). plain (served_over tree m)) e; bad_items = ap (λ (m : MapState). m.bad_items) e }
+
+-- what is given in that room is what is given without it
+pub given-spare : (tree : Tree) (map : MapState) (dir : Number) (name : List ℕ) → IsSamePlainly (served_over tree (given map dir name)) (served_over tree (given (record map { spare = 1 }) dir name))
+given-spare tree map dir name = in_ (is_some (entry_at map.entries dir.0 name)) where
+  again : MapState → MapState
+  again m = record m { entries = changed_where (stands_at dir.0 name) once_more m.entries }
+
+  fresh : MapState → MapState
+  fresh m = record m { entries = m.entries ++ new_entry m.next dir name ∷ []; next = m.next + 1; spare = 0 }
+
+  in_ : (b : Bool) → IsSamePlainly (served_over tree (if b then again map else fresh map)) (served_over tree (if b then again (record map { spare = 1 }) else fresh (record map { spare = 1 })))
+  in_ true = record { plainly = refl; bad_items = refl }
+  in_ false = record { plainly = refl; bad_items = refl }
+
+-- ---- as the code makes it
+
+module _ (served : ServedState) (dir : Number) (name : List ℕ) (above : FileId) (may : MayMake served dir name above) (kind : Kind) (perm : Perm) (few : served.map.next < end_of_numbers) where
+  -- in that room nothing stands against the number
+  pub ready-clear : (map : MapState) → map ≡ record served.map { spare = 1 } → give_fault map dir.0 name ≡ None
+  ready-clear map e = ap (λ (m : MapState). give_fault m dir.0 name) e ∙ clear_next served.map dir.0 name (absent served dir name above may) few
+
+  -- the state after all of it
+  pub made-plainly : (map ready : MapState) (tree : Tree) → ready ≡ record served.map { spare = 1 } → map ≡ given ready dir name → tree ≡ created served.tree above name kind perm →
+      IsSamePlainly (record { map = given served.map dir name; tree = created served.tree above name kind perm }) (served_over tree map)
+  made-plainly map ready tree r m t =
+      let last : map ≡ given (record served.map { spare = 1 }) dir name = m ∙ ap (λ (x : MapState). given x dir name) r in
+      let so = given-spare (created served.tree above name kind perm) served.map dir name in
+      record {
+        plainly = ap (λ (x : MapState). plain (served_over tree x)) last ∙ ap (λ (x : Tree). plain (served_over x (given (record served.map { spare = 1 }) dir name))) t ∙ so.plainly;
+        bad_items = ap (λ (x : MapState). x.bad_items) last ∙ so.bad_items;
+      }
+
+  -- it fits together
+  pub made-sound : (map ready : MapState) (tree : Tree) → ready ≡ record served.map { spare = 1 } → map ≡ given ready dir name → tree ≡ created served.tree above name kind perm → IsTree tree → IsSound (served_over tree map)
+  made-sound map ready tree r m t is =
+      sound-plainly (record { map = given served.map dir name; tree = created served.tree above name kind perm }) (served_over tree map) (made-plainly map ready tree r m t).plainly
+      (made-gave served dir name above may kind perm few (subst IsTree t is)).sound
+
+  -- and is what was promised
+  pub made-makes : (map ready : MapState) (tree : Tree) (number : Number) (attr : Attr) → ready ≡ record served.map { spare = 1 } → map ≡ given ready dir name → tree ≡ created served.tree above name kind perm →
+      IsTree tree → number ≡ number_given ready dir.0 name → attr_of tree (next_file served.tree) ≡ Some attr → Makes served dir name kind perm (Ok (number, attr)) (served_over tree map)
+  made-makes map ready tree number attr r m t is_tree is is_attr =
+      made served dir name above may kind perm number attr (served_over tree map) few (is ∙ ap (λ (x : MapState). number_given x dir.0 name) r)
+      (ap (λ (x : Tree). attr_of x (next_file served.tree)) (sym t) ∙ is_attr)
+      ((subst IsTree t is_tree).links_have_names above name (next_file served.tree) (child_of-created served.tree above name kind perm)) (made-plainly map ready tree r m t)
+
+  -- where the file was not made, nothing was
+  pub unmade : (map : MapState) (tree : Tree) → map ≡ record served.map { spare = 1 } → tree ≡ served.tree → IsSamePlainly served (served_over tree map)
+  unmade map tree m t = record {
+    plainly = ap (λ (x : Tree). plain (served_over x map)) t ∙ (same-spare served.tree served.map map m).plainly;
+    bad_items = (same-spare served.tree served.map map m).bad_items;
+  }

@@ -1,0 +1,158 @@
+-- Requests by what becomes of a name: those that tell an entry under it, and those that take it away. A kind of request
+-- more is one more of these.
+use Rattle.std.proofs.Common.{◌≡◌, ℕ, ◌+◌, Bool, true, false, ◌&&◌, List, [], ◌∷◌, ◌++◌, Option, Some, None, is_some, Result, Ok, Err, refl, sym, ap, ◌∙◌}
+use Rattle.std.specs.Prelude.{if◌then◌else◌}
+use Rattle.eden_base.specs.First.{changed_where}
+use Rattle.std.specs.Option.{option_map_or}
+use Rattle.eden_base.specs.declared.attr.Attr.{Attr}
+use Rattle.eden_base.specs.declared.attr.Kind.TheVariants.{Dir, File}
+use Rattle.eden_base.specs.declared.attr.Perm.{Perm}
+use Rattle.eden_base.specs.declared.errno.Errno.{Errno}
+use Rattle.eden_base.specs.declared.errno.Errno.TheVariants.{EISDIR, ENOTDIR, ENOTEMPTY, ESTALE}
+use Rattle.eden_base.specs.declared.number.FileId.{FileId}
+use Rattle.eden_base.specs.declared.number.Number.{Number}
+use Rattle.checkout.specs.Tree.{Tree, kind_of, is_dir, has_links, is_full_dir}
+use Rattle.fuse_wire.specs.Ask.{is_ask, nodes}
+use Rattle.fuse_wire.specs.Given.{given_out}
+use Rattle.fuse_wire.specs.declared.ask.Request.{Request}
+use Rattle.fuse_wire.specs.declared.ask.Request.TheVariants.{Lookup, Create, Mkdir, Unlink, Rmdir}
+use Rattle.fuse_wire.specs.declared.reply.Answer.{Answer}
+use Rattle.fuse_wire.specs.declared.reply.Answer.TheVariants.{Entry, Opened, Attrs, Done, Error}
+use Rattle.inode_map.specs.InodeMap.{MapState, entry_at, stands_at, once_more, new_entry, given, unlinked}
+use Rattle.inode_map.specs.declared.inode_map.Kept.{Kept}
+use Rattle.fuse_ops.specs.Answers.{Effect, looks_at, comes_to, found_in, free_in, enters, makes, takes_from, unless, against_unlink, against_rmdir, telling, tree_after, file_unnamed}
+use Rattle.fuse_ops.specs.Served.{ServedState, place_told, place_taken, name_taken, map_after, map_without, served_after}
+
+-- the request asks by a name in the directory of a number, and comes to something by what that directory is
+pub record GoesTo (request : Request) (dir : Number) (effect : Tree → Option FileId → Result Effect Errno) : Type 0 where
+  pub ask : is_ask request ≡ true
+  pub looks : looks_at request ≡ dir ∷ []
+  pub nodes : nodes request ≡ dir ∷ []
+  pub comes : (tree : Tree) (files : ℕ → Option FileId) → comes_to tree files request ≡ effect tree (files dir.0)
+  pub stale : (tree : Tree) → effect tree None ≡ Err ESTALE
+
+-- its success tells the entry of that name
+pub record TellsEntry (request : Request) (dir : Number) (name : List ℕ) : Type 0 where
+  pub told : place_told request ≡ Some (dir, name)
+  pub taken : place_taken request ≡ None
+  pub gives : (number : Number) (attr : Attr) → given_out (telling request number attr) ≡ Some number
+
+-- its success takes the name away
+pub record TakesPlace (request : Request) (dir : Number) (name : List ℕ) : Type 0 where
+  pub told : place_told request ≡ None
+  pub taken : place_taken request ≡ Some (dir, name)
+
+-- a file of a tree, whose number is held once more
+abbrev pub entered : Tree → FileId → Effect
+entered tree file = record { tree = tree; file = Some file; counts = true; unnamed = None }
+
+-- ---- the requests
+
+pub lookup-goes : (dir : Number) (name : List ℕ) → GoesTo (Lookup dir name) dir (λ tree above. enters tree (found_in tree above name))
+lookup-goes dir name = record { ask = refl; looks = refl; nodes = refl; comes = λ tree files. refl; stale = λ tree. refl }
+
+pub create-goes : (dir : Number) (name : List ℕ) (perm : Perm) → GoesTo (Create dir name perm) dir (λ tree above. makes tree name File perm (free_in tree above name))
+create-goes dir name perm = record { ask = refl; looks = refl; nodes = refl; comes = λ tree files. refl; stale = λ tree. refl }
+
+pub mkdir-goes : (dir : Number) (name : List ℕ) (perm : Perm) → GoesTo (Mkdir dir name perm) dir (λ tree above. makes tree name Dir perm (free_in tree above name))
+mkdir-goes dir name perm = record { ask = refl; looks = refl; nodes = refl; comes = λ tree files. refl; stale = λ tree. refl }
+
+pub unlink-goes : (dir : Number) (name : List ℕ) → GoesTo (Unlink dir name) dir (λ tree above. takes_from tree (against_unlink tree) above name)
+unlink-goes dir name = record { ask = refl; looks = refl; nodes = refl; comes = λ tree files. refl; stale = λ tree. refl }
+
+pub rmdir-goes : (dir : Number) (name : List ℕ) → GoesTo (Rmdir dir name) dir (λ tree above. takes_from tree (against_rmdir tree) above name)
+rmdir-goes dir name = record { ask = refl; looks = refl; nodes = refl; comes = λ tree files. refl; stale = λ tree. refl }
+
+pub lookup-tells : (dir : Number) (name : List ℕ) → TellsEntry (Lookup dir name) dir name
+lookup-tells dir name = record { told = refl; taken = refl; gives = λ number attr. refl }
+
+pub create-tells : (dir : Number) (name : List ℕ) (perm : Perm) → TellsEntry (Create dir name perm) dir name
+create-tells dir name perm = record { told = refl; taken = refl; gives = λ number attr. refl }
+
+pub mkdir-tells : (dir : Number) (name : List ℕ) (perm : Perm) → TellsEntry (Mkdir dir name perm) dir name
+mkdir-tells dir name perm = record { told = refl; taken = refl; gives = λ number attr. refl }
+
+pub unlink-takes : (dir : Number) (name : List ℕ) → TakesPlace (Unlink dir name) dir name
+unlink-takes dir name = record { told = refl; taken = refl }
+
+pub rmdir-takes : (dir : Number) (name : List ℕ) → TakesPlace (Rmdir dir name) dir name
+rmdir-takes dir name = record { told = refl; taken = refl }
+
+-- ---- what stood against a name that is taken
+
+-- no directory, or an empty one
+pub unlink-frees : (tree : Tree) (file : FileId) → against_unlink tree file ≡ None → is_full_dir tree file ≡ false
+unlink-frees tree file e = in_ (is_dir (kind_of tree file)) e where
+  in_ : (b : Bool) → (if b then Some EISDIR else None) ≡ None → (b && has_links tree file) ≡ false
+  in_ true h = absurd (let none : ⊥ = cc in none)
+  in_ false h = refl
+
+pub rmdir-frees : (tree : Tree) (file : FileId) → against_rmdir tree file ≡ None → is_full_dir tree file ≡ false
+rmdir-frees tree file e = in_ (is_dir (kind_of tree file)) (has_links tree file) e where
+  in_ : (b c : Bool) → (if b then (if c then Some ENOTEMPTY else None) else Some ENOTDIR) ≡ None → (b && c) ≡ false
+  in_ true true h = absurd (let none : ⊥ = cc in none)
+  in_ true false h = refl
+  in_ false c h = absurd (let none : ⊥ = cc in none)
+
+abbrev good : FileId → Result FileId Errno
+good file = Ok file
+
+-- what was found, and against which nothing stands
+pub unless-found : (against : FileId → Option Errno) (found : Result FileId Errno) (file : FileId) → unless against found ≡ Ok file → (found ≡ Ok file) × (against file ≡ None)
+unless-found against (Err errno) file e = absurd (let none : ⊥ = cc in none)
+unless-found against (Ok f) file e = in_ (against f) refl e where
+  in_ : (o : Option Errno) → against f ≡ o → option_map_or (λ (errno : Errno). Err errno) o (good f) ≡ good file → (good f ≡ good file) × (against file ≡ None)
+  in_ None a h = let same : f ≡ file = cc in (h, ap against (sym same) ∙ a)
+  in_ (Some errno) a h = absurd (let none : ⊥ = cc in none)
+
+-- ---- what is known after an answer
+
+-- an error changes nothing
+pub error-after : (old : ServedState) (request : Request) (result : Result Effect Errno) (errno : Errno) → served_after old request result (Error errno) ≡ old
+error-after old request result errno = ap (λ (m : MapState). record old { map = m }) (no_loss (map_after old.map (place_told request) None) (place_taken request) ∙ no_gift old.map (place_told request)) where
+  no_gift : (map : MapState) (place : Option (Number × List ℕ)) → map_after map place None ≡ map
+  no_gift map None = refl
+  no_gift map (Some place) = refl
+
+  no_loss : (map : MapState) (place : Option (Number × List ℕ)) → map_without map place None ≡ map
+  no_loss map None = refl
+  no_loss map (Some place) = refl
+
+-- what gives a number out is a success, whose tree is the tree after it
+pub gift-tree : (tree : Tree) (effect : Effect) (answer : Answer) (number : Number) → given_out answer ≡ Some number → tree_after tree (Ok effect) answer ≡ effect.tree
+gift-tree tree effect (Entry n attr) number e = refl
+gift-tree tree effect (Opened n attr) number e = refl
+gift-tree tree effect (Attrs n attr) number e = refl
+gift-tree tree effect Done number e = refl
+gift-tree tree effect (Error errno) number e = absurd (let none : ⊥ = cc in none)
+
+-- the number of the name is counted once more, over the tree of the effect
+pub entry-after : (old : ServedState) (request : Request) (dir : Number) (name : List ℕ) (effect : Effect) (answer : Answer) (number : Number) → TellsEntry request dir name → given_out answer ≡ Some number →
+    served_after old request (Ok effect) answer ≡ record { map = given old.map dir name; tree = effect.tree }
+entry-after old request dir name effect answer number tells e = λ i. record { map = map_is i; tree = gift-tree old.tree effect answer number e i } where
+  map_is : map_without (map_after old.map (place_told request) (given_out answer)) (place_taken request) (file_unnamed (Ok effect) answer) ≡ given old.map dir name
+  map_is = ap (λ (p : Option (Number × List ℕ)). map_without (map_after old.map (place_told request) (given_out answer)) p (file_unnamed (Ok effect) answer)) tells.taken
+      ∙ ap (λ (p : Option (Number × List ℕ)). map_after old.map p (given_out answer)) tells.told
+      ∙ ap (λ (o : Option Number). map_after old.map (Some (dir, name)) o) e
+
+-- the name of the file is taken
+pub done-after : (old : ServedState) (request : Request) (dir : Number) (name : List ℕ) (effect : Effect) (file : FileId) → TakesPlace request dir name → effect.unnamed ≡ Some file →
+    served_after old request (Ok effect) Done ≡ record { map = name_taken old.map dir name file; tree = effect.tree }
+done-after old request dir name effect file takes e = λ i. record { map = map_is i; tree = effect.tree } where
+  map_is : map_without (map_after old.map (place_told request) None) (place_taken request) effect.unnamed ≡ name_taken old.map dir name file
+  map_is = ap (λ (p : Option (Number × List ℕ)). map_without (map_after old.map p None) (place_taken request) effect.unnamed) takes.told
+      ∙ ap (λ (p : Option (Number × List ℕ)). map_without old.map p effect.unnamed) takes.taken
+      ∙ ap (λ (o : Option FileId). map_without old.map (Some (dir, name)) o) e
+
+-- neither counts a bad forget
+pub given-bad_items : (map : MapState) (dir : Number) (name : List ℕ) → (given map dir name).bad_items ≡ map.bad_items
+given-bad_items map dir name = in_ (is_some (entry_at map.entries dir.0 name)) where
+  in_ : (b : Bool) → (if b then record map { entries = changed_where (stands_at dir.0 name) once_more map.entries } else record map { entries = map.entries ++ new_entry map.next dir name ∷ []; next = map.next + 1; spare = 0 }).bad_items ≡ map.bad_items
+  in_ true = refl
+  in_ false = refl
+
+pub taken-bad_items : (map : MapState) (dir : Number) (name : List ℕ) (file : FileId) → (name_taken map dir name file).bad_items ≡ map.bad_items
+taken-bad_items map dir name file = in_ (entry_at map.entries dir.0 name) where
+  in_ : (o : Option Kept) → (option_map_or (λ (kept : Kept). unlinked map kept.number.0 file) o map).bad_items ≡ map.bad_items
+  in_ None = refl
+  in_ (Some kept) = refl

@@ -1,0 +1,41 @@
+-- What making a file and taking a name away do to what a daemon knows: the shapes of their laws. (EdenFS's documents on
+-- inode lifetime: a number names its file though the file's name is gone.)
+use Rattle.std.specs.Prelude.{◌≡◌, ℕ, false, List, Some, None}
+use Rattle.eden_base.specs.declared.attr.Kind.{Kind}
+use Rattle.eden_base.specs.declared.attr.Perm.{Perm}
+use Rattle.eden_base.specs.declared.number.FileId.{FileId}
+use Rattle.eden_base.specs.declared.number.Number.{Number}
+use Rattle.checkout.specs.Tree.{IsTree, child_of, is_full_dir, created, removed}
+use Rattle.inode_map.specs.InodeMap.{count_of, IsFileOf}
+use Rattle.fuse_ops.specs.Served.{ServedState, name_taken}
+use Rattle.fuse_ops.specs.Soundness.{IsSound}
+
+-- no number is counted more or less, or names another file than before, and none is given
+pub record KeepsNames (old new : ServedState) : Type 0 where
+  pub sound : IsSound new
+  pub counts : (n : ℕ) → count_of new.map.entries n ≡ count_of old.map.entries n
+  pub names : (n : ℕ) (file : FileId) → IsFileOf new.tree new.map.entries n file →
+      IsFileOf old.tree old.map.entries n file
+  pub next : new.map.next ≡ old.map.next
+
+-- the law of making a file under a free name
+abbrev pub MakingLaw : Type 0
+MakingLaw =
+    (served : ServedState) (dir : FileId) (name : List ℕ) (kind : Kind) (perm : Perm) →
+    IsTree served.tree → IsSound served → child_of served.tree dir name ≡ None →
+    KeepsNames served (record served { tree = created served.tree dir name kind perm })
+
+-- a name in the directory of a number, which may be taken away
+pub record MayLose (served : ServedState) (number : Number) (dir : FileId) (name : List ℕ) (file : FileId) : Type 0 where
+  pub is_tree : IsTree served.tree
+  pub sound : IsSound served
+  pub at : IsFileOf served.tree served.map.entries number.0 dir
+  pub child : child_of served.tree dir name ≡ Some file
+  pub not_full : is_full_dir served.tree file ≡ false
+
+-- the law of taking a name away
+abbrev pub UnnamingLaw : Type 0
+UnnamingLaw =
+    (served : ServedState) (number : Number) (dir : FileId) (name : List ℕ) (file : FileId) →
+    MayLose served number dir name file →
+    KeepsNames served (record { map = name_taken served.map number name file; tree = removed served.tree dir name })
