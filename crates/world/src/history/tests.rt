@@ -24,6 +24,21 @@ const FILE: Attr = Attr {
     nlink: 1,
 };
 
+/// An event of a test as data, so that a test is a table. A batch takes number 2 back twice.
+#[derive(Clone, Copy)]
+enum Deed {
+    Start,
+    Mount(u64),
+    LookUp(u64, &'static [u8]),
+    Create(u64, &'static [u8]),
+    Unlink(u64, &'static [u8]),
+    Getattr(u64),
+    Open(u64),
+    Forget(u64, u64),
+    ForgetBatch,
+    Show,
+}
+
 /// Makes a name, and once more where memory was refused.
 fn name(alloc: Global, bytes: &[u8]) -> Result<Name, Fail> {
     match Name::parse(alloc, bytes) {
@@ -39,27 +54,6 @@ fn manifest(alloc: Global) -> Result<Manifest, Fail> {
     }
 }
 
-fn look_up(alloc: Global, dir: u64, bytes: &[u8]) -> Result<Event, Fail> {
-    let name = name(alloc, bytes)?;
-    let dir = Number(dir);
-    Ok(Event::Do(Request::Lookup { dir, name }))
-}
-
-fn getattr(node: u64) -> Event {
-    Event::Do(Request::Getattr { node: Number(node) })
-}
-
-fn open(node: u64) -> Event {
-    Event::Do(Request::Other {
-        opcode: 14,
-        node: Number(node),
-    })
-}
-
-fn forget(node: u64, k: u64) -> Event {
-    Event::Do(Request::Forget(item(node, k)))
-}
-
 fn item(node: u64, k: u64) -> Item {
     Item {
         node: Number(node),
@@ -67,12 +61,68 @@ fn item(node: u64, k: u64) -> Item {
     }
 }
 
-fn forget_both(alloc: Global, items: &[Item; 2]) -> Result<Event, Fail> {
-    let batch = match Batch::of(alloc, items) {
-        Ok(batch) => batch,
-        Err(NoMemory) => Batch::of(alloc, items)?,
+fn batch(alloc: Global) -> Result<Batch, Fail> {
+    let items = [item(2, 1), item(2, 1)];
+    match Batch::of(alloc, &items) {
+        Ok(batch) => Ok(batch),
+        Err(NoMemory) => Ok(Batch::of(alloc, &items)?),
+    }
+}
+
+/// Makes the request of a deed; nothing where it asks for none.
+fn request(alloc: Global, deed: Deed) -> Result<Option<Request>, Fail> {
+    let request = match deed {
+        Deed::LookUp(dir, bytes) => Request::Lookup {
+            dir: Number(dir),
+            name: name(alloc, bytes)?,
+        },
+        Deed::Create(dir, bytes) => Request::Create {
+            dir: Number(dir),
+            name: name(alloc, bytes)?,
+            perm: FILE.perm,
+        },
+        Deed::Unlink(dir, bytes) => Request::Unlink {
+            dir: Number(dir),
+            name: name(alloc, bytes)?,
+        },
+        Deed::Getattr(node) => Request::Getattr { node: Number(node) },
+        Deed::Open(node) => Request::Other {
+            opcode: 14,
+            node: Number(node),
+        },
+        Deed::Forget(node, k) => Request::Forget(item(node, k)),
+        Deed::ForgetBatch => Request::BatchForget(batch(alloc)?),
+        Deed::Start | Deed::Mount(_) | Deed::Show => return Ok(None),
     };
-    Ok(Event::Do(Request::BatchForget(batch)))
+    Ok(Some(request))
+}
+
+fn event(alloc: Global, deed: Deed) -> Result<Event, Fail> {
+    match deed {
+        Deed::Start => Ok(Event::Start),
+        Deed::Mount(daemon) => Ok(Event::Mount(DaemonId(daemon))),
+        deed => match request(alloc, deed)? {
+            Some(request) => Ok(Event::Do(request)),
+            None => Ok(Event::Show),
+        },
+    }
+}
+
+fn room(alloc: Global, deeds: usize) -> Result<Vec<Event>, Fail> {
+    match Vec::with_capacity(alloc, deeds) {
+        Ok(events) => Ok(events),
+        Err(_refused) => Ok(Vec::with_capacity(alloc, deeds)?),
+    }
+}
+
+/// Makes the events of deeds.
+fn events(alloc: Global, deeds: &[(Deed, Option<Happened>)]) -> Result<Vec<Event>, Fail> {
+    let mut events = room(alloc, deeds.len())?;
+    for (deed, _expected) in deeds {
+        let event = event(alloc, *deed)?;
+        events.push(event)?;
+    }
+    Ok(events)
 }
 
 fn forgot(node: u64, k: u64, forgot: Forgot) -> Option<Happened> {
@@ -82,31 +132,35 @@ fn forgot(node: u64, k: u64, forgot: Forgot) -> Option<Happened> {
     })
 }
 
+fn answered(unique: u64, answer: Answer) -> Option<Happened> {
+    Some(Happened::Answered(Reply { unique, answer }))
+}
+
 fn entry(unique: u64, number: u64, attr: Attr) -> Option<Happened> {
-    Some(Happened::Answered(Reply {
-        unique,
-        answer: Answer::Entry {
-            number: Number(number),
-            attr,
-        },
-    }))
+    let number = Number(number);
+    answered(unique, Answer::Entry { number, attr })
+}
+
+fn opened(unique: u64, number: u64, attr: Attr) -> Option<Happened> {
+    let number = Number(number);
+    answered(unique, Answer::Opened { number, attr })
 }
 
 fn attrs(unique: u64, number: u64, attr: Attr) -> Option<Happened> {
-    Some(Happened::Answered(Reply {
-        unique,
-        answer: Answer::Attrs {
-            number: Number(number),
-            attr,
-        },
-    }))
+    let number = Number(number);
+    answered(unique, Answer::Attrs { number, attr })
+}
+
+fn done(unique: u64) -> Option<Happened> {
+    answered(unique, Answer::Done)
 }
 
 fn error(unique: u64, errno: Errno) -> Option<Happened> {
-    Some(Happened::Answered(Reply {
-        unique,
-        answer: Answer::Error(errno),
-    }))
+    answered(unique, Answer::Error(errno))
+}
+
+fn started(daemon: u64) -> Option<Happened> {
+    Some(Happened::Started(DaemonId(daemon)))
 }
 
 fn refused(refusal: Refusal) -> Option<Happened> {
@@ -118,11 +172,11 @@ fn first_of(outcome: &Outcome) -> Option<Happened> {
 }
 
 /// Returns whether each event had its outcome: one thing that happened, or nothing.
-fn are(outcomes: &[Outcome], expected: &[Option<Happened>]) -> bool {
-    if outcomes.len() != expected.len() {
+fn are(outcomes: &[Outcome], deeds: &[(Deed, Option<Happened>)]) -> bool {
+    if outcomes.len() != deeds.len() {
         return false;
     }
-    for (outcome, expected) in outcomes.iter().zip(expected.iter()) {
+    for (outcome, (_deed, expected)) in outcomes.iter().zip(deeds.iter()) {
         if outcome.happened().len() > 1 || first_of(outcome) != *expected {
             return false;
         }
@@ -130,17 +184,18 @@ fn are(outcomes: &[Outcome], expected: &[Option<Happened>]) -> bool {
     true
 }
 
-/// Returns the world after events that had these outcomes, in the first run or, as where memory was refused, in the
+/// Returns the world after deeds that had these outcomes, in the first run or, as where memory was refused, in the
 /// second.
-fn after(alloc: Global, events: &[Event], expected: &[Option<Happened>]) -> Result<World, Fail> {
+fn after(alloc: Global, deeds: &[(Deed, Option<Happened>)]) -> Result<World, Fail> {
     let manifest = manifest(alloc)?;
-    if let Ok((world, outcomes)) = run(alloc, &manifest, 8, events) {
-        if are(&outcomes, expected) {
+    let events = events(alloc, deeds)?;
+    if let Ok((world, outcomes)) = run(alloc, &manifest, 8, &events) {
+        if are(&outcomes, deeds) {
             return Ok(world);
         }
     }
-    let (world, outcomes) = run(alloc, &manifest, 8, events)?;
-    if are(&outcomes, expected) {
+    let (world, outcomes) = run(alloc, &manifest, 8, &events)?;
+    if are(&outcomes, deeds) {
         return Ok(world);
     }
     Err("other outcomes")?
@@ -182,26 +237,16 @@ fn made(world: &mut World, event: &Event) -> Option<Happened> {
 
 #[test]
 fn gives_a_new_number_once_the_kernel_forgot_the_old_one(rt: HostRuntime) -> Result<(), Fail> {
-    let alloc = rt.alloc();
-    let events = [
-        Event::Start,
-        Event::Mount(DaemonId(1)),
-        look_up(alloc, 1, b"src")?,
-        look_up(alloc, 1, b"src")?,
-        Event::Show,
-        forget(2, 2),
-        look_up(alloc, 1, b"src")?,
+    let deeds = [
+        (Deed::Start, started(1)),
+        (Deed::Mount(1), Some(Happened::Mounted(1))),
+        (Deed::LookUp(1, b"src"), entry(1, 2, DIRECTORY)),
+        (Deed::LookUp(1, b"src"), entry(2, 2, DIRECTORY)),
+        (Deed::Show, None),
+        (Deed::Forget(2, 2), forgot(2, 2, Forgot::Dropped)),
+        (Deed::LookUp(1, b"src"), entry(3, 3, DIRECTORY)),
     ];
-    let expected = [
-        Some(Happened::Started(DaemonId(1))),
-        Some(Happened::Mounted(1)),
-        entry(1, 2, DIRECTORY),
-        entry(2, 2, DIRECTORY),
-        None,
-        forgot(2, 2, Forgot::Dropped),
-        entry(3, 3, DIRECTORY),
-    ];
-    let world = after(alloc, &events, &expected)?;
+    let world = after(rt.alloc(), &deeds)?;
     assert!(rt; keeps_alone(&world, 3, 4));
     let seat = Seat {
         generation: 1,
@@ -213,94 +258,76 @@ fn gives_a_new_number_once_the_kernel_forgot_the_old_one(rt: HostRuntime) -> Res
 
 #[test]
 fn keeps_a_directory_until_what_it_holds_is_forgotten(rt: HostRuntime) -> Result<(), Fail> {
-    let alloc = rt.alloc();
-    let events = [
-        Event::Start,
-        Event::Mount(DaemonId(1)),
-        look_up(alloc, 1, b"src")?,
-        look_up(alloc, 2, b"a")?,
-        forget(2, 1),
-        look_up(alloc, 3, b"x")?,
-        look_up(alloc, 1, b"missing")?,
-        forget(3, 1),
-        look_up(alloc, 1, b"src")?,
+    let deeds = [
+        (Deed::Start, started(1)),
+        (Deed::Mount(1), Some(Happened::Mounted(1))),
+        (Deed::LookUp(1, b"src"), entry(1, 2, DIRECTORY)),
+        (Deed::LookUp(2, b"a"), entry(2, 3, FILE)),
+        (Deed::Forget(2, 1), forgot(2, 1, Forgot::Lowered)),
+        (Deed::LookUp(3, b"x"), error(3, Errno::ENOTDIR)),
+        (Deed::LookUp(1, b"missing"), error(4, Errno::ENOENT)),
+        (Deed::Forget(3, 1), forgot(3, 1, Forgot::Dropped)),
+        (Deed::LookUp(1, b"src"), entry(5, 4, DIRECTORY)),
     ];
-    let expected = [
-        Some(Happened::Started(DaemonId(1))),
-        Some(Happened::Mounted(1)),
-        entry(1, 2, DIRECTORY),
-        entry(2, 3, FILE),
-        forgot(2, 1, Forgot::Lowered),
-        error(3, Errno::ENOTDIR),
-        error(4, Errno::ENOENT),
-        forgot(3, 1, Forgot::Dropped),
-        entry(5, 4, DIRECTORY),
+    let world = after(rt.alloc(), &deeds)?;
+    assert!(rt; keeps_alone(&world, 4, 5));
+    Ok(())
+}
+
+#[test]
+fn keeps_an_unlinked_file_that_the_kernel_holds(rt: HostRuntime) -> Result<(), Fail> {
+    let made = Attr { size: 0, ..FILE };
+    let deeds = [
+        (Deed::Start, started(1)),
+        (Deed::Mount(1), Some(Happened::Mounted(1))),
+        (Deed::Create(1, b"a"), opened(1, 2, made)),
+        (Deed::Unlink(1, b"a"), done(2)),
+        (Deed::LookUp(1, b"a"), error(3, Errno::ENOENT)),
+        (Deed::Create(1, b"a"), opened(4, 3, made)),
+        (Deed::Getattr(2), attrs(5, 2, Attr { nlink: 0, ..made })),
+        (Deed::Forget(2, 1), forgot(2, 1, Forgot::Dropped)),
+        (Deed::Forget(3, 1), forgot(3, 1, Forgot::Dropped)),
+        (Deed::LookUp(1, b"src"), entry(6, 4, DIRECTORY)),
     ];
-    let world = after(alloc, &events, &expected)?;
+    let world = after(rt.alloc(), &deeds)?;
     assert!(rt; keeps_alone(&world, 4, 5));
     Ok(())
 }
 
 #[test]
 fn refuses_events_for_the_first_cause(rt: HostRuntime) -> Result<(), Fail> {
-    let alloc = rt.alloc();
-    let events = [
-        Event::Mount(DaemonId(1)),
-        Event::Mount(DaemonId(0)),
-        look_up(alloc, 1, b"src")?,
-        forget(1, 0),
-        Event::Start,
-        Event::Start,
-        Event::Mount(DaemonId(2)),
-        Event::Mount(DaemonId(1)),
-        Event::Mount(DaemonId(2)),
-        look_up(alloc, 2, b"a")?,
-        forget(1, 1),
-        forget(2, 1),
+    let deeds = [
+        (Deed::Mount(1), refused(Refusal::NoDaemon)),
+        (Deed::Mount(0), refused(Refusal::NoDaemon)),
+        (Deed::LookUp(1, b"src"), refused(Refusal::NotMounted)),
+        (Deed::Forget(1, 0), refused(Refusal::NotMounted)),
+        (Deed::Start, started(1)),
+        (Deed::Start, started(2)),
+        (Deed::Mount(2), Some(Happened::Mounted(1))),
+        (Deed::Mount(1), refused(Refusal::Seated)),
+        (Deed::Mount(2), refused(Refusal::WrongPhase)),
+        (Deed::LookUp(2, b"a"), refused(Refusal::NotHeld)),
+        (Deed::Forget(1, 1), refused(Refusal::BadForget)),
+        (Deed::Forget(2, 1), refused(Refusal::BadForget)),
     ];
-    let expected = [
-        refused(Refusal::NoDaemon),
-        refused(Refusal::NoDaemon),
-        refused(Refusal::NotMounted),
-        refused(Refusal::NotMounted),
-        Some(Happened::Started(DaemonId(1))),
-        Some(Happened::Started(DaemonId(2))),
-        Some(Happened::Mounted(1)),
-        refused(Refusal::Seated),
-        refused(Refusal::WrongPhase),
-        refused(Refusal::NotHeld),
-        refused(Refusal::BadForget),
-        refused(Refusal::BadForget),
-    ];
-    let world = after(alloc, &events, &expected)?;
+    let world = after(rt.alloc(), &deeds)?;
     assert!(rt; world.served(DaemonId(1)).is_none() && world.served(DaemonId(3)).is_none());
     Ok(())
 }
 
 #[test]
 fn shows_attributes_and_takes_no_batch(rt: HostRuntime) -> Result<(), Fail> {
-    let alloc = rt.alloc();
-    let events = [
-        Event::Start,
-        Event::Mount(DaemonId(1)),
-        look_up(alloc, 1, b"src")?,
-        forget_both(alloc, &[item(2, 1), item(2, 1)])?,
-        getattr(2),
-        open(1),
-        getattr(3),
-        look_up(alloc, 1, b"missing")?,
+    let deeds = [
+        (Deed::Start, started(1)),
+        (Deed::Mount(1), Some(Happened::Mounted(1))),
+        (Deed::LookUp(1, b"src"), entry(1, 2, DIRECTORY)),
+        (Deed::ForgetBatch, refused(Refusal::BadForget)),
+        (Deed::Getattr(2), attrs(2, 2, DIRECTORY)),
+        (Deed::Open(1), error(3, Errno::ENOSYS)),
+        (Deed::Getattr(3), refused(Refusal::NotHeld)),
+        (Deed::LookUp(1, b"missing"), error(4, Errno::ENOENT)),
     ];
-    let expected = [
-        Some(Happened::Started(DaemonId(1))),
-        Some(Happened::Mounted(1)),
-        entry(1, 2, DIRECTORY),
-        refused(Refusal::BadForget),
-        attrs(2, 2, DIRECTORY),
-        error(3, Errno::ENOSYS),
-        refused(Refusal::NotHeld),
-        error(4, Errno::ENOENT),
-    ];
-    let world = after(alloc, &events, &expected)?;
+    let world = after(rt.alloc(), &deeds)?;
     assert!(rt; keeps_alone(&world, 2, 3));
     Ok(())
 }
@@ -315,9 +342,8 @@ fn goes_on_after_memory_was_refused(rt: HostRuntime) -> Result<(), Fail> {
         Ok(world) => world,
         Err(NoMemory) => World::new(alloc, &manifest, 8)?,
     };
-    let ask = look_up(alloc, 1, b"src")?;
-    let started = made(&mut world, &Event::Start);
-    assert_eq!(rt; started, Some(Happened::Started(DaemonId(1))));
+    let ask = event(alloc, Deed::LookUp(1, b"src"))?;
+    assert_eq!(rt; made(&mut world, &Event::Start), started(1));
     let mounted = made(&mut world, &Event::Mount(DaemonId(1)));
     assert_eq!(rt; mounted, Some(Happened::Mounted(1)));
     let asked = made(&mut world, &ask);
