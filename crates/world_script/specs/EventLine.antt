@@ -2,24 +2,69 @@
 -- word, and runs to the end of the line. (This project's own.)
 use Rattle.std.specs.Prelude.{ℕ, ◌^◌, nat_lt, List, Option, Some, None, codes, option_map, option_and_then, is_none, if◌then◌else◌}
 use Rattle.fuse_wire.specs.declared.ask.Request.{Request}
-use Rattle.fuse_wire.specs.declared.ask.Request.TheVariants.{Lookup, Getattr, Forget}
+use Rattle.fuse_wire.specs.declared.ask.Request.TheVariants.{Lookup, Getattr, Create, Mkdir, Unlink, Rmdir, Forget}
 use Rattle.fuse_wire.specs.RequestText.{other_of}
 use Rattle.world.specs.declared.event.Event.{Event}
 use Rattle.world.specs.declared.event.Event.TheVariants.{Start, Mount, Do, Show}
 use Rattle.eden_base.specs.Name.{name_fault}
+use Rattle.eden_base.specs.declared.attr.Perm.{Perm}
+use Rattle.eden_base.specs.declared.number.Number.{Number}
+use Rattle.checkout.specs.Text.{mode_of}
 use Rattle.world_script.specs.Number.{number_of}
 use Rattle.eden_base.specs.Text.{cut}
 use Rattle.world_script.specs.Words.{is_word}
 
--- the lookup of a name in a directory
-abbrev pub lookup_in : List ℕ → ℕ → Option Request
-lookup_in name dir = if is_none (name_fault name) then Some (Lookup (record { 0 = dir }) name) else None
+-- the name that bytes are
+abbrev pub name_of : List ℕ → Option (List ℕ)
+name_of bytes = if is_none (name_fault bytes) then Some bytes else None
+
+-- a name in the directory of this number
+abbrev pub named_in : ℕ → List ℕ → Option (Number × List ℕ)
+named_in dir bytes = option_map (λ (name : List ℕ). (record { 0 = dir }, name)) (name_of bytes)
+
+-- `N NAME`
+abbrev pub named_of : List ℕ → Option (Number × List ℕ)
+named_of words =
+    option_and_then (λ (parts : List ℕ × List ℕ). option_and_then (λ dir. named_in dir parts.1) (number_of parts.0))
+    (cut 32 words)
+
+-- a mode, as a manifest has it, and a name
+abbrev pub made_with : Number → Perm → List ℕ → Option (Number × Perm × List ℕ)
+made_with dir perm bytes = option_map (λ (name : List ℕ). (dir, perm, name)) (name_of bytes)
+
+-- `MODE NAME`, the mode as a manifest has it, in the directory of this number
+abbrev pub made_in : ℕ → List ℕ → Option (Number × Perm × List ℕ)
+made_in dir words =
+    option_and_then
+    (λ (parts : List ℕ × List ℕ).
+    option_and_then (λ perm. made_with (record { 0 = dir }) perm parts.1) (mode_of parts.0))
+    (cut 32 words)
+
+-- `N MODE NAME`
+abbrev pub made_of : List ℕ → Option (Number × Perm × List ℕ)
+made_of words =
+    option_and_then (λ (parts : List ℕ × List ℕ). option_and_then (λ dir. made_in dir parts.1) (number_of parts.0))
+    (cut 32 words)
 
 -- `N NAME`
 abbrev pub lookup_of : List ℕ → Option Request
-lookup_of words =
-    option_and_then (λ (parts : List ℕ × List ℕ). option_and_then (lookup_in parts.1) (number_of parts.0))
-    (cut 32 words)
+lookup_of words = option_map (λ (named : Number × List ℕ). Lookup named.0 named.1) (named_of words)
+
+-- `N NAME`
+abbrev pub unlink_of : List ℕ → Option Request
+unlink_of words = option_map (λ (named : Number × List ℕ). Unlink named.0 named.1) (named_of words)
+
+-- `N NAME`
+abbrev pub rmdir_of : List ℕ → Option Request
+rmdir_of words = option_map (λ (named : Number × List ℕ). Rmdir named.0 named.1) (named_of words)
+
+-- `N MODE NAME`
+abbrev pub create_of : List ℕ → Option Request
+create_of words = option_map (λ (made : Number × Perm × List ℕ). Create made.0 made.2 made.1) (made_of words)
+
+-- `N MODE NAME`
+abbrev pub mkdir_of : List ℕ → Option Request
+mkdir_of words = option_map (λ (made : Number × Perm × List ℕ). Mkdir made.0 made.2 made.1) (made_of words)
 
 -- the forget of a number, so many times
 abbrev pub forget_both : Option ℕ → Option ℕ → Option Request
@@ -49,12 +94,17 @@ other_said words =
 abbrev pub request_by : List ℕ → List ℕ → Option Request
 request_by word rest =
     if is_word word (codes "lookup") then lookup_of rest
+    else if is_word word (codes "create") then create_of rest
+    else if is_word word (codes "mkdir") then mkdir_of rest
+    else if is_word word (codes "unlink") then unlink_of rest
+    else if is_word word (codes "rmdir") then rmdir_of rest
     else if is_word word (codes "forget") then forget_of rest
     else if is_word word (codes "getattr") then getattr_of rest
     else if is_word word (codes "other") then other_said rest
     else None
 
--- `lookup N NAME`, `forget N K`, `getattr N` or `other OPCODE N`
+-- `lookup N NAME`, `create N MODE NAME`, `mkdir N MODE NAME`, `unlink N NAME`, `rmdir N NAME`, `forget N K`,
+-- `getattr N` or `other OPCODE N`
 abbrev pub request_of : List ℕ → Option Request
 request_of words = option_and_then (λ (parts : List ℕ × List ℕ). request_by parts.0 parts.1) (cut 32 words)
 

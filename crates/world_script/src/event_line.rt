@@ -1,9 +1,10 @@
 //! A line that says what happens.
 ghost use Rattle.std.specs.Prelude.{◌≡◌, IfOk};
-ghost use Rattle.world_script.specs.EventLine.{event_of, mount_of, do_of, request_of, lookup_of, forget_of, getattr_of, other_said};
+ghost use Rattle.world_script.specs.EventLine.{event_of, mount_of, do_of, request_of, lookup_of, create_of, mkdir_of, unlink_of, rmdir_of, forget_of, getattr_of, other_said, named_of, made_of, name_of};
 
+use crate::mode::mode;
 use crate::number::number;
-use eden_base::{DaemonId, Name, NameFault, NoMemory, Number, cut};
+use eden_base::{DaemonId, Name, NameFault, NoMemory, Number, Perm, cut};
 use fuse_wire::{Item, Request};
 use std::alloc::Global;
 use world::Event;
@@ -58,6 +59,18 @@ fn read_request(alloc: Global, words: &[u8]) -> Result<Option<Request>, NoMemory
     if word == b"lookup".as_slice() {
         return read_lookup(alloc, rest);
     }
+    if word == b"create".as_slice() {
+        return read_create(alloc, rest);
+    }
+    if word == b"mkdir".as_slice() {
+        return read_mkdir(alloc, rest);
+    }
+    if word == b"unlink".as_slice() {
+        return read_unlink(alloc, rest);
+    }
+    if word == b"rmdir".as_slice() {
+        return read_rmdir(alloc, rest);
+    }
     if word == b"forget".as_slice() {
         return Ok(read_forget(rest));
     }
@@ -70,9 +83,59 @@ fn read_request(alloc: Global, words: &[u8]) -> Result<Option<Request>, NoMemory
     Ok(None)
 }
 
-/// Reads a directory's number, and a name that runs to the end of the line.
+/// Reads the name that is looked up, and its directory.
 fn read_lookup(alloc: Global, words: &[u8]) -> Result<Option<Request>, NoMemory>
     ensures { IfOk result (λ request. request ≡ lookup_of words.now) }
+{
+    match read_named(alloc, words)? {
+        Some((dir, name)) => Ok(Some(Request::Lookup { dir, name })),
+        None => Ok(None),
+    }
+}
+
+/// Reads the file that is made, and its directory.
+fn read_create(alloc: Global, words: &[u8]) -> Result<Option<Request>, NoMemory>
+    ensures { IfOk result (λ request. request ≡ create_of words.now) }
+{
+    match read_made(alloc, words)? {
+        Some((dir, perm, name)) => Ok(Some(Request::Create { dir, name, perm })),
+        None => Ok(None),
+    }
+}
+
+/// Reads the directory that is made, and the one that it is made in.
+fn read_mkdir(alloc: Global, words: &[u8]) -> Result<Option<Request>, NoMemory>
+    ensures { IfOk result (λ request. request ≡ mkdir_of words.now) }
+{
+    match read_made(alloc, words)? {
+        Some((dir, perm, name)) => Ok(Some(Request::Mkdir { dir, name, perm })),
+        None => Ok(None),
+    }
+}
+
+/// Reads the name that a file loses, and its directory.
+fn read_unlink(alloc: Global, words: &[u8]) -> Result<Option<Request>, NoMemory>
+    ensures { IfOk result (λ request. request ≡ unlink_of words.now) }
+{
+    match read_named(alloc, words)? {
+        Some((dir, name)) => Ok(Some(Request::Unlink { dir, name })),
+        None => Ok(None),
+    }
+}
+
+/// Reads the name that a directory loses, and the directory that it is in.
+fn read_rmdir(alloc: Global, words: &[u8]) -> Result<Option<Request>, NoMemory>
+    ensures { IfOk result (λ request. request ≡ rmdir_of words.now) }
+{
+    match read_named(alloc, words)? {
+        Some((dir, name)) => Ok(Some(Request::Rmdir { dir, name })),
+        None => Ok(None),
+    }
+}
+
+/// Reads a directory's number, and a name in it.
+fn read_named(alloc: Global, words: &[u8]) -> Result<Option<(Number, Name)>, NoMemory>
+    ensures { IfOk result (λ named. named ≡ named_of words.now) }
 {
     let Some((dir, name)) = cut(words, b' ') else {
         return Ok(None);
@@ -80,11 +143,40 @@ fn read_lookup(alloc: Global, words: &[u8]) -> Result<Option<Request>, NoMemory>
     let Some(dir) = number(dir) else {
         return Ok(None);
     };
-    match Name::parse(alloc, name) {
-        Ok(name) => Ok(Some(Request::Lookup {
-            dir: Number(dir),
-            name,
-        })),
+    match read_name(alloc, name)? {
+        Some(name) => Ok(Some((Number(dir), name))),
+        None => Ok(None),
+    }
+}
+
+/// Reads a directory's number, permissions, and a name in it.
+fn read_made(alloc: Global, words: &[u8]) -> Result<Option<(Number, Perm, Name)>, NoMemory>
+    ensures { IfOk result (λ made. made ≡ made_of words.now) }
+{
+    let Some((dir, rest)) = cut(words, b' ') else {
+        return Ok(None);
+    };
+    let Some(dir) = number(dir) else {
+        return Ok(None);
+    };
+    let Some((digits, name)) = cut(rest, b' ') else {
+        return Ok(None);
+    };
+    let Some(perm) = mode(digits) else {
+        return Ok(None);
+    };
+    match read_name(alloc, name)? {
+        Some(name) => Ok(Some((Number(dir), perm, name))),
+        None => Ok(None),
+    }
+}
+
+/// Reads a name, which runs to the end of the line; none where the bytes are no name.
+fn read_name(alloc: Global, bytes: &[u8]) -> Result<Option<Name>, NoMemory>
+    ensures { IfOk result (λ name. name ≡ name_of bytes.now) }
+{
+    match Name::parse(alloc, bytes) {
+        Ok(name) => Ok(Some(name)),
         Err(NameFault::NoMemory) => Err(NoMemory),
         Err(_) => Ok(None),
     }

@@ -8,6 +8,7 @@ mod event_line;
 mod fault;
 mod input;
 mod lines;
+mod mode;
 mod number;
 mod print;
 mod program;

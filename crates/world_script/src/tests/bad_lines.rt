@@ -1,7 +1,7 @@
 //! Lines that say no event.
 use super::{MANIFEST, prints};
 
-const BAD_LINES: [&[u8]; 47] = [
+const BAD_LINES: [&[u8]; 60] = [
     b"\n",
     b" \n",
     b"\r\n",
@@ -46,7 +46,20 @@ const BAD_LINES: [&[u8]; 47] = [
     b"do other 3 1\n",
     b"do other 42 1\n",
     b"do other 4294967296 1\n",
-    b"do create 1 0644 a\n",
+    b"do create 1 0644\n",
+    b"do create 1 0644 \n",
+    b"do create 1 0644 a/b\n",
+    b"do create 1 644 a\n",
+    b"do create 1 00644 a\n",
+    b"do create 1 0648 a\n",
+    b"do create 0644 1 a\n",
+    b"do mkdir 1 d\n",
+    b"do mkdir x 0700 d\n",
+    b"do mkdir 1 0700 ..\n",
+    b"do unlink 1\n",
+    b"do unlink 1 .\n",
+    b"do rmdir 1 \n",
+    b"do rename 1 2 a/b\n",
     b"issue lookup 1 src\n",
     b"take 1\n",
 ];

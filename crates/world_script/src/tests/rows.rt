@@ -2,7 +2,7 @@
 use super::{MANIFEST, prints};
 
 /// The start of a script, its rest, and the printed lines.
-const ROWS: [(&[u8], &[u8], &[u8]); 25] = [
+const ROWS: [(&[u8], &[u8], &[u8]); 26] = [
     (
         MANIFEST,
         b"start\nmount 1\nshow\n",
@@ -24,6 +24,12 @@ const ROWS: [(&[u8], &[u8], &[u8]); 25] = [
         MANIFEST,
         b"show\nmount 1\ndo lookup 1 src\nstart\nmount 2\ndo forget 2 1\nmount 1\nmount 1\nstart\nmount 2\ndo lookup 1 nope\ndo lookup 1 README\ndo lookup 2 x\ndo lookup 9 x\ndo forget 1 1\ndo forget 2 2\ndo forget 2 0\ndo lookup 1 README\ndo forget 2 1\ndo forget 2 1\nshow\n",
         b"seat none\nrefused NoDaemon\nrefused NotMounted\ndaemon 1\nrefused NoDaemon\nrefused NotMounted\nmounted 1\nrefused WrongPhase\ndaemon 2\nrefused Seated\nanswer 1 error ENOENT\nanswer 2 entry 2 file 0644 7 1\nanswer 3 error ENOTDIR\nrefused NotHeld\nrefused BadForget\nrefused BadForget\nrefused BadForget\nanswer 4 entry 2 file 0644 7 1\nforgot Lowered\nforgot Dropped\nseat 1 1 next 3\n",
+    ),
+    // Files are made and removed where there is a mount alone, in directories that are held.
+    (
+        MANIFEST,
+        b"do create 1 0644 a\ndo mkdir 1 7777 d\ndo unlink 1 a b\ndo rmdir 1 d\nstart\nmount 1\ndo create 2 0000 a\ndo mkdir 2 0700 ...\ndo unlink 2 a\ndo rmdir 2 d\n",
+        b"refused NotMounted\nrefused NotMounted\nrefused NotMounted\nrefused NotMounted\ndaemon 1\nmounted 1\nrefused NotHeld\nrefused NotHeld\nrefused NotHeld\nrefused NotHeld\n",
     ),
     // Attributes, and a request that is not served.
     (
