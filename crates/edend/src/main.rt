@@ -1,10 +1,12 @@
 //! The program: it reads a script of what happens to a mount and its daemons, runs it, and prints what came of it.
 #![tactic(auto)]
 
-use std::io::BufWriter;
+use std::env;
+use std::io::{self, BufWriter};
 use std::process::ExitCode;
+use std::rt::Env;
 pub use world_script::{DEFAULT_LIMIT, Fault, run_world};
-use world_script::{System, run_program, words_of, write_fault};
+use world_script::{System, run_program, write_fault};
 
 /// How many bytes of printed lines are gathered for one write.
 const OUTPUT_BUFFER: usize = 65_536;
@@ -22,4 +24,10 @@ fn main(rt: HostRuntime) -> ExitCode {
         &mut rt.stderr(),
     );
     ExitCode::from(ending.status())
+}
+
+/// Returns the words that the program was started with.
+fn words_of<R: Env + AllocGlobal>(rt: &R) -> io::Result<Vec<String>> {
+    let words = env::args(rt)?.collect(rt.alloc())?;
+    Ok(words)
 }

@@ -21,7 +21,7 @@ mod tests;
 
 pub use ending::Ending;
 pub use fault::{Fault, write_fault};
-pub use program::{run_program, run_words, words_of};
+pub use program::{run_program, run_words};
 pub use run::{DEFAULT_LIMIT, run_script, run_world};
 pub use run_error::RunError;
 pub use sources::{Sources, System, run_path};

@@ -13,15 +13,7 @@ use crate::{Ending, Fault, RunError, Sources, run_path, write_fault};
 use clap::Error;
 use clap::error::ErrorKind;
 use std::alloc::Global;
-use std::env;
 use std::io::{self, BufWriter, Write};
-use std::rt::Env;
-
-/// Returns the words that the program was started with.
-pub fn words_of<R: Env + AllocGlobal>(rt: &R) -> io::Result<Vec<String>> {
-    let words = env::args(rt)?.collect(rt.alloc())?;
-    Ok(words)
-}
 
 /// Does what the words ask for, and writes out all that was gathered in `lines`. Words that the system could not give
 /// as text are refused.
