@@ -1,70 +1,73 @@
 //! Scripts at the bounds of their length and of their manifest's.
 use super::prints;
 use std::alloc::{AllocError, Global};
+use std::io::{self, Write};
 
-const HEAD: &[u8] = b"commit 0123456789abcdef0123456789abcdef01234567\n";
+const COMMIT: &[u8] = b"commit 0123456789abcdef0123456789abcdef01234567\n";
 
-/// Makes a manifest of so many lines, the commit's with them.
-fn manifest_of(alloc: Global, lines: usize) -> Result<Vec<u8>, AllocError> {
-    let mut text = Vec::from_slice(alloc, HEAD)?;
+/// Writes a manifest of so many lines, the commit's with them.
+fn manifest_of(alloc: Global, lines: u32) -> io::Result<Vec<u8>> {
+    let mut text = Vec::from_slice(alloc, COMMIT)?;
     for number in 1..lines {
-        let name = [
-            b'a' + (number / 65_536 % 16) as u8,
-            b'a' + (number / 4_096 % 16) as u8,
-            b'a' + (number / 256 % 16) as u8,
-            b'a' + (number / 16 % 16) as u8,
-            b'a' + (number % 16) as u8,
-        ];
-        text.extend_from_slice(b"dir ".as_slice())?;
-        text.extend_from_slice(&name)?;
-        text.push(b'\n')?;
+        writeln!(text, "dir {number}")?;
     }
     Ok(text)
 }
 
-/// Writes a line `--`, and so many lines that show the world.
-fn shows(alloc: Global, lines: usize) -> Result<Vec<u8>, AllocError> {
-    let mut text = Vec::from_slice(alloc, b"--\n".as_slice())?;
-    for _ in 0..lines {
-        text.extend_from_slice(b"show\n".as_slice())?;
+/// Returns whether this is printed for a daemon that starts behind a manifest of so many lines.
+fn starts_behind(alloc: Global, lines: u32, printed: &[u8]) -> bool {
+    match manifest_of(alloc, lines) {
+        Ok(manifest) => prints(alloc, manifest.as_slice(), b"--\nstart\n", printed),
+        Err(_) => false,
     }
-    Ok(text)
 }
 
-/// Writes what so many of these lines print.
-fn no_seats(alloc: Global, lines: usize) -> Result<Vec<u8>, AllocError> {
+/// Reads each again where an allocation may have been refused.
+#[test]
+fn takes_65536_lines_of_a_manifest_and_no_more(rt: HostRuntime) {
+    for (lines, printed) in [
+        (65_536, b"daemon 1\n".as_slice()),
+        (65_537, b"fault: line 65537: TooManyLines\n".as_slice()),
+    ] {
+        let is_so = starts_behind(rt.alloc(), lines, printed)
+            || starts_behind(rt.alloc(), lines, printed);
+        assert!(rt; is_so, "{lines} lines");
+    }
+}
+
+/// Writes a line so many times.
+fn times(alloc: Global, line: &[u8], count: u32) -> Result<Vec<u8>, AllocError> {
     let mut text = Vec::new(alloc);
-    for _ in 0..lines {
-        text.extend_from_slice(b"seat none\n".as_slice())?;
+    for _ in 0..count {
+        text.extend_from_slice(line)?;
     }
     Ok(text)
 }
 
-#[test]
-fn takes_65536_lines_of_a_manifest_and_no_more(rt: HostRuntime) -> Result<(), AllocError> {
-    let alloc = rt.alloc();
-    let most = manifest_of(alloc, 65_536).or_else(|_| manifest_of(alloc, 65_536))?;
-    assert!(rt; prints(rt.alloc(), most.as_slice(), b"--\nstart\n", b"daemon 1\n"));
-    let more = manifest_of(alloc, 65_537).or_else(|_| manifest_of(alloc, 65_537))?;
-    assert!(rt;
-        prints(
-            rt.alloc(),
-            more.as_slice(),
-            b"--\nstart\n",
-            b"fault: line 65537: TooManyLines\n"
-        )
-    );
-    Ok(())
+/// Returns whether a script of so many bytes in all, with so many lines `show` behind its 51 first, prints this line so
+/// many times.
+fn shows(alloc: Global, bytes: usize, count: u32, line: &[u8], printed: u32) -> bool {
+    match (times(alloc, b"show\n", count), times(alloc, line, printed)) {
+        (Ok(events), Ok(lines)) => {
+            events.len().saturating_add(51) == bytes
+                && prints(alloc, HEAD, events.as_slice(), lines.as_slice())
+        }
+        _ => false,
+    }
 }
 
+/// A manifest without files, and the line behind it.
+const HEAD: &[u8] = b"commit 0123456789abcdef0123456789abcdef01234567\n--\n";
+
+/// Reads each again where an allocation may have been refused.
 #[test]
-fn takes_1048576_bytes_and_no_more(rt: HostRuntime) -> Result<(), AllocError> {
-    let alloc = rt.alloc();
-    let longest = shows(alloc, 209_705).or_else(|_| shows(alloc, 209_705))?;
-    assert_eq!(rt; longest.len().saturating_add(HEAD.len()), 1_048_576);
-    let lines = no_seats(alloc, 209_705).or_else(|_| no_seats(alloc, 209_705))?;
-    assert!(rt; prints(rt.alloc(), HEAD, longest.as_slice(), lines.as_slice()));
-    let longer = shows(alloc, 209_706).or_else(|_| shows(alloc, 209_706))?;
-    assert!(rt; prints(rt.alloc(), HEAD, longer.as_slice(), b"fault: too long\n"));
-    Ok(())
+fn takes_1048576_bytes_and_no_more(rt: HostRuntime) {
+    for (bytes, count, line, printed) in [
+        (1_048_576, 209_705, b"seat none\n".as_slice(), 209_705),
+        (1_048_581, 209_706, b"fault: too long\n".as_slice(), 1),
+    ] {
+        let is_so = shows(rt.alloc(), bytes, count, line, printed)
+            || shows(rt.alloc(), bytes, count, line, printed);
+        assert!(rt; is_so, "{bytes} bytes");
+    }
 }

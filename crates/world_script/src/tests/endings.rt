@@ -1,6 +1,6 @@
 //! Words, what the program prints for them, and how it ends.
 use crate::{Ending, Fault, Sources, run_program};
-use std::alloc::{AllocError, Global};
+use std::alloc::Global;
 use std::io::{self, BufWriter, ErrorKind, Write};
 
 /// A script on standard input, and two in files.
@@ -55,53 +55,73 @@ impl Write for Room {
     }
 }
 
-/// Words behind the program's name, the room on standard output, the ending, and what both streams get.
+/// Words behind the program's name, if they are text, the room on standard output, the ending, and what both streams
+/// get.
 type Row = (
-    &'static [&'static str],
+    Option<&'static [&'static str]>,
     usize,
     Ending,
     &'static [u8],
     &'static [u8],
 );
 
-const ROWS: [Row; 11] = [
-    (&[], 4096, Ending::Ran, b"daemon 1\n", b""),
-    (&["world", "-"], 4096, Ending::Ran, b"daemon 1\n", b""),
-    (&["world", "shows"], 4096, Ending::Ran, b"seat none\n", b""),
+const ROWS: [Row; 12] = [
+    (Some(&[]), 4096, Ending::Ran, b"daemon 1\n", b""),
+    (Some(&["world", "-"]), 4096, Ending::Ran, b"daemon 1\n", b""),
     (
-        &["world", "bad"],
+        Some(&["world", "shows"]),
+        4096,
+        Ending::Ran,
+        b"seat none\n",
+        b"",
+    ),
+    (
+        Some(&["world", "bad"]),
         4096,
         Ending::Told(Fault::BadLine(4)),
         b"fault: line 4: bad line\n",
         b"",
     ),
     (
-        &["world", "none"],
+        Some(&["world", "none"]),
         4096,
         Ending::Told(Fault::CannotRead),
         b"fault: cannot read\n",
         b"edend: none: entity not found\n",
     ),
     (
-        &["--help"],
+        Some(&["--help"]),
         4096,
         Ending::Shown,
         b"Graceful restart of a FUSE daemon",
         b"",
     ),
-    (&["--version"], 4096, Ending::Shown, b"edend 0.1.0\n", b""),
-    (&["worlds"], 4096, Ending::Refused, b"", b"error: "),
-    (&["world"], 4096, Ending::Refused, b"", b"error: "),
+    (
+        Some(&["--version"]),
+        4096,
+        Ending::Shown,
+        b"edend 0.1.0\n",
+        b"",
+    ),
+    (Some(&["worlds"]), 4096, Ending::Refused, b"", b"error: "),
+    (Some(&["world"]), 4096, Ending::Refused, b"", b"error: "),
+    (
+        None,
+        4096,
+        Ending::Refused,
+        b"",
+        b"error: a word of the command line is not UTF-8\n\nUsage: edend [COMMAND]\n\nFor more information, try '--help'.\n",
+    ),
     // Output that can't be written.
     (
-        &["world", "shows"],
+        Some(&["world", "shows"]),
         9,
         Ending::Untold(Fault::CannotWrite),
         b"",
         b"edend: standard output: no storage space\n",
     ),
     (
-        &["--version"],
+        Some(&["--version"]),
         0,
         Ending::Untold(Fault::CannotWrite),
         b"",
@@ -109,8 +129,11 @@ const ROWS: [Row; 11] = [
     ),
 ];
 
-/// Returns the words, with the program's name in front.
-fn words_of(alloc: Global, words: &[&str]) -> Result<Vec<String>, AllocError> {
+/// Returns the words, with the program's name in front, as the system gives them.
+fn words_of(alloc: Global, words: Option<&[&str]>) -> io::Result<Vec<String>> {
+    let Some(words) = words else {
+        return Err(io::Error::from(ErrorKind::InvalidData));
+    };
     let mut all = Vec::new(alloc);
     all.push(String::from_str(alloc, "edend")?)?;
     for word in words {
@@ -122,14 +145,14 @@ fn words_of(alloc: Global, words: &[&str]) -> Result<Vec<String>, AllocError> {
 /// Returns whether the words end as the row says. Text of the row is whole, unless it ends without LF.
 fn ends_so(alloc: Global, row: Row) -> io::Result<bool> {
     let (words, room, want, want_out, want_err) = row;
-    let words = words_of(alloc, words)?;
+    let words = words_of(alloc, words);
     let out = Room {
         text: Vec::new(alloc),
         room,
     };
     let lines = BufWriter::new(alloc, out)?;
     let mut err = Vec::new(alloc);
-    let (out, ending) = run_program(alloc, Ok(words), &Memory, lines, &mut err);
+    let (out, ending) = run_program(alloc, words, &Memory, lines, &mut err);
     Ok(
         ending == want
             && is_text(out.text.as_slice(), want_out)
@@ -155,22 +178,4 @@ fn ends_as_the_words_ask(rt: HostRuntime) {
         assert!(rt; is_so, "at {place}");
         place = place.saturating_add(1);
     }
-}
-
-/// Returns whether words that are no text are refused, with the usage.
-fn refuses_no_text(alloc: Global) -> io::Result<bool> {
-    let words = Err(io::Error::from(ErrorKind::InvalidData));
-    let lines = BufWriter::new(alloc, Vec::new(alloc))?;
-    let mut err = Vec::new(alloc);
-    let (out, ending) = run_program(alloc, words, &Memory, lines, &mut err);
-    let want =
-        b"error: a word of the command line is not UTF-8\n\nUsage: edend [COMMAND]\n\nFor more information, try '--help'.\n";
-    Ok(ending == Ending::Refused && out.is_empty() && err.as_slice() == want.as_slice())
-}
-
-#[test]
-fn refuses_words_that_are_no_text(rt: HostRuntime) {
-    let is_so = matches!(refuses_no_text(rt.alloc()), Ok(true))
-        || matches!(refuses_no_text(rt.alloc()), Ok(true));
-    assert!(rt; is_so);
 }

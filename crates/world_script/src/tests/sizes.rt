@@ -63,22 +63,14 @@ fn starts_1024_daemons_and_no_more(rt: HostRuntime) {
     assert!(rt; is_so);
 }
 
-/// Writes the path of the directory at a depth, in which each has one letter.
-fn write_path(text: &mut Vec<u8>, depth: u32) -> io::Result<()> {
-    for _ in 1..depth {
-        text.write_all(b"d/")?;
-    }
-    text.write_all(b"d")
-}
-
 /// Returns the script that looks directories in one another up, and forgets them from the top: each but the last is
 /// kept for the one below it, and with the last all leave.
 fn deep(alloc: Global) -> io::Result<Long> {
     let mut long = Long::new(alloc, MOUNT, MOUNTED)?;
+    let mut path = String::from_str(alloc, "d")?;
     for depth in 1..DEPTH + 1 {
-        long.manifest.write_all(b"dir ")?;
-        write_path(&mut long.manifest, depth)?;
-        long.manifest.write_all(b"\n")?;
+        writeln!(long.manifest, "dir {path}")?;
+        path.push_str("/d")?;
         writeln!(long.events, "do lookup {depth} d")?;
         let number = depth + 1;
         writeln!(long.lines, "answer {depth} entry {number} dir 0755 0 2")?;
@@ -103,9 +95,6 @@ fn keeps_300_directories_for_the_one_below(rt: HostRuntime) {
     assert!(rt; is_so);
 }
 
-/// A name of 252 bytes, to which three digits come.
-const STEM: [u8; 252] = [b'n'; 252];
-
 /// Returns the script that looks files with names of 255 bytes up, shows them, and forgets them.
 fn wide(alloc: Global) -> io::Result<Long> {
     let mut long = Long::new(alloc, MOUNT, MOUNTED)?;
@@ -125,12 +114,10 @@ fn wide(alloc: Global) -> io::Result<Long> {
     Ok(long)
 }
 
-/// Looks a file up.
+/// Looks a file up, whose name is its number with letters in front.
 fn add_file(long: &mut Long, file: u32) -> io::Result<()> {
-    long.manifest.write_all(b"file 0644 1 ")?;
-    write_name(&mut long.manifest, file)?;
-    long.events.write_all(b"do lookup 1 ")?;
-    write_name(&mut long.events, file)?;
+    writeln!(long.manifest, "file 0644 1 {file:n>255}")?;
+    writeln!(long.events, "do lookup 1 {file:n>255}")?;
     let unique = file.saturating_add(1);
     let number = file.saturating_add(2);
     writeln!(long.lines, "answer {unique} entry {number} file 0644 1 1")
@@ -139,11 +126,10 @@ fn add_file(long: &mut Long, file: u32) -> io::Result<()> {
 /// Shows a file.
 fn show_file(long: &mut Long, file: u32) -> io::Result<()> {
     let number = file.saturating_add(2);
-    write!(
+    writeln!(
         long.lines,
-        "number {number} held 1 up 0 down 0 count 1 at 1 "
-    )?;
-    write_name(&mut long.lines, file)
+        "number {number} held 1 up 0 down 0 count 1 at 1 {file:n>255}"
+    )
 }
 
 /// Forgets a file.
@@ -151,12 +137,6 @@ fn forget_file(long: &mut Long, file: u32) -> io::Result<()> {
     let number = file.saturating_add(2);
     writeln!(long.events, "do forget {number} 1")?;
     long.lines.write_all(b"forgot Dropped\n")
-}
-
-/// Writes a file's name, and LF.
-fn write_name(text: &mut Vec<u8>, file: u32) -> io::Result<()> {
-    text.write_all(&STEM)?;
-    writeln!(text, "{file:03}")
 }
 
 #[test]
