@@ -2,7 +2,7 @@
 use super::{MANIFEST, prints};
 
 /// The start of a script, its rest, and the printed lines.
-const ROWS: [(&[u8], &[u8], &[u8]); 26] = [
+const ROWS: [(&[u8], &[u8], &[u8]); 28] = [
     (
         MANIFEST,
         b"start\nmount 1\nshow\n",
@@ -36,6 +36,18 @@ const ROWS: [(&[u8], &[u8], &[u8]); 26] = [
         MANIFEST,
         b"start\nmount 1\ndo getattr 1\ndo getattr 2\ndo lookup 1 README\ndo getattr 2\ndo other 15 1\ndo other 0 2\ndo other 4294967295 2\ndo forget 2 1\ndo getattr 2\nshow\n",
         b"daemon 1\nmounted 1\nanswer 1 attr 1 dir 0755 0 2\nrefused NotHeld\nanswer 2 entry 2 file 0644 7 1\nanswer 3 attr 2 file 0644 7 1\nanswer 4 error ENOSYS\nanswer 5 error ENOSYS\nanswer 6 error ENOSYS\nforgot Dropped\nrefused NotHeld\nseat 1 1 next 3\n",
+    ),
+    // A name is taken out, and the number goes on naming its file.
+    (
+        MANIFEST,
+        b"start\nmount 1\ndo create 1 0644 a\ndo unlink 1 a\ndo create 1 0600 a\ndo getattr 2\ndo getattr 3\nshow\n",
+        b"daemon 1\nmounted 1\nanswer 1 opened 2 file 0644 0 1\nanswer 2 done\nanswer 3 opened 3 file 0600 0 1\nanswer 4 attr 2 file 0644 0 0\nanswer 5 attr 3 file 0600 0 1\nseat 1 1 next 4\nnumber 2 held 1 up 0 down 0 count 1 unlinked 6\nnumber 3 held 1 up 0 down 0 count 1 at 1 a\n",
+    ),
+    // An error of each kind.
+    (
+        MANIFEST,
+        b"start\nmount 1\ndo rmdir 1 src\ndo unlink 1 src\ndo rmdir 1 README\ndo lookup 1 nope\ndo mkdir 1 0700 d\ndo mkdir 1 0700 d\ndo rmdir 1 d\ndo create 2 0600 x\ndo getattr 2\ndo other 15 1\ndo lookup 9 x\n",
+        b"daemon 1\nmounted 1\nanswer 1 error ENOTEMPTY\nanswer 2 error EISDIR\nanswer 3 error ENOTDIR\nanswer 4 error ENOENT\nanswer 5 entry 2 dir 0700 0 2\nanswer 6 error EEXIST\nanswer 7 done\nanswer 8 error ENOENT\nanswer 9 attr 2 dir 0700 0 0\nanswer 10 error ENOSYS\nrefused NotHeld\n",
     ),
     // Zeros in front, and names to the end of the line.
     (
