@@ -1,8 +1,8 @@
 //! What a small manifest says, and the first fault of lines that are none.
 use crate::{
-    Backing, CreateFault, Manifest, ManifestBacking, ManifestFault, ManifestFaultKind, Tree,
+    Backing, CreateFault, Line, Manifest, ManifestBacking, ManifestFault, ManifestFaultKind, Tree,
 };
-use eden_base::{FileId, Kind, Name, NameFault, Number, Perm};
+use eden_base::{FileId, Kind, Name, Number, Perm};
 use std::alloc::{AllocError, Global};
 use std::process::Abort;
 use std::test::Fail;
@@ -11,6 +11,9 @@ const SMALL: &[u8] =
     b"commit 0123456789abcdef0123456789abcdef01234567\ndir src\nfile 0644 12 src/a\nfile 0755 0 src/b\nfile 0644 7 README\n";
 
 const HEAD: &[u8] = b"commit 0123456789abcdef0123456789abcdef01234567\n";
+
+/// As far as a name.
+const DIR_LINE: &[u8] = b"commit 0123456789abcdef0123456789abcdef01234567\ndir ";
 
 /// Returns the fault of a text, if it is no manifest.
 fn fault_of(alloc: Global, text: &[u8]) -> Option<ManifestFault> {
@@ -122,41 +125,51 @@ fn takes_odd_names_and_great_sizes(rt: HostRuntime) -> Result<(), Fail> {
     Ok(())
 }
 
+/// The commit of each of these texts.
+const COMMIT: [u8; 20] = [
+    0x01, 0x23, 0x45, 0x67, 0x89, 0xab, 0xcd, 0xef, 0x01, 0x23, 0x45, 0x67, 0x89, 0xab, 0xcd, 0xef,
+    0x01, 0x23, 0x45, 0x67,
+];
+
+const UPPER: &[u8] = b"commit 0123456789ABCDEF0123456789abcdef01234567\n";
+
+/// Returns whether a manifest has that commit.
+fn has_commit(manifest: &Manifest) -> bool {
+    manifest.commit() == COMMIT
+}
+
 #[test]
 fn reads_a_commit_in_either_case(rt: HostRuntime) -> Result<(), Fail> {
-    let text = b"commit 0123456789ABCDEF0123456789abcdef01234567\n";
-    let manifest = Manifest::read(rt.alloc(), text.as_slice())?;
-    let commit = manifest.commit();
-    assert_eq!(rt; commit[7], 0xef);
-    assert_eq!(rt; commit[15], 0xef);
-    assert_eq!(rt; commit[19], 0x67);
+    let manifest = Manifest::read(rt.alloc(), UPPER)?;
+    assert!(rt; has_commit(&manifest));
     Ok(())
 }
 
 /// What `SMALL` has at a directory and a name.
-const CHILDREN: [(u64, &[u8], Option<FileId>); 5] = [
-    (1, b"src", Some(FileId(2))),
-    (2, b"a", Some(FileId(3))),
-    (1, b"README", Some(FileId(5))),
+const CHILDREN: [(u64, &[u8], Option<u64>); 5] = [
+    (1, b"src", Some(2)),
+    (2, b"a", Some(3)),
+    (1, b"README", Some(5)),
     (1, b"a", None),
     (3, b"a", None),
 ];
 
-fn child_at(
-    alloc: Global,
-    tree: &Tree,
-    dir: u64,
-    name: &[u8],
-) -> Result<Option<FileId>, NameFault> {
-    let name = Name::parse(alloc, name)?;
-    Ok(tree.child(FileId(dir), &name))
+/// Returns the file under a name; nothing also where the bytes are no name, or memory was refused.
+fn child_at(alloc: Global, tree: &Tree, dir: u64, name: &[u8]) -> Option<u64> {
+    let name = Name::parse(alloc, name).ok()?;
+    let file = tree.child(FileId(dir), &name)?;
+    Some(file.0)
 }
 
-fn has_children(rt: &impl Abort, alloc: Global, tree: &Tree) -> Result<(), Fail> {
-    for (dir, name, file) in CHILDREN {
-        assert_eq!(rt; child_at(alloc, tree, dir, name)?, file);
+fn has_children(
+    rt: &impl Abort,
+    alloc: Global,
+    tree: &Tree,
+    children: &[(u64, &[u8], Option<u64>)],
+) {
+    for (dir, name, file) in children {
+        assert!(rt; child_at(alloc, tree, *dir, name) == *file);
     }
-    Ok(())
 }
 
 #[test]
@@ -164,7 +177,8 @@ fn finds_the_files_of_a_small_manifest(rt: HostRuntime) -> Result<(), Fail> {
     let manifest = Manifest::read(rt.alloc(), SMALL)?;
     let tree = Tree::of(rt.alloc(), &manifest)?;
     assert_eq!(rt; tree.commit(), manifest.commit());
-    has_children(&rt, rt.alloc(), &tree)
+    has_children(&rt, rt.alloc(), &tree, CHILDREN.as_slice());
+    Ok(())
 }
 
 /// The files of `SMALL`, with their kind, permissions, size and count of links.
@@ -182,54 +196,52 @@ fn attributes_of(tree: &Tree, file: u64) -> Option<(Kind, u16, u64, u32)> {
     Some((attr.kind, attr.perm.bits(), attr.size, attr.nlink))
 }
 
-fn has_attributes(rt: &impl Abort, tree: &Tree) {
-    for (file, attributes) in ATTRIBUTES {
-        assert_eq!(rt; attributes_of(tree, file), attributes);
-        assert_eq!(rt; tree.kind(FileId(file)).is_some(), attributes.is_some());
+fn has_attributes(rt: &impl Abort, tree: &Tree, table: &[(u64, Option<(Kind, u16, u64, u32)>)]) {
+    for (file, attributes) in table {
+        assert!(rt; attributes_of(tree, *file) == *attributes);
+        assert_eq!(rt; tree.kind(FileId(*file)).is_some(), attributes.is_some());
     }
 }
 
 #[test]
 fn tells_attributes_as_a_line_has_them(rt: HostRuntime) -> Result<(), Fail> {
-    let manifest = Manifest::read(rt.alloc(), SMALL)?;
-    let tree = Tree::of(rt.alloc(), &manifest)?;
-    has_attributes(&rt, &tree);
+    let tree = tree_of(rt.alloc(), SMALL)?;
+    has_attributes(&rt, &tree, ATTRIBUTES.as_slice());
     Ok(())
+}
+
+/// A directory in a directory, and a file beside them.
+const NESTED: &[u8] =
+    b"commit 0123456789abcdef0123456789abcdef01234567\ndir a\ndir a/b\nfile 0644 0 c\n";
+
+/// The files of `NESTED` and one more, and whether they are empty directories.
+const NESTED_EMPTY: [(u64, bool); 5] = [(1, false), (2, false), (3, true), (4, false), (5, false)];
+
+fn has_empty_dirs(rt: &impl Abort, tree: &Tree, files: &[(u64, bool)]) {
+    for (file, empty) in files {
+        assert_eq!(rt; tree.is_empty_dir(FileId(*file)), *empty);
+    }
 }
 
 #[test]
 fn takes_a_directory_of_directories_for_one_with_entries(rt: HostRuntime) -> Result<(), Fail> {
-    let text = joined(
-        rt.alloc(),
-        HEAD,
-        b"dir a\ndir a/b\nfile 0644 0 c\n".as_slice(),
-    )?;
-    let manifest = Manifest::read(rt.alloc(), text.as_slice())?;
-    let tree = Tree::of(rt.alloc(), &manifest)?;
-    assert_eq!(rt; tree.is_empty_dir(FileId::ROOT), false);
-    assert_eq!(rt; tree.is_empty_dir(FileId(2)), false);
-    assert_eq!(rt; tree.is_empty_dir(FileId(3)), true);
-    assert_eq!(rt; tree.is_empty_dir(FileId(4)), false);
-    assert_eq!(rt; tree.is_empty_dir(FileId(5)), false);
+    let tree = tree_of(rt.alloc(), NESTED)?;
+    has_empty_dirs(&rt, &tree, NESTED_EMPTY.as_slice());
     Ok(())
 }
 
-/// Asks what the backing of a manifest tells of its file 4, which it has.
-fn told(manifest: &Manifest) -> Option<(u16, u64, u64)> {
+/// Returns what the backing of a manifest tells of a file that the manifest has, and then its count of failures.
+fn told(manifest: &Manifest, file: FileId) -> Option<(u16, u64, u64)> {
+    manifest.content(file)?;
     let mut backing = ManifestBacking::of(manifest);
-    match manifest.content(FileId(4)) {
-        None => None,
-        Some(_) => {
-            let content = backing.attr(FileId(4)).ok()?;
-            Some((content.perm.bits(), content.size, backing.failures()))
-        }
-    }
+    let content = backing.attr(file).ok()?;
+    Some((content.perm.bits(), content.size, backing.failures()))
 }
 
 #[test]
 fn answers_from_the_manifest_and_never_fails(rt: HostRuntime) -> Result<(), Fail> {
     let manifest = Manifest::read(rt.alloc(), SMALL)?;
-    assert_eq!(rt; told(&manifest), Some((0o755, 0, 0)));
+    assert_eq!(rt; told(&manifest, FileId(4)), Some((0o755, 0, 0)));
     Ok(())
 }
 
@@ -251,13 +263,20 @@ fn many(alloc: Global, files: u32) -> Result<Vec<u8>, AllocError> {
     Ok(text)
 }
 
+/// Returns the file that a text's tree has under a name of the root.
+fn read_child(alloc: Global, text: &[u8], name: &[u8]) -> Option<u64> {
+    let manifest = Manifest::read(alloc, text).ok()?;
+    let tree = Tree::of(alloc, &manifest).ok()?;
+    child_at(alloc, &tree, 1, name)
+}
+
 #[test]
 fn takes_65536_lines(rt: HostRuntime) -> Result<(), Fail> {
     let full = many(rt.alloc(), 65535)?;
-    let manifest = Manifest::read(rt.alloc(), full.as_slice())?;
-    let tree = Tree::of(rt.alloc(), &manifest)?;
-    let last = child_at(rt.alloc(), &tree, 1, b"f65534")?;
-    assert_eq!(rt; last, Some(FileId(65536)));
+    assert_eq!(rt;
+        read_child(rt.alloc(), full.as_slice(), b"f65534"),
+        Some(65536)
+    );
     Ok(())
 }
 
@@ -277,78 +296,90 @@ fn tells_each_fault_of_line_65537(rt: HostRuntime) -> Result<(), Fail> {
     Ok(())
 }
 
-#[test]
-fn takes_names_of_255_bytes_and_deep_paths(rt: HostRuntime) -> Result<(), Fail> {
-    let mut text = joined(rt.alloc(), HEAD, b"dir ".as_slice())?;
-    for _ in 0..255 {
-        text.push(b'x')?;
+/// Makes a front, and then a text so many times.
+fn repeated(alloc: Global, front: &[u8], text: &[u8], times: u32) -> Result<Vec<u8>, AllocError> {
+    let mut whole = Vec::from_slice(alloc, front)?;
+    for _ in 0..times {
+        whole.extend_from_slice(text)?;
     }
-    let longer = joined(rt.alloc(), text.as_slice(), b"x\n".as_slice())?;
-    let bad = Some(ManifestFault {
-        line: 2,
-        kind: ManifestFaultKind::BadPath,
-    });
-    assert_eq!(rt; fault_of(rt.alloc(), longer.as_slice()), bad);
-    text.push(b'\n')?;
-    let mut path = Vec::from_slice(rt.alloc(), b"dir d".as_slice())?;
-    for _ in 0..200 {
+    Ok(whole)
+}
+
+#[test]
+fn takes_names_of_255_bytes(rt: HostRuntime) -> Result<(), Fail> {
+    let line = repeated(rt.alloc(), DIR_LINE, b"x".as_slice(), 255)?;
+    let text = joined(rt.alloc(), line.as_slice(), b"\n".as_slice())?;
+    assert_eq!(rt; fault_of(rt.alloc(), text.as_slice()), None);
+    let longer = joined(rt.alloc(), line.as_slice(), b"x\n".as_slice())?;
+    let kind = ManifestFaultKind::BadPath;
+    assert_eq!(rt;
+        fault_of(rt.alloc(), longer.as_slice()),
+        Some(ManifestFault { line: 2, kind })
+    );
+    Ok(())
+}
+
+/// Makes a manifest of so many directories, each in the one before, and then a line of one that stands below two more.
+fn deep(alloc: Global, directories: u32) -> Result<Vec<u8>, AllocError> {
+    let mut text = Vec::from_slice(alloc, HEAD)?;
+    let mut path = Vec::from_slice(alloc, b"dir d".as_slice())?;
+    for _ in 0..directories {
         text.extend_from_slice(path.as_slice())?;
         text.push(b'\n')?;
         path.extend_from_slice(b"/d".as_slice())?;
     }
-    assert_eq!(rt; fault_of(rt.alloc(), text.as_slice()), None);
     text.extend_from_slice(path.as_slice())?;
     text.extend_from_slice(b"/d\n".as_slice())?;
-    let missing = Some(ManifestFault {
-        line: 203,
-        kind: ManifestFaultKind::NoParent,
-    });
-    assert_eq!(rt; fault_of(rt.alloc(), text.as_slice()), missing);
+    Ok(text)
+}
+
+#[test]
+fn takes_deep_paths(rt: HostRuntime) -> Result<(), Fail> {
+    let text = deep(rt.alloc(), 200)?;
+    let kind = ManifestFaultKind::NoParent;
+    assert_eq!(rt;
+        fault_of(rt.alloc(), text.as_slice()),
+        Some(ManifestFault { line: 202, kind })
+    );
     Ok(())
 }
 
-/// Each line of `SMALL`: its place, directory, name, kind, permissions and size.
-const SMALL_LINES: [(usize, u64, &[u8], Kind, u16, u64); 4] = [
-    (0, 1, b"src", Kind::Dir, 0o755, 0),
-    (1, 2, b"a", Kind::File, 0o644, 12),
-    (2, 2, b"b", Kind::File, 0o755, 0),
-    (3, 1, b"README", Kind::File, 0o644, 7),
+/// Each line of `SMALL`: its directory, name, kind, permissions and size.
+const SMALL_LINES: [(u64, &[u8], Kind, u16, u64); 4] = [
+    (1, b"src", Kind::Dir, 0o755, 0),
+    (2, b"a", Kind::File, 0o644, 12),
+    (2, b"b", Kind::File, 0o755, 0),
+    (1, b"README", Kind::File, 0o644, 7),
 ];
 
-/// Asserts that a manifest has a line; takes no memory.
-fn has_line(
-    rt: &impl Abort,
-    manifest: &Manifest,
-    (place, dir, name, kind, perm, size): (usize, u64, &[u8], Kind, u16, u64),
-) {
-    match manifest.lines().get(place) {
-        None => assert_eq!(rt; place, 4),
-        Some(line) => {
-            assert_eq!(rt; (line.dir.0, line.kind), (dir, kind));
-            assert_eq!(rt; (line.perm.bits(), line.size), (perm, size));
-            assert_eq!(rt; line.name.bytes(), name);
-        }
+/// Returns whether a line says this.
+fn says(line: &Line, dir: u64, name: &[u8], kind: Kind, perm: u16, size: u64) -> bool {
+    line.dir.0 == dir
+        && line.name.bytes() == name
+        && line.kind == kind
+        && line.perm.bits() == perm
+        && line.size == size
+}
+
+/// Asserts that these are the first lines of a manifest; takes no memory.
+fn has_lines(rt: &impl Abort, manifest: &Manifest, lines: &[(u64, &[u8], Kind, u16, u64)]) {
+    for (line, (dir, name, kind, perm, size)) in manifest.lines().iter().zip(lines) {
+        assert!(rt; says(line, *dir, name, *kind, *perm, *size));
     }
 }
 
 /// Asserts that the manifest is what `SMALL` says; takes no memory.
 fn is_small(rt: &impl Abort, manifest: &Manifest) {
-    let commit = manifest.commit();
-    assert_eq!(rt; (commit[0], commit[7], commit[19]), (0x01, 0xef, 0x67));
-    for line in SMALL_LINES {
-        has_line(rt, manifest, line);
-    }
-    assert_eq!(rt; manifest.lines().len(), 4);
+    assert!(rt; has_commit(manifest));
+    has_lines(rt, manifest, SMALL_LINES.as_slice());
+    assert!(rt; manifest.lines().len() == SMALL_LINES.len());
 }
 
-/// Reads what `SMALL` says, again where memory was refused.
-fn read_small(rt: &impl Abort, alloc: Global) -> Result<Manifest, Fail> {
-    match Manifest::read(alloc, SMALL) {
+/// Reads a text, once more where it was refused: a text that is read was refused for memory alone.
+fn read_again(alloc: Global, text: &[u8]) -> Result<Manifest, ManifestFault> {
+    match Manifest::read(alloc, text) {
         Ok(manifest) => Ok(manifest),
-        Err(fault) => {
-            assert_eq!(rt; fault.kind, ManifestFaultKind::NoMemory);
-            Ok(Manifest::read(alloc, SMALL)?)
-        }
+        Err(_) => Manifest::read(alloc, text),
     }
 }
 
@@ -356,25 +387,26 @@ fn read_small(rt: &impl Abort, alloc: Global) -> Result<Manifest, Fail> {
 /// `rt try --test --fail-alloc N -- again_after_memory_was_refused`.
 #[test]
 fn reads_and_shares_again_after_memory_was_refused(rt: HostRuntime) -> Result<(), Fail> {
-    let manifest = read_small(&rt, rt.alloc())?;
+    let manifest = read_again(rt.alloc(), SMALL)?;
     is_small(&rt, &manifest);
     is_small(&rt, &manifest.share()?);
     Ok(())
 }
 
-/// Makes the tree of `SMALL`, again where memory was refused.
-fn small_tree(rt: &impl Abort, alloc: Global) -> Result<Tree, Fail> {
-    let manifest = read_small(rt, alloc)?;
+/// Makes the tree of a text, again where memory was refused.
+fn tree_of(alloc: Global, text: &[u8]) -> Result<Tree, Fail> {
+    let manifest = read_again(alloc, text)?;
     match Tree::of(alloc, &manifest) {
         Ok(tree) => Ok(tree),
         Err(_) => Ok(Tree::of(alloc, &manifest)?),
     }
 }
 
-fn parsed(alloc: Global, name: &[u8]) -> Result<Name, Fail> {
+/// Returns a name, which it makes once more where memory was refused.
+fn parsed(alloc: Global, name: &[u8]) -> Option<Name> {
     match Name::parse(alloc, name) {
-        Ok(name) => Ok(name),
-        Err(_) => Ok(Name::parse(alloc, name)?),
+        Ok(name) => Some(name),
+        Err(_) => Name::parse(alloc, name).ok(),
     }
 }
 
@@ -399,23 +431,20 @@ fn created(
     }
 }
 
-/// Makes a file, once more where memory was refused, and compares its id.
-fn makes(
-    rt: &impl Abort,
+/// Makes a file, once more where memory was refused, and returns its id.
+fn created_again(
     alloc: Global,
     tree: &mut Tree,
-    dir: u64,
+    dir: FileId,
     name: &[u8],
     kind: Kind,
-) -> Result<FileId, Fail> {
-    let next = tree.next_file();
+) -> Option<u64> {
     let name = parsed(alloc, name)?;
-    let made = match created(tree, FileId(dir), &name, kind) {
-        Some(Err(_)) => created(tree, FileId(dir), &name, kind),
-        other => other,
+    let made = match created(tree, dir, &name, kind)? {
+        Ok(file) => file,
+        Err(_) => created(tree, dir, &name, kind)?.ok()?,
     };
-    assert_eq!(rt; made, Some(Ok(next)));
-    Ok(next)
+    Some(made.0)
 }
 
 /// Takes a name out where the call's conditions hold.
@@ -432,50 +461,77 @@ fn removed(tree: &mut Tree, dir: FileId, name: &Name) -> Option<FileId> {
     }
 }
 
-/// Takes these names out of their directories, and compares the files that they gave.
-fn takes_out(
-    rt: &impl Abort,
-    alloc: Global,
-    tree: &mut Tree,
-    names: &[(u64, &[u8], Option<u64>)],
-) -> Result<(), Fail> {
-    for (dir, name, file) in names {
-        let name = parsed(alloc, name)?;
-        assert_eq!(rt; removed(tree, FileId(*dir), &name).map(|f| f.0), *file);
-    }
-    Ok(())
+/// Takes a name out, and returns the file that it gave; nothing where the call's conditions don't hold.
+fn removed_at(alloc: Global, tree: &mut Tree, dir: u64, name: &[u8]) -> Option<u64> {
+    let name = parsed(alloc, name)?;
+    let file = removed(tree, FileId(dir), &name)?;
+    Some(file.0)
 }
 
-/// Collects what a tree tells of files: their kind, count of links, and whether they are empty directories.
+/// Takes these names out of their directories, and compares the files that they gave.
+fn takes_out(rt: &impl Abort, alloc: Global, tree: &mut Tree, names: &[(u64, &[u8], Option<u64>)]) {
+    for (dir, name, file) in names {
+        assert_eq!(rt; removed_at(alloc, tree, *dir, name), *file);
+    }
+}
+
+/// Makes these files, each by its directory and name, and compares their ids.
+fn makes(rt: &impl Abort, alloc: Global, tree: &mut Tree, files: &[(u64, &[u8], Kind, u64)]) {
+    for (dir, name, kind, file) in files {
+        assert_eq!(rt;
+            created_again(alloc, tree, FileId(*dir), name, *kind),
+            Some(*file)
+        );
+    }
+}
+
+/// Returns how many names lead to a file.
+fn nlink_of(tree: &Tree, file: FileId) -> Option<u32> {
+    let attr = tree.attr(file)?;
+    Some(attr.nlink)
+}
+
+/// Compares what a tree tells of files: their kind, count of links, and whether they are empty directories.
 fn tells(rt: &impl Abort, tree: &Tree, files: &[(u64, Kind, u32, bool)]) {
     for (file, kind, nlink, empty) in files {
         let file = FileId(*file);
         assert_eq!(rt; tree.kind(file), Some(*kind));
-        assert_eq!(rt; tree.attr(file).map(|attr| attr.nlink), Some(*nlink));
+        assert_eq!(rt; nlink_of(tree, file), Some(*nlink));
         assert_eq!(rt; tree.is_linked(file), file != FileId::ROOT && *nlink != 0);
         assert_eq!(rt; tree.is_empty_dir(file), *empty);
     }
 }
 
+/// Files to be made, each in a directory and under a name, with the id that it gets.
+const DIRECTORY: [(u64, &[u8], Kind, u64); 1] = [(1, b"d", Kind::Dir, 6)];
+
+const FILE_IN_IT: [(u64, &[u8], Kind, u64); 1] = [(6, b"x", Kind::File, 7)];
+
+const FILE_FOR_SRC: [(u64, &[u8], Kind, u64); 1] = [(1, b"src", Kind::File, 6)];
+
+const FILE_IN_SRC: [(u64, &[u8], Kind, u64); 1] = [(2, b"made", Kind::File, 6)];
+
+/// Directories and their names, and the files that the names give when they are taken out in this order.
+const FILLED: [(u64, &[u8], Option<u64>); 3] = [
+    (1, b"d", None),
+    (6, b"x", Some(7)),
+    (1, b"d", Some(6)),
+];
+
 #[test]
 fn fills_and_empties_a_directory_again_after_memory_was_refused(
     rt: HostRuntime,
 ) -> Result<(), Fail> {
-    let mut tree = small_tree(&rt, rt.alloc())?;
-    let dir = makes(&rt, rt.alloc(), &mut tree, 1, b"d", Kind::Dir)?;
+    let mut tree = tree_of(rt.alloc(), SMALL)?;
+    makes(&rt, rt.alloc(), &mut tree, DIRECTORY.as_slice());
     tells(&rt, &tree, [(6, Kind::Dir, 2, true)].as_slice());
-    makes(&rt, rt.alloc(), &mut tree, dir.0, b"x", Kind::File)?;
+    makes(&rt, rt.alloc(), &mut tree, FILE_IN_IT.as_slice());
     tells(
         &rt,
         &tree,
         [(6, Kind::Dir, 2, false), (7, Kind::File, 1, false)].as_slice(),
     );
-    let names: [(u64, &[u8], Option<u64>); 3] = [
-        (1, b"d", None),
-        (6, b"x", Some(7)),
-        (1, b"d", Some(6)),
-    ];
-    takes_out(&rt, rt.alloc(), &mut tree, names.as_slice())?;
+    takes_out(&rt, rt.alloc(), &mut tree, FILLED.as_slice());
     tells(
         &rt,
         &tree,
@@ -484,28 +540,28 @@ fn fills_and_empties_a_directory_again_after_memory_was_refused(
     Ok(())
 }
 
+/// The same of what `SMALL` has.
+const TAKEN: [(u64, &[u8], Option<u64>); 5] = [
+    (1, b"src", None),
+    (2, b"b", Some(4)),
+    (2, b"b", None),
+    (2, b"a", Some(3)),
+    (1, b"src", Some(2)),
+];
+
+/// What is left of them.
+const LEFT: [(u64, Kind, u32, bool); 3] = [
+    (1, Kind::Dir, 2, false),
+    (2, Kind::Dir, 0, true),
+    (3, Kind::File, 0, false),
+];
+
 #[test]
 fn removes_what_the_manifest_has_and_makes_it_anew(rt: HostRuntime) -> Result<(), Fail> {
-    let mut tree = small_tree(&rt, rt.alloc())?;
-    let names: [(u64, &[u8], Option<u64>); 5] = [
-        (1, b"src", None),
-        (2, b"b", Some(4)),
-        (2, b"b", None),
-        (2, b"a", Some(3)),
-        (1, b"src", Some(2)),
-    ];
-    takes_out(&rt, rt.alloc(), &mut tree, names.as_slice())?;
-    tells(
-        &rt,
-        &tree,
-        [
-            (1, Kind::Dir, 2, false),
-            (2, Kind::Dir, 0, true),
-            (3, Kind::File, 0, false),
-        ]
-        .as_slice(),
-    );
-    makes(&rt, rt.alloc(), &mut tree, 1, b"src", Kind::File)?;
+    let mut tree = tree_of(rt.alloc(), SMALL)?;
+    takes_out(&rt, rt.alloc(), &mut tree, TAKEN.as_slice());
+    tells(&rt, &tree, LEFT.as_slice());
+    makes(&rt, rt.alloc(), &mut tree, FILE_FOR_SRC.as_slice());
     tells(
         &rt,
         &tree,
@@ -514,13 +570,23 @@ fn removes_what_the_manifest_has_and_makes_it_anew(rt: HostRuntime) -> Result<()
     Ok(())
 }
 
+/// Returns the permissions that a file was made with.
+fn perm_made(tree: &Tree, file: u64) -> Option<u16> {
+    let perm = tree.perm_made(FileId(file))?;
+    Some(perm.bits())
+}
+
+fn has_perms_made(rt: &impl Abort, tree: &Tree, perms: &[(u64, Option<u16>)]) {
+    for (file, perm) in perms {
+        assert_eq!(rt; perm_made(tree, *file), *perm);
+    }
+}
+
 #[test]
 fn tells_the_permissions_of_made_files_alone(rt: HostRuntime) -> Result<(), Fail> {
-    let mut tree = small_tree(&rt, rt.alloc())?;
-    makes(&rt, rt.alloc(), &mut tree, 2, b"made", Kind::File)?;
-    let made = tree.perm_made(FileId(6)).map(|perm| perm.bits());
-    assert_eq!(rt; made, Some(0o755));
-    assert_eq!(rt; tree.perm_made(FileId(5)).is_some(), false);
+    let mut tree = tree_of(rt.alloc(), SMALL)?;
+    makes(&rt, rt.alloc(), &mut tree, FILE_IN_SRC.as_slice());
+    has_perms_made(&rt, &tree, [(5, None), (6, Some(0o755))].as_slice());
     assert_eq!(rt; tree.next_file().0, 7);
     Ok(())
 }
