@@ -5,5 +5,6 @@ use Rattle.std.specs.Ordering.{nat_cmp}
 use Rattle.checkout.specs.contracts.made.MadeFile as made
 use Rattle.checkout.specs.declared.made.MadeFile.{MadeFile}
 
+-- ids, with the files that were made
 abbrev pub made_code : Coded (map.FinMap nat_cmp MadeFile)
 made_code = map.code coded_ℕ made.the_row.coded

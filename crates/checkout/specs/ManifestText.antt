@@ -113,6 +113,7 @@ line_of_entry lines (Some e) = placed lines e (option_or (entry_fault (Some e)) 
 abbrev pub line_of_text : List Line → List ℕ → Result Line ManifestFaultKind
 line_of_text lines text = line_of_entry lines (entry_of text)
 
+-- what is wrong, with the number of the line
 abbrev pub fault_at : ℕ → ManifestFaultKind → ManifestFault
 fault_at line kind = record { line = line; kind = kind }
 
