@@ -166,9 +166,9 @@ abbrev pub IsManifestRefusal : List ℕ → ManifestFault → Type 0
 IsManifestRefusal text fault = IsRefusal (manifest_of text) fault.line fault.kind
 
 -- where a fault stands among so many lines, the last of which LF doesn't end: out of memory comes for lines that are
--- ended
+-- ended, and for the commit's alone where no other follows it
 abbrev pub IsAmongLines : ℕ → ℕ → ManifestFaultKind → Type 0
-IsAmongLines count line NoMemory = (0 < line) × (line < count)
+IsAmongLines count line NoMemory = (0 < line) × (line < count) × (line ≡ 1 → count ≡ 2)
 IsAmongLines count line fault = (0 < line) × (line ≤ count)
 
 -- a fault stands at one of the text's lines
