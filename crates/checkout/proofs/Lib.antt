@@ -1,6 +1,11 @@
 pub mod AttrLaws
 pub mod CreateLaws
 pub mod FlatLemmas
+pub mod EntryForms
+pub mod FieldForms
+pub mod FormLaws
+pub mod FormReads
+pub mod HexForms
 pub mod LineCounts
 pub mod LinkLaws
 pub mod MadeLemmas
@@ -13,6 +18,7 @@ pub mod OverlayCreate
 pub mod OverlayLaws
 pub mod OverlayRemove
 pub mod OverlaySteps
+pub mod PartsLaws
 pub mod PathLaws
 pub mod ReadLemmas
 pub mod RemoveLaws

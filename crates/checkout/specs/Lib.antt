@@ -3,6 +3,7 @@ pub mod Create
 pub mod Flat
 pub mod MadeCodes
 pub mod Manifest
+pub mod ManifestForm
 pub mod ManifestText
 pub mod Names
 pub mod Overlay

@@ -3,6 +3,7 @@ ghost use Rattle.std.specs.Prelude.{◌≡◌, ◌+◌, [], IfErr, IfOk, Ok, len
 ghost use Rattle.std.specs.FinMap.{get};
 ghost use Rattle.checkout.specs.Manifest.{IsManifest};
 ghost use Rattle.checkout.specs.Overlay.{kids_in};
+ghost use Rattle.checkout.specs.ManifestForm.{AreFormsRead, IsManifestForm};
 ghost use Rattle.checkout.specs.ManifestText.{commit_of, lines_of, manifest_of, read_on, with_commit, IsAmongLines, IsAtLine, IsManifestRefusal, IsRefusal};
 
 use crate::field::after;
@@ -42,6 +43,8 @@ impl Manifest {
     /// is ended by LF.
     pub fn read(alloc: Global, bytes: &[u8]) -> Result<Manifest, ManifestFault>
         ensures manifest { IfOk result (λ manifest. manifest_of bytes.now ≡ Ok manifest) }
+        ensures form { IfOk result (λ manifest. IsManifestForm manifest bytes.now) }
+        ensures forms_are_read { AreFormsRead bytes.now }
         ensures is_manifest { IfOk result IsManifest }
         ensures refused { IfErr result (IsManifestRefusal bytes.now) }
         ensures line { IfErr result (IsAtLine bytes.now) }
