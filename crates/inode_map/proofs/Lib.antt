@@ -1,6 +1,7 @@
 pub mod Changing
 pub mod Climbing
 pub mod EntryLemmas
+pub mod EntryRuns
 pub mod FileLemmas
 pub mod Forgetting
 pub mod Giving

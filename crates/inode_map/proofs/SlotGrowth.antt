@@ -27,7 +27,7 @@ cmp-less m n h = sym (nat_cmp_is m n Less h)
 cmp-same : (m n : ℕ) → m ≡ n → nat_cmp m n ≡ Equal
 cmp-same m n h = sym (nat_cmp_is m n Equal h)
 
-cmp-greater : (m n : ℕ) → n < m → nat_cmp m n ≡ Greater
+pub cmp-greater : (m n : ℕ) → n < m → nat_cmp m n ≡ Greater
 cmp-greater m n h = sym (nat_cmp_is m n Greater h)
 
 -- the slots with the next number reserved

@@ -23,6 +23,15 @@ pub record TableState : Type 0 where
 abbrev pub kept_of : ℕ → Held → Kept
 kept_of n held = record { number = record { 0 = n }; place = held.place; count = held.count }
 
+-- an entry without its number, of which no file is remembered
+abbrev pub held_of : Kept → Held
+held_of kept = record { place = kept.place; count = kept.count; file = None }
+
+-- the map of entries of which no file is remembered
+abbrev pub slots_of : List Kept → List (ℕ × Option Held)
+slots_of [] = []
+slots_of (kept ∷ entries) = (kept.number.0, Some (held_of kept)) ∷ slots_of entries
+
 -- the entries of the map; a number that is reserved has none yet
 abbrev pub kept_from : List (ℕ × Option Held) → List Kept
 kept_from [] = []

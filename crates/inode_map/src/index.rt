@@ -1,8 +1,11 @@
 //! The numbers of the names in every directory.
-ghost use Rattle.std.specs.Prelude.{◌≡◌, ℕ, ◌&&◌, true, List, Some, None, OnOk, is_ok, if◌then◌else◌};
+ghost use Rattle.std.specs.Prelude.{◌≡◌, ℕ, ◌&&◌, true, List, Some, None, IfOk, OnOk, is_ok, if◌then◌else◌};
+ghost use Rattle.inode_map.specs.InodeMap.{AreEntries};
+ghost use Rattle.inode_map.specs.Table.{IsIndexed};
 ghost use Rattle.inode_map.specs.Links.{link_of, is_ready, Has, is_latest_in, is_link, written};
 
-use eden_base::{Name, NameRoom, NoMemory};
+use crate::inode_map::Kept;
+use eden_base::{Name, NameRoom, NoMemory, Place};
 use std::alloc::Global;
 use std::collections::BTreeMap;
 
@@ -39,6 +42,26 @@ impl Index {
             latest: None,
             room: None,
         }
+    }
+
+    /// Returns the index of these entries.
+    pub fn of_entries(alloc: Global, entries: &[Kept]) -> Result<Index, NoMemory>
+        requires { (next : ℕ) × AreEntries entries.now next }
+        ensures { IfOk result (λ index. IsIndexed entries.now (link_of index)) }
+    {
+        let mut directories = BTreeMap::new(alloc);
+        for kept in entries {
+            let Place::Linked { parent, name } = &kept.place else {
+                continue;
+            };
+            let name = name.copy(alloc)?;
+            insert(&mut directories, alloc, parent.0, name, kept.number.0)?;
+        }
+        Ok(Index {
+            directories,
+            latest: None,
+            room: None,
+        })
     }
 
     /// Returns the number of a name in a directory.

@@ -108,6 +108,27 @@ impl InodeMap {
         })
     }
 
+    /// Remembers entries that were kept before, and gives `next` as the next number. So many attributes may be loaded at
+    /// once.
+    pub fn of_entries(
+        alloc: Global,
+        entries: &[Kept],
+        next: u64,
+        loaded_limit: usize,
+    ) -> Result<InodeMap, NoMemory>
+        requires limit { 1 ≤ loaded_limit }
+        requires entries { AreEntries entries.now next }
+        ensures map { IfOk result (λ map. map ≡ map_of entries.now next loaded_limit) }
+    {
+        let loaded = Loaded::new(alloc, loaded_limit)?;
+        let table = Table::of_entries(alloc, entries, next)?;
+        Ok(InodeMap {
+            table,
+            bad_items: 0,
+            loaded,
+        })
+    }
+
     /// Returns the number that is given next.
     pub fn next(&self) -> u64
         ensures next { result ≡ self.now.next }

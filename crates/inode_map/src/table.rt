@@ -1,5 +1,5 @@
 //! The entries of an inode map by number, and the index of their places.
-ghost use Rattle.std.specs.Prelude.{◌≡◌, ℕ, ◌+◌, ◌<◌, ◌≤◌, List, [], ◌∷◌, ◌++◌, Option, Some, None, IsSome, MatchOption, OnOk, OnErr, vec_len, vec_capacity, length};
+ghost use Rattle.std.specs.Prelude.{◌≡◌, ℕ, ◌+◌, ◌<◌, ◌≤◌, List, [], ◌∷◌, ◌++◌, Option, Some, None, IsSome, MatchOption, IfOk, OnOk, OnErr, vec_len, vec_capacity, length};
 ghost use Rattle.std.specs.Option.{option_map, option_copied, option_and_then};
 ghost use Rattle.std.specs.List.{list_any, filter};
 ghost use Rattle.checkout.specs.Tree.{Tree};
@@ -7,10 +7,11 @@ ghost use Rattle.eden_base.specs.First.{changed_where, without_where};
 ghost use Rattle.eden_base.specs.Limits.{end_of_numbers};
 ghost use Rattle.eden_base.specs.declared.number.FileId.{FileId};
 ghost use Rattle.eden_base.specs.declared.number.Number.{Number};
-ghost use Rattle.inode_map.specs.InodeMap.{has_number, entry_of, entry_at, is_kid_of, number_of_kept, place_of_kept, number_after, new_entry, marked, IsLinked, IsFileOf, file_remembered, remembered};
-ghost use Rattle.inode_map.specs.Table.{IsIn, kept_of, kept_from, held_in, IsSlots, counted, without_entry, AreOfKept, file_number};
+ghost use Rattle.inode_map.specs.InodeMap.{has_number, entry_of, entry_at, is_kid_of, number_of_kept, place_of_kept, number_after, new_entry, marked, IsLinked, IsFileOf, file_remembered, remembered, AreNumbers, AreEntries};
+ghost use Rattle.inode_map.specs.Table.{IsIn, held_of, slots_of, kept_of, kept_from, held_in, IsSlots, counted, without_entry, AreOfKept, file_number};
 
 use crate::index::Index;
+use crate::inode_map::Kept;
 use crate::way::locate;
 use checkout::Tree;
 use eden_base::{FileId, Name, NoMemory, Number, Place};
@@ -26,6 +27,26 @@ pub(crate) struct Held {
     pub count: u64,
     /// The file that the number names, once it was found.
     pub file: Option<FileId>,
+}
+
+impl Held {
+    /// Returns what an entry has beside its number, in memory of its own. No file is remembered of it.
+    fn of(alloc: Global, kept: &Kept) -> Result<Held, NoMemory>
+        ensures { IfOk result (λ held. held ≡ held_of kept.now) }
+    {
+        let place = match &kept.place {
+            Place::Linked { parent, name } => Place::Linked {
+                parent: *parent,
+                name: name.copy(alloc)?,
+            },
+            Place::Unlinked { file } => Place::Unlinked { file: *file },
+        };
+        Ok(Held {
+            place,
+            count: kept.count,
+            file: None,
+        })
+    }
 }
 
 /// The map of the entries has a place for the next number where that is reserved. The way has room for a walk past all
@@ -68,6 +89,24 @@ impl Table {
             is_reserved: false,
             way: Vec::new(alloc),
         }
+    }
+
+    /// Returns a table of these entries, of which no file is remembered.
+    pub fn of_entries(alloc: Global, entries: &[Kept], next: u64) -> Result<Table, NoMemory>
+        requires { AreEntries entries.now next }
+        ensures { IfOk result (λ table. table
+            ≡ record { entries = entries.now; remembered = []; next = next; spare = 0 }) }
+    {
+        let slots = slots_of(alloc, entries)?;
+        let index = Index::of_entries(alloc, entries)?;
+        let way = Vec::with_capacity(alloc, entries.len())?;
+        Ok(Table {
+            slots,
+            index,
+            next,
+            is_reserved: false,
+            way,
+        })
     }
 
     /// Returns the number that is given next.
@@ -249,6 +288,19 @@ impl Table {
     {
         locate(&self.slots, &mut self.way, tree, number)
     }
+}
+
+/// Puts entries, whose numbers rise, under their numbers.
+fn slots_of(alloc: Global, entries: &[Kept]) -> Result<BTreeMap<u64, Option<Held>>, NoMemory>
+    requires { (next : ℕ) × AreNumbers 2 next entries.now }
+    ensures { IfOk result (λ slots. slots.entries ≡ slots_of entries.now) }
+{
+    let mut slots = BTreeMap::new(alloc);
+    for kept in entries {
+        let held = Held::of(alloc, kept)?;
+        slots.insert(kept.number.0, Some(held))?;
+    }
+    Ok(slots)
 }
 
 /// Returns what an entry has beside its number.

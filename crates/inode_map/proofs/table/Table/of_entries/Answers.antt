@@ -1,0 +1,23 @@
+-- The entries are read again from their slots.
+use Rattle.std.proofs.Common.{◌≡◌, List, refl, sym, ap, ◌∙◌, subst, arith}
+use Rattle.inode_map.specs.Links.{link_of}
+use Rattle.inode_map.specs.Table.{kept_from, IsIndexed}
+use Rattle.inode_map.specs.declared.inode_map.Kept.{Kept}
+use Rattle.inode_map.proofs.EntryRuns.{slots-are, slots-kept, slots-files, slots-length}
+use Rattle.inode_map.proofs.table.Table.of_entries.Goals as goal
+
+pub invariant_of-result : goal.invariant_of-result
+invariant_of-result c =
+    let es = c.args.entries.now in
+    let same : kept_from c.in_ok-slots.slots.entries ≡ es = ap kept_from c.in_ok-slots.ensures ∙ slots-kept es in
+    record {
+      slots = rw c.in_ok-slots.ensures (slots-are es 2 c.args.next c.requires.numbers);
+      indexed = subst (λ (all : List Kept). IsIndexed all (link_of c.in_ok-index.index)) (sym same) c.in_ok-index.ensures;
+      ready = λ is. let none : ⊥ = cc in absurd none;
+      room = let e = ap Rattle.std.proofs.Common.length c.in_ok-slots.ensures ∙ slots-length es in let r = c.in_ok-way.ensures.capacity in omega arith;
+    }
+
+pub returns : goal.returns
+returns c =
+    let es = c.args.entries.now in
+    rw (c.in_ok-slots.ensures, slots-kept es, slots-files es) refl
