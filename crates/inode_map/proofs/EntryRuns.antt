@@ -109,10 +109,10 @@ pub slots-length : (es : List Kept) → length (slots_of es) ≡ length es
 slots-length [] = refl
 slots-length (y ∷ es) = ap suc (slots-length es)
 
--- each is of use
-pub all-of_use : (es : List Kept) (P : Kept → Type 0) (n : ℕ) (kept : Kept) → AllByRecursion P es → entry_of es n ≡ Some kept → P kept
-all-of_use [] P n kept all e = absurd (let none : ⊥ = cc in none)
-all-of_use (y ∷ es) P n kept all e = in_ (y.number.0 == n) e (all-of_use es P n kept all.1) where
+-- what holds of each holds of the entry of a number
+pub each-entry : (es : List Kept) (P : Kept → Type 0) (n : ℕ) (kept : Kept) → AllByRecursion P es → entry_of es n ≡ Some kept → P kept
+each-entry [] P n kept all e = absurd (let none : ⊥ = cc in none)
+each-entry (y ∷ es) P n kept all e = in_ (y.number.0 == n) e (each-entry es P n kept all.1) where
   in_ : (b : Bool) → cond b (Some y) (entry_of es n) ≡ Some kept → (entry_of es n ≡ Some kept → P kept) → P kept
   in_ true h more = let same : y ≡ kept = cc in subst P same all.0
   in_ false h more = more h

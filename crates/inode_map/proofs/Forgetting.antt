@@ -113,6 +113,18 @@ good-parts es n k h = in_ (k == 0) (nat_lt (count_of es n) k) refl refl h where
   in_ false true e f g = absurd (let none : ⊥ = cc in none)
   in_ false false e f g = (false-ne k 0 e, let l : k ≤ count_of es n = grind (arith, nat_tests) in l)
 
+-- what a forget would drop has no kids
+pub dropped-kids : (map : MapState) (n k : ℕ) → Dropped ≡ forgot map n k → list_any (is_kid_of n) map.entries ≡ false
+dropped-kids map n k h =
+    let told = told-dropped map n k h in
+    let parts = good-parts map.entries n k told.good in
+    in_ (nat_lt 0 (count_of map.entries n - k)) (list_any (is_kid_of n) map.entries) (sym (lowered-useless map.entries n k parts.0 parts.1) ∙ told.useless)
+  where
+    in_ : (a b : Bool) → not (a || b) ≡ true → b ≡ false
+    in_ true b e = absurd (let none : ⊥ = cc in none)
+    in_ false true e = absurd (let none : ⊥ = cc in none)
+    in_ false false e = refl
+
 -- where the number is of use still, none leaves
 pub forgotten-lowered : (map : MapState) (n k : ℕ) → AreKept map.next map.entries → AreOfKept loaded_number (lowered map.entries n k) map.loaded → AreOfKept file_number (lowered map.entries n k) map.remembered →
     IsTold map n k false → record map { entries = lowered map.entries n k } ≡ forgotten map n k

@@ -12,4 +12,6 @@ pub use inode_map::{Forgot, GiveFault, InodeMap, Kept};
 pub use loaded::LoadedAttr;
 
 #[cfg(test)]
+mod sequence_tests;
+#[cfg(test)]
 mod tests;

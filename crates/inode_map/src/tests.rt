@@ -1,9 +1,10 @@
 //! Which numbers an inode map gives, and which files they name in a tree.
-ghost use Rattle.std.specs.Prelude.{◌≤◌};
+ghost use Rattle.std.specs.Prelude.{◌+◌, ◌<◌, ◌≤◌};
+ghost use Rattle.eden_base.specs.Limits.{end_of_numbers};
 
-use crate::{Forgot, GiveFault, InodeMap};
+use crate::{Forgot, GiveFault, InodeMap, Kept};
 use checkout::{Manifest, ManifestFault, ManifestFaultKind, Tree};
-use eden_base::{FileId, Name, NameFault, NoMemory, Number, Place};
+use eden_base::{Attr, FileId, Kind, Name, NameFault, NoMemory, Number, Perm, Place};
 use std::alloc::{AllocError, Global};
 use std::test::Fail;
 
@@ -158,5 +159,128 @@ fn goes_over_its_numbers_and_forgets_upwards(rt: HostRuntime) -> Result<(), Fail
     assert!(rt; map.after(Number::ROOT) == Some(Number(2)) && map.after(Number(3)) == None);
     assert!(rt; map.forget(Number(3), 1) == Forgot::Dropped);
     assert!(rt; map.after(Number::ROOT) == None && map.next() == 5);
+    Ok(())
+}
+
+/// Loads an attribute whose size is the number, unless the number is unknown or has one.
+fn load(map: &mut InodeMap, number: Number) {
+    if map.entry(number).is_some() && map.attr(number).is_none() {
+        let attr = Attr {
+            kind: Kind::File,
+            perm: Perm::DIRECTORY,
+            size: number.0,
+            nlink: 1,
+        };
+        map.load(number, attr);
+    }
+}
+
+/// Returns the size in the loaded attribute of a number.
+fn size_loaded(map: &mut InodeMap, number: u64) -> Option<u64> {
+    Some(map.attr(Number(number))?.size)
+}
+
+#[test]
+fn unloads_the_oldest_attribute_at_the_limit(rt: HostRuntime) -> Result<(), Fail> {
+    let mut map = map_of(rt.alloc(), 2)?;
+    let src = parsed(rt.alloc(), b"src")?;
+    let readme = parsed(rt.alloc(), b"README")?;
+    assert!(rt; given_ready(rt.alloc(), &mut map, Number::ROOT, src) == Some(Number(2)));
+    load(&mut map, Number(2));
+    assert!(rt; given(rt.alloc(), &mut map, Number::ROOT, &readme) == Some(Number(3)));
+    load(&mut map, Number(3));
+    assert!(rt; size_loaded(&mut map, 2) == Some(2));
+    assert!(rt; given(rt.alloc(), &mut map, Number(2), &readme) == Some(Number(4)));
+    load(&mut map, Number(4));
+    for (number, size) in [(3, None), (2, Some(2)), (4, Some(4))] {
+        assert_eq!(rt; size_loaded(&mut map, number), size);
+    }
+    assert!(rt; map.unload_oldest() && size_loaded(&mut map, 2) == None);
+    assert!(rt; map.unload_oldest() && !map.unload_oldest());
+    for number in 2..5u64 {
+        assert!(rt; map.count(Number(number)) == 1);
+    }
+    Ok(())
+}
+
+#[test]
+fn tells_what_each_forget_comes_to(rt: HostRuntime) -> Result<(), Fail> {
+    let mut map = map_of(rt.alloc(), 1)?;
+    let src = parsed(rt.alloc(), b"src")?;
+    let readme = parsed(rt.alloc(), b"README")?;
+    for name in [&src, &src, &readme] {
+        assert!(rt; given(rt.alloc(), &mut map, Number::ROOT, name).is_some());
+    }
+    for (number, k, forgot) in [
+        (2, 1, Forgot::Lowered),
+        (9, 1, Forgot::Bad),
+        (2, 5, Forgot::Bad),
+        (2, 0, Forgot::Bad),
+        (1, 3, Forgot::Root),
+        (3, 1, Forgot::Dropped),
+    ] {
+        assert_eq!(rt; map.forget(Number(number), k), forgot, "{number} {k}");
+    }
+    assert!(rt; map.count(Number(2)) == 1 && map.bad_items() == 3);
+    assert!(rt; !map.known(Number(3)) && map.next() == 4);
+    Ok(())
+}
+
+/// Makes a map of one entry, whose number is the last that was given, again where memory was short.
+fn map_of_one(alloc: Global, number: Number, place: Place, count: u64) -> Result<InodeMap, NoMemory>
+    requires above_root { 2 ≤ number.0 }
+    requires fits { number.0 < end_of_numbers }
+    requires of_use { 0 < count }
+{
+    let next = number.0 + 1;
+    let entries = [Kept {
+        number,
+        place,
+        count,
+    }];
+    match InodeMap::of_entries(alloc, &entries, next, 1) {
+        Err(_refused) => InodeMap::of_entries(alloc, &entries, next, 1),
+        told => told,
+    }
+}
+
+#[test]
+fn gives_up_at_the_greatest_count_and_behind_the_last_number(rt: HostRuntime) -> Result<(), Fail> {
+    let src = parsed(rt.alloc(), b"src")?;
+    let readme = parsed(rt.alloc(), b"README")?;
+    let place = Place::Linked {
+        parent: Number::ROOT,
+        name: parsed(rt.alloc(), b"src")?,
+    };
+    let last = Number(9223372036854775806);
+    let mut map = map_of_one(rt.alloc(), last, place, 4294967294)?;
+    assert!(rt; map.next() == 9223372036854775807);
+    assert!(rt; map.give(rt.alloc(), Number::ROOT, &src) == Ok(last));
+    assert!(rt; map.give(rt.alloc(), Number::ROOT, &src) == Err(GiveFault::TooMany));
+    assert!(rt; map.give(rt.alloc(), Number::ROOT, &readme) == Err(GiveFault::NoNumber));
+    assert!(rt; map.give(rt.alloc(), last, &src) == Err(GiveFault::NoNumber));
+    assert!(rt; map.count(last) == 4294967295 && map.next() == 9223372036854775807);
+    assert!(rt; map.forget(last, 4294967295) == Forgot::Dropped && !map.known(last));
+    Ok(())
+}
+
+#[test]
+fn names_the_file_of_a_mark_until_it_is_forgotten(rt: HostRuntime) -> Result<(), Fail> {
+    let manifest = read(
+        rt.alloc(),
+        b"commit 0123456789abcdef0123456789abcdef01234567\n",
+    )?;
+    let tree = tree_of(rt.alloc(), &manifest)?;
+    let mut map = map_of_one(
+        rt.alloc(),
+        Number(5),
+        Place::Unlinked { file: FileId(7) },
+        2,
+    )?;
+    assert!(rt; map.after(Number::ROOT) == Some(Number(5)) && map.next() == 6);
+    assert!(rt; map.locate(&tree, Number(5)) == Some(FileId(7)));
+    assert!(rt; map.forget(Number(5), 1) == Forgot::Lowered);
+    assert!(rt; map.forget(Number(5), 1) == Forgot::Dropped);
+    assert!(rt; map.locate(&tree, Number(5)) == None);
     Ok(())
 }

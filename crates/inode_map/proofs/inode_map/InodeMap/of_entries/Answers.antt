@@ -2,7 +2,7 @@
 use Rattle.std.proofs.Common.{◌≡◌, true, inl}
 use Rattle.inode_map.specs.InodeMap.{is_of_use}
 use Rattle.inode_map.specs.declared.inode_map.Kept.{Kept}
-use Rattle.inode_map.proofs.EntryRuns.{all-of_use}
+use Rattle.inode_map.proofs.EntryRuns.{each-entry}
 use Rattle.inode_map.proofs.inode_map.InodeMap.of_entries.Goals as goal
 
 pub invariant_of-result : goal.invariant_of-result
@@ -12,6 +12,6 @@ invariant_of-result c =
     record {
       numbers = rw c.in_ok-table.ensures are.numbers;
       numbers_fit = rw c.in_ok-table.ensures are.last;
-      of_use = rw c.in_ok-table.ensures (λ n kept e. inl (all-of_use es (λ (x : Kept). is_of_use es x ≡ true) n kept are.of_use e));
+      of_use = rw c.in_ok-table.ensures (λ n kept e. inl (each-entry es (λ (x : Kept). is_of_use es x ≡ true) n kept are.of_use e));
       loaded = rw c.in_ok-loaded.ensures tt;
     }

@@ -1,0 +1,218 @@
+//! A long sequence of calls, on a map and on a plain list of the same entries.
+use crate::{Forgot, GiveFault, InodeMap};
+use eden_base::{FileId, Name, NameFault, Number, Place};
+use std::alloc::{AllocError, Global};
+use std::test::Fail;
+
+/// An entry under a name of one byte in a directory, or under none: then the directory is 0.
+#[derive(Clone, Copy)]
+struct Listed {
+    number: u64,
+    parent: u64,
+    name: u8,
+    count: u64,
+}
+
+/// The entries by rising number, the next number, and how many forgets were bad.
+#[derive(Drop)]
+struct Plain {
+    entries: Vec<Listed>,
+    next: u64,
+    bad_items: u64,
+}
+
+impl Plain {
+    fn has_kids(&self, number: u64) -> bool {
+        self.entries.iter().any(|entry| entry.parent == number)
+    }
+
+    fn count(&self, number: u64) -> u64 {
+        for entry in &self.entries {
+            if entry.number == number {
+                return entry.count;
+            }
+        }
+        0
+    }
+
+    fn is_linked(&self, number: u64) -> bool {
+        self.entries
+            .iter()
+            .any(|entry| entry.number == number && entry.parent > 0)
+    }
+
+    fn change(&mut self, number: u64, parent: Option<u64>, count: u64) {
+        for entry in &mut self.entries {
+            if entry.number == number {
+                entry.parent = parent.unwrap_or(entry.parent);
+                entry.count = count;
+            }
+        }
+    }
+
+    fn give(&mut self, parent: u64, name: u8) -> Result<u64, AllocError> {
+        for entry in &mut self.entries {
+            if entry.parent == parent && entry.name == name {
+                entry.count = entry.count.wrapping_add(1);
+                return Ok(entry.number);
+            }
+        }
+        let number = self.next;
+        self.next = number.wrapping_add(1);
+        self.entries.push(Listed {
+            number,
+            parent,
+            name,
+            count: 1,
+        })?;
+        Ok(number)
+    }
+
+    fn useless(&self) -> Option<u64> {
+        for entry in &self.entries {
+            if entry.count == 0 && !self.has_kids(entry.number) {
+                return Some(entry.number);
+            }
+        }
+        None
+    }
+
+    fn strike(&mut self) {
+        for _round in 0..self.entries.len() {
+            let Some(number) = self.useless() else {
+                return;
+            };
+            self.entries.retain(|entry| entry.number != number);
+        }
+    }
+
+    fn forget(&mut self, number: u64, k: u64) -> Forgot {
+        if number == 1 {
+            return Forgot::Root;
+        }
+        let count = self.count(number);
+        if k == 0 || count < k {
+            self.bad_items = self.bad_items.wrapping_add(1);
+            return Forgot::Bad;
+        }
+        self.change(number, None, count.wrapping_sub(k));
+        self.strike();
+        if self.entries.iter().any(|entry| entry.number == number) {
+            return Forgot::Lowered;
+        }
+        Forgot::Dropped
+    }
+
+    fn unlink(&mut self, number: u64) {
+        self.change(number, Some(0), self.count(number));
+        self.strike();
+    }
+}
+
+/// Returns whether the map has this entry, under this name or with the mark of the file of its number.
+fn has(map: &InodeMap, entry: &Listed) -> bool {
+    let number = Number(entry.number);
+    let is_there = match map.entry(number) {
+        Some(Place::Linked { parent, name }) => {
+            parent.0 == entry.parent
+                && name.bytes() == [entry.name].as_slice()
+                && map.number_for(*parent, name) == Some(number)
+        }
+        Some(Place::Unlinked { file }) => entry.parent == 0 && file.0 == entry.number,
+        None => false,
+    };
+    is_there && map.count(number) == entry.count
+}
+
+/// Returns whether the map has the entries of the list, and no others.
+fn agrees(map: &InodeMap, plain: &Plain) -> bool {
+    let mut last = Number::ROOT;
+    for entry in &plain.entries {
+        if map.after(last) != Some(Number(entry.number)) || !has(map, entry) {
+            return false;
+        }
+        last = Number(entry.number);
+    }
+    map.after(last).is_none() && map.next() == plain.next && map.bad_items() == plain.bad_items
+}
+
+/// Takes the name of a number away in both, if it has one, is held, and nothing stands below it.
+fn unlink(map: &mut InodeMap, plain: &mut Plain, number: u64) {
+    let Some(Place::Linked { .. }) = map.entry(Number(number)) else {
+        return;
+    };
+    let count = map.count(Number(number));
+    let Forgot::Dropped = map.forgot(Number(number), count) else {
+        return;
+    };
+    map.unlink(Number(number), FileId(number));
+    plain.unlink(number);
+}
+
+/// Gives the number of a name in both. The map makes room for it first where it is told so.
+fn give(
+    alloc: Global,
+    map: &mut InodeMap,
+    plain: &mut Plain,
+    parent: u64,
+    byte: u8,
+    is_reserved: bool,
+) -> Result<bool, NameFault> {
+    let name = Name::parse(alloc, &[byte])?;
+    let given = if is_reserved && map.reserve(alloc).is_ok() {
+        map.give_ready(Number(parent), name)
+    } else {
+        map.give(alloc, Number(parent), &name)
+    };
+    let listed = plain.give(parent, byte);
+    Ok(matches!((given, listed), (Ok(number), Ok(other)) if number.0 == other))
+}
+
+/// Makes one call on both, and returns whether both answered the same.
+fn step(
+    alloc: Global,
+    map: &mut InodeMap,
+    plain: &mut Plain,
+    dice: u64,
+) -> Result<bool, NameFault> {
+    let number = plain.next.wrapping_sub(dice / 8 % 16);
+    let other = dice / 128 % 4;
+    match dice % 8 {
+        0..=3 => {
+            let parent = if plain.is_linked(number) { number } else { 1 };
+            give(
+                alloc,
+                map,
+                plain,
+                parent,
+                97u8.wrapping_add(other as u8),
+                dice % 2 == 0,
+            )
+        }
+        4 => {
+            unlink(map, plain, number);
+            Ok(true)
+        }
+        _ => Ok(map.forget(Number(number), other) == plain.forget(number, other)),
+    }
+}
+
+#[test]
+fn answers_as_a_plain_list_does(rt: HostRuntime) -> Result<(), Fail> {
+    let mut map = InodeMap::new(rt.alloc(), 4)?;
+    let mut plain = Plain {
+        entries: Vec::new(rt.alloc()),
+        next: 2,
+        bad_items: 0,
+    };
+    let mut dice = 20260u64;
+    for count in 0..1000u32 {
+        dice = dice
+            .wrapping_mul(6364136223846793005)
+            .wrapping_add(1442695040888963407);
+        let is_same = step(rt.alloc(), &mut map, &mut plain, dice / 2147483648)?;
+        assert!(rt; is_same && agrees(&map, &plain), "call {count}");
+    }
+    assert!(rt; plain.next > 200 && plain.bad_items > 50 && plain.entries.len() > 10);
+    Ok(())
+}
