@@ -11,6 +11,7 @@ pub mod IndexLemmas
 pub mod Keeping
 pub mod Places
 pub mod Pruning
+pub mod Removing
 pub mod SlotGrowth
 pub mod SlotLemmas
 pub mod SlotWrites
