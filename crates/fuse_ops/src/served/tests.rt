@@ -21,6 +21,59 @@ const FILE: Attr = Attr {
     nlink: 1,
 };
 
+const MADE: Attr = Attr {
+    kind: Kind::File,
+    perm: Perm { bits: 0o640 },
+    size: 0,
+    nlink: 1,
+};
+
+const MADE_DIRECTORY: Attr = Attr {
+    kind: Kind::Dir,
+    perm: Perm { bits: 0o640 },
+    size: 0,
+    nlink: 2,
+};
+
+const UNLINKED_FILE: Attr = Attr {
+    kind: Kind::File,
+    perm: Perm { bits: 0o644 },
+    size: 12,
+    nlink: 0,
+};
+
+const UNLINKED_MADE: Attr = Attr {
+    kind: Kind::File,
+    perm: Perm { bits: 0o640 },
+    size: 0,
+    nlink: 0,
+};
+
+const UNLINKED_MADE_DIRECTORY: Attr = Attr {
+    kind: Kind::Dir,
+    perm: Perm { bits: 0o640 },
+    size: 0,
+    nlink: 0,
+};
+
+const SRC: Answer = Answer::Entry {
+    number: Number(2),
+    attr: DIRECTORY,
+};
+
+const A: Answer = Answer::Entry {
+    number: Number(3),
+    attr: FILE,
+};
+
+const STALE: Answer = Answer::Error(Errno::ESTALE);
+
+const NOT_DIR: Answer = Answer::Error(Errno::ENOTDIR);
+
+const MISSING: Answer = Answer::Error(Errno::ENOENT);
+
+const EXISTS: Answer = Answer::Error(Errno::EEXIST);
+
 /// Serves the text, made again where memory was refused.
 fn served(alloc: Global) -> Result<Served, Fail> {
     let manifest = match Manifest::read(alloc, TEXT) {
@@ -33,14 +86,32 @@ fn served(alloc: Global) -> Result<Served, Fail> {
     }
 }
 
-fn look_up(alloc: Global, dir: u64, name: &[u8]) -> Result<Request, Fail> {
+/// Which request a row of a table makes.
+#[derive(Clone, Copy)]
+enum Asks {
+    LookUp,
+    Create,
+    Mkdir,
+    Unlink,
+    Rmdir,
+}
+
+/// A request by the number of its directory and the name in it, and what it must be answered.
+type Row = (Asks, u64, &'static [u8], Answer);
+
+fn asked(alloc: Global, asks: Asks, dir: u64, name: &[u8]) -> Result<Request, Fail> {
     let name = match Name::parse(alloc, name) {
         Ok(name) => name,
         Err(_refused) => Name::parse(alloc, name)?,
     };
-    Ok(Request::Lookup {
-        dir: Number(dir),
-        name,
+    let dir = Number(dir);
+    let perm = MADE.perm;
+    Ok(match asks {
+        Asks::LookUp => Request::Lookup { dir, name },
+        Asks::Create => Request::Create { dir, name, perm },
+        Asks::Mkdir => Request::Mkdir { dir, name, perm },
+        Asks::Unlink => Request::Unlink { dir, name },
+        Asks::Rmdir => Request::Rmdir { dir, name },
     })
 }
 
@@ -80,14 +151,10 @@ fn entry(number: u64, attr: Attr) -> Answer {
     }
 }
 
-/// Looks names up in turn, and returns whether each is answered so.
-fn are_answered(
-    alloc: Global,
-    served: &mut Served,
-    lookups: &[(u64, &[u8], Answer)],
-) -> Result<bool, Fail> {
-    for (dir, name, expected) in lookups {
-        let request = look_up(alloc, *dir, name)?;
+/// Makes the requests in turn, and returns whether each is answered as its row says.
+fn are_answered(alloc: Global, served: &mut Served, rows: &[Row]) -> Result<bool, Fail> {
+    for (asks, dir, name, expected) in rows {
+        let request = asked(alloc, *asks, *dir, name)?;
         if answer(alloc, served, &request) != Some(*expected) {
             return Ok(false);
         }
@@ -118,12 +185,12 @@ fn is_at(served: &Served, two: u64, three: u64, next: u64, bad: u64) -> bool {
 #[test]
 fn answers_the_first_error_or_an_entry(rt: HostRuntime) -> Result<(), Fail> {
     let mut served = served(rt.alloc())?;
-    let lookups = [
-        (1, b"src".as_slice(), entry(2, DIRECTORY)),
-        (9, b"a".as_slice(), Answer::Error(Errno::ESTALE)),
-        (1, b"a".as_slice(), Answer::Error(Errno::ENOENT)),
-        (2, b"a".as_slice(), entry(3, FILE)),
-        (3, b"a".as_slice(), Answer::Error(Errno::ENOTDIR)),
+    let lookups: [Row; 5] = [
+        (Asks::LookUp, 1, b"src", entry(2, DIRECTORY)),
+        (Asks::LookUp, 9, b"a", Answer::Error(Errno::ESTALE)),
+        (Asks::LookUp, 1, b"a", Answer::Error(Errno::ENOENT)),
+        (Asks::LookUp, 2, b"a", entry(3, FILE)),
+        (Asks::LookUp, 3, b"a", Answer::Error(Errno::ENOTDIR)),
     ];
     assert!(rt; are_answered(rt.alloc(), &mut served, &lookups)?);
     assert!(rt; is_at(&served, 1, 1, 4, 0));
@@ -133,10 +200,10 @@ fn answers_the_first_error_or_an_entry(rt: HostRuntime) -> Result<(), Fail> {
 #[test]
 fn gives_each_name_one_number(rt: HostRuntime) -> Result<(), Fail> {
     let mut served = served(rt.alloc())?;
-    let lookups = [
-        (1, b"src".as_slice(), entry(2, DIRECTORY)),
-        (2, b"a".as_slice(), entry(3, FILE)),
-        (1, b"src".as_slice(), entry(2, DIRECTORY)),
+    let lookups: [Row; 3] = [
+        (Asks::LookUp, 1, b"src", entry(2, DIRECTORY)),
+        (Asks::LookUp, 2, b"a", entry(3, FILE)),
+        (Asks::LookUp, 1, b"src", entry(2, DIRECTORY)),
     ];
     assert!(rt; are_answered(rt.alloc(), &mut served, &lookups)?);
     assert!(rt; is_at(&served, 2, 1, 4, 0));
@@ -146,10 +213,10 @@ fn gives_each_name_one_number(rt: HostRuntime) -> Result<(), Fail> {
 #[test]
 fn applies_each_item_of_a_batch_by_itself(rt: HostRuntime) -> Result<(), Fail> {
     let mut served = served(rt.alloc())?;
-    let lookups = [
-        (1, b"src".as_slice(), entry(2, DIRECTORY)),
-        (1, b"src".as_slice(), entry(2, DIRECTORY)),
-        (2, b"a".as_slice(), entry(3, FILE)),
+    let lookups: [Row; 3] = [
+        (Asks::LookUp, 1, b"src", entry(2, DIRECTORY)),
+        (Asks::LookUp, 1, b"src", entry(2, DIRECTORY)),
+        (Asks::LookUp, 2, b"a", entry(3, FILE)),
     ];
     assert!(rt; are_answered(rt.alloc(), &mut served, &lookups)?);
     let items = [
@@ -174,9 +241,9 @@ fn applies_each_item_of_a_batch_by_itself(rt: HostRuntime) -> Result<(), Fail> {
 #[test]
 fn forgets_one_item(rt: HostRuntime) -> Result<(), Fail> {
     let mut served = served(rt.alloc())?;
-    let twice = [
-        (1, b"src".as_slice(), entry(2, DIRECTORY)),
-        (1, b"src".as_slice(), entry(2, DIRECTORY)),
+    let twice: [Row; 2] = [
+        (Asks::LookUp, 1, b"src", entry(2, DIRECTORY)),
+        (Asks::LookUp, 1, b"src", entry(2, DIRECTORY)),
     ];
     assert!(rt; are_answered(rt.alloc(), &mut served, &twice)?);
     assert!(rt;
@@ -185,7 +252,7 @@ fn forgets_one_item(rt: HostRuntime) -> Result<(), Fail> {
             .is_none()
     );
     assert!(rt; is_at(&served, 0, 0, 3, 0));
-    let again = [(1, b"src".as_slice(), entry(3, DIRECTORY))];
+    let again: [Row; 1] = [(Asks::LookUp, 1, b"src", entry(3, DIRECTORY))];
     assert!(rt; are_answered(rt.alloc(), &mut served, &again)?);
     Ok(())
 }
@@ -193,9 +260,9 @@ fn forgets_one_item(rt: HostRuntime) -> Result<(), Fail> {
 #[test]
 fn shows_attributes_and_counts_nothing(rt: HostRuntime) -> Result<(), Fail> {
     let mut served = served(rt.alloc())?;
-    let lookups = [
-        (1, b"src".as_slice(), entry(2, DIRECTORY)),
-        (2, b"a".as_slice(), entry(3, FILE)),
+    let lookups: [Row; 2] = [
+        (Asks::LookUp, 1, b"src", entry(2, DIRECTORY)),
+        (Asks::LookUp, 2, b"a", entry(3, FILE)),
     ];
     assert!(rt; are_answered(rt.alloc(), &mut served, &lookups)?);
     let shown = [
@@ -219,5 +286,214 @@ fn answers_enosys_to_what_is_not_served(rt: HostRuntime) -> Result<(), Fail> {
     };
     assert!(rt; served.apply(rt.alloc(), &other) == Some(Answer::Error(Errno::ENOSYS)));
     assert!(rt; is_at(&served, 0, 0, 2, 0));
+    Ok(())
+}
+
+const MADE_AND_FOUND: [Row; 2] = [
+    (
+        Asks::Create,
+        1,
+        b"b",
+        Answer::Opened {
+            number: Number(2),
+            attr: MADE,
+        },
+    ),
+    (
+        Asks::LookUp,
+        1,
+        b"b",
+        Answer::Entry {
+            number: Number(2),
+            attr: MADE,
+        },
+    ),
+];
+
+const MADE_AND_FOUND_SHOWN: [(u64, Answer); 1] = [(
+    2,
+    Answer::Attrs {
+        number: Number(2),
+        attr: MADE,
+    },
+)];
+
+#[test]
+fn makes_a_file_and_gives_its_number(rt: HostRuntime) -> Result<(), Fail> {
+    let mut served = served(rt.alloc())?;
+    assert!(rt; are_answered(rt.alloc(), &mut served, &MADE_AND_FOUND)?);
+    assert!(rt; are_shown(rt.alloc(), &mut served, &MADE_AND_FOUND_SHOWN));
+    assert!(rt; is_at(&served, 2, 0, 3, 0));
+    Ok(())
+}
+
+const FILLED_AND_REMOVED: [Row; 8] = [
+    (
+        Asks::Mkdir,
+        1,
+        b"d",
+        Answer::Entry {
+            number: Number(2),
+            attr: MADE_DIRECTORY,
+        },
+    ),
+    (
+        Asks::Create,
+        2,
+        b"b",
+        Answer::Opened {
+            number: Number(3),
+            attr: MADE,
+        },
+    ),
+    (Asks::Rmdir, 1, b"d", Answer::Error(Errno::ENOTEMPTY)),
+    (Asks::Unlink, 2, b"b", Answer::Done),
+    (Asks::Rmdir, 1, b"d", Answer::Done),
+    (Asks::LookUp, 1, b"d", MISSING),
+    (Asks::Create, 2, b"c", MISSING),
+    (Asks::Mkdir, 2, b"c", MISSING),
+];
+
+const FILLED_AND_REMOVED_SHOWN: [(u64, Answer); 2] = [
+    (
+        2,
+        Answer::Attrs {
+            number: Number(2),
+            attr: UNLINKED_MADE_DIRECTORY,
+        },
+    ),
+    (
+        3,
+        Answer::Attrs {
+            number: Number(3),
+            attr: UNLINKED_MADE,
+        },
+    ),
+];
+
+#[test]
+fn keeps_a_removed_directory_that_is_held(rt: HostRuntime) -> Result<(), Fail> {
+    let mut served = served(rt.alloc())?;
+    assert!(rt; are_answered(rt.alloc(), &mut served, &FILLED_AND_REMOVED)?);
+    assert!(rt; are_shown(rt.alloc(), &mut served, &FILLED_AND_REMOVED_SHOWN));
+    assert!(rt; is_at(&served, 1, 1, 4, 0));
+    Ok(())
+}
+
+const UNLINKED_AND_MADE: [Row; 6] = [
+    (Asks::LookUp, 1, b"src", SRC),
+    (Asks::LookUp, 2, b"a", A),
+    (Asks::Unlink, 2, b"a", Answer::Done),
+    (Asks::LookUp, 2, b"a", MISSING),
+    (
+        Asks::Create,
+        2,
+        b"a",
+        Answer::Opened {
+            number: Number(4),
+            attr: MADE,
+        },
+    ),
+    (
+        Asks::LookUp,
+        2,
+        b"a",
+        Answer::Entry {
+            number: Number(4),
+            attr: MADE,
+        },
+    ),
+];
+
+const UNLINKED_AND_MADE_SHOWN: [(u64, Answer); 2] = [
+    (
+        3,
+        Answer::Attrs {
+            number: Number(3),
+            attr: UNLINKED_FILE,
+        },
+    ),
+    (
+        4,
+        Answer::Attrs {
+            number: Number(4),
+            attr: MADE,
+        },
+    ),
+];
+
+#[test]
+fn keeps_an_unlinked_file_that_is_held(rt: HostRuntime) -> Result<(), Fail> {
+    let mut served = served(rt.alloc())?;
+    assert!(rt; are_answered(rt.alloc(), &mut served, &UNLINKED_AND_MADE)?);
+    assert!(rt; are_shown(rt.alloc(), &mut served, &UNLINKED_AND_MADE_SHOWN));
+    assert!(rt; is_at(&served, 1, 1, 5, 0));
+    Ok(())
+}
+
+/// Number 2 is the directory `src`, and 3 is the file `a` in it.
+const REFUSED: [Row; 15] = [
+    (Asks::LookUp, 1, b"src", SRC),
+    (Asks::LookUp, 2, b"a", A),
+    (Asks::Create, 9, b"b", STALE),
+    (Asks::Mkdir, 9, b"b", STALE),
+    (Asks::Unlink, 9, b"b", STALE),
+    (Asks::Rmdir, 9, b"b", STALE),
+    (Asks::Create, 3, b"b", NOT_DIR),
+    (Asks::Mkdir, 3, b"b", NOT_DIR),
+    (Asks::Create, 2, b"a", EXISTS),
+    (Asks::Mkdir, 1, b"src", EXISTS),
+    (Asks::Unlink, 1, b"b", MISSING),
+    (Asks::Unlink, 1, b"src", Answer::Error(Errno::EISDIR)),
+    (Asks::Rmdir, 1, b"b", MISSING),
+    (Asks::Rmdir, 2, b"a", NOT_DIR),
+    (Asks::Rmdir, 1, b"src", Answer::Error(Errno::ENOTEMPTY)),
+];
+
+const REFUSED_SHOWN: [(u64, Answer); 2] = [
+    (
+        2,
+        Answer::Attrs {
+            number: Number(2),
+            attr: DIRECTORY,
+        },
+    ),
+    (
+        3,
+        Answer::Attrs {
+            number: Number(3),
+            attr: FILE,
+        },
+    ),
+];
+
+#[test]
+fn answers_each_error_and_changes_nothing(rt: HostRuntime) -> Result<(), Fail> {
+    let mut served = served(rt.alloc())?;
+    assert!(rt; are_answered(rt.alloc(), &mut served, &REFUSED)?);
+    assert!(rt; are_shown(rt.alloc(), &mut served, &REFUSED_SHOWN));
+    assert!(rt; is_at(&served, 1, 1, 4, 0));
+    assert!(rt; served.tree().next_file() == FileId(4));
+    Ok(())
+}
+
+/// Number 3 is the file `a`, before and after it lost its name. Nothing is in a file, so that a name is missing there
+/// too, and nothing can be made in what is unlinked.
+const ASKED_OF_A_FILE: [Row; 8] = [
+    (Asks::LookUp, 1, b"src", SRC),
+    (Asks::LookUp, 2, b"a", A),
+    (Asks::Unlink, 3, b"b", NOT_DIR),
+    (Asks::Rmdir, 3, b"b", NOT_DIR),
+    (Asks::LookUp, 3, b"b", NOT_DIR),
+    (Asks::Unlink, 2, b"a", Answer::Done),
+    (Asks::Create, 3, b"b", NOT_DIR),
+    (Asks::Mkdir, 3, b"b", NOT_DIR),
+];
+
+#[test]
+fn tells_that_no_directory_is_asked_before_what_is_missing(rt: HostRuntime) -> Result<(), Fail> {
+    let mut served = served(rt.alloc())?;
+    assert!(rt; are_answered(rt.alloc(), &mut served, &ASKED_OF_A_FILE)?);
+    assert!(rt; is_at(&served, 1, 1, 4, 0));
     Ok(())
 }
