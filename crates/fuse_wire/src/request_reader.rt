@@ -53,6 +53,21 @@ fn mode_part(fixed: usize, place: usize, body: &[u8]) -> Result<(Perm, &[u8]), W
     Ok((mode::perm_of(mode), rest))
 }
 
+/// Reads the name behind a fixed part, and the permissions of the mode at a place in that part.
+fn read_made<M: Memory>(
+    memory: M,
+    fixed: usize,
+    place: usize,
+    body: &[u8],
+) -> Result<(Name, Perm), WireFault>
+    requires { place + 4 ≤ fixed }
+    ensures { Gives (MayLack M.may_lack TakesSome) result (made_of fixed place body.now) }
+{
+    let (perm, rest) = mode_part(fixed, place, body)?;
+    let name = read_name(memory, rest)?;
+    Ok((name, perm))
+}
+
 /// Reads the item of a FORGET (`struct fuse_forget_in`).
 #[tactic(auto, unfolding(crate::specs::RequestReading::forget_of))]
 fn read_forget(node: Number, body: &[u8]) -> Result<Item, WireFault>
@@ -102,43 +117,30 @@ fn read_body<M: Memory>(memory: M, header: Header, body: &[u8]) -> Result<Ask, W
     ensures { Gives (MayLack M.may_lack WantsMemory) result (asked_of header body.now) }
 {
     let node = header.node;
+    let dir = node;
     match Opcode::of(header.opcode) {
         Opcode::Lookup => {
             let name = read_name(memory, body)?;
-            Ok(header.asks(Request::Lookup { dir: node, name }))
+            Ok(header.asks(Request::Lookup { dir, name }))
         }
         Opcode::Unlink => {
             let name = read_name(memory, body)?;
-            Ok(header.asks(Request::Unlink { dir: node, name }))
+            Ok(header.asks(Request::Unlink { dir, name }))
         }
         Opcode::Rmdir => {
             let name = read_name(memory, body)?;
-            Ok(header.asks(Request::Rmdir { dir: node, name }))
+            Ok(header.asks(Request::Rmdir { dir, name }))
         }
         Opcode::Create => {
-            let (perm, rest) = mode_part(CREATE_FIXED, CREATE_MODE, body)?;
-            let name = read_name(memory, rest)?;
-            Ok(header.asks(Request::Create {
-                dir: node,
-                name,
-                perm,
-            }))
+            let (name, perm) = read_made(memory, CREATE_FIXED, CREATE_MODE, body)?;
+            Ok(header.asks(Request::Create { dir, name, perm }))
         }
         Opcode::Mkdir => {
-            let (perm, rest) = mode_part(MKDIR_FIXED, MKDIR_MODE, body)?;
-            let name = read_name(memory, rest)?;
-            Ok(header.asks(Request::Mkdir {
-                dir: node,
-                name,
-                perm,
-            }))
+            let (name, perm) = read_made(memory, MKDIR_FIXED, MKDIR_MODE, body)?;
+            Ok(header.asks(Request::Mkdir { dir, name, perm }))
         }
-        Opcode::Getattr => {
-            if body.len() != GETATTR_LEN {
-                return Err(WireFault::BadBody);
-            }
-            Ok(header.asks(Request::Getattr { node }))
-        }
+        Opcode::Getattr if body.len() == GETATTR_LEN => Ok(header.asks(Request::Getattr { node })),
+        Opcode::Getattr => Err(WireFault::BadBody),
         Opcode::Forget => {
             let item = read_forget(node, body)?;
             Ok(header.asks(Request::Forget(item)))
