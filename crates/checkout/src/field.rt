@@ -36,20 +36,18 @@ pub fn is_path(path: &[u8]) -> bool
     is_name(rest)
 }
 
-/// Returns the permissions of four octal digits.
+/// Returns the permissions that four octal digits write, none for any other text.
 pub fn mode_of(digits: &[u8]) -> Option<Perm>
-    ensures { result ≡ mode_of digits.now }
+    ensures mode { result ≡ mode_of digits.now }
 {
-    match digits {
-        [a, b, c, d] => {
-            let a = octal(*a)?;
-            let b = octal(*b)?;
-            let c = octal(*c)?;
-            let d = octal(*d)?;
-            Perm::of(a * 512 + b * 64 + c * 8 + d)
-        }
-        _ => None,
-    }
+    let [special, owner, group, others] = digits else {
+        return None;
+    };
+    let special = octal(*special)?;
+    let owner = octal(*owner)?;
+    let group = octal(*group)?;
+    let others = octal(*others)?;
+    Perm::of(special * 512 + owner * 64 + group * 8 + others)
 }
 
 /// Returns the value of an octal digit.

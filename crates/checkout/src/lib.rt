@@ -18,6 +18,7 @@ mod tree;
 pub use backing::{Backing, BackingFault, ManifestBacking};
 pub use content::Content;
 pub use fault::{CreateFault, ManifestFault, ManifestFaultKind};
+pub use field::mode_of;
 pub use line::Line;
 pub use manifest::Manifest;
 pub use tree::Tree;

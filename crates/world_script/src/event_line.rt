@@ -2,8 +2,8 @@
 ghost use Rattle.std.specs.Prelude.{◌≡◌, IfOk};
 ghost use Rattle.world_script.specs.EventLine.{event_of, mount_of, do_of, request_of, lookup_of, create_of, mkdir_of, unlink_of, rmdir_of, forget_of, getattr_of, other_said, named_of, made_of, name_of};
 
-use crate::mode::mode;
 use crate::number::number;
+use checkout::mode_of;
 use eden_base::{DaemonId, Name, NameFault, NoMemory, Number, Perm, cut};
 use fuse_wire::{Item, Request};
 use std::alloc::Global;
@@ -162,7 +162,7 @@ fn read_made(alloc: Global, words: &[u8]) -> Result<Option<(Number, Perm, Name)>
     let Some((digits, name)) = cut(rest, b' ') else {
         return Ok(None);
     };
-    let Some(perm) = mode(digits) else {
+    let Some(perm) = mode_of(digits) else {
         return Ok(None);
     };
     match read_name(alloc, name)? {

@@ -8,7 +8,6 @@ mod event_line;
 mod fault;
 mod input;
 mod lines;
-mod mode;
 mod number;
 mod print;
 mod program;

@@ -2,10 +2,13 @@
 use Rattle.checkout.proofs.TextLemmas.{mode_from_digits}
 use Rattle.checkout.proofs.field.mode_of.Goals as goal
 
-pub returns-in_ok-d-in-len4 : goal.returns-in_ok-d-in-len4
-returns-in_ok-d-in-len4 c =
-    let a = c.in_ok-a-in-len4.ensures in
-    let b = c.in_ok-b-in-len4.ensures in
-    let d = c.in_ok-c-in-len4.ensures in
-    let e = c.in_ok-d-in-len4.ensures in
-    mode_from_digits c.args.digits.now _ _ _ _ c.of.result c.in-len4.len_at_least c.in-len4.len_below a.0 a.1 b.0 b.1 d.0 d.1 e.0 e.1 c.of.ensures.perm c.of.ensures.in_range.1
+pub returns : goal.returns
+returns c =
+    let (is_special, special) = c.in_ok-special.ensures in
+    let (is_owner, owner) = c.in_ok-owner.ensures in
+    let (is_group, group) = c.in_ok-group.ensures in
+    let (is_others, others) = c.in_ok-others.ensures in
+    record {
+      mode = mode_from_digits c.args.digits.now _ _ _ _ c.of.result c.in-len4.len_at_least c.in-len4.len_below is_special special is_owner owner is_group group is_others others
+          c.of.ensures.perm c.of.ensures.in_range.1;
+    }
