@@ -55,20 +55,19 @@ forgot-good map n k b c other some few counted kids =
     let useless : is_useless (lowered map.entries n k) n ≡ not (b || c) = lowered-useless map.entries n k some few ∙ (ap (λ x. not (x || list_any (is_kid_of n) map.entries)) counted ∙ ap (λ y. not (b || y)) kids) in
     rw (other, good, useless) refl
 
+-- what is no bad item is counted as often
+pub good-parts : (es : List Kept) (n k : ℕ) → is_bad_item es n k ≡ false → (k ≡ 0 → ⊥) × (k ≤ count_of es n)
+good-parts es n k h = in_ (k == 0) (nat_lt (count_of es n) k) refl refl h where
+  in_ : (a b : Bool) → (k == 0) ≡ a → nat_lt (count_of es n) k ≡ b → (a || b) ≡ false → (k ≡ 0 → ⊥) × (k ≤ count_of es n)
+  in_ true b e f g = absurd (let none : ⊥ = cc in none)
+  in_ false true e f g = absurd (let none : ⊥ = cc in none)
+  in_ false false e f g = (false-ne k 0 e, let l : k ≤ count_of es n = grind (arith, nat_tests) in l)
+
 -- what the answer says of the forget
 pub record IsTold (map : MapState) (n k : ℕ) (is : Bool) : Type 0 where
   pub other : (n == 1) ≡ false
   pub good : is_bad_item map.entries n k ≡ false
   pub useless : is_useless (lowered map.entries n k) n ≡ is
-
-pub told-lowered : (map : MapState) (n k : ℕ) → Lowered ≡ forgot map n k → IsTold map n k false
-told-lowered map n k h = in_ (n == 1) (is_bad_item map.entries n k) (is_useless (lowered map.entries n k) n) refl refl refl h where
-  in_ : (a b c : Bool) → (n == 1) ≡ a → is_bad_item map.entries n k ≡ b → is_useless (lowered map.entries n k) n ≡ c →
-      Lowered ≡ (if a then Root else if b then Bad else if c then Dropped else Lowered) → IsTold map n k false
-  in_ true b c e f g h' = absurd (let none : ⊥ = cc in none)
-  in_ false true c e f g h' = absurd (let none : ⊥ = cc in none)
-  in_ false false true e f g h' = absurd (let none : ⊥ = cc in none)
-  in_ false false false e f g h' = record { other = e; good = f; useless = g }
 
 pub told-dropped : (map : MapState) (n k : ℕ) → Dropped ≡ forgot map n k → IsTold map n k true
 told-dropped map n k h = in_ (n == 1) (is_bad_item map.entries n k) (is_useless (lowered map.entries n k) n) refl refl refl h where
@@ -78,6 +77,15 @@ told-dropped map n k h = in_ (n == 1) (is_bad_item map.entries n k) (is_useless 
   in_ false true c e f g h' = absurd (let none : ⊥ = cc in none)
   in_ false false true e f g h' = record { other = e; good = f; useless = g }
   in_ false false false e f g h' = absurd (let none : ⊥ = cc in none)
+
+-- and from what it is told
+pub told-by : (map : MapState) (n k : ℕ) (b c : Bool) → (n == 1) ≡ false → is_bad_item map.entries n k ≡ false → nat_lt 0 (count_of map.entries n - k) ≡ b → list_any (is_kid_of n) map.entries ≡ c → IsTold map n k (not (b || c))
+told-by map n k b c other good counted kids =
+    let parts = good-parts map.entries n k good in
+    record { other = other; good = good; useless = lowered-useless map.entries n k parts.0 parts.1 ∙ (ap (λ x. not (x || list_any (is_kid_of n) map.entries)) counted ∙ ap (λ y. not (b || y)) kids) }
+
+pub forgot-told : (map : MapState) (n k : ℕ) (is : Bool) → IsTold map n k is → forgot map n k ≡ cond is Dropped Lowered
+forgot-told map n k is told = let other : (n == 1) ≡ false = told.other in let good : is_bad_item map.entries n k ≡ false = told.good in let useless : is_useless (lowered map.entries n k) n ≡ is = told.useless in rw (other, good, useless) refl
 
 pub counted-more : (count k : ℕ) → k < count → nat_lt 0 (count - k) ≡ true
 counted-more count k h = grind (arith, nat_tests)
@@ -104,14 +112,6 @@ pub struck-kept : (es : List Kept) (next n k : ℕ) → AreKept next es → AreK
 struck-kept es next n k are = let s = struck-keeps (λ xs. Unit {0}) 2 next (λ xs m numbers useless here. tt) (length (lowered es n k)) (Some n) (lowered es n k) (omega arith)
     (lowered-numbers es next n k are.numbers) (lowered-others es n k are.of_use) tt in
     record { numbers = s.numbers; of_use = s.of_use }
-
--- what is no bad item is counted as often
-pub good-parts : (es : List Kept) (n k : ℕ) → is_bad_item es n k ≡ false → (k ≡ 0 → ⊥) × (k ≤ count_of es n)
-good-parts es n k h = in_ (k == 0) (nat_lt (count_of es n) k) refl refl h where
-  in_ : (a b : Bool) → (k == 0) ≡ a → nat_lt (count_of es n) k ≡ b → (a || b) ≡ false → (k ≡ 0 → ⊥) × (k ≤ count_of es n)
-  in_ true b e f g = absurd (let none : ⊥ = cc in none)
-  in_ false true e f g = absurd (let none : ⊥ = cc in none)
-  in_ false false e f g = (false-ne k 0 e, let l : k ≤ count_of es n = grind (arith, nat_tests) in l)
 
 -- what a forget would drop has no kids
 pub dropped-kids : (map : MapState) (n k : ℕ) → Dropped ≡ forgot map n k → list_any (is_kid_of n) map.entries ≡ false

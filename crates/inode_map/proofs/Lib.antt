@@ -9,6 +9,7 @@ pub mod Heights
 pub mod IndexedLemmas
 pub mod IndexLemmas
 pub mod Keeping
+pub mod Lowering
 pub mod Places
 pub mod Pruning
 pub mod Removing

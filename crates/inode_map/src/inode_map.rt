@@ -290,17 +290,21 @@ impl InodeMap {
         ensures forgot { result ≡ forgot self.old number.0 k }
         ensures forgotten { self.new ≡ forgotten self.old number.0 k }
     {
-        let forgot = self.forgot(number, k);
-        match forgot {
-            Forgot::Root => {}
-            Forgot::Bad => self.bad_items = self.bad_items.saturating_add(1),
-            Forgot::Lowered => lower(&mut self.table, number, k),
-            Forgot::Dropped => {
-                lower(&mut self.table, number, k);
-                prune(&mut self.table, &mut self.loaded, number);
-            }
+        if number == Number::ROOT {
+            return Forgot::Root;
         }
-        forgot
+        let Some(left) = self.table.lower(number, k) else {
+            self.bad_items = self.bad_items.saturating_add(1);
+            return Forgot::Bad;
+        };
+        if left > 0 {
+            return Forgot::Lowered;
+        }
+        if self.table.has_kids(number) {
+            return Forgot::Lowered;
+        }
+        prune(&mut self.table, &mut self.loaded, number);
+        Forgot::Dropped
     }
 
     /// Takes the name of a number away: it names its file by a mark from now on. The directory is dropped once it is of
@@ -366,19 +370,6 @@ fn is_useless(table: &Table, number: Number) -> bool
         Some(held) => held.count == 0 && !table.has_kids(number),
         None => false,
     }
-}
-
-/// Counts a number fewer times.
-fn lower(table: &mut Table, number: Number, k: u64)
-    requires held { is_bad_item table.old.entries number.0 k ≡ false }
-    ensures lowered { table.new ≡ record table.old { entries = lowered table.old.entries number.0 k } }
-    ensures kept { AreOfKept file_number table.new.entries table.new.remembered }
-{
-    let Some(held) = table.get(number) else {
-        unreachable!()
-    };
-    let count = held.count - k;
-    table.set_count(number, count);
 }
 
 /// Drops a number of no use, and then its directory if that is of none, and so on upwards.

@@ -1,13 +1,13 @@
 //! The entries of an inode map by number, and the index of their places.
-ghost use Rattle.std.specs.Prelude.{◌≡◌, ℕ, ◌+◌, ◌<◌, ◌≤◌, List, [], ◌∷◌, ◌++◌, Option, Some, None, IsSome, MatchOption, IfOk, OnOk, OnErr, vec_len, vec_capacity, length};
-ghost use Rattle.std.specs.Option.{option_map, option_copied, option_and_then};
+ghost use Rattle.std.specs.Prelude.{◌≡◌, ℕ, ◌+◌, ◌<◌, ◌≤◌, List, [], ◌∷◌, ◌++◌, Option, Some, None, IsSome, MatchOption, IfOk, OnOk, OnErr, ◌-◌, true, false, vec_len, vec_capacity, length};
+ghost use Rattle.std.specs.Option.{option_map, option_copied, option_and_then, IfNone, IfSome, OnSome};
 ghost use Rattle.std.specs.List.{list_any, filter};
 ghost use Rattle.checkout.specs.Tree.{Tree};
 ghost use Rattle.eden_base.specs.First.{changed_where, without_where};
 ghost use Rattle.eden_base.specs.Limits.{end_of_numbers};
 ghost use Rattle.eden_base.specs.declared.number.FileId.{FileId};
 ghost use Rattle.eden_base.specs.declared.number.Number.{Number};
-ghost use Rattle.inode_map.specs.InodeMap.{has_number, entry_of, entry_at, is_kid_of, number_of_kept, place_of_kept, number_after, new_entry, marked, IsLinked, IsFileOf, file_remembered, remembered, AreNumbers, AreEntries};
+ghost use Rattle.inode_map.specs.InodeMap.{has_number, entry_of, entry_at, is_kid_of, number_of_kept, place_of_kept, number_after, new_entry, marked, IsLinked, IsFileOf, file_remembered, remembered, AreNumbers, AreEntries, count_of, is_bad_item, lowered};
 ghost use Rattle.inode_map.specs.Table.{IsIn, held_of, slots_of, kept_of, kept_from, held_in, IsSlots, counted, without_entry, AreOfKept, file_number};
 
 use crate::index::Index;
@@ -219,6 +219,32 @@ impl Table {
         };
         let Some(held) = slot else { unreachable!() };
         held.count = count;
+    }
+
+    /// Counts a number fewer times, and returns how often the kernel holds it then. A bad item changes nothing.
+    pub fn lower(&mut self, number: Number, k: u64) -> Option<u64>
+        ensures bad { IfNone result (is_bad_item self.old.entries number.0 k ≡ true) }
+        ensures good { OnSome result (is_bad_item self.old.entries number.0 k ≡ false) }
+        ensures left { IfSome result (λ left. left ≡ count_of self.old.entries number.0 - k) }
+        ensures lowered { OnSome result (self.new
+            ≡ record self.old { entries = lowered self.old.entries number.0 k }) }
+        ensures unchanged { IfNone result (self.new ≡ self.old) }
+        ensures kept { OnSome result (AreOfKept file_number self.new.entries self.new.remembered) }
+    {
+        if k == 0 {
+            return None;
+        }
+        let Some(slot) = self.slots.get_mut(&number.0) else {
+            return None;
+        };
+        let Some(held) = slot else {
+            return None;
+        };
+        if held.count < k {
+            return None;
+        }
+        held.count -= k;
+        Some(held.count)
     }
 
     /// Remembers the file that a number names.

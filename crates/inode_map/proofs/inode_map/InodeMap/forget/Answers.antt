@@ -1,66 +1,105 @@
 -- A forget lowers, and strikes what is of no use.
-use Rattle.std.proofs.Common.{◌≡◌, Some, List, refl, sym, subst, ap, ◌∙◌}
+use Rattle.std.proofs.Common.{◌≡◌, ◌-◌, ◌<◌, ◌≤◌, true, false, Some, List, refl, sym, subst, ap, ◌∙◌, arith}
+use Rattle.std.specs.Prelude.{nat_lt}
+use Rattle.std.specs.List.{list_any}
+use Rattle.std.proofs.lemmas.Bool.Decides.{nat_tests}
 use Rattle.inode_map.specs.EntryPlaces.{AreOfUseBut}
 use Rattle.inode_map.specs.Inside.{IsConsistent}
-use Rattle.inode_map.specs.InodeMap.{MapState, forgot, forgotten, lowered, left_of_use, loaded_number, AreNumbers}
+use Rattle.inode_map.specs.InodeMap.{MapState, count_of, forgot, is_kid_of, lowered, left_of_use, loaded_number, AreNumbers}
 use Rattle.inode_map.specs.Recency.{LoadedState}
-use Rattle.inode_map.specs.Table.{TableState, AreOfKept, file_number, of_kept, pruned}
-use Rattle.inode_map.specs.declared.inode_map.Forgot.TheVariants.{Lowered}
+use Rattle.inode_map.specs.Table.{TableState, AreOfKept, of_kept, pruned}
 use Rattle.inode_map.specs.declared.inode_map.Kept.{Kept}
-use Rattle.inode_map.proofs.Forgetting.{less, told-lowered, lowered-kept, lowered-numbers, lowered-others, struck-kept, forgotten-lowered}
-use Rattle.inode_map.proofs.Giving.{AreKept}
-use Rattle.inode_map.proofs.Keeping.{of-changed, of_kept-kept}
+use Rattle.inode_map.proofs.Forgetting.{told-by, forgot-told, lowered-numbers, lowered-others, struck-kept}
+use Rattle.inode_map.proofs.Keeping.{of_kept-kept}
+use Rattle.inode_map.proofs.Lowering.{seen, loaded-less, kids-less, less-consistent, less-forgotten}
 use Rattle.inode_map.proofs.inode_map.InodeMap.forget.Goals as goal
 
-pub invariant_of-self-in-Lowered : goal.invariant_of-self-in-Lowered
-invariant_of-self-in-Lowered c =
-    let t = c.self.inside.table in
+pub invariant_of-self-then-left-gt0 : goal.invariant_of-self-then-left-gt0
+invariant_of-self-then-left-gt0 c =
     let m = c.self.inside in
-    let map : MapState = record { entries = t.entries; next = t.next; bad_items = m.bad_items; loaded = m.loaded.attrs; limit = m.loaded.limit; spare = t.spare; remembered = t.remembered } in
-    let told = told-lowered map c.args.number.0 c.args.k (subst (λ (s : MapState). Lowered ≡ forgot s c.args.number.0 c.args.k) (sym c.self.view_is) c.in-Lowered.ensures.forgot) in
-    let were : AreKept t.next t.entries = record { numbers = c.self.invariant.numbers; of_use = c.self.invariant.of_use } in
-    let now = lowered-kept map c.args.number.0 c.args.k were told in
-    subst (λ (new : TableState). IsConsistent (record { table = new; bad_items = m.bad_items; loaded = m.loaded })) (sym c.lower.ensures.lowered) (record {
-      numbers = now.numbers;
-      numbers_fit = c.self.invariant.numbers_fit;
-      of_use = now.of_use;
-      loaded = of-changed loaded_number t.entries c.args.number.0 (less c.args.k) m.loaded.attrs (λ x. refl) c.self.invariant.loaded;
-    })
+    let n = c.args.number.0 in
+    let counted : nat_lt 0 (count_of m.table.entries n - c.args.k) ≡ true = let l = c.in-Some.ensures.left in let some = c.if-left-gt0.true in grind (arith, nat_tests) in
+    let told = told-by (seen m c.args.self.now c.lower.new.self n c.args.k m.table) n c.args.k true (list_any (is_kid_of n) m.table.entries) (sym c.if-eq.ensures) c.in-Some.ensures.good counted refl in
+    less-consistent m c.args.self.now c.lower.new.self n c.args.k c.self.invariant c.in-Some.ensures.lowered told
+
+pub returns-then-left-gt0-clause-forgot : goal.returns-then-left-gt0-clause-forgot
+returns-then-left-gt0-clause-forgot c =
+    let m = c.self.inside in
+    let n = c.args.number.0 in
+    let map = seen m c.args.self.now c.lower.new.self n c.args.k m.table in
+    let counted : nat_lt 0 (count_of m.table.entries n - c.args.k) ≡ true = let l = c.in-Some.ensures.left in let some = c.if-left-gt0.true in grind (arith, nat_tests) in
+    let told = told-by map n c.args.k true (list_any (is_kid_of n) m.table.entries) (sym c.if-eq.ensures) c.in-Some.ensures.good counted refl in
+    sym (forgot-told map n c.args.k false told) ∙ ap (λ (s : MapState). forgot s n c.args.k) c.self.view_is
+
+pub returns-then-left-gt0-clause-forgotten : goal.returns-then-left-gt0-clause-forgotten
+returns-then-left-gt0-clause-forgotten c =
+    let m = c.self.inside in
+    let n = c.args.number.0 in
+    let counted : nat_lt 0 (count_of m.table.entries n - c.args.k) ≡ true = let l = c.in-Some.ensures.left in let some = c.if-left-gt0.true in grind (arith, nat_tests) in
+    let told = told-by (seen m c.args.self.now c.lower.new.self n c.args.k m.table) n c.args.k true (list_any (is_kid_of n) m.table.entries) (sym c.if-eq.ensures) c.in-Some.ensures.good counted refl in
+    less-forgotten m c.args.self.now c.lower.new.self n c.args.k c.self.view_is c.self.invariant c.in-Some.ensures.lowered c.in-Some.ensures.kept told
+
+pub invariant_of-self-then-has_kids : goal.invariant_of-self-then-has_kids
+invariant_of-self-then-has_kids c =
+    let m = c.self.inside in
+    let n = c.args.number.0 in
+    let counted : nat_lt 0 (count_of m.table.entries n - c.args.k) ≡ false = let l = c.in-Some.ensures.left in let none = c.if-left-gt0.false in grind (arith, nat_tests) in
+    let kids = kids-less m c.args.self.now c.lower.new.self n c.args.k true c.in-Some.ensures.lowered c.if-has_kids.ensures in
+    let told = told-by (seen m c.args.self.now c.lower.new.self n c.args.k m.table) n c.args.k false true (sym c.if-eq.ensures) c.in-Some.ensures.good counted kids in
+    less-consistent m c.args.self.now c.lower.new.self n c.args.k c.self.invariant c.in-Some.ensures.lowered told
+
+pub returns-then-has_kids-clause-forgot : goal.returns-then-has_kids-clause-forgot
+returns-then-has_kids-clause-forgot c =
+    let m = c.self.inside in
+    let n = c.args.number.0 in
+    let map = seen m c.args.self.now c.lower.new.self n c.args.k m.table in
+    let counted : nat_lt 0 (count_of m.table.entries n - c.args.k) ≡ false = let l = c.in-Some.ensures.left in let none = c.if-left-gt0.false in grind (arith, nat_tests) in
+    let kids = kids-less m c.args.self.now c.lower.new.self n c.args.k true c.in-Some.ensures.lowered c.if-has_kids.ensures in
+    let told = told-by map n c.args.k false true (sym c.if-eq.ensures) c.in-Some.ensures.good counted kids in
+    sym (forgot-told map n c.args.k false told) ∙ ap (λ (s : MapState). forgot s n c.args.k) c.self.view_is
+
+pub returns-then-has_kids-clause-forgotten : goal.returns-then-has_kids-clause-forgotten
+returns-then-has_kids-clause-forgotten c =
+    let m = c.self.inside in
+    let n = c.args.number.0 in
+    let counted : nat_lt 0 (count_of m.table.entries n - c.args.k) ≡ false = let l = c.in-Some.ensures.left in let none = c.if-left-gt0.false in grind (arith, nat_tests) in
+    let kids = kids-less m c.args.self.now c.lower.new.self n c.args.k true c.in-Some.ensures.lowered c.if-has_kids.ensures in
+    let told = told-by (seen m c.args.self.now c.lower.new.self n c.args.k m.table) n c.args.k false true (sym c.if-eq.ensures) c.in-Some.ensures.good counted kids in
+    less-forgotten m c.args.self.now c.lower.new.self n c.args.k c.self.view_is c.self.invariant c.in-Some.ensures.lowered c.in-Some.ensures.kept told
 
 pub prune-requires-clause-numbers : goal.prune-requires-clause-numbers
 prune-requires-clause-numbers c =
     let t = c.self.inside.table in
-    subst (λ (new : TableState). AreNumbers 2 new.next new.entries) (sym c.lower-in-Dropped.ensures.lowered) (lowered-numbers t.entries t.next c.args.number.0 c.args.k c.self.invariant.numbers)
+    subst (λ (new : TableState). AreNumbers 2 new.next new.entries) (sym c.in-Some.ensures.lowered) (lowered-numbers t.entries t.next c.args.number.0 c.args.k c.self.invariant.numbers)
 
 pub prune-requires-clause-others_of_use : goal.prune-requires-clause-others_of_use
 prune-requires-clause-others_of_use c =
-    let t = c.self.inside.table in
-    subst (λ (new : TableState). AreOfUseBut (Some c.args.number.0) new.entries) (sym c.lower-in-Dropped.ensures.lowered) (lowered-others t.entries c.args.number.0 c.args.k c.self.invariant.of_use)
+    subst (λ (new : TableState). AreOfUseBut (Some c.args.number.0) new.entries) (sym c.in-Some.ensures.lowered) (lowered-others c.self.inside.table.entries c.args.number.0 c.args.k c.self.invariant.of_use)
 
 pub prune-requires-clause-loaded : goal.prune-requires-clause-loaded
 prune-requires-clause-loaded c =
-    let t = c.self.inside.table in
-    subst (λ (new : TableState). AreOfKept loaded_number new.entries c.self.inside.loaded.attrs) (sym c.lower-in-Dropped.ensures.lowered) (of-changed loaded_number t.entries c.args.number.0 (less c.args.k) c.self.inside.loaded.attrs (λ x. refl) c.self.invariant.loaded)
-
-pub invariant_of-self-in-Dropped : goal.invariant_of-self-in-Dropped
-invariant_of-self-in-Dropped c =
-    let t = c.self.inside.table in
     let m = c.self.inside in
+    subst (λ (new : TableState). AreOfKept loaded_number new.entries m.loaded.attrs) (sym c.in-Some.ensures.lowered) (loaded-less m c.args.self.now c.lower.new.self c.args.number.0 c.args.k c.self.invariant)
+
+pub invariant_of-self-2 : goal.invariant_of-self-2
+invariant_of-self-2 c =
+    let m = c.self.inside in
+    let t = m.table in
+    let less = c.in-Some.ensures.lowered in
     let es : List Kept = left_of_use (lowered t.entries c.args.number.0 c.args.k) in
     let now = struck-kept t.entries t.next c.args.number.0 c.args.k (record { numbers = c.self.invariant.numbers; of_use = c.self.invariant.of_use }) in
-    let left = c.prune.ensures.pruned ∙ ap pruned c.lower-in-Dropped.ensures.lowered in
-    let loaded = c.prune.ensures.unloaded ∙ ap (λ (s : TableState). record m.loaded { attrs = of_kept loaded_number (left_of_use s.entries) m.loaded.attrs }) c.lower-in-Dropped.ensures.lowered in
+    let left = c.prune.ensures.pruned ∙ ap pruned less in
+    let loaded = c.prune.ensures.unloaded ∙ ap (λ (s : TableState). record m.loaded { attrs = of_kept loaded_number (left_of_use s.entries) m.loaded.attrs }) less in
     subst (λ (new : TableState). IsConsistent (record { table = new; bad_items = m.bad_items; loaded = c.prune.new.loaded })) (sym left)
     (subst (λ (new : LoadedState). IsConsistent (record { table = pruned (record t { entries = lowered t.entries c.args.number.0 c.args.k }); bad_items = m.bad_items; loaded = new })) (sym loaded)
     (record { numbers = now.numbers; numbers_fit = c.self.invariant.numbers_fit; of_use = now.of_use; loaded = of_kept-kept loaded_number es m.loaded.attrs }))
 
-pub returns-in-Lowered-clause-forgotten : goal.returns-in-Lowered-clause-forgotten
-returns-in-Lowered-clause-forgotten c =
-    let t = c.self.inside.table in
+pub returns-clause-forgot : goal.returns-clause-forgot
+returns-clause-forgot c =
     let m = c.self.inside in
-    let map : MapState = record { entries = t.entries; next = t.next; bad_items = m.bad_items; loaded = m.loaded.attrs; limit = m.loaded.limit; spare = t.spare; remembered = t.remembered } in
-    let told = told-lowered map c.args.number.0 c.args.k (subst (λ (s : MapState). Lowered ≡ forgot s c.args.number.0 c.args.k) (sym c.self.view_is) c.in-Lowered.ensures.forgot) in
-    let were : AreKept t.next t.entries = record { numbers = c.self.invariant.numbers; of_use = c.self.invariant.of_use } in
-    let files = subst (λ (new : TableState). AreOfKept file_number new.entries new.remembered) c.lower.ensures.lowered c.lower.ensures.kept in
-    let loaded = of-changed loaded_number t.entries c.args.number.0 (less c.args.k) m.loaded.attrs (λ x. refl) c.self.invariant.loaded in
-    rw c.lower.ensures.lowered (forgotten-lowered map c.args.number.0 c.args.k were loaded files told ∙ ap (λ (s : MapState). forgotten s c.args.number.0 c.args.k) c.self.view_is)
+    let n = c.args.number.0 in
+    let map = seen m c.args.self.now c.lower.new.self n c.args.k m.table in
+    let counted : nat_lt 0 (count_of m.table.entries n - c.args.k) ≡ false = let l = c.in-Some.ensures.left in let none = c.if-left-gt0.false in grind (arith, nat_tests) in
+    let kids = kids-less m c.args.self.now c.lower.new.self n c.args.k false c.in-Some.ensures.lowered c.if-has_kids.ensures in
+    let told = told-by map n c.args.k false false (sym c.if-eq.ensures) c.in-Some.ensures.good counted kids in
+    sym (forgot-told map n c.args.k true told) ∙ ap (λ (s : MapState). forgot s n c.args.k) c.self.view_is
