@@ -1,5 +1,5 @@
 -- What a daemon knows stays sound whatever it is asked.
-use Rattle.std.proofs.Common.{◌≡◌, ℕ, Bool, true, false, List, Option, Some, None, Result, Ok, Err, OnOk, OnErr, refl, sym, ap, ◌∙◌, subst, inl, inr, ◌⊎◌}
+use Rattle.std.proofs.Common.{◌≡◌, ℕ, Bool, true, false, List, Option, Some, None, Ok, Err, refl, sym, ap, ◌∙◌, subst, inl, inr, ◌⊎◌}
 use Rattle.std.specs.Option.{option_map_or}
 use Rattle.eden_base.specs.declared.attr.Kind.{Kind}
 use Rattle.eden_base.specs.declared.attr.Kind.TheVariants.{Dir, File}
@@ -8,10 +8,9 @@ use Rattle.eden_base.specs.declared.number.FileId.{FileId}
 use Rattle.eden_base.specs.declared.number.Number.{Number}
 use Rattle.eden_base.proofs.NumberTests.{eq-or}
 use Rattle.checkout.specs.Tree.{Tree, IsTree, child_of, kind_of}
-use Rattle.inode_map.specs.InodeMap.{MapState, forgotten, given, give_fault, is_bad_item}
-use Rattle.inode_map.specs.declared.inode_map.GiveFault.{GiveFault}
+use Rattle.inode_map.specs.InodeMap.{forgotten, given, give_fault, is_bad_item, number_given}
 use Rattle.fuse_ops.specs.Answers.{found_in, found_in_dir}
-use Rattle.fuse_ops.specs.Gifts.{served_over}
+use Rattle.fuse_ops.specs.Gifts.{served_over, Gave}
 use Rattle.fuse_ops.specs.Served.{ServedState, IsLocated}
 use Rattle.fuse_ops.specs.Soundness.{IsSound}
 use Rattle.fuse_ops.specs.Work.{Finds}
@@ -42,21 +41,12 @@ forgotten-sound served n k is sound = by_root (eq-or n 1) where
   by_root (inl one) = (bad-keeps served n k sound (inl one)).sound
   by_root (inr other) = by_bad other (is_bad_item served.map.entries n k) refl
 
--- after the number of a file that was found was given
-given-sound : (served : ServedState) (dir : Number) (name : List ℕ) (told : Found) → IsTree served.tree → IsSound served → Finds served dir.0 name (Ok told) →
-    give_fault served.map dir.0 name ≡ None → IsSound (served_over served.tree (given served.map dir name))
-given-sound served dir name told is sound finds clear = (gives-well served dir name told.dir told.file (record {
+-- the number of a file that was found is given
+pub found-gave : (served : ServedState) (dir : Number) (name : List ℕ) (told : Found) → IsTree served.tree → IsSound served → Finds served dir.0 name (Ok told) → give_fault served.map dir.0 name ≡ None →
+    Gave served.tree served.map (given served.map dir name) (number_given served.map dir.0 name).0 told.file
+found-gave served dir name told is sound finds clear = gives-well served dir name told.dir told.file (record {
   is_tree = is;
   sound = sound;
   at = subst (IsLocated served dir.0) finds.found.0 finds.located;
   child = found-child served.tree told.dir told.file name (ap (λ (o : Option FileId). found_in served.tree o name) (sym finds.found.0) ∙ finds.found.1);
-}) clear).sound
-
--- after a gift, made or refused
-pub gift-sound : (served : ServedState) (new : MapState) (dir : Number) (name : List ℕ) (found : Found) (told : Result Number GiveFault) → IsTree served.tree → IsSound served →
-    Finds served dir.0 name (Ok found) → OnOk told (new ≡ given served.map dir name) → OnOk told (give_fault served.map dir.0 name ≡ None) → OnErr told (new ≡ served.map) →
-    IsSound (served_over served.tree new)
-gift-sound served new dir name found (Ok number) is sound finds made clear kept =
-    subst (λ (m : MapState). IsSound (served_over served.tree m)) (sym made) (given-sound served dir name found is sound finds clear)
-gift-sound served new dir name found (Err fault) is sound finds made clear kept =
-    subst (λ (m : MapState). IsSound (served_over served.tree m)) (sym kept) sound
+}) clear

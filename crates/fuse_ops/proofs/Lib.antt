@@ -1,3 +1,4 @@
+pub mod Entering
 pub mod Fits
 pub mod FitsAdded
 pub mod FitsChanged
@@ -10,6 +11,8 @@ pub mod Known
 pub mod Making
 pub mod MakingLaw
 pub mod PlaceNumbers
+pub mod ReadyMaking
+pub mod Remembering
 pub mod Replays
 pub mod Shapes
 pub mod Taking

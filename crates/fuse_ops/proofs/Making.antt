@@ -1,9 +1,8 @@
 -- What making a file comes to: why a place is free, and what stands against its number.
-use Rattle.std.proofs.Common.{◌≡◌, ℕ, ◌+◌, ◌<◌, ◌≤◌, Bool, true, false, List, [], ◌∷◌, ◌++◌, Option, Some, None, is_some, Result, Ok, Err, refl, sym, ap, ◌∙◌, subst, inl, inr, arith}
+use Rattle.std.proofs.Common.{◌≡◌, ℕ, ◌<◌, ◌≤◌, Bool, true, false, List, Option, Some, None, is_some, Result, Ok, Err, refl, sym, ap, ◌∙◌, subst, inl, inr, arith}
 use Rattle.std.specs.Prelude.{nat_le, if◌then◌else◌}
 use Rattle.std.proofs.lemmas.Bool.Decides.{nat_tests}
 use Rattle.eden_base.proofs.MemberLemmas.{some-IsSome, first-passes}
-use Rattle.eden_base.specs.First.{changed_where}
 use Rattle.eden_base.specs.Name.{IsNameText}
 use Rattle.eden_base.specs.Limits.{end_of_files, end_of_numbers}
 use Rattle.eden_base.specs.declared.attr.Attr.{Attr}
@@ -19,11 +18,12 @@ use Rattle.checkout.specs.Tree.{Tree, IsTree, child_of, kind_of, attr_of, is_unl
 use Rattle.inode_map.proofs.EntryLemmas.{entry_of-first}
 use Rattle.inode_map.proofs.FileLemmas.{IsFileOf-same, linked-child}
 use Rattle.inode_map.proofs.Places.{stands-place}
-use Rattle.inode_map.specs.InodeMap.{MapState, stands_at, once_more, new_entry, entry_of, entry_at, give_fault, give_fault_at, given, number_given, IsFileOf}
+use Rattle.inode_map.specs.InodeMap.{MapState, stands_at, entry_of, entry_at, give_fault, give_fault_at, given, number_given, IsFileOf}
 use Rattle.inode_map.specs.declared.inode_map.GiveFault.TheVariants.{NoNumber, NoMemory}
 use Rattle.inode_map.specs.declared.inode_map.Kept.{Kept}
 use Rattle.fuse_ops.specs.Answers.{free_in, free_in_dir}
-use Rattle.fuse_ops.specs.Gifts.{served_over, Gave}
+use Rattle.fuse_ops.specs.Changes.{KeepsNames}
+use Rattle.fuse_ops.specs.Gifts.{Gave}
 use Rattle.fuse_ops.specs.Served.{ServedState, PlainState, plain, IsLocated}
 use Rattle.fuse_ops.specs.Soundness.{IsSound}
 use Rattle.fuse_ops.specs.Work.{IsFree, IsNextRefusal, IsSamePlainly, MakesIn, Makes}
@@ -109,7 +109,7 @@ module _ (served : ServedState) (dir : Number) (name : List ℕ) (above : FileId
   at : IsFileOf served.tree served.map.entries dir.0 above
   at = subst (IsLocated served dir.0) place.0 (may.free).located
 
-  absent : entry_at served.map.entries dir.0 name ≡ None
+  pub absent : entry_at served.map.entries dir.0 name ≡ None
   absent = free-absent served dir.0 above name may.sound at (place.1).free
 
   makes_so : (kind : Kind) (perm : Perm) (told : Result (Number × Attr) Errno) (new : ServedState) → MakesIn served dir name kind perm (Ok above) told new → Makes served dir name kind perm told new
@@ -130,75 +130,17 @@ module _ (served : ServedState) (dir : Number) (name : List ℕ) (above : FileId
       Makes served dir name kind perm (Ok (number, attr)) new
   made kind perm number attr new few is is_attr is_name same = makes_so kind perm (Ok (number, attr)) new (clear_next served.map dir.0 name absent few, is, is_attr, is_name, same)
 
+  -- what every number names stays as it was
+  pub made-keeps : (kind : Kind) (perm : Perm) → KeepsNames served (record served { tree = created served.tree above name kind perm })
+  made-keeps kind perm = making-keeps served above name kind perm may.is_tree may.sound (place.1).free
+
   -- what the daemon knows then fits together
   pub made-gave : (kind : Kind) (perm : Perm) → served.map.next < end_of_numbers → IsTree (created served.tree above name kind perm) →
       Gave (created served.tree above name kind perm) served.map (given served.map dir name) (number_given served.map dir.0 name).0 (next_file served.tree)
   made-gave kind perm few is =
       gives-well (record served { tree = created served.tree above name kind perm }) dir name above (next_file served.tree) (record {
         is_tree = is;
-        sound = (making-keeps served above name kind perm may.is_tree may.sound (place.1).free).sound;
+        sound = (made-keeps kind perm).sound;
         at = (carried-made served.tree served.map.next served.map.entries above name kind perm may.is_tree (sound-fits served may.sound) (place.1).free).forward dir.0 above at;
         child = child_of-created served.tree above name kind perm;
       }) (clear_next served.map dir.0 name absent few)
-
--- ---- what a map was made ready for
-
--- a map that stays
-pub same-map : (tree : Tree) (old new : MapState) → new ≡ old → IsSamePlainly (served_over tree old) (served_over tree new)
-same-map tree old new e = record { plainly = ap (λ (m : MapState). plain (served_over tree m)) e; bad_items = ap (λ (m : MapState). m.bad_items) e }
-
--- room for a number is no part of the plain state
-pub same-spare : (tree : Tree) (old new : MapState) → new ≡ record old { spare = 1 } → IsSamePlainly (served_over tree old) (served_over tree new)
-same-spare tree old new e = record { plainly = ap (λ (m : MapState). plain (served_over tree m)) e; bad_items = ap (λ (m : MapState). m.bad_items) e }
-
--- what is given in that room is what is given without it
-pub given-spare : (tree : Tree) (map : MapState) (dir : Number) (name : List ℕ) → IsSamePlainly (served_over tree (given map dir name)) (served_over tree (given (record map { spare = 1 }) dir name))
-given-spare tree map dir name = in_ (is_some (entry_at map.entries dir.0 name)) where
-  again : MapState → MapState
-  again m = record m { entries = changed_where (stands_at dir.0 name) once_more m.entries }
-
-  fresh : MapState → MapState
-  fresh m = record m { entries = m.entries ++ new_entry m.next dir name ∷ []; next = m.next + 1; spare = 0 }
-
-  in_ : (b : Bool) → IsSamePlainly (served_over tree (if b then again map else fresh map)) (served_over tree (if b then again (record map { spare = 1 }) else fresh (record map { spare = 1 })))
-  in_ true = record { plainly = refl; bad_items = refl }
-  in_ false = record { plainly = refl; bad_items = refl }
-
--- ---- as the code makes it
-
-module _ (served : ServedState) (dir : Number) (name : List ℕ) (above : FileId) (may : MayMake served dir name above) (kind : Kind) (perm : Perm) (few : served.map.next < end_of_numbers) where
-  -- in that room nothing stands against the number
-  pub ready-clear : (map : MapState) → map ≡ record served.map { spare = 1 } → give_fault map dir.0 name ≡ None
-  ready-clear map e = ap (λ (m : MapState). give_fault m dir.0 name) e ∙ clear_next served.map dir.0 name (absent served dir name above may) few
-
-  -- the state after all of it
-  pub made-plainly : (map ready : MapState) (tree : Tree) → ready ≡ record served.map { spare = 1 } → map ≡ given ready dir name → tree ≡ created served.tree above name kind perm →
-      IsSamePlainly (record { map = given served.map dir name; tree = created served.tree above name kind perm }) (served_over tree map)
-  made-plainly map ready tree r m t =
-      let last : map ≡ given (record served.map { spare = 1 }) dir name = m ∙ ap (λ (x : MapState). given x dir name) r in
-      let so = given-spare (created served.tree above name kind perm) served.map dir name in
-      record {
-        plainly = ap (λ (x : MapState). plain (served_over tree x)) last ∙ ap (λ (x : Tree). plain (served_over x (given (record served.map { spare = 1 }) dir name))) t ∙ so.plainly;
-        bad_items = ap (λ (x : MapState). x.bad_items) last ∙ so.bad_items;
-      }
-
-  -- it fits together
-  pub made-sound : (map ready : MapState) (tree : Tree) → ready ≡ record served.map { spare = 1 } → map ≡ given ready dir name → tree ≡ created served.tree above name kind perm → IsTree tree → IsSound (served_over tree map)
-  made-sound map ready tree r m t is =
-      sound-plainly (record { map = given served.map dir name; tree = created served.tree above name kind perm }) (served_over tree map) (made-plainly map ready tree r m t).plainly
-      (made-gave served dir name above may kind perm few (subst IsTree t is)).sound
-
-  -- and is what was promised
-  pub made-makes : (map ready : MapState) (tree : Tree) (number : Number) (attr : Attr) → ready ≡ record served.map { spare = 1 } → map ≡ given ready dir name → tree ≡ created served.tree above name kind perm →
-      IsTree tree → number ≡ number_given ready dir.0 name → attr_of tree (next_file served.tree) ≡ Some attr → Makes served dir name kind perm (Ok (number, attr)) (served_over tree map)
-  made-makes map ready tree number attr r m t is_tree is is_attr =
-      made served dir name above may kind perm number attr (served_over tree map) few (is ∙ ap (λ (x : MapState). number_given x dir.0 name) r)
-      (ap (λ (x : Tree). attr_of x (next_file served.tree)) (sym t) ∙ is_attr)
-      ((subst IsTree t is_tree).links_have_names above name (next_file served.tree) (child_of-created served.tree above name kind perm)) (made-plainly map ready tree r m t)
-
-  -- where the file was not made, nothing was
-  pub unmade : (map : MapState) (tree : Tree) → map ≡ record served.map { spare = 1 } → tree ≡ served.tree → IsSamePlainly served (served_over tree map)
-  unmade map tree m t = record {
-    plainly = ap (λ (x : Tree). plain (served_over x map)) t ∙ (same-spare served.tree served.map map m).plainly;
-    bad_items = (same-spare served.tree served.map map m).bad_items;
-  }

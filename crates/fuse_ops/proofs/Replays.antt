@@ -96,8 +96,8 @@ same_of : (old new : ServedState) → new ≡ old → IsSamePlainly old new
 same_of old new e = record { plainly = ap plain e; bad_items = ap (λ (s : ServedState). s.map.bad_items) e }
 
 gives_in : (old : ServedState) (dir : Number) (name : List ℕ) (file : FileId) (answer : Answer) (new : ServedState) → GivesEntry old dir name file answer new → Legally old (Lookup dir name) (enters old.tree (Ok file)) answer new
-gives_in old dir name file (Entry number attr) new (clear, is, attr_is, makes) =
-    entry-legally old (Lookup dir name) dir name old.tree file number attr new (lookup-tells dir name) clear is attr_is (λ was. was) (same_of (record old { map = given old.map dir name }) new makes)
+gives_in old dir name file (Entry number attr) new (clear, is, attr_is, same) =
+    entry-legally old (Lookup dir name) dir name old.tree file number attr new (lookup-tells dir name) clear is attr_is (λ was. was) same
 gives_in old dir name file (Error errno) new ((fault, refusal, e), same) = refused-legally old (Lookup dir name) dir name old.tree file errno fault new (lookup-tells dir name) refusal e (same_of old new same)
 gives_in old dir name file (Opened number attr) new h = absurd h
 gives_in old dir name file (Attrs number attr) new h = absurd h

@@ -6,7 +6,7 @@ use Rattle.eden_base.specs.declared.number.FileId.{FileId}
 use Rattle.eden_base.specs.declared.place.Place.{Place}
 use Rattle.eden_base.specs.declared.place.Place.TheVariants.{Linked, Unlinked}
 use Rattle.checkout.specs.Tree.{file_of as tree_file, is_unlinked}
-use Rattle.inode_map.specs.InodeMap.{entry_of, is_of_use, AreNumbers, IsFileOf}
+use Rattle.inode_map.specs.InodeMap.{entry_of, file_remembered, is_of_use, AreNumbers, IsFileOf}
 use Rattle.inode_map.specs.declared.inode_map.Kept.{Kept}
 use Rattle.fuse_ops.specs.Served.{ServedState}
 
@@ -18,6 +18,11 @@ IsUnlinkedPlace (Unlinked file) = Unit {0}
 -- a file that a number names for this daemon
 abbrev pub Names : ServedState → ℕ → FileId → Type 0
 Names served n file = IsFileOf served.tree served.map.entries n file
+
+-- what is remembered of a number is the file that it names
+abbrev pub AreRemembered : ServedState → Type 0
+AreRemembered served = (n : ℕ) (file : FileId) →
+    file_remembered served.map.remembered n ≡ Some file → Names served n file
 
 -- what a daemon knows fits together
 pub record IsSound (served : ServedState) : Type 0 where

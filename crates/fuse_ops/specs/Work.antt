@@ -37,12 +37,17 @@ errno_of NoNumber = ENOSPC
 errno_of TooMany = EOVERFLOW
 errno_of NoMemory = ENOMEM
 
+-- neither a number, nor a place, nor the tree changed, and no forget was bad
+pub record IsSamePlainly (old new : ServedState) : Type 0 where
+  pub plainly : plain new ≡ plain old
+  pub bad_items : new.map.bad_items ≡ old.map.bad_items
+
 -- the answer for a file that was found, and what the daemon knows after it
 abbrev pub GivesEntry : ServedState → Number → List ℕ → FileId → Answer → ServedState → Type 0
 GivesEntry old dir name file (Entry number attr) new =
     (give_fault old.map dir.0 name ≡ None) × (number ≡ number_given old.map dir.0 name)
     × (attr_of old.tree file ≡ Some attr)
-    × (new ≡ record old { map = given old.map dir name })
+    × IsSamePlainly (record old { map = given old.map dir name }) new
 GivesEntry old dir name file (Error errno) new =
     ((fault : GiveFault) × IsGiveRefusal old.map dir.0 name fault × (errno ≡ errno_of fault)) × (new ≡ old)
 GivesEntry old dir name file answer new = ⊥
@@ -75,11 +80,6 @@ pub record Shows (served : ServedState) (node : Number) (answer : Answer) : Type
 abbrev pub IsNextRefusal : ℕ → Errno → Type 0
 IsNextRefusal next errno =
     ((errno ≡ ENOSPC) × (end_of_numbers ≤ next)) ⊎ ((errno ≡ ENOMEM) × (next < end_of_numbers))
-
--- neither a number, nor a place, nor the tree changed, and no forget was bad
-pub record IsSamePlainly (old new : ServedState) : Type 0 where
-  pub plainly : plain new ≡ plain old
-  pub bad_items : new.map.bad_items ≡ old.map.bad_items
 
 -- the number and the attributes of a file that was made under a free name, and what the daemon knows after it; or why
 -- it was not made

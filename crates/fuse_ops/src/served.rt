@@ -5,7 +5,7 @@ ghost use Rattle.checkout.specs.Tree.{child_of, is_full_dir};
 ghost use Rattle.fuse_wire.specs.declared.ask.Request.TheVariants.{Create, Mkdir};
 ghost use Rattle.inode_map.specs.InodeMap.{forgotten, IsFileOf};
 ghost use Rattle.fuse_ops.specs.Answers.{against_unlink, against_rmdir};
-ghost use Rattle.fuse_ops.specs.Served.{new_served, forgotten_all, Replay};
+ghost use Rattle.fuse_ops.specs.Served.{new_served, forgotten_all, IsLocated, Replay};
 ghost use Rattle.fuse_ops.specs.Soundness.{IsSound};
 ghost use Rattle.fuse_ops.specs.Work.{errno_of, Finds, IsFree, IsNextRefusal, LooksUp, Makes, NameIsTaken, Shows, Takes};
 
@@ -35,15 +35,17 @@ impl Model for Served {
     ghost coded = { Prim.hlevel (codes, tree_code) };
 
     ghost use Rattle.checkout.specs.Tree.{IsTree};
-    ghost use Rattle.fuse_ops.specs.Soundness.{IsSound};
+    ghost use Rattle.fuse_ops.specs.Soundness.{IsSound, AreRemembered};
 
     ghost view = { λ s. record { map = s.map; tree = s.tree } };
 
-    ghost invariant = { λ s. IsTree s.tree × IsSound (record { map = s.map; tree = s.tree }) };
+    ghost invariant = { λ s. IsTree s.tree
+        × IsSound (record { map = s.map; tree = s.tree })
+        × AreRemembered (record { map = s.map; tree = s.tree }) };
 }
 
 /// The directory of a number, and the file under a name in it.
-#[derive(Clone, Copy)]
+#[derive(Drop)]
 struct Found {
     dir: FileId,
     file: FileId,
@@ -110,9 +112,29 @@ impl Served {
             Err(errno) => return Answer::Error(errno),
         };
         let attr = found.attr;
+        let next = self.map.next();
         match self.map.give(alloc, dir, name) {
-            Ok(number) => Answer::Entry { number, attr },
+            Ok(number) => {
+                if number.0 == next {
+                    self.map.remember(number, found.file);
+                }
+                Answer::Entry { number, attr }
+            }
             Err(fault) => Answer::Error(errno_of(fault)),
+        }
+    }
+
+    /// Returns the file that a number names. Where that is not remembered, the way to the root is walked.
+    fn file_of(&mut self, number: Number) -> Option<FileId>
+        ensures located { IsLocated self.old number.0 result }
+        ensures unchanged { self.new ≡ self.old }
+    {
+        if number == Number::ROOT {
+            return Some(FileId::ROOT);
+        }
+        match self.map.recall(number) {
+            Some(file) => Some(file),
+            None => self.map.locate(&self.tree, number),
         }
     }
 
@@ -121,7 +143,7 @@ impl Served {
         ensures found { Finds self.old dir.0 name.now result }
         ensures unchanged { self.new ≡ self.old }
     {
-        let dir = self.map.locate(&self.tree, dir).ok_or(Errno::ESTALE)?;
+        let dir = self.file_of(dir).ok_or(Errno::ESTALE)?;
         if self.tree.kind(dir) != Some(Kind::Dir) {
             return Err(Errno::ENOTDIR);
         }
@@ -175,6 +197,7 @@ impl Served {
         let Ok(number) = self.map.give_ready(dir, own) else {
             unreachable!()
         };
+        self.map.remember(number, file);
         match self.tree.attr(file) {
             Some(attr) => Ok((number, attr)),
             None => unreachable!(),
@@ -186,7 +209,7 @@ impl Served {
         ensures free { IsFree self.old dir.0 name.now result }
         ensures unchanged { self.new ≡ self.old }
     {
-        let dir = self.map.locate(&self.tree, dir).ok_or(Errno::ESTALE)?;
+        let dir = self.file_of(dir).ok_or(Errno::ESTALE)?;
         if self.tree.kind(dir) != Some(Kind::Dir) {
             return Err(Errno::ENOTDIR);
         }
@@ -254,7 +277,7 @@ impl Served {
         ensures answer { Shows self.old node result }
         ensures unchanged { self.new ≡ self.old }
     {
-        let Some(file) = self.map.locate(&self.tree, node) else {
+        let Some(file) = self.file_of(node) else {
             return Answer::Error(Errno::ESTALE);
         };
         match self.tree.attr(file) {

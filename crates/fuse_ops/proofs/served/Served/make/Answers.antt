@@ -1,13 +1,16 @@
 -- A file is made and its number given, or nothing is changed.
-use Rattle.std.proofs.Common.{Err, refl, ap, ◌∙◌, subst, inr}
+use Rattle.std.proofs.Common.{Err, refl, sym, ap, ◌∙◌, subst, inr}
 use Rattle.eden_base.specs.declared.errno.Errno.TheVariants.{ENOMEM}
 use Rattle.checkout.proofs.AttrLaws.{attr_of-created}
+use Rattle.eden_base.specs.declared.number.FileId.{FileId}
 use Rattle.checkout.specs.Tree.{Tree, attr_of, next_file}
-use Rattle.inode_map.specs.InodeMap.{given}
+use Rattle.inode_map.specs.InodeMap.{MapState, given, number_given, IsFileOf}
 use Rattle.fuse_ops.specs.Gifts.{served_over}
-use Rattle.fuse_ops.specs.Served.{ServedState}
+use Rattle.fuse_ops.specs.Served.{ServedState, plain}
 use Rattle.fuse_ops.specs.Work.{Makes}
-use Rattle.fuse_ops.proofs.Making.{may-make, next-refused, same-map, sound-plainly, ready-clear, made-sound, unmade}
+use Rattle.fuse_ops.proofs.Making.{may-make, next-refused, sound-plainly}
+use Rattle.fuse_ops.proofs.ReadyMaking.{same-map, ready-clear, made-sound, made-remembers, unmade, unmade-remembers}
+use Rattle.fuse_ops.proofs.Remembering.{remembers-in}
 use Rattle.fuse_ops.proofs.served.Served.make.Goals as goal
 
 pub returns-in-Err : goal.returns-in-Err
@@ -26,6 +29,7 @@ invariant_of-self-in_default c =
       c.create.ensures.is_tree,
       sound-plainly (served_over c.self.inside.tree c.self.inside.map) _
           (unmade _ _ _ _ may c.args.kind c.args.perm c.in-Ok.ensures.left c.ready.new.map c.create.new.self c.in-Ok.ensures.room c.in_default.ensures.unchanged).plainly c.self.invariant.1,
+      unmade-remembers _ _ _ _ may c.args.kind c.args.perm c.in-Ok.ensures.left c.ready.new.map c.create.new.self c.in-Ok.ensures.room c.in_default.ensures.unchanged c.self.invariant.2,
     )
 
 pub returns-in_default : goal.returns-in_default
@@ -54,9 +58,24 @@ unreachable-requires-in-None c =
     let none = c.in-None.ensures.attr in
     cc (there, made, file, none)
 
+pub remember-requires : goal.remember-requires
+remember-requires c =
+    let same = c.self.view_is ∙ c.free_place.ensures.unchanged in
+    let may = may-make (served_over c.self.inside.tree c.self.inside.map) c.args.self.now c.args.dir c.args.name.now c.in_ok-above.above same c.self.invariant.0 c.self.invariant.1 c.in_ok-above.ensures.free in
+    let gave = c.in-Ok-give_ready.ensures.given ∙ ap (given c.ready.new.map c.args.dir) c.in-Ok.ensures.name in
+    let number = c.in-Ok-give_ready.ensures.number ∙ ap (number_given c.ready.new.map c.args.dir.0) c.in-Ok.ensures.name in
+    record { entry = (made-remembers _ _ _ _ may c.args.kind c.args.perm c.in-Ok.ensures.left c.give_ready.new.self c.ready.new.map c.create.new.self c.in-Ok-give_ready.number c.in-Ok.ensures.room gave c.in-Ok-create.ensures.created c.create.ensures.is_tree number c.self.invariant.2).1 }
+
 pub invariant_of-self-2 : goal.invariant_of-self-2
 invariant_of-self-2 c =
     let same = c.self.view_is ∙ c.free_place.ensures.unchanged in
     let may = may-make (served_over c.self.inside.tree c.self.inside.map) c.args.self.now c.args.dir c.args.name.now c.in_ok-above.above same c.self.invariant.0 c.self.invariant.1 c.in_ok-above.ensures.free in
     let gave = c.in-Ok-give_ready.ensures.given ∙ ap (given c.ready.new.map c.args.dir) c.in-Ok.ensures.name in
-    (c.create.ensures.is_tree, made-sound _ _ _ _ may c.args.kind c.args.perm c.in-Ok.ensures.left c.give_ready.new.self c.ready.new.map c.create.new.self c.in-Ok.ensures.room gave c.in-Ok-create.ensures.created c.create.ensures.is_tree)
+    let number = c.in-Ok-give_ready.ensures.number ∙ ap (number_given c.ready.new.map c.args.dir.0) c.in-Ok.ensures.name in
+    let right = made-remembers _ _ _ _ may c.args.kind c.args.perm c.in-Ok.ensures.left c.give_ready.new.self c.ready.new.map c.create.new.self c.in-Ok-give_ready.number c.in-Ok.ensures.room gave c.in-Ok-create.ensures.created c.create.ensures.is_tree number c.self.invariant.2 in
+    let sound = made-sound _ _ _ _ may c.args.kind c.args.perm c.in-Ok.ensures.left c.give_ready.new.self c.ready.new.map c.create.new.self c.in-Ok.ensures.room gave c.in-Ok-create.ensures.created c.create.ensures.is_tree in
+    let names = subst (λ (f : FileId). IsFileOf c.create.new.self c.give_ready.new.self.entries c.in-Ok-give_ready.number.0 f) (sym c.in-Ok-create.ensures.file) right.0 in (
+      c.create.ensures.is_tree,
+      sound-plainly (served_over c.create.new.self c.give_ready.new.self) _ (ap (λ (m : MapState). plain (served_over c.create.new.self m)) c.remember.ensures.remembered) sound,
+      remembers-in c.create.new.self c.give_ready.new.self _ c.in-Ok-give_ready.number.0 c.in-Ok-create.file c.remember.ensures.remembered names right.2,
+    )

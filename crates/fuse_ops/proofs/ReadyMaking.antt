@@ -1,0 +1,122 @@
+-- What the code makes in the room that was made before: a file under a name, its number, and what is remembered of it.
+use Rattle.std.proofs.Common.{◌≡◌, ℕ, ◌+◌, ◌<◌, Bool, true, false, List, [], ◌∷◌, ◌++◌, Some, None, is_some, Ok, refl, sym, ap, ◌∙◌, subst}
+use Rattle.std.specs.Prelude.{if◌then◌else◌}
+use Rattle.eden_base.specs.First.{changed_where}
+use Rattle.eden_base.specs.Limits.{end_of_numbers}
+use Rattle.eden_base.specs.declared.attr.Attr.{Attr}
+use Rattle.eden_base.specs.declared.attr.Kind.{Kind}
+use Rattle.eden_base.specs.declared.attr.Perm.{Perm}
+use Rattle.eden_base.specs.declared.number.FileId.{FileId}
+use Rattle.eden_base.specs.declared.number.Number.{Number}
+use Rattle.checkout.proofs.CreateLaws.{child_of-created}
+use Rattle.checkout.specs.Tree.{Tree, IsTree, attr_of, next_file, created}
+use Rattle.inode_map.specs.InodeMap.{MapState, stands_at, once_more, new_entry, entry_of, entry_at, give_fault, given, number_given, IsFileOf}
+use Rattle.fuse_ops.specs.Gifts.{served_over, Gave}
+use Rattle.fuse_ops.specs.Served.{ServedState, PlainState, plain}
+use Rattle.fuse_ops.specs.Soundness.{IsSound}
+use Rattle.fuse_ops.specs.Work.{IsSamePlainly, Makes}
+use Rattle.std.specs.Prelude.{IsSome}
+use Rattle.fuse_ops.specs.Soundness.{AreRemembered}
+use Rattle.fuse_ops.proofs.Making.{MayMake, sound-plainly, clear_next, absent, made, made-keeps, made-gave}
+use Rattle.fuse_ops.proofs.Remembering.{gave-entry, gave-remembers, given-remembered, plainly-remembers, stays-remembers}
+use Rattle.fuse_ops.specs.Changes.{KeepsNames}
+
+
+-- a map that stays
+pub same-map : (tree : Tree) (old new : MapState) → new ≡ old → IsSamePlainly (served_over tree old) (served_over tree new)
+same-map tree old new e = record { plainly = ap (λ (m : MapState). plain (served_over tree m)) e; bad_items = ap (λ (m : MapState). m.bad_items) e }
+
+-- room for a number is no part of the plain state
+pub same-spare : (tree : Tree) (old new : MapState) → new ≡ record old { spare = 1 } → IsSamePlainly (served_over tree old) (served_over tree new)
+same-spare tree old new e = record { plainly = ap (λ (m : MapState). plain (served_over tree m)) e; bad_items = ap (λ (m : MapState). m.bad_items) e }
+
+-- what is given in that room is what is given without it
+pub given-spare : (tree : Tree) (map : MapState) (dir : Number) (name : List ℕ) → IsSamePlainly (served_over tree (given map dir name)) (served_over tree (given (record map { spare = 1 }) dir name))
+given-spare tree map dir name = in_ (is_some (entry_at map.entries dir.0 name)) where
+  again : MapState → MapState
+  again m = record m { entries = changed_where (stands_at dir.0 name) once_more m.entries }
+
+  fresh : MapState → MapState
+  fresh m = record m { entries = m.entries ++ new_entry m.next dir name ∷ []; next = m.next + 1; spare = 0 }
+
+  in_ : (b : Bool) → IsSamePlainly (served_over tree (if b then again map else fresh map)) (served_over tree (if b then again (record map { spare = 1 }) else fresh (record map { spare = 1 })))
+  in_ true = record { plainly = refl; bad_items = refl }
+  in_ false = record { plainly = refl; bad_items = refl }
+
+-- ---- as the code makes it
+
+module _ (served : ServedState) (dir : Number) (name : List ℕ) (above : FileId) (may : MayMake served dir name above) (kind : Kind) (perm : Perm) (few : served.map.next < end_of_numbers) where
+  -- in that room nothing stands against the number
+  pub ready-clear : (map : MapState) → map ≡ record served.map { spare = 1 } → give_fault map dir.0 name ≡ None
+  ready-clear map e = ap (λ (m : MapState). give_fault m dir.0 name) e ∙ clear_next served.map dir.0 name (absent served dir name above may) few
+
+  -- the state after all of it
+  pub made-plainly : (map ready : MapState) (tree : Tree) → ready ≡ record served.map { spare = 1 } → map ≡ given ready dir name → tree ≡ created served.tree above name kind perm →
+      IsSamePlainly (record { map = given served.map dir name; tree = created served.tree above name kind perm }) (served_over tree map)
+  made-plainly map ready tree r m t =
+      let last : map ≡ given (record served.map { spare = 1 }) dir name = m ∙ ap (λ (x : MapState). given x dir name) r in
+      let so = given-spare (created served.tree above name kind perm) served.map dir name in
+      record {
+        plainly = ap (λ (x : MapState). plain (served_over tree x)) last ∙ ap (λ (x : Tree). plain (served_over x (given (record served.map { spare = 1 }) dir name))) t ∙ so.plainly;
+        bad_items = ap (λ (x : MapState). x.bad_items) last ∙ so.bad_items;
+      }
+
+  -- it fits together
+  pub made-sound : (map ready : MapState) (tree : Tree) → ready ≡ record served.map { spare = 1 } → map ≡ given ready dir name → tree ≡ created served.tree above name kind perm → IsTree tree → IsSound (served_over tree map)
+  made-sound map ready tree r m t is =
+      sound-plainly (record { map = given served.map dir name; tree = created served.tree above name kind perm }) (served_over tree map) (made-plainly map ready tree r m t).plainly
+      (made-gave served dir name above may kind perm few (subst IsTree t is)).sound
+
+  -- and is what was promised
+  pub made-makes : (map ready : MapState) (tree : Tree) (number : Number) (attr : Attr) → ready ≡ record served.map { spare = 1 } → map ≡ given ready dir name → tree ≡ created served.tree above name kind perm →
+      IsTree tree → number ≡ number_given ready dir.0 name → attr_of tree (next_file served.tree) ≡ Some attr → Makes served dir name kind perm (Ok (number, attr)) (served_over tree map)
+  made-makes map ready tree number attr r m t is_tree is is_attr =
+      made served dir name above may kind perm number attr (served_over tree map) few (is ∙ ap (λ (x : MapState). number_given x dir.0 name) r)
+      (ap (λ (x : Tree). attr_of x (next_file served.tree)) (sym t) ∙ is_attr)
+      ((subst IsTree t is_tree).links_have_names above name (next_file served.tree) (child_of-created served.tree above name kind perm)) (made-plainly map ready tree r m t)
+
+  -- the number names the file, and what is remembered is right
+  pub made-remembers : (map ready : MapState) (tree : Tree) (number : Number) → ready ≡ record served.map { spare = 1 } → map ≡ given ready dir name → tree ≡ created served.tree above name kind perm →
+      IsTree tree → number ≡ number_given ready dir.0 name → AreRemembered served → IsFileOf tree map.entries number.0 (next_file served.tree) × IsSome (entry_of map.entries number.0) × AreRemembered (served_over tree map)
+  made-remembers map ready tree number r m t is_tree is right = (
+    subst (λ (p : PlainState). IsFileOf p.tree p.entries number.0 file) (sym plainly) (subst (λ (n : Number). IsFileOf more new.entries n.0 file) (sym number_is) gave.names),
+    subst (λ (p : PlainState). IsSome (entry_of p.entries number.0)) (sym plainly) (subst (λ (n : Number). IsSome (entry_of new.entries n.0)) (sym number_is) (gave-entry more served.map new n file gave)),
+    plainly-remembers (served_over more new) (served_over tree map) plainly same_files
+        (gave-remembers more served.map new n file keeps.sound gave (given-remembered served.map dir name) (stays-remembers served (served_over more served.map) refl refl keeps.sound keeps.names right)),
+  ) where
+    file : FileId
+    file = next_file served.tree
+
+    more : Tree
+    more = created served.tree above name kind perm
+
+    new : MapState
+    new = given served.map dir name
+
+    n : ℕ
+    n = (number_given served.map dir.0 name).0
+
+    keeps : KeepsNames served (record served { tree = created served.tree above name kind perm })
+    keeps = made-keeps served dir name above may kind perm
+
+    gave : Gave (created served.tree above name kind perm) served.map (given served.map dir name) (number_given served.map dir.0 name).0 (next_file served.tree)
+    gave = made-gave served dir name above may kind perm few (subst IsTree t is_tree)
+
+    plainly : plain (served_over tree map) ≡ plain (served_over (created served.tree above name kind perm) (given served.map dir name))
+    plainly = (made-plainly map ready tree r m t).plainly
+
+    number_is : number ≡ number_given served.map dir.0 name
+    number_is = is ∙ ap (λ (x : MapState). number_given x dir.0 name) r
+
+    same_files : map.remembered ≡ (given served.map dir name).remembered
+    same_files = ap (λ (x : MapState). x.remembered) m ∙ given-remembered ready dir name ∙ ap (λ (x : MapState). x.remembered) r ∙ sym (given-remembered served.map dir name)
+
+  -- where the file was not made, nothing was
+  pub unmade : (map : MapState) (tree : Tree) → map ≡ record served.map { spare = 1 } → tree ≡ served.tree → IsSamePlainly served (served_over tree map)
+  unmade map tree m t = record {
+    plainly = ap (λ (x : Tree). plain (served_over x map)) t ∙ (same-spare served.tree served.map map m).plainly;
+    bad_items = (same-spare served.tree served.map map m).bad_items;
+  }
+
+  pub unmade-remembers : (map : MapState) (tree : Tree) → map ≡ record served.map { spare = 1 } → tree ≡ served.tree → AreRemembered served → AreRemembered (served_over tree map)
+  unmade-remembers map tree m t right = plainly-remembers served (served_over tree map) (unmade map tree m t).plainly (ap (λ (x : MapState). x.remembered) m) right
