@@ -1,14 +1,16 @@
 //! Makes maps and each call on a thousand of their numbers, so that the instructions of a call can be counted:
-//! `measure_map ENTRIES`. Without words it goes through 1,000, 8,000 and 64,000 entries.
+//! `measure_map ENTRIES`. Without words it goes through 1,000, 8,000 and 64,000 entries. A second word has it make a map of
+//! so many given entries in place of that.
 #![tactic(auto)]
 
-ghost use Rattle.std.specs.Prelude.{◌≡◌, None, IsSome, false};
+ghost use Rattle.std.specs.Prelude.{◌≡◌, IfOk, None, IsSome, false, length};
 ghost use Rattle.std.specs.List.{list_any};
-ghost use Rattle.inode_map.specs.InodeMap.{attr_of, entry_of, is_kid_of, IsLinked};
+ghost use Rattle.inode_map.specs.InodeMap.{attr_of, entry_of, is_kid_of, AreEntries, IsLinked};
+ghost use Rattle.measure_map.specs.Chain.{IsChain};
 
 use anyhow::Result;
-use eden_base::{Attr, FileId, Kind, Name, Number, Perm, Place};
-use inode_map::{Forgot, GiveFault, InodeMap};
+use eden_base::{Attr, FileId, Kind, Name, NoMemory, Number, Perm, Place};
+use inode_map::{Forgot, GiveFault, InodeMap, Kept};
 use std::alloc::Global;
 use std::env;
 
@@ -250,13 +252,58 @@ fn measure(rt: &HostRuntime, entries: u64) -> Result<()> {
     Ok(())
 }
 
+/// Lists entries of which each stands in the directory of the number before it.
+fn list_chain(alloc: Global, entries: u32) -> Result<Vec<Kept>>
+    ensures chain { IfOk result (λ list. IsChain 2 list.items) }
+    ensures len { IfOk result (λ list. length list.items ≡ entries) }
+{
+    let mut list = Vec::new(alloc);
+    while list.len() < entries as usize {
+        let i = list.len() as u64;
+        let name = name_of(alloc, i)?;
+        list.push(Kept {
+            number: Number(i + 2),
+            place: Place::Linked {
+                parent: Number(i + 1),
+                name,
+            },
+            count: 1,
+        })?;
+    }
+    Ok(list)
+}
+
+#[inline(never)]
+fn of_entries(alloc: Global, entries: &[Kept], next: u64) -> Result<InodeMap, NoMemory>
+    requires entries { AreEntries entries.now next }
+{
+    InodeMap::of_entries(alloc, entries, next, LOADED_LIMIT)
+}
+
+/// Makes a map of given entries.
+fn measure_given(rt: &HostRuntime, entries: u32) -> Result<()> {
+    let list = list_chain(rt.alloc(), entries)?;
+    let next = entries as u64 + 2;
+    let map = of_entries(rt.alloc(), list.as_slice(), next)?;
+    let known = map.known(Number(next - 1));
+    println!(rt; "{entries} given entries, the last known: {known}")?;
+    Ok(())
+}
+
 fn main(rt: HostRuntime) -> Result<()> {
     let mut words = env::args(&rt)?.skip(1);
     if let Some(word) = words.next() {
-        return measure(&rt, word.as_str().parse::<u64>().unwrap_or(1000));
+        let entries = word.as_str().parse::<u32>().unwrap_or(1000);
+        if words.next().is_some() {
+            return measure_given(&rt, entries);
+        }
+        return measure(&rt, entries as u64);
     }
     for entries in [1000, 8000, 64000] {
         measure(&rt, entries)?;
+    }
+    for entries in [1000, 8000, 65536] {
+        measure_given(&rt, entries)?;
     }
     Ok(())
 }
