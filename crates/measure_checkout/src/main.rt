@@ -1,13 +1,23 @@
-//! How long manifests of 1,000, 8,000 and 65,536 lines take to read, to make a tree of, and to look all their files up.
+//! How long manifests of 1,000, 8,000 and 65,536 lines take to read, to make a tree of, and to look all their files up;
+//! and each call of the tree on a thousand of its files, so that the instructions of a call can be counted:
+//! `measure_checkout LINES`. Without words it goes through all three.
 #![tactic(auto)]
 
+ghost use Rattle.std.specs.Prelude.{◌≡◌, IfSome, IsSome, None, Some, false};
+ghost use Rattle.checkout.specs.Tree.{child_of, is_full_dir, is_unlinked, kind_of};
+ghost use Rattle.eden_base.specs.declared.attr.Kind.TheVariants.{Dir};
+
 use anyhow::Result;
-use checkout::{Manifest, Tree};
-use eden_base::{FileId, Name};
+use checkout::{CreateFault, Manifest, Tree};
+use eden_base::{Attr, FileId, Kind, Name, NoMemory, Perm};
 use std::alloc::{AllocError, Global};
+use std::env;
 use std::time::Instant;
 
 const LINES: [u32; 3] = [1000, 8000, 65536];
+
+/// How many files of a tree each call is made on.
+const SOUGHT: u64 = 1000;
 
 /// Makes the text of a manifest of this many lines: directories of 63 files each.
 fn manifest_text(alloc: Global, lines: u32) -> Result<Vec<u8>, AllocError> {
@@ -91,11 +101,182 @@ fn look_up(rt: &HostRuntime, lines: u32, tree: &Tree) -> Result<()> {
     Ok(())
 }
 
+/// A file, where it stands, and a name that its directory lacks.
+#[derive(Drop)]
+struct Member {
+    file: FileId,
+    dir: FileId,
+    name: Name,
+    fresh: Name,
+}
+
+/// Lists files that lie evenly over those of such a manifest.
+fn list_members(alloc: Global, lines: u32) -> Result<Vec<Member>> {
+    let mut list = Vec::new(alloc);
+    for j in 2..SOUGHT {
+        let i = j.wrapping_mul(lines as u64 / SOUGHT);
+        if i % 64 != 0 {
+            let name = format!(in alloc; "file{i}.txt")?;
+            let fresh = format!(in alloc; "fresh{j}.txt")?;
+            list.push(Member {
+                file: FileId(i.wrapping_add(1)),
+                dir: FileId((i - i % 64).max(1).wrapping_add(1)),
+                name: Name::parse(alloc, name.as_bytes())?,
+                fresh: Name::parse(alloc, fresh.as_bytes())?,
+            })?;
+        }
+    }
+    Ok(list)
+}
+
+#[inline(never)]
+fn tree_of(alloc: Global, manifest: &Manifest) -> Result<Tree, NoMemory> {
+    Tree::of(alloc, manifest)
+}
+
+#[inline(never)]
+fn child(tree: &Tree, dir: FileId, name: &Name) -> Option<FileId>
+    ensures { result ≡ child_of tree.now dir name.now }
+{
+    tree.child(dir, name)
+}
+
+#[inline(never)]
+fn attr(tree: &Tree, file: FileId) -> Option<Attr> {
+    tree.attr(file)
+}
+
+#[inline(never)]
+fn is_empty_dir(tree: &Tree, dir: FileId) -> bool {
+    tree.is_empty_dir(dir)
+}
+
+#[inline(never)]
+fn create(tree: &mut Tree, dir: FileId, name: &Name) -> Result<FileId, CreateFault>
+    requires dir { kind_of tree.old dir ≡ Some Dir }
+    requires reached { is_unlinked tree.old dir ≡ false }
+    requires free { child_of tree.old dir name.now ≡ None }
+{
+    tree.create(dir, name, Kind::File, Perm::DIRECTORY)
+}
+
+#[inline(never)]
+fn remove(tree: &mut Tree, dir: FileId, name: &Name) -> FileId
+    requires there { IsSome (child_of tree.old dir name.now) }
+    requires not_full { IfSome (child_of tree.old dir name.now) (λ file. is_full_dir tree.old file ≡ false) }
+{
+    tree.remove(dir, name)
+}
+
+#[inline(never)]
+fn remove_made(tree: &mut Tree, dir: FileId, name: &Name, file: FileId) -> bool
+    requires there { IsSome (child_of tree.old dir name.now) }
+    requires not_full { IfSome (child_of tree.old dir name.now) (λ file. is_full_dir tree.old file ≡ false) }
+{
+    tree.remove(dir, name) == file
+}
+
+/// Makes the calls that change nothing, and counts what they find.
+fn read_members(tree: &Tree, list: &[Member]) -> u32 {
+    let mut found = 0u32;
+    for member in list {
+        if child(tree, member.dir, &member.name) == Some(member.file) {
+            found = found.wrapping_add(1);
+        }
+        if attr(tree, member.file).is_some() {
+            found = found.wrapping_add(1);
+        }
+        if !is_empty_dir(tree, member.dir) {
+            found = found.wrapping_add(1);
+        }
+    }
+    found
+}
+
+/// Makes a file under a free name in a directory. Tells whether there is one.
+fn create_free(tree: &mut Tree, dir: FileId, name: &Name) -> bool {
+    match tree.kind(dir) {
+        Some(Kind::Dir) => {}
+        Some(Kind::File) => return false,
+        None => return false,
+    }
+    if dir.0 != 1 && !tree.is_linked(dir) {
+        return false;
+    }
+    match tree.child(dir, name) {
+        Some(_) => false,
+        None => create(tree, dir, name).is_ok(),
+    }
+}
+
+/// Takes the name of a file of the manifest out of its directory.
+#[tactic(auto, using(checkout::proofs::RemoveLaws::not_full_rules))]
+fn remove_file(tree: &mut Tree, dir: FileId, name: &Name) -> Option<FileId> {
+    let file = tree.child(dir, name)?;
+    match tree.kind(file) {
+        Some(Kind::File) => Some(remove(tree, dir, name)),
+        Some(Kind::Dir) => None,
+        None => None,
+    }
+}
+
+/// Takes the name of a file that was made out of its directory. Tells whether there is one.
+#[tactic(auto, using(checkout::proofs::RemoveLaws::not_full_rules))]
+fn remove_made_file(tree: &mut Tree, dir: FileId, name: &Name) -> bool {
+    let Some(file) = tree.child(dir, name) else {
+        return false;
+    };
+    match tree.kind(file) {
+        Some(Kind::File) => remove_made(tree, dir, name, file),
+        Some(Kind::Dir) => false,
+        None => false,
+    }
+}
+
+/// Makes a file beside each, and takes the files of the manifest out, and then those that were made.
+fn change_all(tree: &mut Tree, list: &[Member]) -> u32 {
+    let mut changes = 0u32;
+    for member in list {
+        if create_free(tree, member.dir, &member.fresh) {
+            changes = changes.wrapping_add(1);
+        }
+    }
+    for member in list {
+        if remove_file(tree, member.dir, &member.name).is_some() {
+            changes = changes.wrapping_add(1);
+        }
+    }
+    for member in list {
+        if remove_made_file(tree, member.dir, &member.fresh) {
+            changes = changes.wrapping_add(1);
+        }
+    }
+    changes
+}
+
+/// Makes each call on files of a tree.
+fn call_all(rt: &HostRuntime, lines: u32, manifest: &Manifest) -> Result<()> {
+    let mut tree = tree_of(rt.alloc(), manifest)?;
+    let list = list_members(rt.alloc(), lines)?;
+    let found = read_members(&tree, list.as_slice());
+    let changes = change_all(&mut tree, list.as_slice());
+    let members = list.len();
+    println!(rt; "{lines} lines, {members} files: {found} found, {changes} changes")?;
+    Ok(())
+}
+
 fn main(rt: HostRuntime) -> Result<()> {
+    let mut words = env::args(&rt)?.skip(1);
+    if let Some(word) = words.next() {
+        let lines = word.as_str().parse::<u32>().unwrap_or(1000);
+        let manifest = read_manifest(&rt, lines)?;
+        return call_all(&rt, lines, &manifest);
+    }
     for lines in LINES {
         let manifest = read_manifest(&rt, lines)?;
         let tree = make_tree(&rt, &manifest)?;
         look_up(&rt, lines, &tree)?;
+        call_all(&rt, lines, &manifest)?;
     }
     Ok(())
 }
