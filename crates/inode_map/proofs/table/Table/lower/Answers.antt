@@ -1,7 +1,6 @@
 -- A count is lowered in the slot of its entry, or the slot stays as it was.
 use Rattle.std.proofs.Common.{◌≡◌, ◌-◌, List, Some, None, refl, sym, ap, ◌∙◌, subst, arith}
-use Rattle.eden_base.specs.First.{changed_where}
-use Rattle.inode_map.specs.InodeMap.{has_number, lowered}
+use Rattle.inode_map.specs.InodeMap.{lowered}
 use Rattle.inode_map.specs.Links.{link_of}
 use Rattle.inode_map.specs.Table.{kept_from, IsIndexed}
 use Rattle.inode_map.specs.declared.inode_map.Kept.{Kept}
