@@ -6,7 +6,7 @@ ghost use Rattle.fuse_wire.specs.declared.ask.Request.TheVariants.{Create, Mkdir
 ghost use Rattle.inode_map.specs.InodeMap.{forgotten, IsFileOf};
 ghost use Rattle.fuse_ops.specs.Answers.{against_unlink, against_rmdir};
 ghost use Rattle.fuse_ops.specs.Served.{new_served, forgotten_all, IsLocated, Replay};
-ghost use Rattle.fuse_ops.specs.Soundness.{IsSound};
+ghost use Rattle.fuse_ops.specs.Soundness.{IsSound, AreRemembered};
 ghost use Rattle.fuse_ops.specs.Work.{errno_of, Finds, IsFree, IsNextRefusal, LooksUp, Makes, NameIsTaken, Shows, Takes};
 
 use checkout::{Manifest, Tree};
@@ -68,6 +68,7 @@ impl Served {
     pub fn map(&self) -> &InodeMap
         ensures map { result.now ≡ self.now.map }
         ensures sound { IsSound self.now }
+        ensures remembered { AreRemembered self.now }
     {
         &self.map
     }

@@ -35,26 +35,11 @@ const MADE_DIRECTORY: Attr = Attr {
     nlink: 2,
 };
 
-const UNLINKED_FILE: Attr = Attr {
-    kind: Kind::File,
-    perm: Perm { bits: 0o644 },
-    size: 12,
-    nlink: 0,
-};
+const UNLINKED_FILE: Attr = Attr { nlink: 0, ..FILE };
 
-const UNLINKED_MADE: Attr = Attr {
-    kind: Kind::File,
-    perm: Perm { bits: 0o640 },
-    size: 0,
-    nlink: 0,
-};
+const UNLINKED_MADE: Attr = Attr { nlink: 0, ..MADE };
 
-const UNLINKED_MADE_DIRECTORY: Attr = Attr {
-    kind: Kind::Dir,
-    perm: Perm { bits: 0o640 },
-    size: 0,
-    nlink: 0,
-};
+const UNLINKED_MADE_DIRECTORY: Attr = Attr { nlink: 0, ..MADE_DIRECTORY };
 
 const SRC: Answer = Answer::Entry {
     number: Number(2),
