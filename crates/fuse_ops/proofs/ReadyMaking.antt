@@ -21,7 +21,6 @@ use Rattle.fuse_ops.proofs.Making.{MayMake, sound-plainly, clear_next, absent, m
 use Rattle.fuse_ops.proofs.Remembering.{gave-entry, gave-remembers, given-remembered, plainly-remembers, stays-remembers}
 use Rattle.fuse_ops.specs.Changes.{KeepsNames}
 
-
 -- a map that stays
 pub same-map : (tree : Tree) (old new : MapState) → new ≡ old → IsSamePlainly (served_over tree old) (served_over tree new)
 same-map tree old new e = record { plainly = ap (λ (m : MapState). plain (served_over tree m)) e; bad_items = ap (λ (m : MapState). m.bad_items) e }

@@ -178,7 +178,7 @@ forgotten-remembers served n k is sound right = in_ (n == 1) (is_bad_item served
       let lowers = forgets-well served n k is sound (false-ne n 1 e) f in
       let made : after (n == 1) (is_bad_item served.map.entries n k) ≡ after false false = ap (λ (b : Bool). after b (is_bad_item served.map.entries n k)) e ∙ ap (after false) f in
       subst AreRemembered (sym made) (left_with-remembers served (after false false) (left_of_use (lowered served.map.entries n k)) refl refl (subst IsSound made fits)
-          (λ m g at. lowers.1.left_name m g (subst (λ (s : ServedState). Names s m g) (sym made) at)) right)
+      (λ m g at. lowers.1.left_name m g (subst (λ (s : ServedState). Names s m g) (sym made) at)) right)
 
 -- ---- names change
 
@@ -187,14 +187,14 @@ pub taken-remembers : (served : ServedState) (number : Number) (dir : FileId) (n
     tree ≡ removed served.tree dir name → AreRemembered served → AreRemembered (record { map = map; tree = tree })
 taken-remembers served number dir name file map tree may m t right =
     subst (λ (s : ServedState). AreRemembered s) (λ i. record { map = sym m i; tree = sym t i }) (in_ (entry_at served.map.entries number.0 name) refl (unnaming-keeps served number dir name file may)) where
-  after : Option Kept → ServedState
-  after o = record { map = option_map_or (λ (x : Kept). unlinked served.map x.number.0 file) o served.map; tree = removed served.tree dir name }
+      after : Option Kept → ServedState
+      after o = record { map = option_map_or (λ (x : Kept). unlinked served.map x.number.0 file) o served.map; tree = removed served.tree dir name }
 
-  in_ : (o : Option Kept) → entry_at served.map.entries number.0 name ≡ o → KeepsNames served (after (entry_at served.map.entries number.0 name)) → AreRemembered (after (entry_at served.map.entries number.0 name))
-  in_ None e keeps =
-      let k = subst (λ (o : Option Kept). KeepsNames served (after o)) e keeps in
-      subst (λ (o : Option Kept). AreRemembered (after o)) (sym e) (stays-remembers served (after None) refl refl k.sound k.names right)
-  in_ (Some kept) e keeps =
-      let k = subst (λ (o : Option Kept). KeepsNames served (after o)) e keeps in
-      subst (λ (o : Option Kept). AreRemembered (after o)) (sym e)
-      (left_with-remembers served (after (Some kept)) (left_of_use (changed_where (has_number kept.number.0) (marked file) served.map.entries)) refl refl k.sound k.names right)
+      in_ : (o : Option Kept) → entry_at served.map.entries number.0 name ≡ o → KeepsNames served (after (entry_at served.map.entries number.0 name)) → AreRemembered (after (entry_at served.map.entries number.0 name))
+      in_ None e keeps =
+          let k = subst (λ (o : Option Kept). KeepsNames served (after o)) e keeps in
+          subst (λ (o : Option Kept). AreRemembered (after o)) (sym e) (stays-remembers served (after None) refl refl k.sound k.names right)
+      in_ (Some kept) e keeps =
+          let k = subst (λ (o : Option Kept). KeepsNames served (after o)) e keeps in
+          subst (λ (o : Option Kept). AreRemembered (after o)) (sym e)
+          (left_with-remembers served (after (Some kept)) (left_of_use (changed_where (has_number kept.number.0) (marked file) served.map.entries)) refl refl k.sound k.names right)

@@ -7,57 +7,77 @@ use std::test::Fail;
 const TEXT: &[u8] =
     b"commit 0123456789abcdef0123456789abcdef01234567\ndir src\nfile 0644 12 src/a\n";
 
-const DIRECTORY: Attr = Attr {
-    kind: Kind::Dir,
-    perm: Perm::DIRECTORY,
-    size: 0,
-    nlink: 2,
-};
+/// What a test says of a file.
+#[derive(Clone, Copy)]
+enum Is {
+    Directory,
+    File,
+    Made,
+    MadeDirectory,
+    UnlinkedFile,
+    UnlinkedMade,
+    UnlinkedMadeDirectory,
+}
 
-const FILE: Attr = Attr {
-    kind: Kind::File,
-    perm: Perm { bits: 0o644 },
-    size: 12,
-    nlink: 1,
-};
+impl Is {
+    /// Returns the attributes of such a file.
+    fn attr(self) -> Attr {
+        let (kind, bits, size, nlink) = match self {
+            Is::Directory => (Kind::Dir, 0o755, 0, 2),
+            Is::File => (Kind::File, 0o644, 12, 1),
+            Is::Made => (Kind::File, MADE_BITS, 0, 1),
+            Is::MadeDirectory => (Kind::Dir, MADE_BITS, 0, 2),
+            Is::UnlinkedFile => (Kind::File, 0o644, 12, 0),
+            Is::UnlinkedMade => (Kind::File, MADE_BITS, 0, 0),
+            Is::UnlinkedMadeDirectory => (Kind::Dir, MADE_BITS, 0, 0),
+        };
+        let perm = Perm::of(bits).unwrap_or(Perm::DIRECTORY);
+        Attr {
+            kind,
+            perm,
+            size,
+            nlink,
+        }
+    }
+}
 
-const MADE: Attr = Attr {
-    kind: Kind::File,
-    perm: Perm { bits: 0o640 },
-    size: 0,
-    nlink: 1,
-};
+/// The permissions of what is made.
+const MADE_BITS: u16 = 0o640;
 
-const MADE_DIRECTORY: Attr = Attr {
-    kind: Kind::Dir,
-    perm: Perm { bits: 0o640 },
-    size: 0,
-    nlink: 2,
-};
+/// Which request a deed makes.
+#[derive(Clone, Copy)]
+enum Asks {
+    LookUp,
+    Create,
+    Mkdir,
+    Unlink,
+    Rmdir,
+    /// `opendir`, which is not served.
+    Open,
+}
 
-const UNLINKED_FILE: Attr = Attr { nlink: 0, ..FILE };
-
-const UNLINKED_MADE: Attr = Attr { nlink: 0, ..MADE };
-
-const UNLINKED_MADE_DIRECTORY: Attr = Attr { nlink: 0, ..MADE_DIRECTORY };
-
-const SRC: Answer = Answer::Entry {
-    number: Number(2),
-    attr: DIRECTORY,
-};
-
-const A: Answer = Answer::Entry {
-    number: Number(3),
-    attr: FILE,
-};
-
-const STALE: Answer = Answer::Error(Errno::ESTALE);
-
-const NOT_DIR: Answer = Answer::Error(Errno::ENOTDIR);
-
-const MISSING: Answer = Answer::Error(Errno::ENOENT);
-
-const EXISTS: Answer = Answer::Error(Errno::EEXIST);
+/// What a test does, as data, so that a test is a table.
+#[derive(Clone, Copy)]
+enum Deed {
+    /// Asks, by a directory's number and a name in it, and is answered this error.
+    Refuse(Asks, u64, &'static [u8], Errno),
+    /// Asks, and is answered that it is done.
+    Take(Asks, u64, &'static [u8]),
+    /// Asks, and is answered an entry of this number for such a file.
+    Enter(Asks, u64, &'static [u8], u64, Is),
+    /// Makes a file, and is answered this number.
+    Create(u64, &'static [u8], u64),
+    /// Asks for the attributes of a number.
+    Show(u64, Is),
+    /// Asks for those of a number that names nothing.
+    ShowNone(u64),
+    /// Forgets a number so many times.
+    Forget(u64, u64),
+    /// Forgets each of these.
+    ForgetAll(&'static [Item; 6]),
+    /// The counts of numbers 2 and 3, the number after them, how many items were bad, and the next file.
+    At(u64, u64, u64, u64, u64),
+}
 
 /// Serves the text, made again where memory was refused.
 fn served(alloc: Global) -> Result<Served, Fail> {
@@ -71,40 +91,25 @@ fn served(alloc: Global) -> Result<Served, Fail> {
     }
 }
 
-/// Which request a row of a table makes.
-#[derive(Clone, Copy)]
-enum Asks {
-    LookUp,
-    Create,
-    Mkdir,
-    Unlink,
-    Rmdir,
-}
-
-/// A request by the number of its directory and the name in it, and what it must be answered.
-type Row = (Asks, u64, &'static [u8], Answer);
-
+/// Makes a request, its name once more where memory was refused.
 fn asked(alloc: Global, asks: Asks, dir: u64, name: &[u8]) -> Result<Request, Fail> {
     let name = match Name::parse(alloc, name) {
         Ok(name) => name,
         Err(_refused) => Name::parse(alloc, name)?,
     };
     let dir = Number(dir);
-    let perm = MADE.perm;
+    let perm = Is::Made.attr().perm;
     Ok(match asks {
         Asks::LookUp => Request::Lookup { dir, name },
         Asks::Create => Request::Create { dir, name, perm },
         Asks::Mkdir => Request::Mkdir { dir, name, perm },
         Asks::Unlink => Request::Unlink { dir, name },
         Asks::Rmdir => Request::Rmdir { dir, name },
+        Asks::Open => Request::Other {
+            opcode: 27,
+            node: dir,
+        },
     })
-}
-
-fn attrs(number: u64, attr: Attr) -> Answer {
-    Answer::Attrs {
-        number: Number(number),
-        attr,
-    }
 }
 
 fn batch_of(alloc: Global, items: &[Item; 6]) -> Result<Batch, NoMemory> {
@@ -122,40 +127,29 @@ fn answer(alloc: Global, served: &mut Served, request: &Request) -> Option<Answe
     }
 }
 
-fn item(node: u64, k: u64) -> Item {
-    Item {
-        node: Number(node),
-        k,
-    }
+/// Returns whether a request is answered so.
+fn is_answered(
+    alloc: Global,
+    served: &mut Served,
+    asks: Asks,
+    place: (u64, &[u8]),
+    expected: Answer,
+) -> Result<bool, Fail> {
+    let (dir, name) = place;
+    let request = asked(alloc, asks, dir, name)?;
+    Ok(answer(alloc, served, &request) == Some(expected))
 }
 
-fn entry(number: u64, attr: Attr) -> Answer {
-    Answer::Entry {
-        number: Number(number),
-        attr,
-    }
+/// Returns whether a number's attributes are answered so.
+fn is_shown(alloc: Global, served: &mut Served, node: u64, expected: Answer) -> bool {
+    let node = Number(node);
+    served.apply(alloc, &Request::Getattr { node }) == Some(expected)
 }
 
-/// Makes the requests in turn, and returns whether each is answered as its row says.
-fn are_answered(alloc: Global, served: &mut Served, rows: &[Row]) -> Result<bool, Fail> {
-    for (asks, dir, name, expected) in rows {
-        let request = asked(alloc, *asks, *dir, name)?;
-        if answer(alloc, served, &request) != Some(*expected) {
-            return Ok(false);
-        }
-    }
-    Ok(true)
-}
-
-/// Asks for attributes in turn, and returns whether each answer is so.
-fn are_shown(alloc: Global, served: &mut Served, shown: &[(u64, Answer)]) -> bool {
-    for (node, expected) in shown {
-        let node = Number(*node);
-        if served.apply(alloc, &Request::Getattr { node }) != Some(*expected) {
-            return false;
-        }
-    }
-    true
+/// Forgets numbers, and returns whether that has no answer.
+fn is_forgotten(alloc: Global, served: &mut Served, items: &[Item; 6]) -> Result<bool, Fail> {
+    let batch = batch_of(alloc, items)?;
+    Ok(served.apply(alloc, &Request::BatchForget(batch)).is_none())
 }
 
 /// Returns whether these are the counts of numbers 2 and 3, the number after them, and how many items were bad.
@@ -167,318 +161,264 @@ fn is_at(served: &Served, two: u64, three: u64, next: u64, bad: u64) -> bool {
     map.next() == next && map.bad_items() == bad
 }
 
+/// Does a deed, and returns whether it comes to what it says.
+fn goes_so(alloc: Global, served: &mut Served, deed: Deed) -> Result<bool, Fail> {
+    match deed {
+        Deed::Refuse(asks, dir, name, errno) => {
+            is_answered(alloc, served, asks, (dir, name), Answer::Error(errno))
+        }
+        Deed::Take(asks, dir, name) => is_answered(alloc, served, asks, (dir, name), Answer::Done),
+        Deed::Enter(asks, dir, name, number, is) => {
+            let number = Number(number);
+            let attr = is.attr();
+            let expected = Answer::Entry { number, attr };
+            is_answered(alloc, served, asks, (dir, name), expected)
+        }
+        Deed::Create(dir, name, number) => {
+            let expected = Answer::Opened {
+                number: Number(number),
+                attr: Is::Made.attr(),
+            };
+            is_answered(alloc, served, Asks::Create, (dir, name), expected)
+        }
+        Deed::Show(node, is) => {
+            let number = Number(node);
+            let attr = is.attr();
+            Ok(is_shown(alloc, served, node, Answer::Attrs { number, attr }))
+        }
+        Deed::ShowNone(node) => Ok(is_shown(alloc, served, node, Answer::Error(Errno::ESTALE))),
+        Deed::Forget(node, k) => {
+            let node = Number(node);
+            let forget = Request::Forget(Item { node, k });
+            Ok(served.apply(alloc, &forget).is_none())
+        }
+        Deed::ForgetAll(items) => is_forgotten(alloc, served, items),
+        Deed::At(two, three, next, bad, file) => {
+            Ok(is_at(served, two, three, next, bad) && served.tree().next_file() == FileId(file))
+        }
+    }
+}
+
+/// Does each deed in turn on what the text says, and returns whether all go so.
+fn all_go_so(alloc: Global, deeds: &[Deed]) -> Result<bool, Fail> {
+    let mut served = served(alloc)?;
+    for deed in deeds {
+        if !goes_so(alloc, &mut served, *deed)? {
+            return Ok(false);
+        }
+    }
+    Ok(true)
+}
+
+const FIRST_ERRORS: [Deed; 6] = [
+    Deed::Enter(Asks::LookUp, 1, b"src", 2, Is::Directory),
+    Deed::Refuse(Asks::LookUp, 9, b"a", Errno::ESTALE),
+    Deed::Refuse(Asks::LookUp, 1, b"a", Errno::ENOENT),
+    Deed::Enter(Asks::LookUp, 2, b"a", 3, Is::File),
+    Deed::Refuse(Asks::LookUp, 3, b"a", Errno::ENOTDIR),
+    Deed::At(1, 1, 4, 0, 4),
+];
+
 #[test]
 fn answers_the_first_error_or_an_entry(rt: HostRuntime) -> Result<(), Fail> {
-    let mut served = served(rt.alloc())?;
-    let lookups: [Row; 5] = [
-        (Asks::LookUp, 1, b"src", entry(2, DIRECTORY)),
-        (Asks::LookUp, 9, b"a", Answer::Error(Errno::ESTALE)),
-        (Asks::LookUp, 1, b"a", Answer::Error(Errno::ENOENT)),
-        (Asks::LookUp, 2, b"a", entry(3, FILE)),
-        (Asks::LookUp, 3, b"a", Answer::Error(Errno::ENOTDIR)),
-    ];
-    assert!(rt; are_answered(rt.alloc(), &mut served, &lookups)?);
-    assert!(rt; is_at(&served, 1, 1, 4, 0));
+    assert!(rt; all_go_so(rt.alloc(), &FIRST_ERRORS)?);
     Ok(())
 }
+
+const LOOKED_UP_AGAIN: [Deed; 4] = [
+    Deed::Enter(Asks::LookUp, 1, b"src", 2, Is::Directory),
+    Deed::Enter(Asks::LookUp, 2, b"a", 3, Is::File),
+    Deed::Enter(Asks::LookUp, 1, b"src", 2, Is::Directory),
+    Deed::At(2, 1, 4, 0, 4),
+];
 
 #[test]
 fn gives_each_name_one_number(rt: HostRuntime) -> Result<(), Fail> {
-    let mut served = served(rt.alloc())?;
-    let lookups: [Row; 3] = [
-        (Asks::LookUp, 1, b"src", entry(2, DIRECTORY)),
-        (Asks::LookUp, 2, b"a", entry(3, FILE)),
-        (Asks::LookUp, 1, b"src", entry(2, DIRECTORY)),
-    ];
-    assert!(rt; are_answered(rt.alloc(), &mut served, &lookups)?);
-    assert!(rt; is_at(&served, 2, 1, 4, 0));
+    assert!(rt; all_go_so(rt.alloc(), &LOOKED_UP_AGAIN)?);
     Ok(())
 }
+
+/// Of these, the second, third and fourth are bad, and the fifth is the root's.
+const ITEMS: [Item; 6] = [
+    Item {
+        node: Number(2),
+        k: 1,
+    },
+    Item {
+        node: Number(9),
+        k: 1,
+    },
+    Item {
+        node: Number(2),
+        k: 5,
+    },
+    Item {
+        node: Number(2),
+        k: 0,
+    },
+    Item {
+        node: Number(1),
+        k: 3,
+    },
+    Item {
+        node: Number(3),
+        k: 1,
+    },
+];
+
+const BATCHED: [Deed; 6] = [
+    Deed::Enter(Asks::LookUp, 1, b"src", 2, Is::Directory),
+    Deed::Enter(Asks::LookUp, 1, b"src", 2, Is::Directory),
+    Deed::Enter(Asks::LookUp, 2, b"a", 3, Is::File),
+    Deed::ForgetAll(&ITEMS),
+    Deed::At(1, 0, 4, 3, 4),
+    Deed::ShowNone(3),
+];
 
 #[test]
 fn applies_each_item_of_a_batch_by_itself(rt: HostRuntime) -> Result<(), Fail> {
-    let mut served = served(rt.alloc())?;
-    let lookups: [Row; 3] = [
-        (Asks::LookUp, 1, b"src", entry(2, DIRECTORY)),
-        (Asks::LookUp, 1, b"src", entry(2, DIRECTORY)),
-        (Asks::LookUp, 2, b"a", entry(3, FILE)),
-    ];
-    assert!(rt; are_answered(rt.alloc(), &mut served, &lookups)?);
-    let items = [
-        item(2, 1),
-        item(9, 1),
-        item(2, 5),
-        item(2, 0),
-        item(1, 3),
-        item(3, 1),
-    ];
-    let batch = batch_of(rt.alloc(), &items)?;
-    assert!(rt;
-        served
-            .apply(rt.alloc(), &Request::BatchForget(batch))
-            .is_none()
-    );
-    assert!(rt; is_at(&served, 1, 0, 4, 3));
-    assert!(rt; served.map().entry(Number(3)).is_none());
+    assert!(rt; all_go_so(rt.alloc(), &BATCHED)?);
     Ok(())
 }
+
+const FORGOTTEN: [Deed; 6] = [
+    Deed::Enter(Asks::LookUp, 1, b"src", 2, Is::Directory),
+    Deed::Enter(Asks::LookUp, 1, b"src", 2, Is::Directory),
+    Deed::Forget(2, 2),
+    Deed::At(0, 0, 3, 0, 4),
+    Deed::Enter(Asks::LookUp, 1, b"src", 3, Is::Directory),
+    Deed::At(0, 1, 4, 0, 4),
+];
 
 #[test]
 fn forgets_one_item(rt: HostRuntime) -> Result<(), Fail> {
-    let mut served = served(rt.alloc())?;
-    let twice: [Row; 2] = [
-        (Asks::LookUp, 1, b"src", entry(2, DIRECTORY)),
-        (Asks::LookUp, 1, b"src", entry(2, DIRECTORY)),
-    ];
-    assert!(rt; are_answered(rt.alloc(), &mut served, &twice)?);
-    assert!(rt;
-        served
-            .apply(rt.alloc(), &Request::Forget(item(2, 2)))
-            .is_none()
-    );
-    assert!(rt; is_at(&served, 0, 0, 3, 0));
-    let again: [Row; 1] = [(Asks::LookUp, 1, b"src", entry(3, DIRECTORY))];
-    assert!(rt; are_answered(rt.alloc(), &mut served, &again)?);
+    assert!(rt; all_go_so(rt.alloc(), &FORGOTTEN)?);
     Ok(())
 }
+
+const SHOWN: [Deed; 8] = [
+    Deed::Enter(Asks::LookUp, 1, b"src", 2, Is::Directory),
+    Deed::Enter(Asks::LookUp, 2, b"a", 3, Is::File),
+    Deed::Show(1, Is::Directory),
+    Deed::Show(3, Is::File),
+    Deed::Show(2, Is::Directory),
+    Deed::ShowNone(4),
+    Deed::ShowNone(0),
+    Deed::At(1, 1, 4, 0, 4),
+];
 
 #[test]
 fn shows_attributes_and_counts_nothing(rt: HostRuntime) -> Result<(), Fail> {
-    let mut served = served(rt.alloc())?;
-    let lookups: [Row; 2] = [
-        (Asks::LookUp, 1, b"src", entry(2, DIRECTORY)),
-        (Asks::LookUp, 2, b"a", entry(3, FILE)),
-    ];
-    assert!(rt; are_answered(rt.alloc(), &mut served, &lookups)?);
-    let shown = [
-        (1, attrs(1, DIRECTORY)),
-        (3, attrs(3, FILE)),
-        (2, attrs(2, DIRECTORY)),
-        (4, Answer::Error(Errno::ESTALE)),
-        (0, Answer::Error(Errno::ESTALE)),
-    ];
-    assert!(rt; are_shown(rt.alloc(), &mut served, &shown));
-    assert!(rt; is_at(&served, 1, 1, 4, 0));
+    assert!(rt; all_go_so(rt.alloc(), &SHOWN)?);
     Ok(())
 }
+
+const NOT_SERVED: [Deed; 2] = [
+    Deed::Refuse(Asks::Open, 1, b"src", Errno::ENOSYS),
+    Deed::At(0, 0, 2, 0, 4),
+];
 
 #[test]
 fn answers_enosys_to_what_is_not_served(rt: HostRuntime) -> Result<(), Fail> {
-    let mut served = served(rt.alloc())?;
-    let other = Request::Other {
-        opcode: 26,
-        node: Number(1),
-    };
-    assert!(rt; served.apply(rt.alloc(), &other) == Some(Answer::Error(Errno::ENOSYS)));
-    assert!(rt; is_at(&served, 0, 0, 2, 0));
+    assert!(rt; all_go_so(rt.alloc(), &NOT_SERVED)?);
     Ok(())
 }
 
-const MADE_AND_FOUND: [Row; 2] = [
-    (
-        Asks::Create,
-        1,
-        b"b",
-        Answer::Opened {
-            number: Number(2),
-            attr: MADE,
-        },
-    ),
-    (
-        Asks::LookUp,
-        1,
-        b"b",
-        Answer::Entry {
-            number: Number(2),
-            attr: MADE,
-        },
-    ),
+const MADE_AND_FOUND: [Deed; 4] = [
+    Deed::Create(1, b"b", 2),
+    Deed::Enter(Asks::LookUp, 1, b"b", 2, Is::Made),
+    Deed::Show(2, Is::Made),
+    Deed::At(2, 0, 3, 0, 5),
 ];
-
-const MADE_AND_FOUND_SHOWN: [(u64, Answer); 1] = [(
-    2,
-    Answer::Attrs {
-        number: Number(2),
-        attr: MADE,
-    },
-)];
 
 #[test]
 fn makes_a_file_and_gives_its_number(rt: HostRuntime) -> Result<(), Fail> {
-    let mut served = served(rt.alloc())?;
-    assert!(rt; are_answered(rt.alloc(), &mut served, &MADE_AND_FOUND)?);
-    assert!(rt; are_shown(rt.alloc(), &mut served, &MADE_AND_FOUND_SHOWN));
-    assert!(rt; is_at(&served, 2, 0, 3, 0));
+    assert!(rt; all_go_so(rt.alloc(), &MADE_AND_FOUND)?);
     Ok(())
 }
 
-const FILLED_AND_REMOVED: [Row; 8] = [
-    (
-        Asks::Mkdir,
-        1,
-        b"d",
-        Answer::Entry {
-            number: Number(2),
-            attr: MADE_DIRECTORY,
-        },
-    ),
-    (
-        Asks::Create,
-        2,
-        b"b",
-        Answer::Opened {
-            number: Number(3),
-            attr: MADE,
-        },
-    ),
-    (Asks::Rmdir, 1, b"d", Answer::Error(Errno::ENOTEMPTY)),
-    (Asks::Unlink, 2, b"b", Answer::Done),
-    (Asks::Rmdir, 1, b"d", Answer::Done),
-    (Asks::LookUp, 1, b"d", MISSING),
-    (Asks::Create, 2, b"c", MISSING),
-    (Asks::Mkdir, 2, b"c", MISSING),
-];
-
-const FILLED_AND_REMOVED_SHOWN: [(u64, Answer); 2] = [
-    (
-        2,
-        Answer::Attrs {
-            number: Number(2),
-            attr: UNLINKED_MADE_DIRECTORY,
-        },
-    ),
-    (
-        3,
-        Answer::Attrs {
-            number: Number(3),
-            attr: UNLINKED_MADE,
-        },
-    ),
+const FILLED_AND_REMOVED: [Deed; 11] = [
+    Deed::Enter(Asks::Mkdir, 1, b"d", 2, Is::MadeDirectory),
+    Deed::Create(2, b"b", 3),
+    Deed::Refuse(Asks::Rmdir, 1, b"d", Errno::ENOTEMPTY),
+    Deed::Take(Asks::Unlink, 2, b"b"),
+    Deed::Take(Asks::Rmdir, 1, b"d"),
+    Deed::Refuse(Asks::LookUp, 1, b"d", Errno::ENOENT),
+    Deed::Refuse(Asks::Create, 2, b"c", Errno::ENOENT),
+    Deed::Refuse(Asks::Mkdir, 2, b"c", Errno::ENOENT),
+    Deed::Show(2, Is::UnlinkedMadeDirectory),
+    Deed::Show(3, Is::UnlinkedMade),
+    Deed::At(1, 1, 4, 0, 6),
 ];
 
 #[test]
 fn keeps_a_removed_directory_that_is_held(rt: HostRuntime) -> Result<(), Fail> {
-    let mut served = served(rt.alloc())?;
-    assert!(rt; are_answered(rt.alloc(), &mut served, &FILLED_AND_REMOVED)?);
-    assert!(rt; are_shown(rt.alloc(), &mut served, &FILLED_AND_REMOVED_SHOWN));
-    assert!(rt; is_at(&served, 1, 1, 4, 0));
+    assert!(rt; all_go_so(rt.alloc(), &FILLED_AND_REMOVED)?);
     Ok(())
 }
 
-const UNLINKED_AND_MADE: [Row; 6] = [
-    (Asks::LookUp, 1, b"src", SRC),
-    (Asks::LookUp, 2, b"a", A),
-    (Asks::Unlink, 2, b"a", Answer::Done),
-    (Asks::LookUp, 2, b"a", MISSING),
-    (
-        Asks::Create,
-        2,
-        b"a",
-        Answer::Opened {
-            number: Number(4),
-            attr: MADE,
-        },
-    ),
-    (
-        Asks::LookUp,
-        2,
-        b"a",
-        Answer::Entry {
-            number: Number(4),
-            attr: MADE,
-        },
-    ),
-];
-
-const UNLINKED_AND_MADE_SHOWN: [(u64, Answer); 2] = [
-    (
-        3,
-        Answer::Attrs {
-            number: Number(3),
-            attr: UNLINKED_FILE,
-        },
-    ),
-    (
-        4,
-        Answer::Attrs {
-            number: Number(4),
-            attr: MADE,
-        },
-    ),
+const UNLINKED_AND_MADE: [Deed; 9] = [
+    Deed::Enter(Asks::LookUp, 1, b"src", 2, Is::Directory),
+    Deed::Enter(Asks::LookUp, 2, b"a", 3, Is::File),
+    Deed::Take(Asks::Unlink, 2, b"a"),
+    Deed::Refuse(Asks::LookUp, 2, b"a", Errno::ENOENT),
+    Deed::Create(2, b"a", 4),
+    Deed::Enter(Asks::LookUp, 2, b"a", 4, Is::Made),
+    Deed::Show(3, Is::UnlinkedFile),
+    Deed::Show(4, Is::Made),
+    Deed::At(1, 1, 5, 0, 5),
 ];
 
 #[test]
 fn keeps_an_unlinked_file_that_is_held(rt: HostRuntime) -> Result<(), Fail> {
-    let mut served = served(rt.alloc())?;
-    assert!(rt; are_answered(rt.alloc(), &mut served, &UNLINKED_AND_MADE)?);
-    assert!(rt; are_shown(rt.alloc(), &mut served, &UNLINKED_AND_MADE_SHOWN));
-    assert!(rt; is_at(&served, 1, 1, 5, 0));
+    assert!(rt; all_go_so(rt.alloc(), &UNLINKED_AND_MADE)?);
     Ok(())
 }
 
 /// Number 2 is the directory `src`, and 3 is the file `a` in it.
-const REFUSED: [Row; 15] = [
-    (Asks::LookUp, 1, b"src", SRC),
-    (Asks::LookUp, 2, b"a", A),
-    (Asks::Create, 9, b"b", STALE),
-    (Asks::Mkdir, 9, b"b", STALE),
-    (Asks::Unlink, 9, b"b", STALE),
-    (Asks::Rmdir, 9, b"b", STALE),
-    (Asks::Create, 3, b"b", NOT_DIR),
-    (Asks::Mkdir, 3, b"b", NOT_DIR),
-    (Asks::Create, 2, b"a", EXISTS),
-    (Asks::Mkdir, 1, b"src", EXISTS),
-    (Asks::Unlink, 1, b"b", MISSING),
-    (Asks::Unlink, 1, b"src", Answer::Error(Errno::EISDIR)),
-    (Asks::Rmdir, 1, b"b", MISSING),
-    (Asks::Rmdir, 2, b"a", NOT_DIR),
-    (Asks::Rmdir, 1, b"src", Answer::Error(Errno::ENOTEMPTY)),
-];
-
-const REFUSED_SHOWN: [(u64, Answer); 2] = [
-    (
-        2,
-        Answer::Attrs {
-            number: Number(2),
-            attr: DIRECTORY,
-        },
-    ),
-    (
-        3,
-        Answer::Attrs {
-            number: Number(3),
-            attr: FILE,
-        },
-    ),
+const REFUSED: [Deed; 18] = [
+    Deed::Enter(Asks::LookUp, 1, b"src", 2, Is::Directory),
+    Deed::Enter(Asks::LookUp, 2, b"a", 3, Is::File),
+    Deed::Refuse(Asks::Create, 9, b"b", Errno::ESTALE),
+    Deed::Refuse(Asks::Mkdir, 9, b"b", Errno::ESTALE),
+    Deed::Refuse(Asks::Unlink, 9, b"b", Errno::ESTALE),
+    Deed::Refuse(Asks::Rmdir, 9, b"b", Errno::ESTALE),
+    Deed::Refuse(Asks::Create, 3, b"b", Errno::ENOTDIR),
+    Deed::Refuse(Asks::Mkdir, 3, b"b", Errno::ENOTDIR),
+    Deed::Refuse(Asks::Create, 2, b"a", Errno::EEXIST),
+    Deed::Refuse(Asks::Mkdir, 1, b"src", Errno::EEXIST),
+    Deed::Refuse(Asks::Unlink, 1, b"b", Errno::ENOENT),
+    Deed::Refuse(Asks::Unlink, 1, b"src", Errno::EISDIR),
+    Deed::Refuse(Asks::Rmdir, 1, b"b", Errno::ENOENT),
+    Deed::Refuse(Asks::Rmdir, 2, b"a", Errno::ENOTDIR),
+    Deed::Refuse(Asks::Rmdir, 1, b"src", Errno::ENOTEMPTY),
+    Deed::Show(2, Is::Directory),
+    Deed::Show(3, Is::File),
+    Deed::At(1, 1, 4, 0, 4),
 ];
 
 #[test]
 fn answers_each_error_and_changes_nothing(rt: HostRuntime) -> Result<(), Fail> {
-    let mut served = served(rt.alloc())?;
-    assert!(rt; are_answered(rt.alloc(), &mut served, &REFUSED)?);
-    assert!(rt; are_shown(rt.alloc(), &mut served, &REFUSED_SHOWN));
-    assert!(rt; is_at(&served, 1, 1, 4, 0));
-    assert!(rt; served.tree().next_file() == FileId(4));
+    assert!(rt; all_go_so(rt.alloc(), &REFUSED)?);
     Ok(())
 }
 
 /// Number 3 is the file `a`, before and after it lost its name. Nothing is in a file, so that a name is missing there
 /// too, and nothing can be made in what is unlinked.
-const ASKED_OF_A_FILE: [Row; 8] = [
-    (Asks::LookUp, 1, b"src", SRC),
-    (Asks::LookUp, 2, b"a", A),
-    (Asks::Unlink, 3, b"b", NOT_DIR),
-    (Asks::Rmdir, 3, b"b", NOT_DIR),
-    (Asks::LookUp, 3, b"b", NOT_DIR),
-    (Asks::Unlink, 2, b"a", Answer::Done),
-    (Asks::Create, 3, b"b", NOT_DIR),
-    (Asks::Mkdir, 3, b"b", NOT_DIR),
+const ASKED_OF_A_FILE: [Deed; 9] = [
+    Deed::Enter(Asks::LookUp, 1, b"src", 2, Is::Directory),
+    Deed::Enter(Asks::LookUp, 2, b"a", 3, Is::File),
+    Deed::Refuse(Asks::Unlink, 3, b"b", Errno::ENOTDIR),
+    Deed::Refuse(Asks::Rmdir, 3, b"b", Errno::ENOTDIR),
+    Deed::Refuse(Asks::LookUp, 3, b"b", Errno::ENOTDIR),
+    Deed::Take(Asks::Unlink, 2, b"a"),
+    Deed::Refuse(Asks::Create, 3, b"b", Errno::ENOTDIR),
+    Deed::Refuse(Asks::Mkdir, 3, b"b", Errno::ENOTDIR),
+    Deed::At(1, 1, 4, 0, 4),
 ];
 
 #[test]
 fn tells_that_no_directory_is_asked_before_what_is_missing(rt: HostRuntime) -> Result<(), Fail> {
-    let mut served = served(rt.alloc())?;
-    assert!(rt; are_answered(rt.alloc(), &mut served, &ASKED_OF_A_FILE)?);
-    assert!(rt; is_at(&served, 1, 1, 4, 0));
+    assert!(rt; all_go_so(rt.alloc(), &ASKED_OF_A_FILE)?);
     Ok(())
 }
