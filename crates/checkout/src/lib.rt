@@ -2,6 +2,7 @@
 #![tactic(auto)]
 
 mod backing;
+mod changes;
 mod content;
 mod directory;
 mod entry;
@@ -16,6 +17,7 @@ mod tally;
 mod tree;
 
 pub use backing::{Backing, BackingFault, ManifestBacking};
+pub use changes::{Changes, LinkChange, LinkList, Made, MadeList};
 pub use content::Content;
 pub use fault::{CreateFault, ManifestFault, ManifestFaultKind};
 pub use field::mode_of;
