@@ -119,7 +119,7 @@ found_key {K} {X} {R} o p (e ∷ es) h =
 pub key_from_any : {K X : Type 0} {R : K → K → Ordering} (o : IsTotalOrder R) (p : K → Bool) (m : FinMap R X) → list_any (λ (e : K × X). p e.0) (entries m) ≡ true → (k : K) × (v : X) × (get m k ≡ Some v) × (p k ≡ true)
 key_from_any o p m h = let r = found_key o p (entries m) h in (r.key, r.value, get-entries m r.key ∙ r.found, r.passes)
 
-both_hold : (a b : Bool) → T (a && b) → T a × T b
+pub both_hold : (a b : Bool) → T (a && b) → T a × T b
 both_hold true b h = (tt, h)
 both_hold false b h = absurd h
 
@@ -129,7 +129,7 @@ no_tie_below Equal h = absurd h
 no_tie_below Greater h = absurd h
 
 -- a key that is found behind another doesn't tie with it
-no_tie_behind : {K X : Type 0} {R : K → K → Ordering} (o : IsTotalOrder R) (x q : K) (es : List (K × X)) (v : X) → T (below_all R x es) → find R q es ≡ Some v → eq_by_cmp R q x ≡ false
+pub no_tie_behind : {K X : Type 0} {R : K → K → Ordering} (o : IsTotalOrder R) (x q : K) (es : List (K × X)) (v : X) → T (below_all R x es) → find R q es ≡ Some v → eq_by_cmp R q x ≡ false
 no_tie_behind o x q [] v below h = absurd (cc)
 no_tie_behind {K} {X} {R} o x q (e ∷ es) v below h =
     let w = both_hold (is_lt (R x e.0)) (below_all R x es) below in

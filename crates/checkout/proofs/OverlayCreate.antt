@@ -123,5 +123,6 @@ module _ (m : Manifest) (made : FinMap nat_cmp MadeFile) (added : FinMap link_cm
             | inl w ↦ ap (λ k. still gone (get (links_from 2 m.lines) k)) w.0 ∙ no_link_left
             | inr old ↦ is.added_are_apart d n (some-IsSome _ f.0 old)
           ];
+      gone_are_lines = is.gone_are_lines;
       lost_are_counted = is.lost_are_counted;
     }

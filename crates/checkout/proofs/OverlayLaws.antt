@@ -41,6 +41,14 @@ both : (a b : Bool) → (a && b) ≡ true → (a ≡ true) × (b ≡ true)
 both true b h = (refl, h)
 both false b h = absurd (cc)
 
+-- where the ids of a manifest's files are
+pub within_lines : (m : Manifest) (file : FileId) → is_line m file ≡ true → (2 ≤ file.0) × (file.0 < length m.lines + 2)
+within_lines m file h =
+    let w = both (nat_le 2 file.0) (nat_lt file.0 (length m.lines + 2)) h in
+    let a = w.0 in
+    let b = w.1 in
+    (grind (arith, nat_tests), grind (arith, nat_tests))
+
 module _ (m : Manifest) (made : FinMap nat_cmp MadeFile) (added : FinMap link_cmp FileId) (gone : ℕ → Bool) (lost : ℕ → ℕ) (next : ℕ) (is : IsOverlay m made added gone lost next) where
   abbrev tree : Tree
   tree = tree_over m made added gone next
@@ -110,7 +118,8 @@ module _ (m : Manifest) (made : FinMap nat_cmp MadeFile) (added : FinMap link_cm
             ]
           ] refl
 
-  line_of_base : (dir : FileId) (name : List ℕ) (file : FileId) → get base (dir.0, name) ≡ Some file → is_line m file ≡ true
+  -- the manifest's links give its files
+  pub line_of_base : (dir : FileId) (name : List ℕ) (file : FileId) → get base (dir.0, name) ≡ Some file → is_line m file ≡ true
   line_of_base dir name file h =
       let r = line_of_link m.lines 2 dir.0 name file h in
       let within = slice_get_within m.lines r.place r.line r.here in
@@ -164,10 +173,9 @@ module _ (m : Manifest) (made : FinMap nat_cmp MadeFile) (added : FinMap link_cm
             | true ↦ λ l. elim (gone file.0) as (λ b. gone file.0 ≡ b → not b ≡ false) [
               | true ↦ λ _. refl
               | false ↦ λ g.
-                  let w = both (nat_le 2 file.0) (nat_lt file.0 (length m.lines + 2)) l in
-                  let low : 2 ≤ file.0 = let a = w.0 in grind (arith, nat_tests) in
-                  let high : file.0 < length m.lines + 2 = let b = w.1 in grind (arith, nat_tests) in
-                  let at = line_at m.lines (file.0 - 2) (omega (arith, low, high)) in
+                  let w = within_lines m file l in
+                  let low = w.0 in
+                  let at = line_at m.lines (file.0 - 2) (omega (arith, low, w.1)) in
                   let found = link_of_line m.lines 2 (file.0 - 2) at.0 (apart m.lines is.is_manifest.lines) at.1 in
                   let same : (file_with (2 + (file.0 - 2))).0 ≡ file.0 = omega (arith, low) in
                   let here = found ∙ ap (λ f. Some f) (same_id (file_with (2 + (file.0 - 2))) file same) in

@@ -11,13 +11,13 @@ use Rattle.eden_base.specs.declared.number.FileId.{FileId}
 use Rattle.checkout.specs.declared.made.MadeFile.{MadeFile}
 use Rattle.checkout.specs.Manifest.{File, Manifest}
 use Rattle.checkout.specs.Tree.{Tree, link_cmp, is_full_dir, removed, files_from, links_from, IsTree}
-use Rattle.checkout.specs.Overlay.{file_made, still, files_over, links_over, tree_over, dir_made, lost_in, IsOverlay}
+use Rattle.checkout.specs.Overlay.{file_made, still, files_over, links_over, tree_over, dir_made, is_line, lost_in, IsOverlay}
 use Rattle.checkout.proofs.FlatLemmas.{link_cmp_total, link_cmp-same}
 use Rattle.checkout.proofs.LineCounts.{lost-one_more}
 use Rattle.checkout.proofs.ManifestIsTree.{tree_of-IsTree}
 use Rattle.checkout.proofs.ManifestTree.{same_id, line_of_link}
 use Rattle.checkout.proofs.MapLemmas.{get-insert_cases, get-insert_same, get-insert_other, get-remove_cases, get-remove_other, get-remove_same, tied_key}
-use Rattle.checkout.proofs.OverlayLaws.{child_added, child_left}
+use Rattle.checkout.proofs.OverlayLaws.{child_added, child_left, line_of_base}
 use Rattle.checkout.proofs.RemoveLaws.{removed-IsTree}
 use Rattle.checkout.proofs.UnionLaws.{get-files_over, get-links_over}
 
@@ -113,6 +113,7 @@ module _ (m : Manifest) (made : FinMap nat_cmp MadeFile) (added : FinMap link_cm
             ]
           ] refl h;
       added_are_apart = λ d n h. let x = some-is _ h in is.added_are_apart d n (some-IsSome _ x.0 (get-remove_cases link_cmp_total link_cmp-same added (dir.0, name) (d, n) x.0 x.1).0);
+      gone_are_lines = is.gone_are_lines;
       lost_are_counted = is.lost_are_counted;
     }
       where
@@ -163,9 +164,17 @@ module _ (m : Manifest) (made : FinMap nat_cmp MadeFile) (added : FinMap link_cm
       added_are_made = is.added_are_made;
       made_are_added = is.made_are_added;
       added_are_apart = λ d n h. let o = is.added_are_apart d n h in at_all d n o;
+      gone_are_lines = λ q h. gone_line q (sym (one_more q.0) ∙ h);
       lost_are_counted = λ d. counted d ∙ count d;
     }
       where
+        gone_line : (q : FileId) → ((q.0 == file.0) || gone q.0) ≡ true → is_line m q ≡ true
+        gone_line q h =
+            elim (q.0 == file.0) as (λ b. (q.0 == file.0) ≡ b → (b || gone q.0) ≡ true → is_line m q ≡ true) [
+              | true ↦ λ e k. let id : q.0 ≡ file.0 = grind (arith, nat_tests) in ap (is_line m) (same_id q file id) ∙ line_of_base m made added gone lost next is dir name file here
+              | false ↦ λ e k. is.gone_are_lines q k
+            ] refl h
+
         at_all : (d : ℕ) (n : List ℕ) → still gone (get base (d, n)) ≡ None → still gone' (get base (d, n)) ≡ None
         at_all d n o =
             elim (get base (d, n)) as (λ x. get base (d, n) ≡ x → still gone x ≡ None → still gone' x ≡ None) [

@@ -1,6 +1,5 @@
 -- What the calls of a tree leave, in the words of their callees.
-use Rattle.std.proofs.Common.{◌≡◌, ℕ, ◌+◌, ◌<◌, ◌≤◌, ◌==◌, ◌||◌, Bool, true, false, nat_lt, if◌then◌else◌, List, length, Option, Some, None, IsSome, IfSome, refl, sym, ap, subst, ◌∙◌, inl, inr, arith}
-use Rattle.std.proofs.lemmas.Bool.Decides.{nat_tests}
+use Rattle.std.proofs.Common.{◌≡◌, ℕ, ◌+◌, ◌<◌, ◌≤◌, ◌==◌, ◌||◌, Bool, false, if◌then◌else◌, List, length, Option, Some, None, IsSome, IfSome, refl, sym, ap, subst, ◌∙◌, inl, inr, arith}
 use Rattle.std.proofs.lemmas.Option.{slice_get_within}
 use Rattle.std.specs.Option.{option_and_then}
 use Rattle.std.specs.Ordering.{nat_cmp}
@@ -14,8 +13,7 @@ use Rattle.eden_base.specs.declared.attr.Perm.{Perm}
 use Rattle.eden_base.specs.declared.number.FileId.{FileId}
 use Rattle.checkout.specs.declared.made.MadeFile.{MadeFile}
 use Rattle.checkout.specs.Manifest.{Manifest, IsManifest}
-use Rattle.checkout.specs.Overlay.{tree_over, gone_by, IsOverlay}
-use Rattle.checkout.specs.Tally.{Tally, count_of}
+use Rattle.checkout.specs.Overlay.{tree_over, IsOverlay}
 use Rattle.checkout.specs.Tree.{Tree, IsTree, link_cmp, kind_of, child_of, is_unlinked, is_full_dir, created, removed, tree_of, files_from, links_from}
 use Rattle.checkout.proofs.FlatLemmas.{link_cmp_total, link_cmp-same}
 use Rattle.checkout.proofs.LineCounts.{lost-le-kids, kids-le-length, lost_in-none}
@@ -42,6 +40,7 @@ start-IsOverlay m gone lost is none no_loss = record {
   added_are_made = λ dir name file h. let e = get-empty {X = FileId} link_cmp (dir.0, name) in absurd (cc (e, h));
   made_are_added = λ file dir h. let e = ap (option_and_then (λ (x : MadeFile). x.dir)) (get-empty {X = MadeFile} nat_cmp file.0) in absurd (cc (e, h));
   added_are_apart = λ dir name h. let e = get-empty {X = FileId} link_cmp (dir, name) in absurd (let s : IsSome {T = FileId} None = subst IsSome e h in cc (s));
+  gone_are_lines = λ file h. let e = none file.0 in absurd (cc (e, h));
   lost_are_counted = λ dir. no_loss dir ∙ sym (lost_in-none gone none dir 2 m.lines);
 }
 
@@ -159,21 +158,3 @@ module _ (m : Manifest) (made : FinMap nat_cmp MadeFile) (added : FinMap link_cm
             remove-IsOverlay m made added gone lost next is dir name file at.here none_here at.left full gone' lost' one_more counted,
             tree_over-removed m made added gone lost next is dir name file at.here none_here at.left full gone' lost' one_more counted ∙ ap (λ (t : Tree). removed t dir name) view,
           )
-
-above_zero : (n : ℕ) → nat_lt 0 (n + 1) ≡ true
-above_zero n = grind (arith, nat_tests)
-
-zero_from : (n : ℕ) → nat_lt 0 n ≡ false → n ≡ 0
-zero_from n k = grind (arith, nat_tests)
-
--- a number that was counted once more is counted
-pub gone_by-raised : (old new : Tally) (file : ℕ) → ((q : ℕ) → count_of new q ≡ (if q == file then count_of old q + 1 else count_of old q)) → (q : ℕ) → gone_by new q ≡ ((q == file) || gone_by old q)
-gone_by-raised old new file raised q =
-    ap (nat_lt 0) (raised q) ∙ (elim (q == file) as (λ b. nat_lt 0 (if b then count_of old q + 1 else count_of old q) ≡ (b || gone_by old q)) [
-      | true ↦ above_zero (count_of old q)
-      | false ↦ refl
-    ])
-
--- a file that is not gone was never counted
-pub not_counted : (tally : Tally) (file : ℕ) → gone_by tally file ≡ false → count_of tally file ≡ 0
-not_counted tally file h = zero_from (count_of tally file) h

@@ -1,7 +1,10 @@
+pub mod Changes
 pub mod Codes
 pub mod Create
 pub mod Flat
+pub mod Gone
 pub mod MadeCodes
+pub mod Listing
 pub mod Manifest
 pub mod ManifestForm
 pub mod ManifestText

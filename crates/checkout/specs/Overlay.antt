@@ -7,12 +7,7 @@ use Rattle.std.specs.FinMap.{FinMap, get, entries, from_entries, retain_keys}
 use Rattle.eden_base.specs.declared.number.FileId.{FileId}
 use Rattle.checkout.specs.declared.made.MadeFile.{MadeFile}
 use Rattle.checkout.specs.Manifest.{File, Line, Manifest, IsManifest}
-use Rattle.checkout.specs.Tally.{Tally, count_of}
 use Rattle.checkout.specs.Tree.{Tree, IsTree, link_cmp, made_file, files_from, links_from}
-
--- the files that were counted once or more
-abbrev pub gone_by : Tally → ℕ → Bool
-gone_by tally file = nat_lt 0 (count_of tally file)
 
 -- a file of the manifest, below the root
 abbrev pub is_line : Manifest → FileId → Bool
@@ -77,4 +72,5 @@ pub record IsOverlay (m : Manifest) (made : FinMap nat_cmp MadeFile) (added : Fi
   -- and stands where the manifest has no link, or one that is gone
   pub added_are_apart : (dir : ℕ) (name : List ℕ) → IsSome (get added (dir, name)) →
       still gone (get (links_from 2 m.lines) (dir, name)) ≡ None
+  pub gone_are_lines : (file : FileId) → gone file.0 ≡ true → is_line m file ≡ true
   pub lost_are_counted : (dir : ℕ) → lost dir ≡ lost_in gone dir 2 m.lines

@@ -1,10 +1,15 @@
 //! The names in one directory, and the file that each of them gives.
-ghost use Rattle.std.specs.Prelude.{◌≡◌, ◌↔◌, IsTrue, OnOk, OnErr};
+ghost use Rattle.std.specs.Prelude.{◌≡◌, ◌↔◌, ◌++◌, map, IsTrue, OnOk, OnErr};
 ghost use Rattle.std.specs.Ordering.{nat_cmp};
 ghost use Rattle.std.specs.Cmp.Lexicographic.{slice_cmp};
-ghost use Rattle.std.specs.FinMap.{FinMap, empty, get, insert, remove};
+ghost use Rattle.std.specs.FinMap.{FinMap, empty, entries, get, insert, remove};
+ghost use Rattle.std.specs.List.{AllByRecursion};
+ghost use Rattle.eden_base.specs.Name.{IsNameText};
+ghost use Rattle.checkout.specs.Flat.{in_directory};
+ghost use Rattle.checkout.specs.Listing.{added_change};
 
-use eden_base::{FileId, NoMemory};
+use crate::LinkChange;
+use eden_base::{FileId, Name, NoMemory};
 use std::alloc::Global;
 use std::collections::BTreeMap;
 use std::marker::Model;
@@ -55,6 +60,28 @@ impl Directory {
         ensures { IsTrue result ↔ (self.now ≡ empty) }
     {
         self.files.is_empty()
+    }
+
+    /// Writes the names, in their order, behind those that are listed.
+    pub fn list(
+        &self,
+        alloc: Global,
+        dir: FileId,
+        links: &mut Vec<LinkChange>,
+    ) -> Result<(), NoMemory>
+        requires names { AllByRecursion (λ e. IsNameText e.0) (entries self.now) }
+        ensures { OnOk result (links.new.items ≡ links.old.items
+            ++ map added_change (in_directory dir.0 (entries self.now))) }
+    {
+        for (name, file) in &self.files {
+            let name = Name::of(alloc, name.as_slice())?;
+            links.push(LinkChange {
+                dir,
+                name,
+                target: Some(*file),
+            })?;
+        }
+        Ok(())
     }
 
     /// Lets a name give a file.

@@ -8,11 +8,13 @@ mod directory;
 mod entry;
 mod fault;
 mod field;
+mod gone;
 mod line;
 mod lines;
 mod links;
 mod made;
 mod manifest;
+mod order;
 mod tally;
 mod tree;
 

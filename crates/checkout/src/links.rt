@@ -1,8 +1,11 @@
 //! The names in every directory, and the file that each of them gives.
-ghost use Rattle.std.specs.Prelude.{◌≡◌, ◌==◌, OnOk, OnErr};
+ghost use Rattle.std.specs.Prelude.{◌≡◌, ◌==◌, ◌++◌, map, OnOk, OnErr};
 ghost use Rattle.std.specs.FinMap.{FinMap, empty, entries, get, insert, remove};
-ghost use Rattle.std.specs.List.{list_any};
+ghost use Rattle.std.specs.List.{AllByRecursion, list_any};
+ghost use Rattle.eden_base.specs.Name.{IsNameText};
+ghost use Rattle.checkout.specs.Listing.{added_change};
 
+use crate::LinkChange;
 use crate::directory::Directory;
 use eden_base::{FileId, NoMemory};
 use std::alloc::Global;
@@ -59,6 +62,17 @@ impl Links {
             Some(directory) => !directory.is_empty(),
             None => false,
         }
+    }
+
+    /// Writes the names, by directory and then by their bytes, behind those that are listed.
+    pub fn list(&self, alloc: Global, links: &mut Vec<LinkChange>) -> Result<(), NoMemory>
+        requires names { AllByRecursion (λ link. IsNameText link.0.1) (entries self.now) }
+        ensures { OnOk result (links.new.items ≡ links.old.items ++ map added_change (entries self.now)) }
+    {
+        for (dir, directory) in &self.directories {
+            directory.list(alloc, FileId(*dir), links)?;
+        }
+        Ok(())
     }
 
     /// Lets a name in a directory give a file.

@@ -1,7 +1,9 @@
 //! The files that were made since the manifest.
-ghost use Rattle.std.specs.Prelude.{◌≡◌, IsSome, IfSome, None, OnOk, OnErr};
-ghost use Rattle.std.specs.FinMap.{empty, get, insert};
+ghost use Rattle.std.specs.Prelude.{◌≡◌, map, IsSome, IfSome, None, IfOk, OnOk, OnErr};
+ghost use Rattle.std.specs.FinMap.{empty, entries, get, insert};
+ghost use Rattle.checkout.specs.Listing.{listed_file};
 
+use crate::Made;
 use eden_base::{FileId, Kind, NoMemory, Perm};
 use std::alloc::Global;
 use std::collections::BTreeMap;
@@ -24,6 +26,7 @@ pub struct MadeFiles {
 
 impl Model for MadeFiles {
     ghost use Rattle.std.specs.Ordering.{nat_cmp};
+    ghost use Rattle.std.specs.BTreeMap.{IsOrdered};
     ghost use Rattle.std.specs.FinMap.{FinMap, from_entries};
     ghost use Rattle.checkout.specs.declared.made.MadeFile.{MadeFile};
     ghost use Rattle.checkout.specs.MadeCodes.{made_code};
@@ -33,6 +36,8 @@ impl Model for MadeFiles {
     ghost coded = { made_code };
 
     ghost view = { λ a. from_entries a.files.entries };
+
+    ghost invariant = { λ a. IsOrdered nat_cmp a.files };
 }
 
 impl MadeFiles {
@@ -60,6 +65,21 @@ impl MadeFiles {
     {
         self.files.insert(file.0, made)?;
         Ok(())
+    }
+
+    /// Returns the files by rising id.
+    pub fn list(&self, alloc: Global) -> Result<Vec<Made>, NoMemory>
+        ensures { IfOk result (λ list. list.items ≡ map listed_file (entries self.now)) }
+    {
+        let mut list = Vec::with_capacity(alloc, self.files.len())?;
+        for (file, made) in &self.files {
+            list.push(Made {
+                file: FileId(*file),
+                kind: made.kind,
+                perm: made.perm,
+            })?;
+        }
+        Ok(list)
     }
 
     /// Takes a file's directory from it. Takes no memory.

@@ -3,14 +3,17 @@ ghost use Rattle.std.specs.Prelude.{◌≡◌, ◌<◌, ◌==◌, ◌&&◌, ◌|
 ghost use Rattle.std.specs.FinMap.{entries};
 ghost use Rattle.std.specs.List.{list_any};
 ghost use Rattle.eden_base.specs.declared.attr.Kind.TheVariants.{Dir};
+ghost use Rattle.checkout.specs.Changes.{AreChanges};
 ghost use Rattle.checkout.specs.Create.{IsCreateRefusal};
 ghost use Rattle.checkout.specs.Overlay.{is_line};
 ghost use Rattle.checkout.specs.Tree.{IsTree, tree_of, child_of, kind_of, attr_of, file_of, perm_made, next_file, nlink_of, has_links, is_empty_dir, is_full_dir, is_linked, is_unlinked, created, removed};
 
+use crate::gone::Gone;
 use crate::links::Links;
 use crate::made::{MadeFile, MadeFiles};
+use crate::order::sort;
 use crate::tally::Tally;
-use crate::{Content, CreateFault, Manifest};
+use crate::{Changes, Content, CreateFault, LinkList, MadeList, Manifest};
 use eden_base::{Attr, END_OF_FILES, FileId, Kind, Name, NoMemory, Perm};
 use std::alloc::Global;
 use std::marker::Model;
@@ -24,14 +27,15 @@ pub struct Tree {
     manifest: Manifest,
     made: MadeFiles,
     added: Links,
-    gone: Tally,
+    gone: Gone,
     lost: Tally,
     next_file: u64,
 }
 
 impl Model for Tree {
     ghost use Rattle.std.specs.Prelude.{◌≡◌, ◌+◌, length};
-    ghost use Rattle.checkout.specs.Overlay.{tree_over, gone_by, IsOverlay};
+    ghost use Rattle.checkout.specs.Overlay.{tree_over, IsOverlay};
+    ghost use Rattle.checkout.specs.Gone.{is_gone};
     ghost use Rattle.checkout.specs.Tally.{count_of};
     ghost use Rattle.checkout.specs.Tree.{Tree};
     ghost use Rattle.checkout.specs.Codes.{tree_code};
@@ -40,9 +44,9 @@ impl Model for Tree {
 
     ghost coded = { tree_code };
 
-    ghost view = { λ a. tree_over a.manifest a.made a.added (gone_by a.gone) a.next_file };
+    ghost view = { λ a. tree_over a.manifest a.made a.added (is_gone a.gone) a.next_file };
 
-    ghost invariant = { λ a. IsOverlay a.manifest a.made a.added (gone_by a.gone) (count_of a.lost) a.next_file
+    ghost invariant = { λ a. IsOverlay a.manifest a.made a.added (is_gone a.gone) (count_of a.lost) a.next_file
         × (a.gone.room ≡ length a.manifest.lines + 2)
         × (a.lost.room ≡ length a.manifest.lines + 2) };
 }
@@ -55,7 +59,7 @@ impl Tree {
     {
         let manifest = manifest.share()?;
         let files = manifest.lines().len() + 2;
-        let gone = Tally::with_room(alloc, files)?;
+        let gone = Gone::with_room(alloc, files)?;
         let lost = Tally::with_room(alloc, files)?;
         Ok(Tree {
             alloc,
@@ -120,7 +124,7 @@ impl Tree {
     {
         match self.made.get(file) {
             Some(made) => made.dir.is_some(),
-            None => self.is_line(file) && self.gone.count(file.0) == 0,
+            None => self.is_line(file) && !self.gone.has(file),
         }
     }
 
@@ -184,10 +188,28 @@ impl Tree {
             return Some(file);
         }
         let file = self.manifest.child(dir, name.bytes())?;
-        if self.gone.count(file.0) > 0 {
+        if self.gone.has(file) {
             return None;
         }
         Some(file)
+    }
+
+    /// Returns what tells the tree from its manifest's: the files that were made, the names that give another file than
+    /// the manifest says or none, and the next file. It costs what differs, and not what the manifest holds.
+    pub fn changes(&self) -> Result<Changes, NoMemory>
+        ensures changes { IfOk result (AreChanges self.now) }
+    {
+        let made = self.made.list(self.alloc)?;
+        let mut links = Vec::new(self.alloc);
+        self.added.list(self.alloc, &mut links)?;
+        self.gone
+            .list(self.alloc, self.manifest.lines(), &self.added, &mut links)?;
+        sort(&mut links);
+        Ok(Changes {
+            made: MadeList::of(made),
+            links: LinkList::of(links),
+            next_file: self.next_file(),
+        })
     }
 
     /// Makes a file without content, under a new name in a directory. Returns its id.
@@ -240,7 +262,7 @@ impl Tree {
             return file;
         }
         let file = self.manifest.child(dir, name.bytes()).unwrap();
-        self.gone.raise(file.0);
+        self.gone.add(file);
         self.lost.raise(dir.0);
         file
     }

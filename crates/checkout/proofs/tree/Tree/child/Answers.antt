@@ -1,9 +1,9 @@
 -- A name that was added, or the manifest's where its file is not gone.
-use Rattle.std.proofs.Common.{◌≡◌, ℕ, nat_lt, true, false, if◌then◌else◌, List, Bool, Some, None, arith, ap, sym, ◌∙◌}
-use Rattle.std.proofs.lemmas.Bool.Decides.{nat_tests}
+use Rattle.std.proofs.Common.{ℕ, if◌then◌else◌, List, Bool, Some, None, ap, sym, ◌∙◌}
 use Rattle.std.specs.FinMap.{get}
 use Rattle.std.specs.Option.{option_or}
-use Rattle.checkout.specs.Overlay.{gone_by, still}
+use Rattle.checkout.specs.Gone.{is_gone}
+use Rattle.checkout.specs.Overlay.{still}
 use Rattle.checkout.specs.Tally.{count_of}
 use Rattle.checkout.specs.Tree.{links_from}
 use Rattle.checkout.proofs.OverlayLaws.{child-over}
@@ -12,32 +12,30 @@ use Rattle.checkout.proofs.tree.Tree.child.Goals as goal
 pub returns-in-Some : goal.returns-in-Some
 returns-in-Some c =
     let i = c.self.inside in
-    let all = child-over i.manifest i.made i.added (gone_by i.gone) (count_of i.lost) i.next_file c.self.invariant.0 c.args.dir c.args.name.now in
+    let all = child-over i.manifest i.made i.added (is_gone i.gone) (count_of i.lost) i.next_file c.self.invariant.0 c.args.dir c.args.name.now in
     let here = sym (ap (λ (n : List ℕ). get i.added (c.args.dir.0, n)) c.bytes.ensures.bytes) ∙ sym c.get.ensures ∙ c.in-Some.is in
-    rw (← c.self.view_is) (record { child = sym (all ∙ ap (λ o. option_or o (still (gone_by i.gone) (get (links_from 2 i.manifest.lines) (c.args.dir.0, c.args.name.now)))) here) })
+    rw (← c.self.view_is) (record { child = sym (all ∙ ap (λ o. option_or o (still (is_gone i.gone) (get (links_from 2 i.manifest.lines) (c.args.dir.0, c.args.name.now)))) here) })
 
 pub returns-in_err-file : goal.returns-in_err-file
 returns-in_err-file c =
     let i = c.self.inside in
-    let all = child-over i.manifest i.made i.added (gone_by i.gone) (count_of i.lost) i.next_file c.self.invariant.0 c.args.dir c.args.name.now in
+    let all = child-over i.manifest i.made i.added (is_gone i.gone) (count_of i.lost) i.next_file c.self.invariant.0 c.args.dir c.args.name.now in
     let none = sym (ap (λ (n : List ℕ). get i.added (c.args.dir.0, n)) c.bytes.ensures.bytes) ∙ sym c.get.ensures ∙ c.in_default.is in
     let base = sym (ap (λ (n : List ℕ). get (links_from 2 i.manifest.lines) (c.args.dir.0, n)) c.bytes-2.ensures.bytes) ∙ sym c.child.ensures.child ∙ c.in_err-file.was in
-    rw (← c.self.view_is) (record { child = c.from_residual.ensures ∙ sym (all ∙ ap (λ o. option_or o (still (gone_by i.gone) (get (links_from 2 i.manifest.lines) (c.args.dir.0, c.args.name.now)))) none ∙ ap (still (gone_by i.gone)) base) })
+    rw (← c.self.view_is) (record { child = c.from_residual.ensures ∙ sym (all ∙ ap (λ o. option_or o (still (is_gone i.gone) (get (links_from 2 i.manifest.lines) (c.args.dir.0, c.args.name.now)))) none ∙ ap (still (is_gone i.gone)) base) })
 
-pub returns-then-count-gt0 : goal.returns-then-count-gt0
-returns-then-count-gt0 c =
+pub returns-then-has : goal.returns-then-has
+returns-then-has c =
     let i = c.self.inside in
-    let all = child-over i.manifest i.made i.added (gone_by i.gone) (count_of i.lost) i.next_file c.self.invariant.0 c.args.dir c.args.name.now in
+    let all = child-over i.manifest i.made i.added (is_gone i.gone) (count_of i.lost) i.next_file c.self.invariant.0 c.args.dir c.args.name.now in
     let none = sym (ap (λ (n : List ℕ). get i.added (c.args.dir.0, n)) c.bytes.ensures.bytes) ∙ sym c.get.ensures ∙ c.in_default.is in
     let base = sym (ap (λ (n : List ℕ). get (links_from 2 i.manifest.lines) (c.args.dir.0, n)) c.bytes-2.ensures.bytes) ∙ sym c.child.ensures.child ∙ c.in_ok-file.was in
-    let gone : nat_lt 0 c.count.result ≡ true = grind (arith, nat_tests) in
-    rw (← c.self.view_is) (record { child = sym (all ∙ ap (λ o. option_or o (still (gone_by i.gone) (get (links_from 2 i.manifest.lines) (c.args.dir.0, c.args.name.now)))) none ∙ ap (still (gone_by i.gone)) base ∙ ap (λ (b : Bool). if b then None else Some c.in_ok-file.file) (sym (ap (nat_lt 0) c.count.ensures) ∙ gone)) })
+    rw (← c.self.view_is) (record { child = sym (all ∙ ap (λ o. option_or o (still (is_gone i.gone) (get (links_from 2 i.manifest.lines) (c.args.dir.0, c.args.name.now)))) none ∙ ap (still (is_gone i.gone)) base ∙ ap (λ (b : Bool). if b then None else Some c.in_ok-file.file) (sym c.has.ensures ∙ c.if-has.true)) })
 
 pub returns : goal.returns
 returns c =
     let i = c.self.inside in
-    let all = child-over i.manifest i.made i.added (gone_by i.gone) (count_of i.lost) i.next_file c.self.invariant.0 c.args.dir c.args.name.now in
+    let all = child-over i.manifest i.made i.added (is_gone i.gone) (count_of i.lost) i.next_file c.self.invariant.0 c.args.dir c.args.name.now in
     let none = sym (ap (λ (n : List ℕ). get i.added (c.args.dir.0, n)) c.bytes.ensures.bytes) ∙ sym c.get.ensures ∙ c.in_default.is in
     let base = sym (ap (λ (n : List ℕ). get (links_from 2 i.manifest.lines) (c.args.dir.0, n)) c.bytes-2.ensures.bytes) ∙ sym c.child.ensures.child ∙ c.in_ok-file.was in
-    let left : nat_lt 0 c.count.result ≡ false = grind (arith, nat_tests) in
-    rw (← c.self.view_is) (record { child = sym (all ∙ ap (λ o. option_or o (still (gone_by i.gone) (get (links_from 2 i.manifest.lines) (c.args.dir.0, c.args.name.now)))) none ∙ ap (still (gone_by i.gone)) base ∙ ap (λ (b : Bool). if b then None else Some c.in_ok-file.file) (sym (ap (nat_lt 0) c.count.ensures) ∙ left)) })
+    rw (← c.self.view_is) (record { child = sym (all ∙ ap (λ o. option_or o (still (is_gone i.gone) (get (links_from 2 i.manifest.lines) (c.args.dir.0, c.args.name.now)))) none ∙ ap (still (is_gone i.gone)) base ∙ ap (λ (b : Bool). if b then None else Some c.in_ok-file.file) (sym c.has.ensures ∙ c.if-has.false)) })

@@ -1,0 +1,121 @@
+-- The entries of an index, as its own lists have them.
+use Rattle.std.proofs.Common.{◌≡◌, ℕ, Bool, true, false, ◌&&◌, T, List, [], ◌∷◌, ◌++◌, refl, sym, ap, subst, ◌∙◌}
+use Rattle.std.proofs.lemmas.List.{append_assoc}
+use Rattle.std.proofs.lemmas.Map.Keys.{sorted_head, sorted_tail}
+use Rattle.std.specs.Ordering.{nat_cmp, is_lt, ordering_then}
+use Rattle.std.specs.declared.cmp.Ordering.{Ordering}
+use Rattle.std.specs.declared.cmp.Ordering.TheVariants.{Less}
+use Rattle.std.specs.Cmp.{IsTotalOrder, nat_cmp_total, tied_itself}
+use Rattle.std.specs.Cmp.Lexicographic.{nat_list_cmp_total}
+use Rattle.std.specs.FinMap.{FinMap, entries, entries_sorted, from_entries, is_sorted, get-entries, get-from_entries, IsAntisymmetric, nat_cmp-IsAntisymmetric}
+use Rattle.std.specs.FinMap.Entries.{below_all, same_entries}
+use Rattle.std.specs.List.{AllByRecursion}
+use Rattle.std.specs.List.Sorted.{IsStrictlySortedBy}
+use Rattle.std.specs.Map.{keys_of}
+use Rattle.std.specs.declared.alloc.Global.{Global}
+use Rattle.std.specs.declared.vec.Vec.{Vec}
+use Rattle.eden_base.specs.Name.{IsNameText}
+use Rattle.eden_base.specs.declared.number.FileId.{FileId}
+use Rattle.checkout.specs.declared.made.MadeFile.{MadeFile}
+use Rattle.checkout.specs.Flat.{vec_cmp, by_bytes, in_directory, in_directories}
+use Rattle.checkout.specs.Tree.{link_cmp}
+use Rattle.checkout.proofs.FlatLemmas.{name_cmp, name_cmp-same, link_cmp_total, link_cmp-same}
+
+-- one that is listed is no longer left
+pub listed_one_more : {X : Type 0} (old new rest all : List X) (x : X) → old ++ x ∷ rest ≡ all → new ≡ old ++ x ∷ [] → new ++ rest ≡ all
+listed_one_more old new rest all x so_far pushed = ap (λ xs. xs ++ rest) pushed ∙ append_assoc old (x ∷ []) rest ∙ so_far
+
+-- so for several at once
+pub listed_more : {X : Type 0} (old new these rest all : List X) → old ++ (these ++ rest) ≡ all → new ≡ old ++ these → new ++ rest ≡ all
+listed_more old new these rest all so_far written = ap (λ xs. xs ++ rest) written ∙ append_assoc old these rest ∙ so_far
+
+pub nothing_left : {X : Type 0} (xs : List X) → xs ++ [] ≡ xs
+nothing_left [] = refl
+nothing_left (x ∷ xs) = ap (λ ys. x ∷ ys) (nothing_left xs)
+
+both : (a b : Bool) → T a → T b → T (a && b)
+both true b p q = q
+both false b p q = p
+
+first : (a b : Bool) → T (a && b) → T a
+first true b p = tt
+first false b p = p
+
+second : (a b : Bool) → T (a && b) → T b
+second true b p = p
+second false b p = absurd p
+
+-- a list that rises is the entries of its map
+pub entries-rising : {K X : Type 0} {R : K → K → Ordering} (o : IsTotalOrder R) → IsAntisymmetric R → (es : List (K × X)) → T (is_sorted R es) → entries (from_entries {R = R} es) ≡ es
+entries-rising {R = R} o same es h =
+    let m = from_entries {R = R} es in
+    same_entries R o same (entries m) es (entries_sorted m) h (λ q. sym (get-entries m q) ∙ get-from_entries o es q)
+
+is_less : (o : Ordering) → o ≡ Less → T (is_lt o)
+is_less o e = subst (λ r. T (is_lt r)) (sym e) tt
+
+names_above : (k : Vec ℕ Global) (es : List (Vec ℕ Global × FileId)) → AllByRecursion (λ y. vec_cmp k y ≡ Less) (keys_of es) → T (below_all name_cmp k.items (by_bytes es))
+names_above k [] h = tt
+names_above k (e ∷ es) h = both _ _ (is_less _ h.0) (names_above k es h.1)
+
+names_rise : (es : List (Vec ℕ Global × FileId)) → IsStrictlySortedBy vec_cmp (keys_of es) → T (is_sorted name_cmp (by_bytes es))
+names_rise [] h = tt
+names_rise (e ∷ es) h = both _ _ (names_above e.0 es (sorted_head vec_cmp e.0 (keys_of es) h)) (names_rise es (sorted_tail vec_cmp e.0 (keys_of es) h))
+
+pub entries-by_bytes : (es : List (Vec ℕ Global × FileId)) → IsStrictlySortedBy vec_cmp (keys_of es) → entries (from_entries {R = name_cmp} (by_bytes es)) ≡ by_bytes es
+entries-by_bytes es h = entries-rising nat_list_cmp_total name_cmp-same (by_bytes es) (names_rise es h)
+
+files_above : (k : ℕ) (es : List (ℕ × MadeFile)) → AllByRecursion (λ y. nat_cmp k y ≡ Less) (keys_of es) → T (below_all nat_cmp k es)
+files_above k [] h = tt
+files_above k (e ∷ es) h = both _ _ (is_less _ h.0) (files_above k es h.1)
+
+files_rise : (es : List (ℕ × MadeFile)) → IsStrictlySortedBy nat_cmp (keys_of es) → T (is_sorted nat_cmp es)
+files_rise [] h = tt
+files_rise (e ∷ es) h = both _ _ (files_above e.0 es (sorted_head nat_cmp e.0 (keys_of es) h)) (files_rise es (sorted_tail nat_cmp e.0 (keys_of es) h))
+
+pub entries-made : (es : List (ℕ × MadeFile)) → IsStrictlySortedBy nat_cmp (keys_of es) → entries (from_entries {R = nat_cmp} es) ≡ es
+entries-made es h = entries-rising nat_cmp_total nat_cmp-IsAntisymmetric es (files_rise es h)
+
+-- the names of one directory before those of all later ones
+abbrev Links : Type 0
+Links = List ((ℕ × List ℕ) × FileId)
+
+above-append : (k : ℕ × List ℕ) (es fs : Links) → T (below_all link_cmp k es) → T (below_all link_cmp k fs) → T (below_all link_cmp k (es ++ fs))
+above-append k [] fs g h = h
+above-append k (e ∷ es) fs g h = both _ _ (first _ _ g) (above-append k es fs (second _ _ g) h)
+
+above-in_directory : (dir : ℕ) (name : List ℕ) (es : List (List ℕ × FileId)) → T (below_all name_cmp name es) → T (below_all link_cmp (dir, name) (in_directory dir es))
+above-in_directory dir name [] h = tt
+above-in_directory dir name (e ∷ es) h =
+    let same = tied_itself nat_cmp_total dir in
+    both _ _ (subst (λ o. T (is_lt (ordering_then o (name_cmp name e.0)))) (sym same) (first _ _ h)) (above-in_directory dir name es (second _ _ h))
+
+above-other : (dir other : ℕ) (name : List ℕ) (es : List (List ℕ × FileId)) → nat_cmp dir other ≡ Less → T (below_all link_cmp (dir, name) (in_directory other es))
+above-other dir other name [] h = tt
+above-other dir other name (e ∷ es) h = both _ _ (is_less _ (ap (λ o. ordering_then o (name_cmp name e.0)) h)) (above-other dir other name es h)
+
+above-all_others : (dir : ℕ) (name : List ℕ) (ds : List (ℕ × FinMap name_cmp FileId)) → AllByRecursion (λ y. nat_cmp dir y ≡ Less) (keys_of ds) → T (below_all link_cmp (dir, name) (in_directories ds))
+above-all_others dir name [] h = tt
+above-all_others dir name (d ∷ ds) h = above-append (dir, name) (in_directory d.0 (entries d.1)) (in_directories ds) (above-other dir d.0 name (entries d.1) h.0) (above-all_others dir name ds h.1)
+
+rising-append : (dir : ℕ) (es : List (List ℕ × FileId)) (fs : Links) → T (is_sorted name_cmp es) → ((name : List ℕ) → T (below_all link_cmp (dir, name) fs)) → T (is_sorted link_cmp fs) → T (is_sorted link_cmp (in_directory dir es ++ fs))
+rising-append dir [] fs g above h = h
+rising-append dir (e ∷ es) fs g above h =
+    both _ _ (above-append (dir, e.0) (in_directory dir es) fs (above-in_directory dir e.0 es (first _ _ g)) (above e.0)) (rising-append dir es fs (second _ _ g) above h)
+
+links_rise : (ds : List (ℕ × FinMap name_cmp FileId)) → IsStrictlySortedBy nat_cmp (keys_of ds) → T (is_sorted link_cmp (in_directories ds))
+links_rise [] h = tt
+links_rise (d ∷ ds) h =
+    rising-append d.0 (entries d.1) (in_directories ds) (entries_sorted d.1) (λ name. above-all_others d.0 name ds (sorted_head nat_cmp d.0 (keys_of ds) h)) (links_rise ds (sorted_tail nat_cmp d.0 (keys_of ds) h))
+
+pub entries-in_directories : (ds : List (ℕ × FinMap name_cmp FileId)) → IsStrictlySortedBy nat_cmp (keys_of ds) → entries (from_entries {R = link_cmp} (in_directories ds)) ≡ in_directories ds
+entries-in_directories ds h = entries-rising link_cmp_total link_cmp-same (in_directories ds) (links_rise ds h)
+
+-- names of one directory and of later ones
+pub names_here : (dir : ℕ) (es : List (List ℕ × FileId)) (fs : Links) → AllByRecursion (λ link. IsNameText link.0.1) (in_directory dir es ++ fs) → AllByRecursion (λ e. IsNameText e.0) es
+names_here dir [] fs h = tt
+names_here dir (e ∷ es) fs h = (h.0, names_here dir es fs h.1)
+
+pub names_later : (dir : ℕ) (es : List (List ℕ × FileId)) (fs : Links) → AllByRecursion (λ link. IsNameText link.0.1) (in_directory dir es ++ fs) → AllByRecursion (λ link. IsNameText link.0.1) fs
+names_later dir [] fs h = h
+names_later dir (e ∷ es) fs h = names_later dir es fs h.1

@@ -1,0 +1,47 @@
+-- What the parts of the overlay list is what tells the tree from its manifest's.
+use Rattle.std.proofs.Common.{◌++◌, map, refl, ap, sym, subst, ◌∙◌}
+use Rattle.std.specs.FinMap.{entries, entries_sorted, get-entries}
+use Rattle.std.specs.List.Sorted.{IsPermutation}
+use Rattle.eden_base.specs.Name.{IsNameText}
+use Rattle.checkout.specs.Changes.{AreLinkChanges, AreMade}
+use Rattle.checkout.specs.Gone.{is_gone}
+use Rattle.checkout.specs.Listing.{added_change, gone_changes, listed_file, HaveLines}
+use Rattle.checkout.specs.Tally.{count_of}
+use Rattle.checkout.proofs.ChangeLists.{all_entries}
+use Rattle.checkout.proofs.FlatLemmas.{link_cmp_total}
+use Rattle.checkout.proofs.GoneListing.{all_gone, all_have_lines}
+use Rattle.checkout.proofs.LinkPlaces.{AreLinkChanges-over}
+use Rattle.checkout.proofs.MadeChanges.{AreMade-over}
+use Rattle.checkout.proofs.OverlayLaws.{child_added}
+use Rattle.checkout.proofs.tree.Tree.changes.Goals as goal
+
+pub list-requires-2 : goal.list-requires-2
+list-requires-2 c =
+    let i = c.self.inside in
+    let o = c.self.invariant.0 in
+    record {
+      names = all_entries link_cmp_total (λ link. IsNameText link.0.1) (entries i.added) (entries_sorted i.added) (λ k v found.
+          o.is_tree.links_have_names (record { 0 = k.0 }) k.1 v (child_added i.manifest i.made i.added (is_gone i.gone) (count_of i.lost) i.next_file o (record { 0 = k.0 }) k.1 v (get-entries i.added k ∙ found)));
+    }
+
+pub list-requires-3 : goal.list-requires-3
+list-requires-3 c =
+    let i = c.self.inside in
+    record { lines = subst (λ ls. HaveLines ls i.gone.files) (sym c.lines.ensures.lines) (all_have_lines i.manifest i.gone c.self.invariant.0.gone_are_lines) }
+
+pub returns : goal.returns
+returns c =
+    let i = c.self.inside in
+    let o = c.self.invariant.0 in
+    let made = c.of.ensures.files ∙ c.in_ok-made.ensures in
+    let listed = c.in_ok-list-2.ensures.listed ∙ ap (λ ls. c.list-2.new.links.items ++ gone_changes i.added ls i.gone.files) c.lines.ensures.lines
+    ∙ ap (λ xs. xs ++ gone_changes i.added i.manifest.lines i.gone.files) (c.in_ok-list.ensures ∙ ap (λ xs. xs ++ map added_change (entries i.added)) c.new-links.ensures.items) in
+    let moved = subst (λ xs. IsPermutation xs c.sort.new.links.items) listed c.sort.ensures.permutation in
+    let links = AreLinkChanges-over i.manifest i.made i.added (is_gone i.gone) (count_of i.lost) i.next_file o i.gone.files c.sort.new.links.items (λ q. refl) c.in_ok-list-2.ensures.distinct (all_gone i.gone) moved c.sort.ensures.sorted in
+    record {
+      changes = record {
+        made = subst (AreMade c.args.self.now) (sym made) (subst (λ t. AreMade t (map listed_file (entries i.made))) c.self.view_is (AreMade-over i.manifest i.made i.added (is_gone i.gone) (count_of i.lost) i.next_file o));
+        links = subst (AreLinkChanges c.args.self.now) (sym c.of-2.ensures.links) (subst (λ t. AreLinkChanges t c.sort.new.links.items) c.self.view_is links);
+        next = c.next_file.ensures.next_file;
+      };
+    }

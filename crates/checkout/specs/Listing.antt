@@ -1,0 +1,33 @@
+-- What the indexes of a tree list of its changes, each in its own order.
+use Rattle.std.specs.Prelude.{ℕ, ◌+◌, ◌-◌, ◌<◌, ◌≤◌, List, length, Option, Some, None, is_some, if◌then◌else◌}
+use Rattle.std.specs.List.{AllByRecursion, filter_map, slice_get}
+use Rattle.std.specs.FinMap.{FinMap, get}
+use Rattle.eden_base.specs.declared.number.FileId.{FileId}
+use Rattle.checkout.specs.declared.changes.LinkChange.{LinkChange}
+use Rattle.checkout.specs.declared.changes.Made.{Made}
+use Rattle.checkout.specs.declared.made.MadeFile.{MadeFile}
+use Rattle.checkout.specs.Manifest.{Line}
+use Rattle.checkout.specs.Tree.{link_cmp}
+
+-- a made file, with its id
+abbrev pub listed_file : ℕ × MadeFile → Made
+listed_file e = record { file = record { 0 = e.0 }; kind = e.1.kind; perm = e.1.perm }
+
+-- a link that was added, with its place
+abbrev pub added_change : (ℕ × List ℕ) × FileId → LinkChange
+added_change link = record { dir = record { 0 = link.0.0 }; name = link.0.1; target = Some link.1 }
+
+-- a line's place gives nothing, unless a link was added there
+abbrev pub gone_change : FinMap link_cmp FileId → Option Line → Option LinkChange
+gone_change added None = None
+gone_change added (Some line) =
+    if is_some (get added (line.dir.0, line.name)) then None
+    else Some (record { dir = line.dir; name = line.name; target = None })
+
+-- the same for each file that is gone
+abbrev pub gone_changes : FinMap link_cmp FileId → List Line → List ℕ → List LinkChange
+gone_changes added lines files = filter_map (λ file. gone_change added (slice_get lines (file - 2))) files
+
+-- the files have lines
+abbrev pub HaveLines : List Line → List ℕ → Type 0
+HaveLines lines files = AllByRecursion (λ file. (2 ≤ file) × (file < length lines + 2)) files

@@ -1,0 +1,93 @@
+//! The manifest's files whose link is gone.
+ghost use Rattle.std.specs.Prelude.{◌≡◌, ◌==◌, ◌++◌, ◌∷◌, [], ◌<◌, false, IfOk, OnOk};
+ghost use Rattle.std.specs.List.{IsDistinct};
+ghost use Rattle.checkout.specs.Gone.{is_gone};
+ghost use Rattle.checkout.specs.Listing.{gone_changes, HaveLines};
+
+use crate::links::Links;
+use crate::tally::Tally;
+use crate::{Line, LinkChange};
+use eden_base::{FileId, NoMemory};
+use std::alloc::Global;
+use std::marker::Model;
+
+/// Whether a file is one of them is known at once, and they are listed without a look at any other. The room for all of
+/// them is taken before the first.
+#[derive(Drop)]
+pub struct Gone {
+    marks: Tally,
+    files: Vec<u64>,
+}
+
+impl Model for Gone {
+    ghost use Rattle.std.specs.Prelude.{◌≡◌, ◌==◌, ◌<◌, ◌≤◌, ℕ, length, nat_lt, true};
+    ghost use Rattle.std.specs.List.{IsDistinct};
+    ghost use Rattle.std.specs.Vec.{vec_capacity, vec_len};
+    ghost use Rattle.checkout.specs.Gone.{Gone, is_gone};
+    ghost use Rattle.checkout.specs.Tally.{count_of};
+
+    ghost Value = { Gone };
+
+    ghost view = { λ a. record { files = a.files.items; room = a.marks.room } };
+
+    ghost invariant = { λ a. IsDistinct ◌==◌ a.files.items
+        × ((q : ℕ) → nat_lt 0 (count_of a.marks q) ≡ is_gone (record { files = a.files.items; room = a.marks.room }) q)
+        × ((q : ℕ) → is_gone (record { files = a.files.items; room = a.marks.room }) q ≡ true → q < a.marks.room)
+        × (vec_len a.files ≡ length a.files.items) × (a.marks.room ≤ vec_capacity a.files) };
+}
+
+impl Gone {
+    /// Returns no files, with room for those whose ids are below this.
+    pub fn with_room(alloc: Global, room: usize) -> Result<Gone, NoMemory>
+        ensures { IfOk result (λ gone. gone ≡ record { files = []; room = room }) }
+    {
+        let marks = Tally::with_room(alloc, room)?;
+        let files = Vec::with_capacity(alloc, room)?;
+        Ok(Gone { marks, files })
+    }
+
+    /// Returns whether the file's link is gone.
+    pub fn has(&self, file: FileId) -> bool
+        ensures { result ≡ is_gone self.now file.0 }
+    {
+        self.marks.count(file.0) > 0
+    }
+
+    /// Writes the places that lost their link for good, as the lines have them, behind those that are listed: no link
+    /// was added there.
+    pub fn list(
+        &self,
+        alloc: Global,
+        lines: &[Line],
+        added: &Links,
+        links: &mut Vec<LinkChange>,
+    ) -> Result<(), NoMemory>
+        requires lines { HaveLines lines.now self.now.files }
+        ensures listed { OnOk result (links.new.items ≡ links.old.items
+            ++ gone_changes added.now lines.now self.now.files) }
+        ensures distinct { IsDistinct ◌==◌ self.now.files }
+    {
+        for file in &self.files {
+            let line = &lines[*file as usize - 2];
+            if added.get(line.dir, line.name.bytes()).is_none() {
+                links.push(LinkChange {
+                    dir: line.dir,
+                    name: line.name.copy(alloc)?,
+                    target: None,
+                })?;
+            }
+        }
+        Ok(())
+    }
+
+    /// Adds a file. Takes no memory.
+    pub fn add(&mut self, file: FileId)
+        requires room { file.0 < self.old.room }
+        requires new { is_gone self.old file.0 ≡ false }
+        ensures files { self.new.files ≡ self.old.files ++ file.0 ∷ [] }
+        ensures room { self.new.room ≡ self.old.room }
+    {
+        self.marks.raise(file.0);
+        self.files.push_reserved(file.0);
+    }
+}
