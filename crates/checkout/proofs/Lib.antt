@@ -1,5 +1,6 @@
 pub mod AttrLaws
 pub mod ChangeLists
+pub mod ChangesLaws
 pub mod CreateLaws
 pub mod FlatLemmas
 pub mod EntryForms
@@ -21,6 +22,7 @@ pub mod ManifestTree
 pub mod MapLemmas
 pub mod MoreLines
 pub mod NameLemmas
+pub mod OneList
 pub mod OverlayCreate
 pub mod OverlayLaws
 pub mod OverlayRemove

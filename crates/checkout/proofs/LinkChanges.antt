@@ -124,7 +124,7 @@ module _ (m : Manifest) (made : FinMap nat_cmp MadeFile) (added : FinMap link_cm
                   let line = ap (slice_get m.lines) place ∙ r.here in
                   let there = ap (λ k. get added k) (λ i. (r.dir_is i, r.name_is i)) ∙ e in
                   let is_x : ◌≡◌ {A = LinkChange} (record { dir = r.line.dir; name = r.line.name; target = None }) x = λ i. record { dir = same_id r.line.dir x.dir r.dir_is i; name = r.name_is i; target = sym j i } in
-                  let change = ap (gone_change added) line ∙ ap (λ (o : Option FileId). if is_some o then None else Some (record { dir = r.line.dir; name = r.line.name; target = None })) there ∙ ap (λ y. Some y) is_x in
+                  let change : gone_change added (slice_get m.lines (g.0 - 2)) ≡ Some x = ap (gone_change added) line ∙ ap (λ (o : Option FileId). if is_some o then None else Some (record { dir = r.line.dir; name = r.line.name; target = None })) there ∙ ap (λ y. Some y) is_x in
                   listed_there added m.lines files g.0 x (sym (listed g.0) ∙ c) change
             ] refl k
           ] refl t

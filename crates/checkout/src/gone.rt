@@ -53,8 +53,8 @@ impl Gone {
         self.marks.count(file.0) > 0
     }
 
-    /// Writes the places that lost their link for good, as the lines have them, behind those that are listed: no link
-    /// was added there.
+    /// Writes the places of the files, as the lines have them, behind the names that are listed: each gives nothing.
+    /// A place at which a link was added is left out.
     pub fn list(
         &self,
         alloc: Global,

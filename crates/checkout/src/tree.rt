@@ -4,9 +4,10 @@ ghost use Rattle.std.specs.FinMap.{entries};
 ghost use Rattle.std.specs.List.{list_any};
 ghost use Rattle.eden_base.specs.declared.attr.Kind.TheVariants.{Dir};
 ghost use Rattle.checkout.specs.Changes.{AreChanges};
+ghost use Rattle.checkout.specs.declared.changes.Changes.{Changes as ChangesState};
 ghost use Rattle.checkout.specs.Create.{IsCreateRefusal};
 ghost use Rattle.checkout.specs.Overlay.{is_line};
-ghost use Rattle.checkout.specs.Tree.{IsTree, tree_of, child_of, kind_of, attr_of, file_of, perm_made, next_file, nlink_of, has_links, is_empty_dir, is_full_dir, is_linked, is_unlinked, created, removed};
+ghost use Rattle.checkout.specs.Tree.{Tree as TreeState, IsTree, tree_of, child_of, kind_of, attr_of, file_of, perm_made, next_file, nlink_of, has_links, is_empty_dir, is_full_dir, is_linked, is_unlinked, created, removed};
 
 use crate::gone::Gone;
 use crate::links::Links;
@@ -198,6 +199,10 @@ impl Tree {
     /// the manifest says or none, and the next file. It costs what differs, and not what the manifest holds.
     pub fn changes(&self) -> Result<Changes, NoMemory>
         ensures changes { IfOk result (AreChanges self.now) }
+        ensures no_others { IfOk result (λ changes. (others : ChangesState) → AreChanges self.now others
+            → others ≡ changes) }
+        ensures of_no_other { IfOk result (λ changes. (other : TreeState) → IsTree other
+            → other.manifest ≡ self.now.manifest → AreChanges other changes → other ≡ self.now) }
     {
         let made = self.made.list(self.alloc)?;
         let mut links = Vec::new(self.alloc);

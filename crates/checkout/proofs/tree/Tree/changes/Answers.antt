@@ -8,6 +8,7 @@ use Rattle.checkout.specs.Gone.{is_gone}
 use Rattle.checkout.specs.Listing.{added_change, gone_changes, listed_file, HaveLines}
 use Rattle.checkout.specs.Tally.{count_of}
 use Rattle.checkout.proofs.ChangeLists.{all_entries}
+use Rattle.checkout.proofs.ChangesLaws.{one_changes, one_tree}
 use Rattle.checkout.proofs.FlatLemmas.{link_cmp_total}
 use Rattle.checkout.proofs.GoneListing.{all_gone, all_have_lines}
 use Rattle.checkout.proofs.LinkPlaces.{AreLinkChanges-over}
@@ -29,8 +30,8 @@ list-requires-3 c =
     let i = c.self.inside in
     record { lines = subst (λ ls. HaveLines ls i.gone.files) (sym c.lines.ensures.lines) (all_have_lines i.manifest i.gone c.self.invariant.0.gone_are_lines) }
 
-pub returns : goal.returns
-returns c =
+pub returns-clause-changes : goal.returns-clause-changes
+returns-clause-changes c =
     let i = c.self.inside in
     let o = c.self.invariant.0 in
     let made = c.of.ensures.files ∙ c.in_ok-made.ensures in
@@ -39,9 +40,14 @@ returns c =
     let moved = subst (λ xs. IsPermutation xs c.sort.new.links.items) listed c.sort.ensures.permutation in
     let links = AreLinkChanges-over i.manifest i.made i.added (is_gone i.gone) (count_of i.lost) i.next_file o i.gone.files c.sort.new.links.items (λ q. refl) c.in_ok-list-2.ensures.distinct (all_gone i.gone) moved c.sort.ensures.sorted in
     record {
-      changes = record {
-        made = subst (AreMade c.args.self.now) (sym made) (subst (λ t. AreMade t (map listed_file (entries i.made))) c.self.view_is (AreMade-over i.manifest i.made i.added (is_gone i.gone) (count_of i.lost) i.next_file o));
-        links = subst (AreLinkChanges c.args.self.now) (sym c.of-2.ensures.links) (subst (λ t. AreLinkChanges t c.sort.new.links.items) c.self.view_is links);
-        next = c.next_file.ensures.next_file;
-      };
+      made = subst (AreMade c.args.self.now) (sym made) (subst (λ t. AreMade t (map listed_file (entries i.made))) c.self.view_is (AreMade-over i.manifest i.made i.added (is_gone i.gone) (count_of i.lost) i.next_file o));
+      links = subst (AreLinkChanges c.args.self.now) (sym c.of-2.ensures.links) (subst (λ t. AreLinkChanges t c.sort.new.links.items) c.self.view_is links);
+      next = c.next_file.ensures.next_file;
     }
+
+pub returns-clause-of_no_other : goal.returns-clause-of_no_other
+returns-clause-of_no_other c other tree one too =
+    one_tree c.args.self.now other _ c.next_file.ensures.is_tree tree one (returns-clause-changes c) too
+
+pub returns-clause-no_others : goal.returns-clause-no_others
+returns-clause-no_others c others too = one_changes c.args.self.now _ others (returns-clause-changes c) too
