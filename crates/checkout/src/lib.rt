@@ -28,4 +28,6 @@ pub use manifest::Manifest;
 pub use tree::Tree;
 
 #[cfg(test)]
+mod change_tests;
+#[cfg(test)]
 mod tests;

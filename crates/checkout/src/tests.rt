@@ -7,7 +7,7 @@ use std::alloc::{AllocError, Global};
 use std::process::Abort;
 use std::test::Fail;
 
-const SMALL: &[u8] =
+pub const SMALL: &[u8] =
     b"commit 0123456789abcdef0123456789abcdef01234567\ndir src\nfile 0644 12 src/a\nfile 0755 0 src/b\nfile 0644 7 README\n";
 
 const HEAD: &[u8] = b"commit 0123456789abcdef0123456789abcdef01234567\n";
@@ -394,7 +394,7 @@ fn reads_and_shares_again_after_memory_was_refused(rt: HostRuntime) -> Result<()
 }
 
 /// Makes the tree of a text, again where memory was refused.
-fn tree_of(alloc: Global, text: &[u8]) -> Result<Tree, Fail> {
+pub fn tree_of(alloc: Global, text: &[u8]) -> Result<Tree, Fail> {
     let manifest = read_again(alloc, text)?;
     match Tree::of(alloc, &manifest) {
         Ok(tree) => Ok(tree),
@@ -416,6 +416,7 @@ fn created(
     dir: FileId,
     name: &Name,
     kind: Kind,
+    perm: Perm,
 ) -> Option<Result<FileId, CreateFault>> {
     match tree.kind(dir) {
         Some(Kind::Dir) => {}
@@ -427,22 +428,23 @@ fn created(
     }
     match tree.child(dir, name) {
         Some(_) => None,
-        None => Some(tree.create(dir, name, kind, Perm::DIRECTORY)),
+        None => Some(tree.create(dir, name, kind, perm)),
     }
 }
 
 /// Makes a file, once more where memory was refused, and returns its id.
-fn created_again(
+pub fn created_again(
     alloc: Global,
     tree: &mut Tree,
     dir: FileId,
     name: &[u8],
     kind: Kind,
+    perm: Perm,
 ) -> Option<u64> {
     let name = parsed(alloc, name)?;
-    let made = match created(tree, dir, &name, kind)? {
+    let made = match created(tree, dir, &name, kind, perm)? {
         Ok(file) => file,
-        Err(_) => created(tree, dir, &name, kind)?.ok()?,
+        Err(_) => created(tree, dir, &name, kind, perm)?.ok()?,
     };
     Some(made.0)
 }
@@ -462,7 +464,7 @@ fn removed(tree: &mut Tree, dir: FileId, name: &Name) -> Option<FileId> {
 }
 
 /// Takes a name out, and returns the file that it gave; nothing where the call's conditions don't hold.
-fn removed_at(alloc: Global, tree: &mut Tree, dir: u64, name: &[u8]) -> Option<u64> {
+pub fn removed_at(alloc: Global, tree: &mut Tree, dir: u64, name: &[u8]) -> Option<u64> {
     let name = parsed(alloc, name)?;
     let file = removed(tree, FileId(dir), &name)?;
     Some(file.0)
@@ -479,7 +481,7 @@ fn takes_out(rt: &impl Abort, alloc: Global, tree: &mut Tree, names: &[(u64, &[u
 fn makes(rt: &impl Abort, alloc: Global, tree: &mut Tree, files: &[(u64, &[u8], Kind, u64)]) {
     for (dir, name, kind, file) in files {
         assert_eq!(rt;
-            created_again(alloc, tree, FileId(*dir), name, *kind),
+            created_again(alloc, tree, FileId(*dir), name, *kind, Perm::DIRECTORY),
             Some(*file)
         );
     }
