@@ -1,0 +1,5 @@
+pub mod Field
+pub mod Fit
+pub mod ImageText
+pub mod ImageReading
+pub mod Writing
