@@ -1,3 +1,10 @@
 pub mod Lengths
 pub mod Written
 pub mod Members
+pub mod Perms
+pub mod Loop
+pub mod FieldLaws
+pub mod MemberLaws
+pub mod ListLaws
+pub mod ImageLaws
+pub mod UsageLaws

@@ -1,6 +1,6 @@
 -- Which image the bytes are, and which fault is the first: fields from front to back, each whole before it is looked
 -- at, and after the last field what can be seen of the whole alone.
-use Rattle.std.specs.Prelude.{◌≡◌, ◌≤◌, ℕ, zero, suc, ◌%◌, Bool, true, false, ◌==◌, nat_lt, List, [], ◌∷◌, length, take, drop, nat_eq, Option, Some, None, is_some, Result, Ok, Err, if◌then◌else◌}
+use Rattle.std.specs.Prelude.{◌≡◌, ◌≤◌, ℕ, zero, suc, ◌-◌, ◌%◌, Bool, true, false, ◌==◌, nat_lt, List, [], ◌∷◌, length, take, drop, slice_get, nat_eq, Option, Some, None, is_some, Result, Ok, Err, if◌then◌else◌}
 use Rattle.std.proofs.Common.{arith}
 use Rattle.std.specs.Cmp.Lexicographic.{pointwise}
 use Rattle.std.specs.Int.{Width, w16, w32, w64, byte_len}
@@ -20,6 +20,7 @@ use Rattle.inode_map.specs.InodeMap.{is_of_use}
 use Rattle.map_codec.specs.declared.fault.ImageFault.{ImageFault}
 use Rattle.map_codec.specs.declared.fault.ImageFault.TheVariants.{BadMagic, BadVersion, Short, Rest, NotRising, BadName, BadMark, ZeroUse, NoMemory}
 use Rattle.map_codec.specs.declared.image.Image.{Image}
+use Rattle.map_codec.specs.declared.header.Header.{Header}
 use Rattle.map_codec.specs.Field.{number_in}
 use Rattle.map_codec.specs.Fit.{is_next_number, is_next_file, is_next_place}
 use Rattle.map_codec.specs.ImageText.{Form, form_of, magic}
@@ -30,11 +31,19 @@ abbrev pub ◌>>=◌ : {A B : Type 0} → Result A ImageFault → (A → Result 
 (Ok x) >>= f = f x
 (Err fault) >>= f = Err fault
 
--- what a call gave, seen by a view, is what reading gives; memory may run out in its place
+-- the fault that reading gives; memory may run out in its place
+abbrev pub Fails : {Y : Type 0} → ImageFault → Result Y ImageFault → Type 0
+Fails NoMemory read = Unit {0}
+Fails fault read = read ≡ Err fault
+
+-- what a call gave, seen by a view, is what reading gives
 abbrev pub Gives : {X Y : Type 0} → (X → Y) → Result X ImageFault → Result Y ImageFault → Type 0
 Gives view (Ok x) read = read ≡ Ok (view x)
-Gives view (Err NoMemory) read = Unit {0}
-Gives view (Err fault) read = read ≡ Err fault
+Gives view (Err fault) read = Fails fault read
+
+-- the last of a list, if any
+abbrev pub last_of : {X : Type 0} → List X → Option X
+last_of xs = slice_get xs (length xs - 1)
 
 -- ---- fields: a value, and the bytes behind it
 
@@ -173,14 +182,7 @@ list_at member bytes = do
 
 -- ---- the whole
 
--- what stands before the lists, and in which form they stand
-pub record Header : Type 0 where
-  pub form : Form
-  pub commit : List ℕ
-  pub generation : ℕ
-  pub next_number : ℕ
-  pub next_file : ℕ
-
+-- what follows `EDTK`
 unfoldable pub magic_at : List ℕ → Result (List ℕ) ImageFault
 magic_at bytes = do
   field ← bytes_at 4 bytes
@@ -191,22 +193,21 @@ abbrev pub known : Option Form → List ℕ → Result (Form × List ℕ) ImageF
 known None bytes = Err BadVersion
 known (Some form) bytes = Ok (form, bytes)
 
+-- the form of the version that comes next
 unfoldable pub form_at : List ℕ → Result (Form × List ℕ) ImageFault
 form_at bytes = do
   version ← number_at w16 bytes
   known (form_of version.0) version.1
 
+-- commit, generation, next number, next file
 unfoldable pub header_at : List ℕ → Result (Header × List ℕ) ImageFault
 header_at bytes = do
-  fields ← magic_at bytes
-  form ← form_at fields
-  commit ← bytes_at 20 form.1
+  commit ← bytes_at 20 bytes
   generation ← number_at w64 commit.1
   number ← number_at w64 generation.1
   file ← number_at w64 number.1
   Ok (
     record {
-      form = form.0;
       commit = commit.0;
       generation = generation.0;
       next_number = number.0;
@@ -235,8 +236,10 @@ image_with header entries changes = record {
 -- every field, and what follows
 unfoldable pub fields_at : List ℕ → Result (Image × List ℕ) ImageFault
 fields_at bytes = do
-  header ← header_at bytes
-  entries ← list_at (entry_at header.0.form.count) header.1
+  fields ← magic_at bytes
+  form ← form_at fields
+  header ← header_at form.1
+  entries ← list_at (entry_at form.0.count) header.1
   changes ← changes_at header.0.next_file entries.1
   Ok (image_with header.0 entries.0 changes.0, changes.1)
 

@@ -3,3 +3,4 @@ pub mod Fit
 pub mod ImageText
 pub mod ImageReading
 pub mod Writing
+pub mod Usage

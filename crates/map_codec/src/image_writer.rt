@@ -1,9 +1,10 @@
 //! Images as bytes.
-ghost use Rattle.std.specs.Prelude.{All, ◌≡◌, ◌<◌, ◌^◌, false, length, IfOk, IfErr, None, OnOk};
+ghost use Rattle.std.specs.Prelude.{All, ◌≡◌, ◌<◌, ◌^◌, false, length, IfOk, IfErr, None, Ok, OnOk};
 ghost use Rattle.std.specs.Int.{w32};
 ghost use Rattle.std.specs.List.{list_any};
 ghost use Rattle.map_codec.specs.Fit.{IsFit};
 ghost use Rattle.map_codec.specs.ImageText.{magic, numbers_text, header_text, lists_text, image_text, FitsNumbers, FitsMembers, IsImageText};
+ghost use Rattle.map_codec.specs.ImageReading.{image_of_bytes};
 ghost use Rattle.map_codec.specs.Writing.{AreFew, HasRoom, IsWriteRefusal, Puts, is_too_large, refusal};
 
 use crate::measure::text_len;
@@ -94,6 +95,7 @@ fn put_image(out: &mut Vec<u8>, image: &Image)
 pub fn write(alloc: Global, image: &Image, version: u16) -> Result<Vec<u8>, WriteFault>
     requires { IsFit image.now }
     ensures text { IfOk result (λ bytes. IsImageText image.now version bytes.items) }
+    ensures read_again { IfOk result (λ bytes. image_of_bytes bytes.items ≡ Ok image.now) }
     ensures accepted { OnOk result (refusal image.now version ≡ None) }
     ensures refused { IfErr result (IsWriteRefusal image.now version) }
 {

@@ -2,12 +2,24 @@
 #![tactic(auto)]
 
 mod fault;
+mod header;
 mod image;
+mod image_reader;
 mod image_writer;
+mod list_reader;
 mod measure;
+mod member_reader;
 mod member_writer;
+mod reader;
+mod usage;
 mod writer;
 
 pub use fault::{ImageFault, WriteFault};
 pub use image::{Entries, Image};
+pub use image_reader::read;
 pub use image_writer::write;
+
+#[cfg(test)]
+mod tests;
+#[cfg(test)]
+mod vectors;

@@ -1,6 +1,7 @@
 use Rattle.std.proofs.Common.{◌≡◌, List, ℕ, ◌++◌, refl, sym, ap, subst, ◌∙◌}
 use Rattle.std.specs.Int.{w32}
 use Rattle.map_codec.specs.ImageText.{first_form, image_text, IsImageText}
+use Rattle.map_codec.proofs.ImageLaws.{image_again}
 use Rattle.map_codec.proofs.image_writer.write.Goals as goal
 
 pub returns-clause-text : goal.returns-clause-text
@@ -18,3 +19,6 @@ returns-clause-text c =
       is = text;
     } in
     subst (λ (v : ℕ). IsImageText image v bytes) (sym c.if-version-ne-VERSION.false) first
+
+pub returns-clause-read_again : goal.returns-clause-read_again
+returns-clause-read_again c = image_again c.args.image.now c.args.version c.put_image.new.out.items (returns-clause-text c)

@@ -1,0 +1,171 @@
+//! Images from outside, each of their cuts and changes, and limits. Where one allocation is refused, the calls that take
+//! memory tell so, and succeed when they are made once more: every test passes under `rt try --test --fail-alloc N`.
+ghost use Rattle.std.specs.Prelude.{IfOk};
+ghost use Rattle.map_codec.specs.Fit.{IsFit};
+
+use super::*;
+use crate::vectors::{CHANGED, LOOKED_UP};
+use std::alloc::{AllocError, Global};
+use std::test::Fail;
+
+/// Calls `read`, and once more where memory was refused.
+fn image_of_bytes(alloc: Global, bytes: &[u8]) -> Result<Image, ImageFault>
+    ensures fit { IfOk result IsFit }
+{
+    match read(alloc, bytes) {
+        Ok(image) => Ok(image),
+        Err(ImageFault::NoMemory) => read(alloc, bytes),
+        Err(fault) => Err(fault),
+    }
+}
+
+/// Calls `write`, and once more where memory was refused.
+fn text_of(alloc: Global, image: &Image, version: u16) -> Result<Vec<u8>, WriteFault>
+    requires { IsFit image.now }
+{
+    match write(alloc, image, version) {
+        Ok(bytes) => Ok(bytes),
+        Err(WriteFault::NoMemory) => write(alloc, image, version),
+        Err(fault) => Err(fault),
+    }
+}
+
+/// Returns the fault of bytes that are no image.
+fn fault_of(alloc: Global, bytes: &[u8]) -> Option<ImageFault> {
+    match image_of_bytes(alloc, bytes) {
+        Ok(_) => None,
+        Err(fault) => Some(fault),
+    }
+}
+
+/// Returns whether bytes are refused, or are the one spelling of the image that they are read as.
+fn is_refused_or_spelled_so(alloc: Global, bytes: &[u8]) -> bool {
+    match image_of_bytes(alloc, bytes) {
+        Ok(image) => match text_of(alloc, &image, 1) {
+            Ok(text) => text.as_slice() == bytes,
+            Err(_) => false,
+        },
+        Err(_) => true,
+    }
+}
+
+/// Returns the fault of the changed image with one byte set.
+fn fault_with(alloc: Global, at: usize, byte: u8) -> Option<ImageFault> {
+    let mut bytes = CHANGED;
+    if let Some(place) = bytes.get_mut(at) {
+        *place = byte;
+    }
+    fault_of(alloc, bytes.as_slice())
+}
+
+#[test]
+fn writes_what_it_reads(rt: HostRuntime) -> Result<(), Fail> {
+    let alloc = rt.alloc();
+    for bytes in [LOOKED_UP.as_slice(), CHANGED.as_slice()] {
+        let image = image_of_bytes(alloc, bytes)?;
+        let text = text_of(alloc, &image, 1)?;
+        assert_eq!(rt; text.as_slice(), bytes);
+    }
+    Ok(())
+}
+
+#[test]
+fn refuses_each_cut(rt: HostRuntime) {
+    for len in 0..CHANGED.len() {
+        let (front, _) = CHANGED.split_at(len);
+        assert_eq!(rt; fault_of(rt.alloc(), front), Some(ImageFault::Short));
+    }
+}
+
+#[test]
+fn tells_the_first_fault(rt: HostRuntime) {
+    // The first byte of the magic, the version, the first entry's mark, and its count.
+    for (at, byte, fault) in [
+        (0, 0x46, ImageFault::BadMagic),
+        (5, 9, ImageFault::BadVersion),
+        (62, 2, ImageFault::BadMark),
+        (66, 0, ImageFault::ZeroUse),
+    ] {
+        assert_eq!(rt; fault_with(rt.alloc(), at, byte), Some(fault));
+    }
+}
+
+/// Returns these bytes, one behind the other.
+fn joined(alloc: Global, parts: &[&[u8]]) -> Result<Vec<u8>, AllocError> {
+    let mut bytes = Vec::new(alloc);
+    for part in parts {
+        bytes.extend_from_slice(part)?;
+    }
+    Ok(bytes)
+}
+
+/// Joins bytes, and once more where memory was refused.
+fn all(alloc: Global, parts: &[&[u8]]) -> Result<Vec<u8>, AllocError> {
+    match joined(alloc, parts) {
+        Ok(bytes) => Ok(bytes),
+        Err(_refused) => joined(alloc, parts),
+    }
+}
+
+#[test]
+fn refuses_what_follows_and_what_is_exchanged(rt: HostRuntime) -> Result<(), Fail> {
+    let alloc = rt.alloc();
+    let (whole, _) = CHANGED.split_at(147);
+    let longer = all(alloc, &[whole, b"\0".as_slice()])?;
+    assert_eq!(rt; fault_of(alloc, longer.as_slice()), Some(ImageFault::Rest));
+    // The first entry has 25 bytes behind the first 54, and the second has 28.
+    let (head, rest) = CHANGED.split_at(54);
+    let (first, rest) = rest.split_at(25);
+    let (second, rest) = rest.split_at(28);
+    let exchanged = all(alloc, &[head, second, first, rest])?;
+    assert_eq!(rt;
+        fault_of(alloc, exchanged.as_slice()),
+        Some(ImageFault::NotRising)
+    );
+    Ok(())
+}
+
+#[test]
+fn refuses_a_changed_byte_or_spells_it_so(rt: HostRuntime) {
+    for at in 0..CHANGED.len() {
+        for other in [0u8, 0xff, CHANGED[at] ^ 1] {
+            let mut bytes = CHANGED;
+            bytes[at] = other;
+            assert!(rt; is_refused_or_spelled_so(rt.alloc(), bytes.as_slice()));
+        }
+    }
+}
+
+/// Writes the text of so many entries without names, each held once.
+fn unlinked(alloc: Global, count: u32) -> Result<Vec<u8>, AllocError> {
+    let (head, _) = CHANGED.split_at(50);
+    let mut bytes = Vec::from_slice(alloc, head)?;
+    bytes.extend_from_slice(&count.to_be_bytes())?;
+    for i in 0..count {
+        bytes.extend_from_slice(&(u64::from(i) + 2).to_be_bytes())?;
+        bytes.extend_from_slice(&[1, 0, 0, 0, 1])?;
+        bytes.extend_from_slice(&(u64::from(i) + 9).to_be_bytes())?;
+    }
+    bytes.extend_from_slice(&[0, 0, 0, 0, 0, 0, 0, 0])?;
+    Ok(bytes)
+}
+
+#[test]
+fn writes_65000_bytes_at_most(rt: HostRuntime) -> Result<(), Fail> {
+    let alloc = rt.alloc();
+    let most = match unlinked(alloc, 3092) {
+        Ok(bytes) => bytes,
+        Err(_refused) => unlinked(alloc, 3092)?,
+    };
+    assert_eq!(rt; most.len(), 64994);
+    let image = image_of_bytes(alloc, most.as_slice())?;
+    assert!(rt; text_of(alloc, &image, 1)?.as_slice() == most.as_slice());
+    assert!(rt; matches!(text_of(alloc, &image, 2), Err(WriteFault::NoSuchVersion)));
+    let more = match unlinked(alloc, 3093) {
+        Ok(bytes) => bytes,
+        Err(_refused) => unlinked(alloc, 3093)?,
+    };
+    let image = image_of_bytes(alloc, more.as_slice())?;
+    assert!(rt; matches!(text_of(alloc, &image, 1), Err(WriteFault::TooLong)));
+    Ok(())
+}
