@@ -8,3 +8,4 @@ pub mod MemberLaws
 pub mod ListLaws
 pub mod ImageLaws
 pub mod UsageLaws
+pub mod EntryLaws

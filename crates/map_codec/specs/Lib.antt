@@ -4,3 +4,4 @@ pub mod ImageText
 pub mod ImageReading
 pub mod Writing
 pub mod Usage
+pub mod Taking

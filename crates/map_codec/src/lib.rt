@@ -11,6 +11,7 @@ mod measure;
 mod member_reader;
 mod member_writer;
 mod reader;
+mod served_image;
 mod usage;
 mod writer;
 
@@ -18,6 +19,7 @@ pub use fault::{ImageFault, WriteFault};
 pub use image::{Entries, Image};
 pub use image_reader::read;
 pub use image_writer::write;
+pub use served_image::image_of;
 
 #[cfg(test)]
 mod tests;
