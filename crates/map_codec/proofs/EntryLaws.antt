@@ -108,14 +108,17 @@ next_entry entries front (kept ∷ rest) next n m split e =
     let after : number_after entries n ≡ Some kept.number = ap (λ (es : List Kept). number_after es n) split.is ∙ ap (option_map number_of_kept) (skipped (is_above n) front (kept ∷ rest) (none_above n front split.low) ∙ first) in
     let told : Some kept.number ≡ Some m = sym after ∙ e in
     let same : kept.number ≡ m = cc in
-    let more : kept.number.0 + 1 ≤ next = low_le (kept.number.0 + 1) next rest split.rising.1 in
-    (kept, rest, subst (λ (number : Number). IsNextEntry entries next n front number kept rest) same (record {
-      higher = omega (arith, up);
-      below = omega (arith, more);
-      number = refl;
-      entry = entry_found entries front kept rest next n split;
-      split = split_on entries front kept rest next n split;
-    }))
+    let more : kept.number.0 + 1 ≤ next = low_le (kept.number.0 + 1) next rest split.rising.1 in (
+      kept,
+      rest,
+      subst (λ (number : Number). IsNextEntry entries next n front number kept rest) same (record {
+        higher = omega (arith, up);
+        below = omega (arith, more);
+        number = refl;
+        entry = entry_found entries front kept rest next n split;
+        split = split_on entries front kept rest next n split;
+      }),
+    )
 
 -- where no number is above, all entries were taken
 pub all_taken : (entries front rest : List Kept) (next n : ℕ) → Split entries next n front rest → number_after entries n ≡ None → front ≡ entries

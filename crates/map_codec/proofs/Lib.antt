@@ -9,3 +9,4 @@ pub mod ListLaws
 pub mod ImageLaws
 pub mod UsageLaws
 pub mod EntryLaws
+pub mod RiseLaws

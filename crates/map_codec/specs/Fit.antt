@@ -48,11 +48,17 @@ abbrev pub HasName : Place → Type 0
 HasName (Linked parent name) = IsNameText name
 HasName (Unlinked file) = Unit {0}
 
+abbrev pub IsNamedEntry : Kept → Type 0
+IsNamedEntry kept = HasName kept.place
+
+abbrev pub IsNamedLink : LinkChange → Type 0
+IsNamedLink link = IsNameText link.name
+
 -- what an image must be to have a text. An entry that the kernel doesn't hold is of use as the parent of a linked one.
 pub record IsFit (image : Image) : Type 0 where
   pub entries_rise : rises entry_follows None image.entries ≡ true
-  pub entries_have_names : AllByRecursion (λ (kept : Kept). HasName kept.place) image.entries
+  pub entries_have_names : AllByRecursion IsNamedEntry image.entries
   pub each_of_use : list_all (is_of_use image.entries) image.entries ≡ true
   pub made_rise : rises made_follows None image.changes.made ≡ true
   pub links_rise : rises link_follows None image.changes.links ≡ true
-  pub links_have_names : AllByRecursion (λ (link : LinkChange). IsNameText link.name) image.changes.links
+  pub links_have_names : AllByRecursion IsNamedLink image.changes.links

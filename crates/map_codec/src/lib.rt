@@ -2,6 +2,7 @@
 #![tactic(auto)]
 
 mod fault;
+mod fit;
 mod header;
 mod image;
 mod image_reader;

@@ -36,7 +36,7 @@ fn place_at(alloc: Global, unlinked: bool, bytes: &[u8]) -> Result<(Place, &[u8]
 }
 
 /// Returns whether a number rises above the last entry's.
-fn is_next_number(done: &[Kept], number: u64) -> bool
+pub(crate) fn is_next_number(done: &[Kept], number: u64) -> bool
     ensures { result ≡ is_next_number (last_of done.now) number }
 {
     match done.last() {
@@ -79,7 +79,7 @@ pub(crate) fn entry_at<'a>(
 }
 
 /// Returns whether a file rises above the last made one.
-fn is_next_file(done: &[Made], file: u64) -> bool
+pub(crate) fn is_next_file(done: &[Made], file: u64) -> bool
     ensures { result ≡ is_next_file (last_of done.now) file }
 {
     match done.last() {
@@ -136,7 +136,7 @@ pub(crate) fn made_at<'a>(done: &[Made], bytes: &'a [u8]) -> Result<(Made, &'a [
 }
 
 /// Returns whether a name in a directory rises above the last one.
-fn is_next_place(done: &[LinkChange], dir: u64, name: &[u8]) -> bool
+pub(crate) fn is_next_place(done: &[LinkChange], dir: u64, name: &[u8]) -> bool
     ensures { result ≡ is_next_place (last_of done.now) dir name.now }
 {
     match done.last() {

@@ -5,6 +5,10 @@ ghost use Rattle.map_codec.specs.Fit.{IsFit};
 
 use super::*;
 use crate::vectors::{CHANGED, LOOKED_UP};
+use checkout::{Manifest, ManifestFault};
+use eden_base::{Name, NameFault, NoMemory, Number};
+use fuse_ops::Served;
+use fuse_wire::{Answer, Request};
 use std::alloc::{AllocError, Global};
 use std::test::Fail;
 
@@ -167,5 +171,65 @@ fn writes_65000_bytes_at_most(rt: HostRuntime) -> Result<(), Fail> {
     };
     let image = image_of_bytes(alloc, more.as_slice())?;
     assert!(rt; matches!(text_of(alloc, &image, 1), Err(WriteFault::TooLong)));
+    Ok(())
+}
+
+/// A checkout with a directory and three files.
+const CHECKOUT: &[u8] = b"commit 0123456789abcdef0123456789abcdef01234567
+dir src
+file 0644 12 src/a
+file 0755 0 src/b
+file 0644 7 README
+";
+
+/// Reads a manifest, and once more where memory was refused.
+fn manifest_of(alloc: Global, text: &[u8]) -> Result<Manifest, ManifestFault> {
+    match Manifest::read(alloc, text) {
+        Ok(manifest) => Ok(manifest),
+        Err(_refused) => Manifest::read(alloc, text),
+    }
+}
+
+/// Begins to serve, and once more where memory was refused.
+fn served_of(alloc: Global, manifest: &Manifest) -> Result<Served, NoMemory> {
+    match Served::new(alloc, manifest, 8) {
+        Ok(served) => Ok(served),
+        Err(NoMemory) => Served::new(alloc, manifest, 8),
+    }
+}
+
+/// Calls `image_of`, and once more where memory was refused.
+fn image_taken(alloc: Global, served: &Served) -> Result<Image, NoMemory>
+    ensures fit { IfOk result IsFit }
+{
+    match image_of(alloc, served, 1) {
+        Ok(image) => Ok(image),
+        Err(NoMemory) => image_of(alloc, served, 1),
+    }
+}
+
+/// Parses a name, and once more where memory was refused.
+fn name_of(alloc: Global, bytes: &[u8]) -> Result<Name, NameFault> {
+    match Name::parse(alloc, bytes) {
+        Ok(name) => Ok(name),
+        Err(_refused) => Name::parse(alloc, bytes),
+    }
+}
+
+#[test]
+fn takes_the_image_of_one_lookup(rt: HostRuntime) -> Result<(), Fail> {
+    let alloc = rt.alloc();
+    let manifest = manifest_of(alloc, CHECKOUT)?;
+    let mut served = served_of(alloc, &manifest)?;
+    let lookup = Request::Lookup {
+        dir: Number::ROOT,
+        name: name_of(alloc, b"src")?,
+    };
+    if let Some(Answer::Error(_)) = served.apply(alloc, &lookup) {
+        served.apply(alloc, &lookup);
+    }
+    let image = image_taken(alloc, &served)?;
+    let text = text_of(alloc, &image, 1)?;
+    assert_eq!(rt; text.as_slice(), LOOKED_UP.as_slice());
     Ok(())
 }

@@ -24,14 +24,15 @@ loop-number-preserved c =
     let next = c.args.map.now.next in
     let m = c.in-Some.number in
     let told = c.in_ok-kept.kept in
-    let pushed : c.push.new.self.items ≡ front ++ told ∷ [] = c.in_ok-push.ensures.items in
-    (λ are.
-      let s = c.loop-number.invariant.0 are in
-      let x = next_entry entries front s.0 next c.loop-number.last.0 m s.1 (sym c.after.ensures.after ∙ c.in-Some.is) in
-      let same : told ≡ x.0 = told_so entries m x.0 told x.2.entry x.2.number c.in_ok-kept.ensures.number c.in_ok-kept.ensures.place c.in_ok-kept.ensures.count in
-      let items : c.push.new.self.items ≡ front ++ x.0 ∷ [] = pushed ∙ ap (λ (k : Kept). front ++ k ∷ []) same in
-      (x.1, subst (λ (items : List Kept). Split entries next m.0 items x.1) (sym items) x.2.split),
-    subst (AllByRecursion (λ (k : Kept). HasName k.place)) (sym pushed) (one_named front told c.loop-number.invariant.1 c.in_ok-kept.ensures.named))
+    let pushed : c.push.new.self.items ≡ front ++ told ∷ [] = c.in_ok-push.ensures.items in (
+      λ are.
+          let s = c.loop-number.invariant.0 are in
+          let x = next_entry entries front s.0 next c.loop-number.last.0 m s.1 (sym c.after.ensures.after ∙ c.in-Some.is) in
+          let same : told ≡ x.0 = told_so entries m x.0 told x.2.entry x.2.number c.in_ok-kept.ensures.number c.in_ok-kept.ensures.place c.in_ok-kept.ensures.count in
+          let items : c.push.new.self.items ≡ front ++ x.0 ∷ [] = pushed ∙ ap (λ (k : Kept). front ++ k ∷ []) same in
+          (x.1, subst (λ (items : List Kept). Split entries next m.0 items x.1) (sym items) x.2.split),
+      subst (AllByRecursion (λ (k : Kept). HasName k.place)) (sym pushed) (one_named front told c.loop-number.invariant.1 c.in_ok-kept.ensures.named),
+    )
 
 pub returns-clause-entries : goal.returns-clause-entries
 returns-clause-entries c =

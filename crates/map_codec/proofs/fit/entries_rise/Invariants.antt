@@ -1,0 +1,7 @@
+use Rattle.std.proofs.Common.{All, take}
+use Rattle.map_codec.specs.Fit.{entry_follows, IsNamedEntry}
+use Rattle.map_codec.proofs.RiseLaws.{RisesFrom}
+use Rattle.map_codec.proofs.fit.entries_rise.Given as goal
+
+abbrev pub invariant-loop-i : goal.invariant-loop-i
+invariant-loop-i l = RisesFrom entry_follows l.entries l.i × All IsNamedEntry (take l.i l.entries)
