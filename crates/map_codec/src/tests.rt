@@ -233,3 +233,19 @@ fn takes_the_image_of_one_lookup(rt: HostRuntime) -> Result<(), Fail> {
     assert_eq!(rt; text.as_slice(), LOOKED_UP.as_slice());
     Ok(())
 }
+
+#[test]
+fn refuses_a_count_of_33_bits(rt: HostRuntime) -> Result<(), Fail> {
+    let alloc = rt.alloc();
+    let mut image = image_of_bytes(alloc, CHANGED.as_slice())?;
+    let mut kept = image.entries.into_vec();
+    if let Some(first) = kept.get_mut(0) {
+        first.count = 1 << 32;
+    }
+    image.entries = Entries::of(kept);
+    if !image.is_fit() {
+        panic!(rt; "a count is no part of being fit");
+    }
+    assert!(rt; matches!(text_of(alloc, &image, 1), Err(WriteFault::CountTooLarge)));
+    Ok(())
+}
