@@ -1,26 +1,25 @@
 -- Whole images: what is read is a text of it, and what is a text is read.
-use Rattle.std.proofs.Common.{All, ◌≡◌, ℕ, ◌+◌, ◌^◌, ◌<◌, ◌≤◌, Bool, true, false, cond, ◌&&◌, eqb, ltb, nat_eq, List, [], ◌∷◌, ◌++◌, length, Option, Some, None, Result, Ok, Err, refl, sym, ap, subst, ◌∙◌, append_assoc, arith}
+use Rattle.std.proofs.Common.{◌≡◌, ℕ, ◌^◌, ◌<◌, Bool, true, false, cond, ◌&&◌, eqb, ltb, nat_eq, List, [], ◌∷◌, ◌++◌, length, Some, None, Result, Ok, Err, refl, sym, ap, subst, ◌∙◌, append_assoc, arith}
 use Rattle.std.specs.Int.{w16, w32, w64}
-use Rattle.std.specs.List.{flat_map, AllByRecursion}
+use Rattle.std.specs.List.{AllByRecursion}
 use Rattle.std.specs.Cmp.Lexicographic.{pointwise}
 use Rattle.std.proofs.lemmas.Bool.{ltb-false, eqb-true}
 use Rattle.std.proofs.lemmas.List.{append-nil, nil_from_length}
 use Rattle.std.proofs.lemmas.List.Elements.{recursion_from_All, All-from_recursion}
 use Rattle.eden_base.specs.Name.{IsNameText}
-use Rattle.eden_base.specs.declared.number.FileId.{FileId}
 use Rattle.checkout.specs.declared.changes.Made.{Made}
 use Rattle.checkout.specs.declared.changes.LinkChange.{LinkChange}
 use Rattle.checkout.specs.declared.changes.Changes.{Changes}
 use Rattle.inode_map.specs.declared.inode_map.Kept.{Kept}
 use Rattle.map_codec.specs.declared.fault.ImageFault.{ImageFault}
-use Rattle.map_codec.specs.declared.fault.ImageFault.TheVariants.{BadMagic, BadVersion, Rest, ZeroUse}
+use Rattle.map_codec.specs.declared.fault.ImageFault.TheVariants.{BadMagic, Rest, ZeroUse}
 use Rattle.map_codec.specs.declared.header.Header.{Header}
 use Rattle.map_codec.specs.declared.image.Image.{Image}
 use Rattle.map_codec.specs.Field.{number_bytes}
 use Rattle.map_codec.specs.Fit.{entry_follows, made_follows, link_follows, HasName, IsFit}
 use Rattle.map_codec.specs.ImageText.{Form, first_form, form_of, magic, entry_text, made_text, link_text, list_text, image_text, FitsEntry, FitsMade, FitsLink, FitsNumbers, FitsMembers, IsImageText}
 use Rattle.map_codec.specs.ImageReading.{◌>>=◌, bytes_at, number_at, entry_at, made_at, link_at, list_at, magic_at, known, form_at, header_at, changes_at, image_with, fields_at, are_of_use, seen_whole, image_of_bytes}
-use Rattle.map_codec.proofs.FieldLaws.{IsBytes, bind_ok, guard_ok, test_ok, done, ok_is, Found, found_as, both, itself, HasLength, bytes_found, bytes_again, wide16, wide64, IsBelow, number_found, number_again}
+use Rattle.map_codec.proofs.FieldLaws.{IsBytes, bind_ok, guard_ok, test_ok, ok_is, Found, found_as, both, itself, HasLength, bytes_found, bytes_again, wide16, wide64, IsBelow, number_found, number_again}
 use Rattle.map_codec.proofs.Lengths.{length-magic}
 use Rattle.map_codec.proofs.ListLaws.{IsGoodList, list_found, list_again}
 use Rattle.map_codec.proofs.MemberLaws.{GoodEntry, GoodLink, entry_found, entry_again, made_found, made_again, link_found, link_again}

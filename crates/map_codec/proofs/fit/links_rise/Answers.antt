@@ -1,4 +1,4 @@
-use Rattle.std.proofs.Common.{◌≡◌, true, take, sym, ap, ◌∙◌, arith}
+use Rattle.std.proofs.Common.{◌≡◌, true, take, sym, ap, ◌∙◌}
 use Rattle.map_codec.specs.Fit.{link_follows, IsNamedLink}
 use Rattle.map_codec.specs.ImageReading.{last_of}
 use Rattle.map_codec.proofs.RiseLaws.{rises_on, one_more_of}

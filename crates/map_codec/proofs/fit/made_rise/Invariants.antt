@@ -1,4 +1,3 @@
-use Rattle.std.proofs.Common.{All, take}
 use Rattle.map_codec.specs.Fit.{made_follows}
 use Rattle.map_codec.proofs.RiseLaws.{RisesFrom}
 use Rattle.map_codec.proofs.fit.made_rise.Given as goal

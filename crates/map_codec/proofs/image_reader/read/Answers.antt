@@ -1,4 +1,4 @@
-use Rattle.std.proofs.Common.{◌≡◌, ℕ, List, Result, Ok, Err, subst, arith}
+use Rattle.std.proofs.Common.{ℕ, List, Result, Ok, Err, subst, arith}
 use Rattle.std.specs.Prelude.{IfOk}
 use Rattle.map_codec.specs.declared.fault.ImageFault.{ImageFault}
 use Rattle.map_codec.specs.declared.image.Image.{Image}

@@ -1,8 +1,8 @@
-use Rattle.std.proofs.Common.{◌≡◌, None, Ok, subst, sym}
+use Rattle.std.proofs.Common.{◌≡◌, None, Ok, subst}
 use Rattle.std.proofs.lemmas.Result.{err_from_is_err_and}
 use Rattle.std.specs.Int.{w32}
 use Rattle.map_codec.specs.ImageReading.{Fails, last_of, entry_at, members_at}
-use Rattle.map_codec.proofs.Loop.{Goes, goes_on, ends, is_done}
+use Rattle.map_codec.proofs.Loop.{goes_on, ends, is_done}
 use Rattle.map_codec.proofs.list_reader.each_entry.Goals as goal
 
 pub returns-in_err-entry : goal.returns-in_err-entry

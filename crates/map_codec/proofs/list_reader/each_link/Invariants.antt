@@ -1,5 +1,4 @@
 use Rattle.std.proofs.Common.{None}
-use Rattle.std.specs.Int.{w32}
 use Rattle.map_codec.specs.ImageReading.{link_at, members_at}
 use Rattle.map_codec.proofs.Loop.{Goes}
 use Rattle.map_codec.proofs.list_reader.each_link.Given as goal

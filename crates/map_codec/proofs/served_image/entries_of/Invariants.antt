@@ -1,4 +1,4 @@
-use Rattle.std.proofs.Common.{ℕ, ◌-◌, List}
+use Rattle.std.proofs.Common.{◌-◌, List}
 use Rattle.std.specs.List.{AllByRecursion}
 use Rattle.inode_map.specs.InodeMap.{AreNumbers}
 use Rattle.inode_map.specs.declared.inode_map.Kept.{Kept}
