@@ -1,5 +1,5 @@
 //! Images from outside, each of their cuts and changes, and limits. Where one allocation is refused, the calls that take
-//! memory tell so, and succeed when they are made once more: every test passes under `rt try --test --fail-alloc N`.
+//! memory tell so, and succeed when they are made once more, as under `rt try --test --fail-alloc N`.
 ghost use Rattle.std.specs.Prelude.{IfOk};
 ghost use Rattle.map_codec.specs.Fit.{IsFit};
 
