@@ -1,73 +1,62 @@
 //! Scripts at the bounds of their length and of their manifest's.
 use super::prints;
 use std::alloc::{AllocError, Global};
-use std::io::{self, Write};
 
-const COMMIT: &[u8] = b"commit 0123456789abcdef0123456789abcdef01234567\n";
-
-/// Writes a manifest of so many lines, the commit's with them.
-fn manifest_of(alloc: Global, lines: u32) -> io::Result<Vec<u8>> {
-    let mut text = Vec::from_slice(alloc, COMMIT)?;
+/// Adds the lines of a manifest of so many, the commit's with them.
+fn add_manifest(text: &mut String, lines: u32) -> Result<(), AllocError> {
+    text.push_str("commit 0123456789abcdef0123456789abcdef01234567\n")?;
     for number in 1..lines {
         writeln!(text, "dir {number}")?;
     }
-    Ok(text)
+    Ok(())
 }
 
-/// Returns whether this is printed for a daemon that starts behind a manifest of so many lines.
+/// Returns whether this is printed for a daemon that starts behind a manifest of so many lines. It is run again where
+/// an allocation may have been refused.
 fn starts_behind(alloc: Global, lines: u32, printed: &[u8]) -> bool {
-    match manifest_of(alloc, lines) {
-        Ok(manifest) => prints(alloc, manifest.as_slice(), b"--\nstart\n", printed),
-        Err(_) => false,
-    }
+    starts_once(alloc, lines, printed) || starts_once(alloc, lines, printed)
 }
 
-/// Reads each again where an allocation may have been refused.
+fn starts_once(alloc: Global, lines: u32, printed: &[u8]) -> bool {
+    let mut manifest = String::new(alloc);
+    add_manifest(&mut manifest, lines).is_ok()
+        && prints(alloc, manifest.as_bytes(), b"--\nstart\n", printed)
+}
+
 #[test]
 fn takes_65536_lines_of_a_manifest_and_no_more(rt: HostRuntime) {
-    for (lines, printed) in [
-        (65_536, b"daemon 1\n".as_slice()),
-        (65_537, b"fault: line 65537: TooManyLines\n".as_slice()),
-    ] {
-        let is_so = starts_behind(rt.alloc(), lines, printed)
-            || starts_behind(rt.alloc(), lines, printed);
-        assert!(rt; is_so, "{lines} lines");
-    }
+    assert!(rt; starts_behind(rt.alloc(), 65_536, b"daemon 1\n"));
+    assert!(rt; starts_behind(rt.alloc(), 65_537, b"fault: line 65537: TooManyLines\n"));
 }
 
-/// Writes a line so many times.
-fn times(alloc: Global, line: &[u8], count: u32) -> Result<Vec<u8>, AllocError> {
-    let mut text = Vec::new(alloc);
+/// Adds a line so many times.
+fn add_times(text: &mut String, line: &str, count: u32) -> Result<(), AllocError> {
     for _ in 0..count {
-        text.extend_from_slice(line)?;
+        text.push_str(line)?;
     }
-    Ok(text)
+    Ok(())
 }
 
 /// Returns whether a script of so many bytes in all, with so many lines `show` behind its 51 first, prints this line so
-/// many times.
-fn shows(alloc: Global, bytes: usize, count: u32, line: &[u8], printed: u32) -> bool {
-    match (times(alloc, b"show\n", count), times(alloc, line, printed)) {
-        (Ok(events), Ok(lines)) => {
-            events.len().saturating_add(51) == bytes
-                && prints(alloc, HEAD, events.as_slice(), lines.as_slice())
-        }
-        _ => false,
-    }
+/// many times. It is run again where an allocation may have been refused.
+fn shows(alloc: Global, bytes: usize, count: u32, line: &str, printed: u32) -> bool {
+    shows_once(alloc, bytes, count, line, printed) || shows_once(alloc, bytes, count, line, printed)
+}
+
+fn shows_once(alloc: Global, bytes: usize, count: u32, line: &str, printed: u32) -> bool {
+    let mut events = String::new(alloc);
+    let mut lines = String::new(alloc);
+    add_times(&mut events, "show\n", count).is_ok()
+        && add_times(&mut lines, line, printed).is_ok()
+        && events.len().saturating_add(51) == bytes
+        && prints(alloc, HEAD, events.as_bytes(), lines.as_bytes())
 }
 
 /// A manifest without files, and the line behind it.
 const HEAD: &[u8] = b"commit 0123456789abcdef0123456789abcdef01234567\n--\n";
 
-/// Reads each again where an allocation may have been refused.
 #[test]
 fn takes_1048576_bytes_and_no_more(rt: HostRuntime) {
-    for (bytes, count, line, printed) in [
-        (1_048_576, 209_705, b"seat none\n".as_slice(), 209_705),
-        (1_048_581, 209_706, b"fault: too long\n".as_slice(), 1),
-    ] {
-        let is_so = shows(rt.alloc(), bytes, count, line, printed)
-            || shows(rt.alloc(), bytes, count, line, printed);
-        assert!(rt; is_so, "{bytes} bytes");
-    }
+    assert!(rt; shows(rt.alloc(), 1_048_576, 209_705, "seat none\n", 209_705));
+    assert!(rt; shows(rt.alloc(), 1_048_581, 209_706, "fault: too long\n", 1));
 }

@@ -1,5 +1,6 @@
 //! Worked scripts, each with all that it prints.
 use super::{MANIFEST, prints};
+use std::alloc::Global;
 
 /// The start of a script, its rest, and the printed lines.
 const ROWS: [(&[u8], &[u8], &[u8]); 28] = [
@@ -138,11 +139,17 @@ const ROWS: [(&[u8], &[u8], &[u8]); 28] = [
     (MANIFEST, b"start\n--\n", b"fault: line 8: bad line\n"),
 ];
 
+/// Returns whether each script prints its lines.
+fn all_print_so(alloc: Global) -> bool {
+    for (first, second, lines) in &ROWS {
+        if !prints(alloc, first, second, lines) {
+            return false;
+        }
+    }
+    true
+}
+
 #[test]
 fn prints_what_each_event_did_or_a_fault(rt: HostRuntime) {
-    let mut place = 0u32;
-    for (first, second, lines) in ROWS {
-        assert!(rt; prints(rt.alloc(), first, second, lines), "at {place}");
-        place = place.saturating_add(1);
-    }
+    assert!(rt; all_print_so(rt.alloc()));
 }

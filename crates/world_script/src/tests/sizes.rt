@@ -1,121 +1,131 @@
 //! Scripts beyond the sizes that worked rows have: many daemons, long names, many numbers in deep and wide trees.
 use super::prints;
-use std::alloc::Global;
-use std::io::{self, Write};
-
-const COMMIT: &[u8] = b"commit 0123456789abcdef0123456789abcdef01234567\n";
+use std::alloc::{AllocError, Global};
 
 /// How many directories lie in one another, and how many files in one directory.
 const DEPTH: u32 = 300;
 
 const WIDTH: u32 = 300;
 
+/// What a script has many of.
+#[derive(Clone, Copy)]
+enum Many {
+    Daemons,
+    Directories,
+    Files,
+}
+
 /// A script in two parts, and what it prints.
 #[derive(Drop)]
 struct Long {
-    manifest: Vec<u8>,
-    events: Vec<u8>,
-    lines: Vec<u8>,
+    manifest: String,
+    events: String,
+    lines: String,
 }
 
-impl Long {
-    /// Returns a script without files, and without events behind these.
-    fn new(alloc: Global, events: &[u8], lines: &[u8]) -> io::Result<Long> {
-        Ok(Long {
-            manifest: Vec::from_slice(alloc, COMMIT)?,
-            events: Vec::from_slice(alloc, events)?,
-            lines: Vec::from_slice(alloc, lines)?,
-        })
-    }
+/// Returns whether a script of many prints what it should. It is made again where an allocation may have been refused.
+fn prints_many(alloc: Global, many: Many) -> bool {
+    prints_many_once(alloc, many) || prints_many_once(alloc, many)
+}
 
-    fn prints(&self, alloc: Global) -> bool {
-        prints(
+fn prints_many_once(alloc: Global, many: Many) -> bool {
+    let mut long = Long {
+        manifest: String::new(alloc),
+        events: String::new(alloc),
+        lines: String::new(alloc),
+    };
+    add(&mut long, many).is_ok()
+        && prints(
             alloc,
-            self.manifest.as_slice(),
-            self.events.as_slice(),
-            self.lines.as_slice(),
+            long.manifest.as_bytes(),
+            long.events.as_bytes(),
+            long.lines.as_bytes(),
         )
+}
+
+/// Starts a daemon behind a manifest, and adds many.
+fn add(long: &mut Long, many: Many) -> Result<(), AllocError> {
+    long.manifest
+        .push_str("commit 0123456789abcdef0123456789abcdef01234567\n")?;
+    long.events.push_str("--\nstart\n")?;
+    long.lines.push_str("daemon 1\n")?;
+    match many {
+        Many::Daemons => add_daemons(long),
+        Many::Directories => add_directories(long),
+        Many::Files => add_files(long),
     }
 }
 
-/// The lines that start a daemon and mount it, and what they print.
-const MOUNT: &[u8] = b"--\nstart\nmount 1\n";
-
-const MOUNTED: &[u8] = b"daemon 1\nmounted 1\n";
-
-/// Returns the script that starts a daemon more than there may be.
-fn daemons(alloc: Global) -> io::Result<Long> {
-    let mut long = Long::new(alloc, b"--\n", b"")?;
-    for daemon in 1..1025u32 {
-        long.events.write_all(b"start\n")?;
+/// Starts a daemon more than there may be.
+fn add_daemons(long: &mut Long) -> Result<(), AllocError> {
+    for daemon in 2..1025u32 {
+        long.events.push_str("start\n")?;
         writeln!(long.lines, "daemon {daemon}")?;
     }
-    long.events.write_all(b"start\nmount 1024\nstart\n")?;
+    long.events.push_str("start\nmount 1024\nstart\n")?;
     long.lines
-        .write_all(b"refused Full\nmounted 1\nrefused Full\n")?;
-    Ok(long)
+        .push_str("refused Full\nmounted 1\nrefused Full\n")
 }
 
 #[test]
 fn starts_1024_daemons_and_no_more(rt: HostRuntime) {
-    let is_so = matches!(daemons(rt.alloc()), Ok(long) if long.prints(rt.alloc()))
-        || matches!(daemons(rt.alloc()), Ok(long) if long.prints(rt.alloc()));
-    assert!(rt; is_so);
+    assert!(rt; prints_many(rt.alloc(), Many::Daemons));
 }
 
-/// Returns the script that looks directories in one another up, and forgets them from the top: each but the last is
-/// kept for the one below it, and with the last all leave.
-fn deep(alloc: Global) -> io::Result<Long> {
-    let mut long = Long::new(alloc, MOUNT, MOUNTED)?;
-    let mut path = String::from_str(alloc, "d")?;
+/// Looks directories in one another up, and forgets them from the top: each but the last is kept for the one below it,
+/// and with the last all leave.
+fn add_directories(long: &mut Long) -> Result<(), AllocError> {
+    long.events.push_str("mount 1\n")?;
+    long.lines.push_str("mounted 1\n")?;
     for depth in 1..DEPTH + 1 {
-        writeln!(long.manifest, "dir {path}")?;
-        path.push_str("/d")?;
-        writeln!(long.events, "do lookup {depth} d")?;
-        let number = depth + 1;
-        writeln!(long.lines, "answer {depth} entry {number} dir 0755 0 2")?;
+        add_directory(long, depth)?;
     }
-    forget_deep(&mut long)?;
-    Ok(long)
-}
-
-fn forget_deep(long: &mut Long) -> io::Result<()> {
     for number in 2..DEPTH + 1 {
         writeln!(long.events, "do forget {number} 1")?;
-        long.lines.write_all(b"forgot Lowered\n")?;
+        long.lines.push_str("forgot Lowered\n")?;
     }
-    long.events.write_all(b"do forget 301 1\nshow\n")?;
-    long.lines.write_all(b"forgot Dropped\nseat 1 1 next 302\n")
+    long.events.push_str("do forget 301 1\nshow\n")?;
+    long.lines.push_str("forgot Dropped\nseat 1 1 next 302\n")
+}
+
+/// Looks the directory at a depth up, whose path is `d` so many times.
+fn add_directory(long: &mut Long, depth: u32) -> Result<(), AllocError> {
+    long.manifest.push_str("dir d")?;
+    for _ in 1..depth {
+        long.manifest.push_str("/d")?;
+    }
+    long.manifest.push_str("\n")?;
+    writeln!(long.events, "do lookup {depth} d")?;
+    let number = depth.saturating_add(1);
+    writeln!(long.lines, "answer {depth} entry {number} dir 0755 0 2")
 }
 
 #[test]
 fn keeps_300_directories_for_the_one_below(rt: HostRuntime) {
-    let is_so = matches!(deep(rt.alloc()), Ok(long) if long.prints(rt.alloc()))
-        || matches!(deep(rt.alloc()), Ok(long) if long.prints(rt.alloc()));
-    assert!(rt; is_so);
+    assert!(rt; prints_many(rt.alloc(), Many::Directories));
 }
 
-/// Returns the script that looks files with names of 255 bytes up, shows them, and forgets them.
-fn wide(alloc: Global) -> io::Result<Long> {
-    let mut long = Long::new(alloc, MOUNT, MOUNTED)?;
+/// Looks files with names of 255 bytes up, shows them, and forgets them.
+fn add_files(long: &mut Long) -> Result<(), AllocError> {
+    long.events.push_str("mount 1\n")?;
+    long.lines.push_str("mounted 1\n")?;
     for file in 0..WIDTH {
-        add_file(&mut long, file)?;
+        add_file(long, file)?;
     }
-    long.events.write_all(b"show\n")?;
-    long.lines.write_all(b"seat 1 1 next 302\n")?;
+    long.events.push_str("show\n")?;
+    long.lines.push_str("seat 1 1 next 302\n")?;
     for file in 0..WIDTH {
-        show_file(&mut long, file)?;
+        show_file(long, file)?;
     }
     for file in 0..WIDTH {
-        forget_file(&mut long, file)?;
+        forget_file(long, file)?;
     }
-    long.events.write_all(b"show\n")?;
-    long.lines.write_all(b"seat 1 1 next 302\n")?;
-    Ok(long)
+    long.events.push_str("show\n")?;
+    long.lines.push_str("seat 1 1 next 302\n")
 }
 
 /// Looks a file up, whose name is its number with letters in front.
-fn add_file(long: &mut Long, file: u32) -> io::Result<()> {
+fn add_file(long: &mut Long, file: u32) -> Result<(), AllocError> {
     writeln!(long.manifest, "file 0644 1 {file:n>255}")?;
     writeln!(long.events, "do lookup 1 {file:n>255}")?;
     let unique = file.saturating_add(1);
@@ -124,7 +134,7 @@ fn add_file(long: &mut Long, file: u32) -> io::Result<()> {
 }
 
 /// Shows a file.
-fn show_file(long: &mut Long, file: u32) -> io::Result<()> {
+fn show_file(long: &mut Long, file: u32) -> Result<(), AllocError> {
     let number = file.saturating_add(2);
     writeln!(
         long.lines,
@@ -133,15 +143,13 @@ fn show_file(long: &mut Long, file: u32) -> io::Result<()> {
 }
 
 /// Forgets a file.
-fn forget_file(long: &mut Long, file: u32) -> io::Result<()> {
+fn forget_file(long: &mut Long, file: u32) -> Result<(), AllocError> {
     let number = file.saturating_add(2);
     writeln!(long.events, "do forget {number} 1")?;
-    long.lines.write_all(b"forgot Dropped\n")
+    long.lines.push_str("forgot Dropped\n")
 }
 
 #[test]
 fn gives_300_files_with_names_of_255_bytes(rt: HostRuntime) {
-    let is_so = matches!(wide(rt.alloc()), Ok(long) if long.prints(rt.alloc()))
-        || matches!(wide(rt.alloc()), Ok(long) if long.prints(rt.alloc()));
-    assert!(rt; is_so);
+    assert!(rt; prints_many(rt.alloc(), Many::Files));
 }

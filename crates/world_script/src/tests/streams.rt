@@ -53,17 +53,13 @@ fn after_text(after: AfterText, buf: &mut [u8]) -> io::Result<usize>
     }
 }
 
-/// What follows the text, what comes of it, and after how many reads. Those of the text are 229; then come 64 of
-/// 16,384 bytes, as many as may be, or one.
-const ENDS: [(AfterText, Result<(), Fault>, usize); 4] = [
-    (AfterText::Ends, Ok(()), 230),
-    (AfterText::Fails, Err(Fault::CannotRead), 230),
-    (AfterText::GivesLf, Err(Fault::TooLong), 293),
-    (AfterText::IsInterrupted, Err(Fault::CannotRead), 2_097_152),
-];
-
-/// Returns whether this comes of a reader that goes on so, after so many reads, with nothing written.
+/// Returns whether this comes of a reader that goes on so, after so many reads, with nothing written. It is run again
+/// where an allocation may have been refused.
 fn reads_so(alloc: Global, after: AfterText, want: Result<(), Fault>, reads: usize) -> bool {
+    reads_once(alloc, after, want, reads) || reads_once(alloc, after, want, reads)
+}
+
+fn reads_once(alloc: Global, after: AfterText, want: Result<(), Fault>, reads: usize) -> bool {
     let mut reader = Stutter {
         rest: MANIFEST,
         after,
@@ -74,14 +70,14 @@ fn reads_so(alloc: Global, after: AfterText, want: Result<(), Fault>, reads: usi
     ran == want && reader.reads == reads && out.writes == 0
 }
 
-/// Reads each again where an allocation may have been refused.
+/// The reads of the text are 229; then come 64 of 16,384 bytes, as many as may be, or one.
 #[test]
 fn reads_to_the_end_and_no_further(rt: HostRuntime) {
-    for (after, want, reads) in ENDS {
-        let is_so = reads_so(rt.alloc(), after, want, reads)
-            || reads_so(rt.alloc(), after, want, reads);
-        assert!(rt; is_so, "{reads} reads");
-    }
+    let unread = Err(Fault::CannotRead);
+    assert!(rt; reads_so(rt.alloc(), AfterText::Ends, Ok(()), 230));
+    assert!(rt; reads_so(rt.alloc(), AfterText::Fails, unread, 230));
+    assert!(rt; reads_so(rt.alloc(), AfterText::GivesLf, Err(Fault::TooLong), 293));
+    assert!(rt; reads_so(rt.alloc(), AfterText::IsInterrupted, unread, 2_097_152));
 }
 
 /// A writer that takes so many bytes, and counts its writes.
@@ -111,8 +107,13 @@ impl Write for Full {
 const THREE_LINES: &[u8] =
     b"commit 0123456789abcdef0123456789abcdef01234567\n--\nstart\nmount 1\nshow\n";
 
-/// Returns whether this comes of a writer that takes so many bytes, after so many writes.
+/// Returns whether this comes of a writer that takes so many bytes, after so many writes. It is run again where an
+/// allocation may have been refused.
 fn writes_so(alloc: Global, room: usize, want: Result<(), Fault>, writes: u32) -> bool {
+    writes_once(alloc, room, want, writes) || writes_once(alloc, room, want, writes)
+}
+
+fn writes_once(alloc: Global, room: usize, want: Result<(), Fault>, writes: u32) -> bool {
     let mut reader = THREE_LINES;
     let Ok(mut out) = BufWriter::new(alloc, Full { room, writes: 0 }) else {
         return false;
@@ -121,16 +122,10 @@ fn writes_so(alloc: Global, room: usize, want: Result<(), Fault>, writes: u32) -
     ran == want && out.get_ref().writes == writes
 }
 
-/// Writes each again where an allocation may have been refused.
 #[test]
 fn writes_all_lines_at_once_or_tells_that_it_cannot(rt: HostRuntime) {
-    for (room, want, writes) in [
-        (0, Err(Fault::CannotWrite), 1),
-        (34, Err(Fault::CannotWrite), 2),
-        (35, Ok(()), 1),
-    ] {
-        let is_so = writes_so(rt.alloc(), room, want, writes)
-            || writes_so(rt.alloc(), room, want, writes);
-        assert!(rt; is_so, "at {room}");
-    }
+    let unwritten = Err(Fault::CannotWrite);
+    assert!(rt; writes_so(rt.alloc(), 0, unwritten, 1));
+    assert!(rt; writes_so(rt.alloc(), 34, unwritten, 2));
+    assert!(rt; writes_so(rt.alloc(), 35, Ok(()), 1));
 }
