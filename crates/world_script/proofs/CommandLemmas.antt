@@ -6,7 +6,7 @@ use Rattle.std.specs.Borrow.{Bor}
 use Rattle.clap.specs.Words.{App, Row, Text, app_of, first_of}
 use Rattle.clap.specs.Simple.{app_of_fields}
 use Rattle.clap.specs.declared.builder.command.Command.{Command, out-Command}
-use Rattle.world_script.specs.CommandLine.{script_in, standard_input}
+use Rattle.world_script.specs.CommandLine.{limit_in, limit_of, script_in, standard_input}
 
 -- the same command, with a version
 abbrev pub with_version : App → App
@@ -40,6 +40,17 @@ script_in-world (Some sub) rows name is =
     world_or_none true sub ((bytes_eq-Decides sub.0 (codes "world")).1 name_is)
     ∙ ap (λ (r : List Row). unwrap_or (first_of (codes "SCRIPT") r) standard_input) rows_are
 
+limit_or_none : (equal : Bool) (sub : Text × List Row) → bytes_eq sub.0 (codes "world") ≡ equal → limit_in (Some sub) ≡ (if equal then limit_of (first_of (codes "limit") sub.1) else 1024)
+limit_or_none equal sub is = ap (λ (b : Bool). if b then limit_of (first_of (codes "limit") sub.1) else 1024) is
+
+pub limit_in-world : (sub : Option (Text × List Row)) (rows : List Row) → option_map (λ (p : Text × List Row). p.0) sub ≡ Some (codes "world") → option_map (λ (p : Text × List Row). p.1) sub ≡ Some rows →
+    limit_in sub ≡ limit_of (first_of (codes "limit") rows)
+limit_in-world None rows name is = cc
+limit_in-world (Some sub) rows name is =
+    let name_is : sub.0 ≡ codes "world" = cc in
+    let rows_are : sub.1 ≡ rows = cc in
+    limit_or_none true sub ((bytes_eq-Decides sub.0 (codes "world")).1 name_is) ∙ ap (λ (r : List Row). limit_of (first_of (codes "limit") r)) rows_are
+
 -- another command or none was read
 pub script_in-other : (sub : Option (Text × List Row)) → (option_map (λ (p : Text × List Row). p.0) sub ≡ Some (codes "world") → ⊥) → script_in sub ≡ standard_input
 script_in-other None other = refl
@@ -48,6 +59,14 @@ script_in-other (Some sub) other = go (bytes_eq sub.0 (codes "world")) refl
     go : (equal : Bool) → bytes_eq sub.0 (codes "world") ≡ equal → script_in (Some sub) ≡ standard_input
     go true is = absurd (other (ap (λ (t : Text). Some t) ((bytes_eq-Decides sub.0 (codes "world")).0 is)))
     go false is = world_or_none false sub is
+
+pub limit_in-other : (sub : Option (Text × List Row)) → (option_map (λ (p : Text × List Row). p.0) sub ≡ Some (codes "world") → ⊥) → limit_in sub ≡ 1024
+limit_in-other None other = refl
+limit_in-other (Some sub) other = go (bytes_eq sub.0 (codes "world")) refl
+  where
+    go : (equal : Bool) → bytes_eq sub.0 (codes "world") ≡ equal → limit_in (Some sub) ≡ 1024
+    go true is = absurd (other (ap (λ (t : Text). Some t) ((bytes_eq-Decides sub.0 (codes "world")).0 is)))
+    go false is = limit_or_none false sub is
 
 -- two maps of an option are one
 pub option_map_twice : {A B C : Type 0} (f : B → C) (g : A → B) (o : Option A) → option_map f (option_map g o) ≡ option_map (λ x. f (g x)) o

@@ -29,61 +29,61 @@ is_fault-shown [] script (inr none) = absurd none
 is_fault-shown (kind ∷ more) script asks = inr refl
 
 -- a fault that is told ends the program so
-pub ends-told : (wrong : Kinds) (script before after : Option (List ℕ)) (fault : Fault) (ending : Ending) → IsFault wrong script fault → Tells fault before after ending → Ends wrong script before after ending
-ends-told wrong script before after fault (Told told) is (same, line) =
+pub ends-told : (wrong : Kinds) (script : Option (List ℕ)) (limit : ℕ) (before after : Option (List ℕ)) (fault : Fault) (ending : Ending) → IsFault wrong script fault → Tells fault before after ending → Ends wrong script limit before after ending
+ends-told wrong script limit before after fault (Told told) is (same, line) =
     subst (λ (f : Fault). IsFault wrong script f × (comes_first f ≡ true → Appends before after (fault_line f))) (sym same) (is, λ first. line)
-ends-told wrong script before after fault (Untold told) is same = subst (λ (f : Fault). IsFault wrong script f) (sym same) is
-ends-told wrong script before after fault Ran is none = absurd none
-ends-told wrong script before after fault Shown is none = absurd none
-ends-told wrong script before after fault Refused is none = absurd none
+ends-told wrong script limit before after fault (Untold told) is same = subst (λ (f : Fault). IsFault wrong script f) (sym same) is
+ends-told wrong script limit before after fault Ran is none = absurd none
+ends-told wrong script limit before after fault Shown is none = absurd none
+ends-told wrong script limit before after fault Refused is none = absurd none
 
-ends-shown : (wrong : Kinds) (script before after : Option (List ℕ)) (ending : Ending) → AskToShow wrong → Shows ending → Ends wrong script before after ending
-ends-shown wrong script before after Shown asks shows = asks
-ends-shown wrong script before after (Untold fault) asks is = subst (λ (f : Fault). IsFault wrong script f) (sym is) (is_fault-shown wrong script asks)
-ends-shown wrong script before after Ran asks none = absurd none
-ends-shown wrong script before after (Told fault) asks none = absurd none
-ends-shown wrong script before after Refused asks none = absurd none
+ends-shown : (wrong : Kinds) (script : Option (List ℕ)) (limit : ℕ) (before after : Option (List ℕ)) (ending : Ending) → AskToShow wrong → Shows ending → Ends wrong script limit before after ending
+ends-shown wrong script limit before after Shown asks shows = asks
+ends-shown wrong script limit before after (Untold fault) asks is = subst (λ (f : Fault). IsFault wrong script f) (sym is) (is_fault-shown wrong script asks)
+ends-shown wrong script limit before after Ran asks none = absurd none
+ends-shown wrong script limit before after (Told fault) asks none = absurd none
+ends-shown wrong script limit before after Refused asks none = absurd none
 
-ends-refused : (wrong : Kinds) (script before after : Option (List ℕ)) (mistake : ErrorKind) (ending : Ending) → IsAmong mistake wrong → IsMistake mistake → ending ≡ Refused → Ends wrong script before after ending
-ends-refused wrong script before after mistake ending among is same = subst (λ (e : Ending). Ends wrong script before after e) (sym same) (mistake, among, is)
+ends-refused : (wrong : Kinds) (script : Option (List ℕ)) (limit : ℕ) (before after : Option (List ℕ)) (mistake : ErrorKind) (ending : Ending) → IsAmong mistake wrong → IsMistake mistake → ending ≡ Refused → Ends wrong script limit before after ending
+ends-refused wrong script limit before after mistake ending among is same = subst (λ (e : Ending). Ends wrong script limit before after e) (sym same) (mistake, among, is)
 
 -- words that ask for no script end by the kind of what is wrong with them
-pub ends-answered : (wrong : Kinds) (script before after : Option (List ℕ)) (k : ErrorKind) (ending : Ending) → (k ≡ kind.OutOfMemory) ⊎ IsAmong k wrong → Answers k before after ending → Ends wrong script before after ending
-ends-answered wrong script before after kind.OutOfMemory ending has told = ends-told wrong script before after NoMemory ending (is_fault-memory wrong script) told
-ends-answered wrong script before after kind.DisplayHelp ending (inl is) shows = let none : ⊥ = cc in absurd none
-ends-answered wrong script before after kind.DisplayHelp ending (inr among) shows = ends-shown wrong script before after ending (inl among) shows
-ends-answered wrong script before after kind.DisplayVersion ending (inl is) shows = let none : ⊥ = cc in absurd none
-ends-answered wrong script before after kind.DisplayVersion ending (inr among) shows = ends-shown wrong script before after ending (inr among) shows
-ends-answered wrong script before after k ending (inl is) refused = let none : ⊥ = cc in absurd none
-ends-answered wrong script before after k ending (inr among) refused = ends-refused wrong script before after k ending among tt refused
+pub ends-answered : (wrong : Kinds) (script : Option (List ℕ)) (limit : ℕ) (before after : Option (List ℕ)) (k : ErrorKind) (ending : Ending) → (k ≡ kind.OutOfMemory) ⊎ IsAmong k wrong → Answers k before after ending → Ends wrong script limit before after ending
+ends-answered wrong script limit before after kind.OutOfMemory ending has told = ends-told wrong script limit before after NoMemory ending (is_fault-memory wrong script) told
+ends-answered wrong script limit before after kind.DisplayHelp ending (inl is) shows = let none : ⊥ = cc in absurd none
+ends-answered wrong script limit before after kind.DisplayHelp ending (inr among) shows = ends-shown wrong script limit before after ending (inl among) shows
+ends-answered wrong script limit before after kind.DisplayVersion ending (inl is) shows = let none : ⊥ = cc in absurd none
+ends-answered wrong script limit before after kind.DisplayVersion ending (inr among) shows = ends-shown wrong script limit before after ending (inr among) shows
+ends-answered wrong script limit before after k ending (inl is) refused = let none : ⊥ = cc in absurd none
+ends-answered wrong script limit before after k ending (inr among) refused = ends-refused wrong script limit before after k ending among tt refused
 
 -- a script that was run may stay unwritten
-is_fault-ran : (wrong : Kinds) (script before after : Option (List ℕ)) → Ends wrong script before after Ran → IsFault wrong script CannotWrite
-is_fault-ran [] None before after ran = tt
-is_fault-ran [] (Some bytes) before after ran = let (none, runs) = ran in runs.good
-is_fault-ran (kind ∷ more) script before after ran = let none : ⊥ = cc in absurd none
+is_fault-ran : (wrong : Kinds) (script : Option (List ℕ)) (limit : ℕ) (before after : Option (List ℕ)) → Ends wrong script limit before after Ran → IsFault wrong script CannotWrite
+is_fault-ran [] None limit before after ran = tt
+is_fault-ran [] (Some bytes) limit before after ran = let (none, runs) = ran in runs.good
+is_fault-ran (kind ∷ more) script limit before after ran = let none : ⊥ = cc in absurd none
 
-ends-unwritten : (wrong : Kinds) (script before between after : Option (List ℕ)) (ending : Ending) → Ends wrong script before between ending → Ends wrong script before after (unwritten ending)
-ends-unwritten wrong script before between after Ran ends = is_fault-ran wrong script before between ends
-ends-unwritten wrong script before between after (Told fault) ends = ends.0
-ends-unwritten wrong script before between after (Untold fault) ends = ends
-ends-unwritten wrong script before between after Shown ends = is_fault-shown wrong script ends
-ends-unwritten wrong script before between after Refused ends = ends
+ends-unwritten : (wrong : Kinds) (script : Option (List ℕ)) (limit : ℕ) (before between after : Option (List ℕ)) (ending : Ending) → Ends wrong script limit before between ending → Ends wrong script limit before after (unwritten ending)
+ends-unwritten wrong script limit before between after Ran ends = is_fault-ran wrong script limit before between ends
+ends-unwritten wrong script limit before between after (Told fault) ends = ends.0
+ends-unwritten wrong script limit before between after (Untold fault) ends = ends
+ends-unwritten wrong script limit before between after Shown ends = is_fault-shown wrong script ends
+ends-unwritten wrong script limit before between after Refused ends = ends
 
-runs-kept : (script : Option (List ℕ)) (before between after : Option (List ℕ)) → IfSome script (λ bytes. Runs bytes 1024 before between) → Keeps between after → IfSome script (λ bytes. Runs bytes 1024 before after)
-runs-kept None before between after runs kept = tt
-runs-kept (Some bytes) before between after runs kept = Runs-kept bytes 1024 before between after runs kept
+runs-kept : (script : Option (List ℕ)) (limit : ℕ) (before between after : Option (List ℕ)) → IfSome script (λ bytes. Runs bytes limit before between) → Keeps between after → IfSome script (λ bytes. Runs bytes limit before after)
+runs-kept None limit before between after runs kept = tt
+runs-kept (Some bytes) limit before between after runs kept = Runs-kept bytes limit before between after runs kept
 
-ends-kept : (wrong : Kinds) (script before between after : Option (List ℕ)) (ending : Ending) → Ends wrong script before between ending → Keeps between after → Ends wrong script before after ending
-ends-kept wrong script before between after Ran (none, runs) kept = (none, runs-kept script before between after runs kept)
-ends-kept wrong script before between after (Told fault) (is, line) kept = (is, λ first. Appends-kept before between after (fault_line fault) (line first) kept)
-ends-kept wrong script before between after (Untold fault) ends kept = ends
-ends-kept wrong script before between after Shown ends kept = ends
-ends-kept wrong script before between after Refused ends kept = ends
+ends-kept : (wrong : Kinds) (script : Option (List ℕ)) (limit : ℕ) (before between after : Option (List ℕ)) (ending : Ending) → Ends wrong script limit before between ending → Keeps between after → Ends wrong script limit before after ending
+ends-kept wrong script limit before between after Ran (none, runs) kept = (none, runs-kept script limit before between after runs kept)
+ends-kept wrong script limit before between after (Told fault) (is, line) kept = (is, λ first. Appends-kept before between after (fault_line fault) (line first) kept)
+ends-kept wrong script limit before between after (Untold fault) ends kept = ends
+ends-kept wrong script limit before between after Shown ends kept = ends
+ends-kept wrong script limit before between after Refused ends kept = ends
 
 -- the end stays what it is once all is written, or says that it could not be
-pub ends-finished : (wrong : Kinds) (script before between after : Option (List ℕ)) (ending new : Ending) → Ends wrong script before between ending → Finishes ending between after new → Ends wrong script before after new
-ends-finished wrong script before between after ending new ends (inl (same, kept)) =
-    subst (λ (e : Ending). Ends wrong script before after e) (sym same) (ends-kept wrong script before between after ending ends kept)
-ends-finished wrong script before between after ending new ends (inr same) =
-    subst (λ (e : Ending). Ends wrong script before after e) (sym same) (ends-unwritten wrong script before between after ending ends)
+pub ends-finished : (wrong : Kinds) (script : Option (List ℕ)) (limit : ℕ) (before between after : Option (List ℕ)) (ending new : Ending) → Ends wrong script limit before between ending → Finishes ending between after new → Ends wrong script limit before after new
+ends-finished wrong script limit before between after ending new ends (inl (same, kept)) =
+    subst (λ (e : Ending). Ends wrong script limit before after e) (sym same) (ends-kept wrong script limit before between after ending ends kept)
+ends-finished wrong script limit before between after ending new ends (inr same) =
+    subst (λ (e : Ending). Ends wrong script limit before after e) (sym same) (ends-unwritten wrong script limit before between after ending ends)

@@ -1,7 +1,6 @@
 -- What words that name a script plainly are read as.
 use Rattle.std.proofs.Common.{◌≡◌, ◌==◌, ℕ, Bool, true, false, List, [], ◌∷◌, Option, Some, None, if◌then◌else◌, refl, ap, ap₂, subst, sym, ◌∙◌, codes, unwrap_or, find, arith, Result, Ok, Err, inl, inr}
 use Rattle.std.specs.Prelude.{IsErr, MatchResult}
-use Rattle.std.specs.Borrow.{Bor}
 use Rattle.clap.specs.declared.error.Error.{Error}
 use Rattle.clap.specs.declared.error.kind.ErrorKind.TheVariants as kind
 use Rattle.std.proofs.lemmas.Bool.Decides.{nat_tests}
@@ -154,10 +153,10 @@ plainly (program ∷ command ∷ word ∷ []) script named =
 plainly (program ∷ command ∷ word ∷ x ∷ more) script named = absurd named
 
 -- an error where nothing is wrong is want of memory
-pub only_memory : (result : Result (Bor Text) Error) (wrong : Kinds) (script : Text) → wrong ≡ [] → IsErr result → FailsBy wrong result →
-    MatchResult result (λ named. named.now ≡ script) (λ error. kind_of error ≡ kind.OutOfMemory)
-only_memory (Ok named) wrong script none refused fails = cc
-only_memory (Err error) wrong script none refused fails = elim (subst (λ (w : Kinds). HasKind w error) none fails) [
+pub only_memory : {A : Type 0} (script_of : A → Text) (result : Result A Error) (wrong : Kinds) (script : Text) → wrong ≡ [] → IsErr result → FailsBy wrong result →
+    MatchResult result (λ asked. script_of asked ≡ script) (λ error. kind_of error ≡ kind.OutOfMemory)
+only_memory script_of (Ok asked) wrong script none refused fails = cc
+only_memory script_of (Err error) wrong script none refused fails = elim (subst (λ (w : Kinds). HasKind w error) none fails) [
   | inl memory ↦ memory
   | inr among ↦ absurd among
 ]

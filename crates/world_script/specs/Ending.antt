@@ -72,17 +72,17 @@ abbrev pub IsFault : Kinds → Option (List ℕ) → Fault → Type 0
 IsFault [] script fault = IfSome script (λ bytes. IsRunRefusal bytes fault)
 IsFault (wrong ∷ more) script fault = (fault ≡ NoMemory) ⊎ (fault ≡ CannotWrite)
 
--- How words end, by the kinds of what is wrong with them and by the script that they name.
-abbrev pub Ends : Kinds → Option (List ℕ) → Option (List ℕ) → Option (List ℕ) → Ending → Type 0
+-- How words end, by the kinds of what is wrong with them, by the script that they name and by their limit.
+abbrev pub Ends : Kinds → Option (List ℕ) → ℕ → Option (List ℕ) → Option (List ℕ) → Ending → Type 0
 -- nothing is wrong with the words, and the script was run with all of its lines written
-Ends wrong script before after Ran = (wrong ≡ []) × IfSome script (λ bytes. Runs bytes 1024 before after)
+Ends wrong script limit before after Ran = (wrong ≡ []) × IfSome script (λ bytes. Runs bytes limit before after)
 -- the fault's line is all that was written, unless lines could not be
-Ends wrong script before after (Told fault) =
+Ends wrong script limit before after (Told fault) =
     IsFault wrong script fault × (comes_first fault ≡ true → Appends before after (fault_line fault))
-Ends wrong script before after (Untold fault) = IsFault wrong script fault
-Ends wrong script before after Shown = AskToShow wrong
+Ends wrong script limit before after (Untold fault) = IsFault wrong script fault
+Ends wrong script limit before after Shown = AskToShow wrong
 -- something is wrong with the words, and it is no wish for help or the version
-Ends wrong script before after Refused = (mistake : ErrorKind) × IsAmong mistake wrong × IsMistake mistake
+Ends wrong script limit before after Refused = (mistake : ErrorKind) × IsAmong mistake wrong × IsMistake mistake
 
 -- how words end that could not be had
 abbrev pub EndsUnread : IoErrorKind → Option (List ℕ) → Option (List ℕ) → Ending → Type 0

@@ -1,8 +1,12 @@
 //! The words that the program is started with.
-ghost use Rattle.std.specs.Prelude.{◌≡◌, map, IfOk, MatchResult, string_bytes};
-ghost use Rattle.clap.specs.Words.{FailsBy, app_of, fault_of, kind_of, subcommand_rows_of};
-ghost use Rattle.world_script.specs.CommandLine.{NamesPlainly, edend_app, script_in, script_named};
+ghost use Rattle.std.specs.Prelude.{◌≡◌, false, map, IfOk, MatchResult, string_bytes};
+ghost use Rattle.std.specs.Option.{option_map};
+ghost use Rattle.clap.specs.Words.{FailsBy, app_of, fault_of, kind_of, rule_of, subcommand_rows_of};
+ghost use Rattle.world_script.specs.CommandLine.{NamesPlainly, edend_app, limit_in, limit_named, limit_of, limit_rule, script_in, script_named, script_rule};
 
+use crate::DEFAULT_LIMIT;
+use crate::number::number;
+use clap::builder::ValueParser;
 use clap::error::ErrorKind;
 use clap::{Arg, ArgAction, ArgMatches, Command, Error};
 use std::alloc::{AllocError, Global};
@@ -10,6 +14,12 @@ use std::alloc::{AllocError, Global};
 const WORLD: &str = "world";
 
 const SCRIPT: &str = "SCRIPT";
+
+const LIMIT: &str = "limit";
+
+const LEAST_LIMIT: u64 = 1;
+
+const GREATEST_LIMIT: u64 = 65_536;
 
 /// What the help of `world` ends with.
 const WORLD_HELP: &str = "\
@@ -21,19 +31,32 @@ Exit status:
   1  a fault, told by a line 'fault: TEXT' on standard output
   2  the command line was refused";
 
-/// Returns the script that the words name: `-` is standard input, and is meant where they name none. The first word is
-/// the program's name.
-pub fn script_of<'a>(alloc: Global, words: &'a [String]) -> Result<&'a str, Error>
-    ensures script { IfOk result (λ script.
-        script.now ≡ script_named (map string_bytes words.now)) }
+/// What the words ask for.
+#[derive(Drop)]
+pub struct Asked<'a> {
+    /// The path of a script, or `-` for standard input.
+    pub script: &'a str,
+    /// How many files a daemon keeps loaded.
+    pub limit: usize,
+}
+
+/// Returns what the words ask for: standard input is meant where they name no script. The first word is the program's
+/// name.
+pub fn asked_of<'a>(alloc: Global, words: &'a [String]) -> Result<Asked<'a>, Error>
+    ensures script { IfOk result (λ asked.
+        asked.script.now ≡ script_named (map string_bytes words.now)) }
+    ensures limit { IfOk result (λ asked. asked.limit ≡ limit_named (map string_bytes words.now)) }
     ensures plain { (script : _) → NamesPlainly (map string_bytes words.now) script
-        → MatchResult result (λ named. named.now ≡ script)
+        → MatchResult result (λ asked. asked.script.now ≡ script)
         (λ error. kind_of error ≡ ErrorKind.OutOfMemory) }
     ensures refused { FailsBy (fault_of edend_app (map string_bytes words.now)) result }
 {
     let command = edend_command(alloc)?;
     let matches = command.try_get_matches_from(words)?;
-    Ok(script_in(&matches))
+    Ok(Asked {
+        script: script_in(&matches),
+        limit: limit_in(&matches),
+    })
 }
 
 /// Returns the script of the command that the words have.
@@ -43,6 +66,33 @@ fn script_in<'a>(matches: &ArgMatches<'a>) -> &'a str
     match matches.subcommand_matches(WORLD) {
         Some(world) => world.get_str(SCRIPT).unwrap_or("-"),
         None => "-",
+    }
+}
+
+/// Returns the limit of the command that the words have.
+fn limit_in(matches: &ArgMatches<'_>) -> usize
+    ensures { result ≡ limit_in (subcommand_rows_of matches.now) }
+{
+    match matches.subcommand_matches(WORLD) {
+        Some(world) => limit_of(world.get_str(LIMIT)),
+        None => DEFAULT_LIMIT,
+    }
+}
+
+/// Returns the limit that a word writes. A sign may stand in front, as `clap` has it.
+fn limit_of(word: Option<&str>) -> usize
+    ensures { result ≡ limit_of (option_map (λ w. w.now) word.entry) }
+{
+    let Some(word) = word else {
+        return DEFAULT_LIMIT;
+    };
+    let digits = match word.as_bytes() {
+        [b'+', digits @ ..] => digits,
+        digits => digits,
+    };
+    match number(digits) {
+        Some(limit) => limit as usize,
+        None => DEFAULT_LIMIT,
     }
 }
 
@@ -57,18 +107,40 @@ pub fn not_text(alloc: Global) -> Result<Error, AllocError>
     command.error(ErrorKind::InvalidValue, NOT_TEXT)
 }
 
+/// Returns the word that names a script.
+fn script_arg<'a>(alloc: Global) -> Arg<'a>
+    ensures rule { rule_of result ≡ script_rule }
+    ensures own { result.global ≡ false }
+{
+    Arg::new(alloc, SCRIPT)
+        .help("The script, or - for standard input")
+        .required(true)
+        .action(ArgAction::Set)
+}
+
+/// Returns the option of how many files are loaded.
+fn limit_arg<'a>(alloc: Global) -> Arg<'a>
+    ensures rule { rule_of result ≡ limit_rule }
+    ensures own { result.global ≡ false }
+{
+    Arg::new(alloc, LIMIT)
+        .long(LIMIT)
+        .value_name("N")
+        .help("How many files a daemon keeps loaded, from 1 to 65536")
+        .value_parser(ValueParser::unsigned(LEAST_LIMIT, GREATEST_LIMIT))
+        .default_value("1024")
+        .action(ArgAction::Set)
+}
+
 /// Returns the words that the program takes, as `clap` reads them.
 fn edend_command<'a>(alloc: Global) -> Result<Command<'a>, AllocError>
     ensures { IfOk result (λ command. app_of command ≡ edend_app) }
 {
-    let script = Arg::new(alloc, SCRIPT)
-        .help("The script, or - for standard input")
-        .required(true)
-        .action(ArgAction::Set);
     let world = Command::new(alloc, WORLD)
         .about("Runs a script: a manifest, a line --, and lines of events")
         .after_help(WORLD_HELP)
-        .arg(script)?;
+        .arg(script_arg(alloc))?
+        .arg(limit_arg(alloc))?;
     Command::new(alloc, "edend")
         .version("0.1.0")
         .about(

@@ -3,11 +3,11 @@ ghost use Rattle.std.specs.Prelude.{◌≡◌, [], map, MatchResult, string_byte
 ghost use Rattle.std.specs.Io.Buffered.{writer_contents};
 ghost use Rattle.std.specs.IoError.{error_kind};
 ghost use Rattle.clap.specs.Words.{fault_of, kind_of};
-ghost use Rattle.world_script.specs.CommandLine.{edend_app, script_named};
+ghost use Rattle.world_script.specs.CommandLine.{edend_app, limit_named, script_named};
 ghost use Rattle.world_script.specs.Ending.{Answers, Ends, EndsUnread, Finishes, Shows, Tells};
 ghost use Rattle.world_script.specs.Source.{script_at};
 
-use crate::command_line::{NOT_TEXT, not_text, script_of};
+use crate::command_line::{NOT_TEXT, asked_of, not_text};
 use crate::sources::STANDARD_INPUT;
 use crate::{Ending, Fault, RunError, Sources, run_path, write_fault};
 use clap::Error;
@@ -28,6 +28,7 @@ pub fn run_program<S: Sources, W: Write + Drop, E: Write>(
         (fault_of edend_app (map string_bytes words.items))
         (script_at (S.input_bytes sources.now) (S.file_bytes sources.now)
         (script_named (map string_bytes words.items)))
+        (limit_named (map string_bytes words.items))
         (writer_contents W.contents lines) (W.contents result.0) result.1)
         (λ error. EndsUnread (error_kind error)
         (writer_contents W.contents lines) (W.contents result.0) result.1) }
@@ -52,6 +53,7 @@ fn run_gathered<S: Sources, W: Write + Drop, E: Write>(
     ensures { Ends (fault_of edend_app (map string_bytes words.now))
         (script_at (S.input_bytes sources.now) (S.file_bytes sources.now)
         (script_named (map string_bytes words.now)))
+        (limit_named (map string_bytes words.now))
         (writer_contents W.contents lines) (W.contents result.0) result.1 }
 {
     let ending = run_words(alloc, words, sources, &mut lines, err);
@@ -70,27 +72,29 @@ pub fn run_words<S: Sources, W: Write, E: Write>(
     ensures ends { Ends (fault_of edend_app (map string_bytes words.now))
         (script_at (S.input_bytes sources.now) (S.file_bytes sources.now)
         (script_named (map string_bytes words.now)))
+        (limit_named (map string_bytes words.now))
         (W.contents out.old) (W.contents out.new) result }
 {
-    match script_of(alloc, words) {
-        Ok(path) => run_named(alloc, sources, path, out, err),
+    match asked_of(alloc, words) {
+        Ok(asked) => run_named(alloc, sources, asked.script, asked.limit, out, err),
         Err(error) => answer(&error, out, err),
     }
 }
 
-/// Runs the script at a path. A fault is told.
+/// Runs the script at a path, with so many files loaded. A fault is told.
 fn run_named<S: Sources, W: Write, E: Write>(
     alloc: Global,
     sources: &S,
     path: &str,
+    limit: usize,
     out: &mut W,
     err: &mut E,
 ) -> Ending
     ensures { Ends []
         (script_at (S.input_bytes sources.now) (S.file_bytes sources.now) path.now)
-        (W.contents out.old) (W.contents out.new) result }
+        limit (W.contents out.old) (W.contents out.new) result }
 {
-    match run_path(alloc, sources, path, out) {
+    match run_path(alloc, sources, path, limit, out) {
         Ok(()) => Ending::Ran,
         Err(error) => tell_error(&error, path, out, err),
     }

@@ -5,7 +5,7 @@ ghost use Rattle.world_script.specs.Refusal.{IsRunRefusal, comes_first};
 ghost use Rattle.world_script.specs.Script.{Runs};
 ghost use Rattle.world_script.specs.Source.{script_at};
 
-use crate::{DEFAULT_LIMIT, Fault, RunError, run_script};
+use crate::{Fault, RunError, run_script};
 use std::alloc::Global;
 use std::fs;
 use std::io::{self, Read, Write};
@@ -60,11 +60,12 @@ pub fn run_path<S: Sources, W: Write>(
     alloc: Global,
     sources: &S,
     path: &str,
+    limit: usize,
     out: &mut W,
 ) -> Result<(), RunError>
     ensures runs { OnOk result (IfSome
         (script_at (S.input_bytes sources.now) (S.file_bytes sources.now) path.now)
-        (λ script. Runs script DEFAULT_LIMIT (W.contents out.old) (W.contents out.new))) }
+        (λ script. Runs script limit (W.contents out.old) (W.contents out.new))) }
     ensures refused { IfErr result (λ error. IfSome
         (script_at (S.input_bytes sources.now) (S.file_bytes sources.now) path.now)
         (λ script. IsRunRefusal script error.fault)) }
@@ -72,10 +73,10 @@ pub fn run_path<S: Sources, W: Write>(
         → Keeps (W.contents out.old) (W.contents out.new)) }
 {
     if path == STANDARD_INPUT {
-        return run_script(alloc, &mut sources.input(), DEFAULT_LIMIT, out);
+        return run_script(alloc, &mut sources.input(), limit, out);
     }
     match sources.open(path) {
-        Ok(mut file) => run_script(alloc, &mut file, DEFAULT_LIMIT, out),
+        Ok(mut file) => run_script(alloc, &mut file, limit, out),
         Err(error) => Err(RunError::with_cause(Fault::CannotRead, error)),
     }
 }

@@ -3,4 +3,4 @@ use Rattle.world_script.proofs.EndingLemmas.{ends-finished}
 use Rattle.world_script.proofs.program.run_gathered.Goals as goal
 
 pub returns : goal.returns
-returns g c = ends-finished _ _ _ _ _ _ _ c.run_words-ending.ensures.ends c.finish.ensures
+returns g c = ends-finished _ _ _ _ _ _ _ _ c.run_words-ending.ensures.ends c.finish.ensures

@@ -3,4 +3,4 @@ use Rattle.world_script.proofs.EndingLemmas.{ends-answered}
 use Rattle.world_script.proofs.program.run_words.Goals as goal
 
 pub returns-in-Err : goal.returns-in-Err
-returns-in-Err g c = record { ends = ends-answered _ _ _ _ _ _ c.in-Err.ensures.refused c.answer.ensures }
+returns-in-Err g c = record { ends = ends-answered _ _ _ _ _ _ _ c.in-Err.ensures.refused c.answer.ensures }

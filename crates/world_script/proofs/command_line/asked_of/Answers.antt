@@ -1,9 +1,9 @@
 -- What `clap` says of the words, for the program's command.
 use Rattle.std.proofs.Common.{◌≡◌, List, map, true, refl, rules, ap, sym, ◌∙◌, string_bytes}
 use Rattle.clap.specs.Words.{App, Text, fault_of, is_simple, is_simple_and_free, subcommand_of}
-use Rattle.world_script.specs.CommandLine.{edend_app, script_in, script_named}
+use Rattle.world_script.specs.CommandLine.{edend_app, limit_in, script_in, script_named}
 use Rattle.world_script.proofs.PlainWords.{only_memory, plainly}
-use Rattle.world_script.proofs.command_line.script_of.Goals as goal
+use Rattle.world_script.proofs.command_line.asked_of.Goals as goal
 
 edend_is_simple : is_simple edend_app ≡ true
 edend_is_simple = refl
@@ -12,7 +12,7 @@ edend_is_free : is_simple_and_free edend_app ≡ true
 edend_is_free = refl
 
 pub returns-in_err-matches-clause-plain : goal.returns-in_err-matches-clause-plain
-returns-in_err-matches-clause-plain c = λ script named. only_memory c.from_residual-in_err-matches.result _ script (plainly _ script named).1 c.from_residual-in_err-matches.ensures.0 (search rules)
+returns-in_err-matches-clause-plain c = λ script named. only_memory (λ asked. asked.script.now) c.from_residual-in_err-matches.result _ script (plainly _ script named).1 c.from_residual-in_err-matches.ensures.0 (search rules)
 
 script_is : (c : goal.Joined-matches) → c.script_in.result.now ≡ script_named (map string_bytes c.args.words.now)
 script_is c =
@@ -23,6 +23,13 @@ script_is c =
 
 pub returns-clause-script : goal.returns-clause-script
 returns-clause-script c = script_is c
+
+pub returns-clause-limit : goal.returns-clause-limit
+returns-clause-limit c =
+    let texts : List Text = map string_bytes c.args.words.now in
+    let app_is = c.in_ok-command.ensures in
+    let sub_is = (c.in_ok-matches.ensures.matches (ap is_simple app_is ∙ edend_is_simple)).1 ∙ ap (λ (a : App). subcommand_of a texts) app_is in
+    c.limit_in.ensures ∙ ap limit_in sub_is
 
 pub returns-clause-plain : goal.returns-clause-plain
 returns-clause-plain c = λ script named. script_is c ∙ (plainly _ script named).0
