@@ -65,7 +65,7 @@ type Row = (
     &'static [u8],
 );
 
-const ROWS: [Row; 12] = [
+const ROWS: [Row; 14] = [
     (Some(&[]), 4096, Ending::Ran, b"daemon 1\n", b""),
     (Some(&["world", "-"]), 4096, Ending::Ran, b"daemon 1\n", b""),
     (
@@ -74,6 +74,20 @@ const ROWS: [Row; 12] = [
         Ending::Ran,
         b"seat none\n",
         b"",
+    ),
+    (
+        Some(&["world", "--limit", "65536", "shows"]),
+        4096,
+        Ending::Ran,
+        b"seat none\n",
+        b"",
+    ),
+    (
+        Some(&["world", "shows", "--limit", "65537"]),
+        4096,
+        Ending::Refused,
+        b"",
+        b"error: ",
     ),
     (
         Some(&["world", "bad"]),
