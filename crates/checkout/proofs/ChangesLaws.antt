@@ -1,15 +1,18 @@
 -- What tells a tree from its manifest's makes it: no two trees of a manifest have the same changes.
-use Rattle.std.proofs.Common.{◌≡◌, ◌≢◌, ◌==◌, ℕ, true, false, List, Option, Some, None, refl, sym, ap, ◌∙◌, ◌⊎◌, inl, inr, arith, eq-eqb}
+use Rattle.std.proofs.Common.{◌≡◌, ◌≢◌, ◌==◌, ℕ, true, false, List, [], ◌∷◌, Option, Some, None, refl, sym, ap, ◌∙◌, ◌⊎◌, inl, inr, arith, eq-eqb}
 use Rattle.std.proofs.lemmas.Bool.Decides.{nat_tests}
+use Rattle.std.proofs.lemmas.List.Elements.{Contains-append_right}
 use Rattle.std.specs.Cmp.{nat_cmp_total}
 use Rattle.std.specs.FinMap.{get, nat_cmp-IsAntisymmetric, same_map}
+use Rattle.std.specs.List.{AllByRecursion, Contains}
+use Rattle.eden_base.specs.Name.{IsNameText}
 use Rattle.eden_base.specs.declared.number.FileId.{FileId}
 use Rattle.checkout.specs.declared.changes.Changes.{Changes}
 use Rattle.checkout.specs.declared.changes.LinkChange.{LinkChange}
 use Rattle.checkout.specs.declared.changes.Made.{Made}
-use Rattle.checkout.specs.Changes.{AreChanges, place_of}
+use Rattle.checkout.specs.Changes.{AreChanges, IsLinkChange, place_of}
 use Rattle.checkout.specs.Manifest.{File, Manifest}
-use Rattle.checkout.specs.Tree.{Tree, IsTree, file_of, links_from, made_file, tree_of}
+use Rattle.checkout.specs.Tree.{Tree, IsTree, child_of, file_of, links_from, made_file, tree_of}
 use Rattle.checkout.proofs.FlatLemmas.{link_cmp_total, link_cmp-same}
 use Rattle.checkout.proofs.ManifestTree.{file_with, same_id}
 use Rattle.checkout.proofs.OneList.{one_list}
@@ -85,3 +88,21 @@ one_changes t a b has too =
     let links = one_list link_cmp_total place_of b.links a.links too.links.rising has.links.rising (λ x h. (has.links.each x).1 ((too.links.each x).0 h)) (λ x h. (too.links.each x).1 ((has.links.each x).0 h)) in
     let next = too.next ∙ sym has.next in
     λ i. record { made = made i; links = links i; next_file = next i }
+
+-- a name that differs is one: the tree has it, or the manifest
+changed_name : (t : Tree) (x : LinkChange) → IsTree t → IsTree (tree_of t.manifest) → IsLinkChange t x → IsNameText x.name
+changed_name t x tree first change =
+    elim x.target as (λ o. x.target ≡ o → IsNameText x.name) [
+      | Some f ↦ λ e. tree.links_have_names x.dir x.name f (sym change.target ∙ e)
+      | None ↦ λ e. elim (child_of (tree_of t.manifest) x.dir x.name) as (λ o. child_of (tree_of t.manifest) x.dir x.name ≡ o → IsNameText x.name) [
+        | Some f ↦ λ g. first.links_have_names x.dir x.name f g
+        | None ↦ λ g. absurd (change.differs (e ∙ sym g))
+      ] refl
+    ] refl
+
+pub changed_names : (t : Tree) (c : Changes) → IsTree t → IsTree (tree_of t.manifest) → AreChanges t c → AllByRecursion (λ link. IsNameText link.name) c.links
+changed_names t c tree first has = each c.links (λ x here. changed_name t x tree first ((has.links.each x).0 here))
+  where
+    each : (links : List LinkChange) → ((x : LinkChange) → Contains links x → IsNameText x.name) → AllByRecursion (λ link. IsNameText link.name) links
+    each [] h = tt
+    each (x ∷ xs) h = (h x (0, omega arith, refl), each xs (λ y there. h y (Contains-append_right (x ∷ []) xs y there)))

@@ -1,7 +1,8 @@
 //! The files of a checkout and the names that lead to them.
 ghost use Rattle.std.specs.Prelude.{◌≡◌, ◌<◌, ◌==◌, ◌&&◌, ◌||◌, nat_lt, not, false, None, Some, IfErr, IfOk, IfSome, IsSome, OnErr, OnOk, Option};
 ghost use Rattle.std.specs.FinMap.{entries};
-ghost use Rattle.std.specs.List.{list_any};
+ghost use Rattle.std.specs.List.{AllByRecursion, list_any};
+ghost use Rattle.eden_base.specs.Name.{IsNameText};
 ghost use Rattle.eden_base.specs.declared.attr.Kind.TheVariants.{Dir};
 ghost use Rattle.checkout.specs.Changes.{AreChanges};
 ghost use Rattle.checkout.specs.declared.changes.Changes.{Changes as ChangesState};
@@ -203,6 +204,7 @@ impl Tree {
             → others ≡ changes) }
         ensures of_no_other { IfOk result (λ changes. (other : TreeState) → IsTree other
             → other.manifest ≡ self.now.manifest → AreChanges other changes → other ≡ self.now) }
+        ensures names { IfOk result (λ changes. AllByRecursion (λ link. IsNameText link.name) changes.links) }
     {
         let made = self.made.list(self.alloc)?;
         let mut links = Vec::new(self.alloc);

@@ -7,12 +7,14 @@ use Rattle.checkout.specs.Changes.{AreLinkChanges, AreMade}
 use Rattle.checkout.specs.Gone.{is_gone}
 use Rattle.checkout.specs.Listing.{added_change, gone_changes, listed_file, HaveLines}
 use Rattle.checkout.specs.Tally.{count_of}
+use Rattle.checkout.specs.Tree.{IsTree, tree_of}
 use Rattle.checkout.proofs.ChangeLists.{all_entries}
-use Rattle.checkout.proofs.ChangesLaws.{one_changes, one_tree}
+use Rattle.checkout.proofs.ChangesLaws.{changed_names, one_changes, one_tree}
 use Rattle.checkout.proofs.FlatLemmas.{link_cmp_total}
 use Rattle.checkout.proofs.GoneListing.{all_gone, all_have_lines}
 use Rattle.checkout.proofs.LinkPlaces.{AreLinkChanges-over}
 use Rattle.checkout.proofs.MadeChanges.{AreMade-over}
+use Rattle.checkout.proofs.ManifestIsTree.{tree_of-IsTree}
 use Rattle.checkout.proofs.OverlayLaws.{child_added}
 use Rattle.checkout.proofs.tree.Tree.changes.Goals as goal
 
@@ -51,3 +53,8 @@ returns-clause-of_no_other c other tree one too =
 
 pub returns-clause-no_others : goal.returns-clause-no_others
 returns-clause-no_others c others too = one_changes c.args.self.now _ others (returns-clause-changes c) too
+
+pub returns-clause-names : goal.returns-clause-names
+returns-clause-names c =
+    let first = subst (λ t. IsTree (tree_of t.manifest)) c.self.view_is (tree_of-IsTree c.self.inside.manifest c.self.invariant.0.is_manifest) in
+    changed_names c.args.self.now _ c.next_file.ensures.is_tree first (returns-clause-changes c)
