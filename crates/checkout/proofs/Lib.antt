@@ -3,6 +3,7 @@ pub mod ChangeLists
 pub mod ChangesLaws
 pub mod CreateLaws
 pub mod FlatLemmas
+pub mod DirLaws
 pub mod EntryForms
 pub mod FieldForms
 pub mod FormLaws

@@ -1,12 +1,11 @@
 -- The links that were added and those that are gone, in a tree that is laid over a manifest's, are the tree's changes.
-use Rattle.std.proofs.Common.{◌≡◌, ℕ, ◌+◌, ◌-◌, ◌≤◌, ◌==◌, ◌||◌, Bool, true, false, if◌then◌else◌, List, [], ◌∷◌, ◌++◌, map, length, Option, Some, None, is_some, refl, sym, ap, subst, ◌∙◌, arith}
+use Rattle.std.proofs.Common.{◌≡◌, ℕ, ◌-◌, ◌==◌, ◌||◌, Bool, true, false, if◌then◌else◌, List, [], ◌∷◌, ◌++◌, map, Option, Some, None, is_some, refl, sym, ap, subst, ◌∙◌, arith}
 use Rattle.std.proofs.lemmas.Bool.Decides.{nat_tests}
 use Rattle.std.proofs.lemmas.List.Elements.{Contains-append_left, Contains-append_right}
 use Rattle.std.specs.FinMap.{FinMap, entries, entries_sorted, get, get-entries}
 use Rattle.std.specs.List.{AllByRecursion, Contains, cons_option, list_any, slice_get}
-use Rattle.std.specs.Option.{option_and_then, option_or}
+use Rattle.std.specs.Option.{option_or}
 use Rattle.std.specs.Ordering.{nat_cmp}
-use Rattle.eden_base.proofs.MemberLemmas.{some-IsSome}
 use Rattle.eden_base.specs.declared.number.FileId.{FileId}
 use Rattle.checkout.specs.declared.changes.LinkChange.{LinkChange}
 use Rattle.checkout.specs.declared.made.MadeFile.{MadeFile}
@@ -19,7 +18,7 @@ use Rattle.checkout.proofs.ChangeLists.{all_entries, all-map, all-append, contai
 use Rattle.checkout.proofs.FlatLemmas.{link_cmp_total, link_cmp-same}
 use Rattle.checkout.proofs.ManifestTree.{file_with, line_at, line_of_link, link_of_line, same_id}
 use Rattle.checkout.proofs.MoreLines.{apart}
-use Rattle.checkout.proofs.OverlayLaws.{child-over, child_added, line_of_base, within_lines}
+use Rattle.checkout.proofs.OverlayLaws.{child-over, child_added, within_lines}
 
 -- the listing of one more file
 listed_or_not : (P : LinkChange → Type 0) (o : Option LinkChange) (xs : List LinkChange) → ((x : LinkChange) → o ≡ Some x → P x) → AllByRecursion P xs → AllByRecursion P (cons_option o xs)
@@ -49,21 +48,10 @@ module _ (m : Manifest) (made : FinMap nat_cmp MadeFile) (added : FinMap link_cm
   abbrev base : FinMap link_cmp FileId
   base = links_from 2 m.lines
 
-  -- a link that was added gives a later file than any of the manifest's
-  added_is_later : (dir : FileId) (name : List ℕ) (file : FileId) → get added (dir.0, name) ≡ Some file → length m.lines + 2 ≤ file.0
-  added_is_later dir name file here =
-      elim (get made file.0) as (λ o. get made file.0 ≡ o → option_and_then (λ (x : MadeFile). x.dir) o ≡ Some dir → length m.lines + 2 ≤ file.0) [
-        | None ↦ λ e k. absurd (cc)
-        | Some f ↦ λ e k. is.made_are_later file.0 (some-IsSome _ f e)
-      ] refl (is.added_are_made dir name file here)
-
   added_differs : (dir : FileId) (name : List ℕ) (file : FileId) → get added (dir.0, name) ≡ Some file → IsLinkChange tree (added_change ((dir.0, name), file))
   added_differs dir name file here = record {
     target = sym (child_added m made added gone lost next is dir name file here);
-    differs = λ first.
-        let later = added_is_later dir name file here in
-        let w = within_lines m file (line_of_base m made added gone lost next is dir name file (sym first)) in
-        omega (arith, later, w.1);
+    differs = λ first. is.added_differ dir name file here (sym first);
   }
 
   -- a file that is gone has a line, where its link was

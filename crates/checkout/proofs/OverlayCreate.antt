@@ -1,6 +1,6 @@
 -- A file that is made in a tree laid over a manifest's.
 use Rattle.std.proofs.Common.{◌≡◌, ℕ, ◌+◌, ◌<◌, ◌≤◌, Bool, true, false, cond, List, length, Some, None, refl, sym, ap, subst, ◌∙◌, inl, inr, arith}
-use Rattle.std.specs.Option.{option_map, option_or, option_and_then}
+use Rattle.std.specs.Option.{option_map, option_or}
 use Rattle.std.specs.Ordering.{nat_cmp, eq_by_cmp}
 use Rattle.std.specs.Cmp.{nat_cmp_total}
 use Rattle.std.specs.FinMap.{FinMap, get, insert, get-insert, same_map, nat_cmp-IsAntisymmetric}
@@ -14,17 +14,17 @@ use Rattle.eden_base.specs.declared.number.FileId.{FileId}
 use Rattle.checkout.specs.declared.made.MadeFile.{MadeFile}
 use Rattle.checkout.specs.Manifest.{File, Manifest}
 use Rattle.checkout.specs.Tree.{Tree, link_cmp, kind_of, child_of, is_unlinked, created, files_from, links_from, IsTree}
-use Rattle.checkout.specs.Overlay.{file_made, still, files_over, links_over, tree_over, dir_made, IsOverlay}
-use Rattle.checkout.proofs.CreateLaws.{created-IsTree, linked_is_below, next_is_later}
+use Rattle.checkout.specs.Overlay.{file_made, still, files_over, links_over, tree_over, IsOverlay}
+use Rattle.checkout.proofs.CreateLaws.{created-IsTree, next_is_later}
 use Rattle.checkout.proofs.FlatLemmas.{link_cmp_total, link_cmp-same}
-use Rattle.checkout.proofs.ManifestTree.{file_with, same_id}
-use Rattle.checkout.proofs.MapLemmas.{get-insert_cases, get-insert_same, get-insert_other}
-use Rattle.checkout.proofs.OverlayLaws.{child-over, child_added}
+use Rattle.checkout.proofs.ManifestTree.{file_with}
+use Rattle.checkout.proofs.MapLemmas.{get-insert_cases}
+use Rattle.checkout.proofs.OverlayLaws.{child-over, child_added, line_of_base, within_lines}
 use Rattle.checkout.proofs.UnionLaws.{get-files_over, get-links_over}
 
 -- the file as it is kept
-abbrev pub made_in : FileId → Kind → Perm → MadeFile
-made_in dir kind perm = record { kind = kind; perm = perm; dir = Some dir }
+abbrev pub kept_file : Kind → Perm → MadeFile
+kept_file kind perm = record { kind = kind; perm = perm }
 
 files_over-insert : (made : FinMap nat_cmp MadeFile) (base : FinMap nat_cmp File) (k : ℕ) (v : MadeFile) → files_over (insert made k v) base ≡ insert (files_over made base) k (file_made v)
 files_over-insert made base k v =
@@ -46,9 +46,9 @@ links_over-insert added gone base k v =
     at q = elim (eq_by_cmp link_cmp q k) as (λ b. option_or (cond b (Some v) (get added q)) (still gone (get base q)) ≡ cond b (Some v) (option_or (get added q) (still gone (get base q)))) [ true ↦ refl | false ↦ refl ]
 
 pub tree_over-created : (m : Manifest) (made : FinMap nat_cmp MadeFile) (added : FinMap link_cmp FileId) (gone : ℕ → Bool) (next : ℕ) (dir : FileId) (name : List ℕ) (kind : Kind) (perm : Perm) →
-    tree_over m (insert made next (made_in dir kind perm)) (insert added (dir.0, name) (file_with next)) gone (next + 1) ≡ created (tree_over m made added gone next) dir name kind perm
+    tree_over m (insert made next (kept_file kind perm)) (insert added (dir.0, name) (file_with next)) gone (next + 1) ≡ created (tree_over m made added gone next) dir name kind perm
 tree_over-created m made added gone next dir name kind perm =
-    let files = files_over-insert made (files_from 2 m.lines) next (made_in dir kind perm) in
+    let files = files_over-insert made (files_from 2 m.lines) next (kept_file kind perm) in
     let links = links_over-insert added gone (links_from 2 m.lines) (dir.0, name) (file_with next) in
     λ i. record { manifest = m; files = files i; links = links i; next_file = next + 1 }
 
@@ -58,19 +58,13 @@ module _ (m : Manifest) (made : FinMap nat_cmp MadeFile) (added : FinMap link_cm
 
   module _ (dir : FileId) (name : List ℕ) (kind : Kind) (perm : Perm) (is_dir : kind_of tree dir ≡ Some Dir) (is_reached : is_unlinked tree dir ≡ false) (free : child_of tree dir name ≡ None) (is_name : IsNameText name) (fits : next < end_of_files) where
     abbrev made' : FinMap nat_cmp MadeFile
-    made' = insert made next (made_in dir kind perm)
+    made' = insert made next (kept_file kind perm)
 
     abbrev added' : FinMap link_cmp FileId
     added' = insert added (dir.0, name) (file_with next)
 
     later : length m.lines + 2 ≤ next
     later = next_is_later tree is.is_tree
-
-    dir_here : dir_made made' next ≡ Some dir
-    dir_here = ap (option_and_then (λ (f : MadeFile). f.dir)) (get-insert_same nat_cmp_total made next (made_in dir kind perm))
-
-    dir_there : (file : ℕ) → (file ≡ next → ⊥) → dir_made made' file ≡ dir_made made file
-    dir_there file other = ap (option_and_then (λ (f : MadeFile). f.dir)) (get-insert_other nat_cmp_total nat_cmp-IsAntisymmetric made next (made_in dir kind perm) file other)
 
     -- nothing was added at the place, nor is there a link of the manifest
     no_link_added : get added (dir.0, name) ≡ None
@@ -83,40 +77,23 @@ module _ (m : Manifest) (made : FinMap nat_cmp MadeFile) (added : FinMap link_cm
     no_link_left : still gone (get (links_from 2 m.lines) (dir.0, name)) ≡ None
     no_link_left = sym (child-over m made added gone lost next is dir name ∙ ap (λ o. option_or o (still gone (get (links_from 2 m.lines) (dir.0, name)))) no_link_added) ∙ free
 
-    -- a link that was added before gives another file
-    is_below : (d : FileId) (n : List ℕ) (file : FileId) → get added (d.0, n) ≡ Some file → file.0 ≡ next → ⊥
-    is_below d n file h e = let below = linked_is_below tree is.is_tree d n file (child_added m made added gone lost next is d n file h) in omega (arith, below, e)
-
     pub create-IsOverlay : IsOverlay m made' added' gone lost (next + 1)
     create-IsOverlay = record {
       is_manifest = is.is_manifest;
       is_tree = subst IsTree (sym (tree_over-created m made added gone next dir name kind perm)) (created-IsTree tree dir name kind perm is.is_tree is_dir is_reached free is_name fits);
       made_are_later = λ file h.
           let f = some-is _ h in
-          elim (get-insert_cases nat_cmp_total nat_cmp-IsAntisymmetric made next (made_in dir kind perm) file f.0 f.1) [
+          elim (get-insert_cases nat_cmp_total nat_cmp-IsAntisymmetric made next (kept_file kind perm) file f.0 f.1) [
             | inl w ↦ omega (arith, w.0, later)
             | inr old ↦ is.made_are_later file (some-IsSome _ f.0 old)
           ];
-      added_are_made = λ d n file h. elim (get-insert_cases link_cmp_total link_cmp-same added (dir.0, name) (file_with next) (d.0, n) file h) [
-        | inl w ↦
+      added_differ = λ d n file h. elim (get-insert_cases link_cmp_total link_cmp-same added (dir.0, name) (file_with next) (d.0, n) file h) [
+        | inl w ↦ λ first.
             let id : next ≡ file.0 = ap (λ (f : FileId). f.0) w.1 in
-            let at : dir.0 ≡ d.0 = sym (ap (λ (k : ℕ × List ℕ). k.0) w.0) in
-            ap (dir_made made') (sym id) ∙ dir_here ∙ ap (λ f. Some f) (same_id dir d at)
-        | inr old ↦ dir_there file.0 (is_below d n file old) ∙ is.added_are_made d n file old
+            let within = within_lines m file (line_of_base m made added gone lost next is d n file first) in
+            omega (arith, id, within.1, later)
+        | inr old ↦ is.added_differ d n file old
       ];
-      made_are_added = λ file d h.
-          elim (get made' file.0) as (λ o. get made' file.0 ≡ o → option_and_then (λ (f : MadeFile). f.dir) o ≡ Some d → (n : List ℕ) × (get added' (d.0, n) ≡ Some file)) [
-            | None ↦ λ e g. absurd (cc)
-            | Some f ↦ λ e g. elim (get-insert_cases nat_cmp_total nat_cmp-IsAntisymmetric made next (made_in dir kind perm) file.0 f e) [
-              | inl w ↦
-                  let at : dir ≡ d = let s = ap (λ (x : MadeFile). x.dir) w.1 in cc (s, g) in
-                  (name, ap (λ (x : FileId). get added' (x.0, name)) (sym at) ∙ get-insert_same link_cmp_total added (dir.0, name) (file_with next) ∙ ap (λ x. Some x) (same_id (file_with next) file (sym w.0)))
-              | inr old ↦
-                  let before : dir_made made file.0 ≡ Some d = ap (option_and_then (λ (x : MadeFile). x.dir)) old ∙ g in
-                  let at = is.made_are_added file d before in
-                  (at.0, get-insert_other link_cmp_total link_cmp-same added (dir.0, name) (file_with next) (d.0, at.0) (λ k. let there = ap (get added) k in cc (there, at.1, no_link_added)) ∙ at.1)
-            ]
-          ] refl h;
       added_are_apart = λ d n h.
           let f = some-is _ h in
           elim (get-insert_cases link_cmp_total link_cmp-same added (dir.0, name) (file_with next) (d, n) f.0 f.1) [

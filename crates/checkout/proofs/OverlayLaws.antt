@@ -1,21 +1,21 @@
 -- What stands in a tree that is laid over a manifest's.
-use Rattle.std.proofs.Common.{◌≡◌, ℕ, ◌+◌, ◌-◌, ◌<◌, ◌≤◌, ◌==◌, ◌&&◌, ◌||◌, Bool, true, false, not, nat_lt, nat_le, if◌then◌else◌, List, length, Option, Some, None, IsSome, is_some, refl, sym, ap, ◌∙◌, ◌⊎◌, inl, inr, arith, eq-eqb}
-use Rattle.std.proofs.Math.Bool.{and-false}
+use Rattle.std.proofs.Common.{◌≡◌, ℕ, ◌+◌, ◌-◌, ◌<◌, ◌≤◌, ◌==◌, ◌&&◌, ◌||◌, Bool, true, false, not, nat_lt, nat_le, if◌then◌else◌, List, length, Option, Some, None, refl, sym, ap, ◌∙◌, ◌⊎◌, inl, inr, arith, eq-eqb}
 use Rattle.std.proofs.lemmas.Bool.Decides.{nat_tests}
 use Rattle.std.proofs.lemmas.Option.{slice_get_within}
 use Rattle.std.specs.List.{list_any}
 use Rattle.std.specs.Ordering.{nat_cmp}
-use Rattle.std.specs.Option.{option_and_then, option_or}
+use Rattle.std.specs.Option.{option_or}
 use Rattle.std.specs.FinMap.{FinMap, get, entries}
 use Rattle.eden_base.proofs.MemberLemmas.{some-IsSome}
 use Rattle.eden_base.specs.declared.number.FileId.{FileId}
 use Rattle.checkout.specs.declared.made.MadeFile.{MadeFile}
+use Rattle.checkout.specs.Added.{gives}
 use Rattle.checkout.specs.Manifest.{Manifest}
 use Rattle.checkout.specs.Tree.{Tree, link_cmp, child_of, has_links, is_linked, links_from}
-use Rattle.checkout.specs.Overlay.{still, tree_over, kids_in, lost_in, dir_made, is_line, IsOverlay}
+use Rattle.checkout.specs.Overlay.{still, tree_over, kids_in, lost_in, is_line, IsOverlay}
 use Rattle.checkout.proofs.FlatLemmas.{link_cmp_total, has_link, has_no_link}
 use Rattle.checkout.proofs.LineCounts.{left_from_lost, lost_from_left}
-use Rattle.checkout.proofs.LinkLaws.{linked_from_child, child_from_linked}
+use Rattle.checkout.proofs.LinkLaws.{given_from_link, link_from_given, linked_from_child, child_from_linked}
 use Rattle.checkout.proofs.ManifestTree.{file_with, same_id, line_of_link, link_of_line, line_at}
 use Rattle.checkout.proofs.MapLemmas.{key_from_any}
 use Rattle.checkout.proofs.MoreLines.{apart}
@@ -127,45 +127,22 @@ module _ (m : Manifest) (made : FinMap nat_cmp MadeFile) (added : FinMap link_cm
       let high : nat_lt file.0 (length m.lines + 2) ≡ true = let e = r.file_is in grind (arith, nat_tests) in
       ap (λ b. b && nat_lt file.0 (length m.lines + 2)) low ∙ high
 
-  -- a made file is linked where it has a directory
-  pub is_linked-made : (file : FileId) → IsSome (get made file.0) → is_linked tree file ≡ is_some (dir_made made file.0)
-  is_linked-made file there =
-      elim (dir_made made file.0) as (λ o. dir_made made file.0 ≡ o → is_linked tree file ≡ is_some o) [
-        | Some dir ↦ λ e. let at = is.made_are_added file dir e in linked_from_child tree dir at.0 file (child_added dir at.0 file at.1)
-        | None ↦ λ e. elim (is_linked tree file) as (λ b. is_linked tree file ≡ b → b ≡ false) [
-          | false ↦ λ g. refl
+  -- a file is linked where an added link gives it, or the manifest's is not gone
+  pub is_linked-over : (file : FileId) → is_linked tree file ≡ (gives added file || (is_line m file && not (gone file.0)))
+  is_linked-over file =
+      elim (gives added file) as (λ b. gives added file ≡ b → is_linked tree file ≡ (b || (is_line m file && not (gone file.0)))) [
+        | true ↦ λ e. let at = link_from_given added file e in linked_from_child tree at.0 at.1 file (child_added at.0 at.1 file at.2)
+        | false ↦ λ e. elim (is_linked tree file) as (λ b. is_linked tree file ≡ b → b ≡ (is_line m file && not (gone file.0))) [
           | true ↦ λ g.
               let at = child_from_linked tree file g in
               elim (child_cases at.0 at.1 file at.2) [
-                | inl a ↦ let d = is.added_are_made at.0 at.1 file a in absurd (cc (d, e))
-                | inr w ↦
-                    let line = line_of_base at.0 at.1 file w.0 in
-                    let later = is.made_are_later file.0 there in
-                    let not_line : is_line m file ≡ false = past file later in
-                    absurd (cc (line, not_line))
+                | inl a ↦ let given = given_from_link added at.0 at.1 file a in absurd (cc (given, e))
+                | inr w ↦ sym (ap (λ b. b && not (gone file.0)) (line_of_base at.0 at.1 file w.0) ∙ ap not w.1)
               ]
+          | false ↦ λ g. sym (unlinked g)
         ] refl
       ] refl
     where
-      past : (f : FileId) → length m.lines + 2 ≤ f.0 → is_line m f ≡ false
-      past f h = let n : nat_lt f.0 (length m.lines + 2) ≡ false = grind (arith, nat_tests) in rw n (and-false (nat_le 2 f.0))
-
-  -- any other file is linked where it is the manifest's and not gone
-  pub is_linked-line : (file : FileId) → get made file.0 ≡ None → is_linked tree file ≡ (is_line m file && not (gone file.0))
-  is_linked-line file none =
-      elim (is_linked tree file) as (λ b. is_linked tree file ≡ b → b ≡ (is_line m file && not (gone file.0))) [
-        | true ↦ λ e.
-            let at = child_from_linked tree file e in
-            elim (child_cases at.0 at.1 file at.2) [
-              | inl a ↦ let d = is.added_are_made at.0 at.1 file a in let n = ap (dir_of) none in absurd (cc (d, n))
-              | inr w ↦ sym (ap (λ b. b && not (gone file.0)) (line_of_base at.0 at.1 file w.0) ∙ ap not w.1)
-            ]
-        | false ↦ λ e. sym (unlinked e)
-      ] refl
-    where
-      dir_of : Option MadeFile → Option FileId
-      dir_of o = option_and_then (λ (f : MadeFile). f.dir) o
-
       unlinked : is_linked tree file ≡ false → (is_line m file && not (gone file.0)) ≡ false
       unlinked e =
           elim (is_line m file) as (λ b. is_line m file ≡ b → (b && not (gone file.0)) ≡ false) [

@@ -1,29 +1,25 @@
 -- A link that is taken from a tree laid over a manifest's.
-use Rattle.std.proofs.Common.{◌≡◌, ℕ, ◌+◌, ◌==◌, ◌||◌, Bool, true, false, cond, if◌then◌else◌, List, Some, None, refl, sym, ap, subst, ◌∙◌, inl, inr, arith, eq-eqb}
+use Rattle.std.proofs.Common.{◌≡◌, ℕ, ◌+◌, ◌==◌, ◌||◌, Bool, true, false, cond, if◌then◌else◌, List, Some, None, refl, sym, ap, subst, ◌∙◌, arith, eq-eqb}
 use Rattle.std.proofs.Math.Bool.{or-true}
 use Rattle.std.proofs.lemmas.Bool.Decides.{nat_tests}
-use Rattle.std.specs.Option.{option_map, option_or, option_and_then}
+use Rattle.std.specs.Option.{option_or}
 use Rattle.std.specs.Ordering.{nat_cmp, is_eq, eq_by_cmp}
-use Rattle.std.specs.Cmp.{nat_cmp_total, tied_itself}
-use Rattle.std.specs.FinMap.{FinMap, get, insert, remove, get-remove, get-insert, same_map, nat_cmp-IsAntisymmetric}
+use Rattle.std.specs.Cmp.{tied_itself}
+use Rattle.std.specs.FinMap.{FinMap, get, remove, get-remove, same_map}
 use Rattle.eden_base.proofs.MemberLemmas.{some-IsSome, some-is}
 use Rattle.eden_base.specs.declared.number.FileId.{FileId}
 use Rattle.checkout.specs.declared.made.MadeFile.{MadeFile}
-use Rattle.checkout.specs.Manifest.{File, Manifest}
+use Rattle.checkout.specs.Manifest.{Manifest}
 use Rattle.checkout.specs.Tree.{Tree, link_cmp, is_full_dir, removed, files_from, links_from, IsTree}
-use Rattle.checkout.specs.Overlay.{file_made, still, files_over, links_over, tree_over, dir_made, is_line, lost_in, IsOverlay}
+use Rattle.checkout.specs.Overlay.{still, files_over, links_over, tree_over, is_line, lost_in, IsOverlay}
 use Rattle.checkout.proofs.FlatLemmas.{link_cmp_total, link_cmp-same}
 use Rattle.checkout.proofs.LineCounts.{lost-one_more}
 use Rattle.checkout.proofs.ManifestIsTree.{tree_of-IsTree}
 use Rattle.checkout.proofs.ManifestTree.{same_id, line_of_link}
-use Rattle.checkout.proofs.MapLemmas.{get-insert_cases, get-insert_same, get-insert_other, get-remove_cases, get-remove_other, get-remove_same, tied_key}
+use Rattle.checkout.proofs.MapLemmas.{get-remove_cases, get-remove_other, get-remove_same, tied_key}
 use Rattle.checkout.proofs.OverlayLaws.{child_added, child_left, line_of_base}
 use Rattle.checkout.proofs.RemoveLaws.{removed-IsTree}
-use Rattle.checkout.proofs.UnionLaws.{get-files_over, get-links_over}
-
--- a made file without its link
-abbrev pub unlinked : MadeFile → MadeFile
-unlinked f = record { kind = f.kind; perm = f.perm; dir = None }
+use Rattle.checkout.proofs.UnionLaws.{get-links_over}
 
 -- one key has nothing now, and every other has what it had
 remove-links_over : (added added' : FinMap link_cmp FileId) (gone gone' : ℕ → Bool) (base : FinMap link_cmp FileId) (k : ℕ × List ℕ) →
@@ -46,18 +42,6 @@ remove-links_over added added' gone gone' base k none_added none_left others =
               others q (λ same. let yes = ap (λ x. eq_by_cmp link_cmp x k) same ∙ itself k in cc (yes, e)) ∙ sym (get-links_over added gone base q)
         ] refl
 
-files_over-unlinked : (made : FinMap nat_cmp MadeFile) (base : FinMap nat_cmp File) (file : ℕ) (f : MadeFile) → get made file ≡ Some f → files_over (insert made file (unlinked f)) base ≡ files_over made base
-files_over-unlinked made base file f h =
-    same_map nat_cmp_total nat_cmp-IsAntisymmetric _ _ (λ q. get-files_over (insert made file (unlinked f)) base q ∙ ap (λ o. option_or o (get base q)) (at q) ∙ sym (get-files_over made base q))
-  where
-    at : (q : ℕ) → option_map file_made (get (insert made file (unlinked f)) q) ≡ option_map file_made (get made q)
-    at q =
-        ap (option_map file_made) (get-insert nat_cmp_total made file (unlinked f) q)
-        ∙ (elim (eq_by_cmp nat_cmp q file) as (λ b. eq_by_cmp nat_cmp q file ≡ b → option_map file_made (cond b (Some (unlinked f)) (get made q)) ≡ option_map file_made (get made q)) [
-          | true ↦ λ e. sym (ap (λ x. option_map file_made (get made x)) (tied_key nat_cmp-IsAntisymmetric q file e) ∙ ap (option_map file_made) h)
-          | false ↦ λ e. refl
-        ] refl)
-
 module _ (m : Manifest) (made : FinMap nat_cmp MadeFile) (added : FinMap link_cmp FileId) (gone : ℕ → Bool) (lost : ℕ → ℕ) (next : ℕ) (is : IsOverlay m made added gone lost next) (dir : FileId) (name : List ℕ) (file : FileId) where
   abbrev tree : Tree
   tree = tree_over m made added gone next
@@ -66,65 +50,26 @@ module _ (m : Manifest) (made : FinMap nat_cmp MadeFile) (added : FinMap link_cm
   base = links_from 2 m.lines
 
   -- a link that was added
-  module _ (here : get added (dir.0, name) ≡ Some file) (f : MadeFile) (is_made : get made file.0 ≡ Some f) (not_full : is_full_dir tree file ≡ false) where
-    abbrev made' : FinMap nat_cmp MadeFile
-    made' = insert made file.0 (unlinked f)
-
+  module _ (here : get added (dir.0, name) ≡ Some file) (not_full : is_full_dir tree file ≡ false) where
     abbrev added' : FinMap link_cmp FileId
     added' = remove added (dir.0, name)
 
-    pub tree_over-removed_added : tree_over m made' added' gone next ≡ removed tree dir name
+    pub tree_over-removed_added : tree_over m made added' gone next ≡ removed tree dir name
     tree_over-removed_added =
-        let files = files_over-unlinked made (files_from 2 m.lines) file.0 f is_made in
         let links = remove-links_over added added' gone gone base (dir.0, name) (get-remove_same link_cmp_total added (dir.0, name)) (is.added_are_apart dir.0 name (some-IsSome _ file here))
         (λ q other. ap (λ o. option_or o (still gone (get base q))) (get-remove_other link_cmp_total link_cmp-same added (dir.0, name) q other)) in
-        λ i. record { manifest = m; files = files i; links = links i; next_file = next }
+        λ i. record { manifest = m; files = files_over made (files_from 2 m.lines); links = links i; next_file = next }
 
-    -- another file's link stands elsewhere
-    not_this : (d : FileId) (n : List ℕ) (g : FileId) → get added (d.0, n) ≡ Some g → (◌≡◌ {A = ℕ × List ℕ} (d.0, n) (dir.0, name) → ⊥) → g.0 ≡ file.0 → ⊥
-    not_this d n g h other e =
-        let a = child_added m made added gone lost next is d n g h in
-        let b = child_added m made added gone lost next is dir name file here ∙ ap (λ x. Some x) (same_id file g (sym e)) in
-        let w = is.is_tree.links_are_apart d dir n name g a b in
-        other (λ i. ((w.0 i).0, w.1 i))
-
-    pub remove_added-IsOverlay : IsOverlay m made' added' gone lost next
+    pub remove_added-IsOverlay : IsOverlay m made added' gone lost next
     remove_added-IsOverlay = record {
       is_manifest = is.is_manifest;
       is_tree = subst IsTree (sym tree_over-removed_added) (removed-IsTree tree dir name file is.is_tree (child_added m made added gone lost next is dir name file here) not_full);
-      made_are_later = λ q h.
-          let x = some-is _ h in
-          elim (get-insert_cases nat_cmp_total nat_cmp-IsAntisymmetric made file.0 (unlinked f) q x.0 x.1) [
-            | inl w ↦ is.made_are_later q (some-IsSome _ f (ap (get made) w.0 ∙ is_made))
-            | inr old ↦ is.made_are_later q (some-IsSome _ x.0 old)
-          ];
-      added_are_made = λ d n g h.
-          let w = get-remove_cases link_cmp_total link_cmp-same added (dir.0, name) (d.0, n) g h in
-          ap (option_and_then (λ (x : MadeFile). x.dir)) (get-insert_other nat_cmp_total nat_cmp-IsAntisymmetric made file.0 (unlinked f) g.0 (not_this d n g w.0 w.1)) ∙ is.added_are_made d n g w.0;
-      made_are_added = λ g d h.
-          elim (get made' g.0) as (λ o. get made' g.0 ≡ o → option_and_then (λ (x : MadeFile). x.dir) o ≡ Some d → (n : List ℕ) × (get added' (d.0, n) ≡ Some g)) [
-            | None ↦ λ e k. absurd (cc)
-            | Some x ↦ λ e k. elim (get-insert_cases nat_cmp_total nat_cmp-IsAntisymmetric made file.0 (unlinked f) g.0 x e) [
-              | inl w ↦ absurd (let s = ap (λ (y : MadeFile). y.dir) w.1 in cc (s, k))
-              | inr old ↦
-                  let before : dir_made made g.0 ≡ Some d = ap (option_and_then (λ (y : MadeFile). y.dir)) old ∙ k in
-                  let at = is.made_are_added g d before in
-                  (at.0, get-remove_other link_cmp_total link_cmp-same added (dir.0, name) (d.0, at.0) (λ p. let there = ap (get added) p in let s : g ≡ file = cc (there, at.1, here) in gone_dir g x e k s) ∙ at.1)
-            ]
-          ] refl h;
+      made_are_later = is.made_are_later;
+      added_differ = λ d n g h. is.added_differ d n g (get-remove_cases link_cmp_total link_cmp-same added (dir.0, name) (d.0, n) g h).0;
       added_are_apart = λ d n h. let x = some-is _ h in is.added_are_apart d n (some-IsSome _ x.0 (get-remove_cases link_cmp_total link_cmp-same added (dir.0, name) (d, n) x.0 x.1).0);
       gone_are_lines = is.gone_are_lines;
       lost_are_counted = is.lost_are_counted;
     }
-      where
-        -- the file itself has no directory any more
-        gone_dir : (g : FileId) (x : MadeFile) → get made' g.0 ≡ Some x → {d : FileId} → x.dir ≡ Some d → g ≡ file → ⊥
-        gone_dir g x e k s =
-            let at = get-insert_same nat_cmp_total made file.0 (unlinked f) in
-            let there = ap (λ (y : FileId). get made' y.0) s ∙ at in
-            let same : x ≡ unlinked f = cc (there, e) in
-            let none = ap (λ (y : MadeFile). y.dir) same in
-            cc (none, k)
 
   -- a link of the manifest
   module _ (here : get base (dir.0, name) ≡ Some file) (not_added : get added (dir.0, name) ≡ None) (left : gone file.0 ≡ false) (not_full : is_full_dir tree file ≡ false)
@@ -161,8 +106,7 @@ module _ (m : Manifest) (made : FinMap nat_cmp MadeFile) (added : FinMap link_cm
       is_manifest = is.is_manifest;
       is_tree = subst IsTree (sym tree_over-removed) (removed-IsTree tree dir name file is.is_tree (child_left m made added gone lost next is dir name file here left) not_full);
       made_are_later = is.made_are_later;
-      added_are_made = is.added_are_made;
-      made_are_added = is.made_are_added;
+      added_differ = is.added_differ;
       added_are_apart = λ d n h. let o = is.added_are_apart d n h in at_all d n o;
       gone_are_lines = λ q h. gone_line q (sym (one_more q.0) ∙ h);
       lost_are_counted = λ d. counted d ∙ count d;

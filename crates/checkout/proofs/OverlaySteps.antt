@@ -1,7 +1,6 @@
 -- What the calls of a tree leave, in the words of their callees.
-use Rattle.std.proofs.Common.{◌≡◌, ℕ, ◌+◌, ◌<◌, ◌≤◌, ◌==◌, ◌||◌, Bool, false, if◌then◌else◌, List, length, Option, Some, None, IsSome, IfSome, refl, sym, ap, subst, ◌∙◌, inl, inr, arith}
+use Rattle.std.proofs.Common.{◌≡◌, ℕ, ◌+◌, ◌<◌, ◌≤◌, ◌==◌, ◌||◌, Bool, false, if◌then◌else◌, List, length, true, Option, Some, None, IsSome, IfSome, refl, sym, ap, subst, ◌∙◌, inl, inr, arith}
 use Rattle.std.proofs.lemmas.Option.{slice_get_within}
-use Rattle.std.specs.Option.{option_and_then}
 use Rattle.std.specs.Ordering.{nat_cmp}
 use Rattle.std.specs.FinMap.{FinMap, get, insert, remove, empty, get-empty}
 use Rattle.eden_base.proofs.MemberLemmas.{some-IsSome, some-is}
@@ -12,17 +11,20 @@ use Rattle.eden_base.specs.declared.attr.Kind.TheVariants.{Dir}
 use Rattle.eden_base.specs.declared.attr.Perm.{Perm}
 use Rattle.eden_base.specs.declared.number.FileId.{FileId}
 use Rattle.checkout.specs.declared.made.MadeFile.{MadeFile}
+use Rattle.checkout.specs.Added.{gives}
 use Rattle.checkout.specs.Manifest.{Manifest, IsManifest}
 use Rattle.checkout.specs.Overlay.{tree_over, IsOverlay}
 use Rattle.checkout.specs.Tree.{Tree, IsTree, link_cmp, kind_of, child_of, is_unlinked, is_full_dir, created, removed, tree_of, files_from, links_from}
 use Rattle.checkout.proofs.FlatLemmas.{link_cmp_total, link_cmp-same}
+use Rattle.checkout.proofs.CreateLaws.{linked_is_below}
 use Rattle.checkout.proofs.LineCounts.{lost-le-kids, kids-le-length, lost_in-none}
+use Rattle.checkout.proofs.LinkLaws.{link_from_given}
 use Rattle.checkout.proofs.ManifestIsTree.{tree_of-IsTree}
 use Rattle.checkout.proofs.ManifestTree.{file_with, line_of_link}
 use Rattle.checkout.proofs.MapLemmas.{removed_nothing, removed_again}
-use Rattle.checkout.proofs.OverlayCreate.{made_in, tree_over-created, create-IsOverlay}
+use Rattle.checkout.proofs.OverlayCreate.{kept_file, tree_over-created, create-IsOverlay}
 use Rattle.checkout.proofs.OverlayLaws.{child_added, child_cases}
-use Rattle.checkout.proofs.OverlayRemove.{unlinked, tree_over-removed_added, remove_added-IsOverlay, tree_over-removed, remove-IsOverlay}
+use Rattle.checkout.proofs.OverlayRemove.{tree_over-removed_added, remove_added-IsOverlay, tree_over-removed, remove-IsOverlay}
 use Rattle.checkout.proofs.UnionLaws.{files_over-nothing, links_over-nothing}
 
 -- before any request
@@ -37,8 +39,7 @@ start-IsOverlay m gone lost is none no_loss = record {
   is_manifest = is;
   is_tree = subst IsTree (sym (start-is m gone none)) (tree_of-IsTree m is);
   made_are_later = λ file h. let e = get-empty {X = MadeFile} nat_cmp file in absurd (let s : IsSome {T = MadeFile} None = subst IsSome e h in cc (s));
-  added_are_made = λ dir name file h. let e = get-empty {X = FileId} link_cmp (dir.0, name) in absurd (cc (e, h));
-  made_are_added = λ file dir h. let e = ap (option_and_then (λ (x : MadeFile). x.dir)) (get-empty {X = MadeFile} nat_cmp file.0) in absurd (cc (e, h));
+  added_differ = λ dir name file h. let e = get-empty {X = FileId} link_cmp (dir.0, name) in absurd (cc (e, h));
   added_are_apart = λ dir name h. let e = get-empty {X = FileId} link_cmp (dir, name) in absurd (let s : IsSome {T = FileId} None = subst IsSome e h in cc (s));
   gone_are_lines = λ file h. let e = none file.0 in absurd (cc (e, h));
   lost_are_counted = λ dir. no_loss dir ∙ sym (lost_in-none gone none dir 2 m.lines);
@@ -47,6 +48,17 @@ start-IsOverlay m gone lost is none no_loss = record {
 module _ (m : Manifest) (made : FinMap nat_cmp MadeFile) (added : FinMap link_cmp FileId) (gone : ℕ → Bool) (lost : ℕ → ℕ) (next : ℕ) (is : IsOverlay m made added gone lost next) (self : Tree) (view : tree_over m made added gone next ≡ self) (dir : FileId) (name : List ℕ) where
   abbrev tree : Tree
   tree = tree_over m made added gone next
+
+  -- what was added gives no file that is still to be made
+  pub next_is_new : (file : FileId) → next ≡ file.0 → gives added file ≡ false
+  next_is_new file id =
+      elim (gives added file) as (λ b. gives added file ≡ b → b ≡ false) [
+        | false ↦ λ _. refl
+        | true ↦ λ e.
+            let at = link_from_given added file e in
+            let below = linked_is_below tree is.is_tree at.0 at.1 file (child_added m made added gone lost next is at.0 at.1 file at.2) in
+            absurd (omega (arith, below, id))
+      ] refl
 
   module _ (free : child_of self dir name ≡ None) where
     free_here : child_of tree dir name ≡ None
@@ -59,6 +71,9 @@ module _ (m : Manifest) (made : FinMap nat_cmp MadeFile) (added : FinMap link_cm
           | Some f ↦ λ e. let there = child_added m made added gone lost next is dir name f e in absurd (cc (there, free_here))
         ] refl
 
+    pub none_there : (bytes : List ℕ) → bytes ≡ name → get added (dir.0, bytes) ≡ None
+    none_there bytes e = ap (λ (n : List ℕ). get added (dir.0, n)) e ∙ none_added
+
     -- a link that was added, and taken out again
     pub undone : (bytes bytes' : List ℕ) (file : FileId) (added' added'' : FinMap link_cmp FileId) → bytes ≡ name → bytes' ≡ name → added' ≡ insert added (dir.0, bytes) file → added'' ≡ remove added' (dir.0, bytes') → added'' ≡ added
     undone bytes bytes' file added' added'' e e' a a' =
@@ -66,7 +81,7 @@ module _ (m : Manifest) (made : FinMap nat_cmp MadeFile) (added : FinMap link_cm
         ∙ removed_again link_cmp_total link_cmp-same added (dir.0, name) file none_added
 
     pub create-step : (kind : Kind) (perm : Perm) (made' : FinMap nat_cmp MadeFile) (added' : FinMap link_cmp FileId) (bytes : List ℕ) → kind_of self dir ≡ Some Dir → is_unlinked self dir ≡ false → IsNameText bytes → next < end_of_files →
-        bytes ≡ name → made' ≡ insert made next (made_in dir kind perm) → added' ≡ insert added (dir.0, bytes) (file_with next) →
+        bytes ≡ name → made' ≡ insert made next (kept_file kind perm) → added' ≡ insert added (dir.0, bytes) (file_with next) →
         IsOverlay m made' added' gone lost (next + 1) × (tree_over m made' added' gone (next + 1) ≡ created self dir name kind perm)
     create-step kind perm made' added' bytes is_dir is_reached is_name fits e f a =
         let a' = a ∙ ap (λ (n : List ℕ). insert added (dir.0, n) (file_with next)) e in
@@ -82,24 +97,16 @@ module _ (m : Manifest) (made : FinMap nat_cmp MadeFile) (added : FinMap link_cm
         let p : is_full_dir self file ≡ false = subst (λ o. IfSome o (λ f. is_full_dir self f ≡ false)) there not_full in
         ap (λ (t : Tree). is_full_dir t file) view ∙ p
 
-    -- an added link gives a made file
-    pub is_made : (bytes : List ℕ) (file : FileId) → bytes ≡ name → get added (dir.0, bytes) ≡ Some file → IsSome (get made file.0)
-    is_made bytes file e here =
-        elim (get made file.0) as (λ o. option_and_then (λ (x : MadeFile). x.dir) o ≡ Some dir → IsSome o) [ None ↦ λ h. absurd (cc) | Some x ↦ λ h. refl ] (is.added_are_made dir bytes file here)
-
-    pub remove_added-step : (bytes : List ℕ) (file : FileId) (made' : FinMap nat_cmp MadeFile) (added' : FinMap link_cmp FileId) → bytes ≡ name → get added (dir.0, bytes) ≡ Some file →
-        IfSome (get made file.0) (λ x. made' ≡ insert made file.0 (unlinked x)) → added' ≡ remove added (dir.0, bytes) →
-        IsOverlay m made' added' gone lost next × (tree_over m made' added' gone next ≡ removed self dir name) × (child_of self dir name ≡ Some file)
-    remove_added-step bytes file made' added' e here unlink a =
+    pub remove_added-step : (bytes : List ℕ) (file : FileId) (added' : FinMap link_cmp FileId) → bytes ≡ name → get added (dir.0, bytes) ≡ Some file → added' ≡ remove added (dir.0, bytes) →
+        IsOverlay m made added' gone lost next × (tree_over m made added' gone next ≡ removed self dir name) × (child_of self dir name ≡ Some file)
+    remove_added-step bytes file added' e here a =
         let here' = sym (ap (λ (n : List ℕ). get added (dir.0, n)) e) ∙ here in
-        let x = some-is _ (is_made bytes file e here) in
-        let f : made' ≡ insert made file.0 (unlinked x.0) = subst (λ o. IfSome o (λ y. made' ≡ insert made file.0 (unlinked y))) x.1 unlink in
         let a' = a ∙ ap (λ (n : List ℕ). remove added (dir.0, n)) e in
         let there = child_added m made added gone lost next is dir name file here' in
         let empty_or_file = not_full_here file there in
-        rw (f, a') (
-          remove_added-IsOverlay m made added gone lost next is dir name file here' x.0 x.1 empty_or_file,
-          tree_over-removed_added m made added gone lost next is dir name file here' x.0 x.1 empty_or_file ∙ ap (λ (t : Tree). removed t dir name) view,
+        rw a' (
+          remove_added-IsOverlay m made added gone lost next is dir name file here' empty_or_file,
+          tree_over-removed_added m made added gone lost next is dir name file here' empty_or_file ∙ ap (λ (t : Tree). removed t dir name) view,
           sym (ap (λ (t : Tree). child_of t dir name) view) ∙ there,
         )
 

@@ -1,3 +1,4 @@
+pub mod Added
 pub mod Changes
 pub mod Codes
 pub mod Create

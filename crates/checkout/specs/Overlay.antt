@@ -1,7 +1,6 @@
--- A tree as what differs from its manifest: the files that were made and their links, and the manifest's files whose
--- link is gone.
-use Rattle.std.specs.Prelude.{◌≡◌, ℕ, ◌+◌, ◌≤◌, ◌==◌, ◌&&◌, Bool, true, not, nat_lt, nat_le, List, [], ◌∷◌, ◌++◌, length, map, Option, Some, None, IsSome, if◌then◌else◌}
-use Rattle.std.specs.Option.{option_and_then}
+-- A tree as what differs from its manifest: the files that were made, the links that were added, and the manifest's
+-- files whose link is gone.
+use Rattle.std.specs.Prelude.{◌≡◌, ◌≢◌, ℕ, ◌+◌, ◌≤◌, ◌==◌, ◌&&◌, Bool, true, not, nat_lt, nat_le, List, [], ◌∷◌, ◌++◌, length, map, Option, Some, None, IsSome, if◌then◌else◌}
 use Rattle.std.specs.Ordering.{nat_cmp}
 use Rattle.std.specs.FinMap.{FinMap, get, entries, from_entries, retain_keys}
 use Rattle.eden_base.specs.declared.number.FileId.{FileId}
@@ -54,21 +53,15 @@ abbrev pub lost_in : (ℕ → Bool) → ℕ → ℕ → List Line → ℕ
 lost_in gone dir id [] = 0
 lost_in gone dir id (l ∷ ls) = (if (l.dir.0 == dir) && gone id then 1 else 0) + lost_in gone dir (id + 1) ls
 
--- the directory of a made file that has a link
-abbrev pub dir_made : FinMap nat_cmp MadeFile → ℕ → Option FileId
-dir_made made file = option_and_then (λ (m : MadeFile). m.dir) (get made file)
-
 -- what holds of such differences
 pub record IsOverlay (m : Manifest) (made : FinMap nat_cmp MadeFile) (added : FinMap link_cmp FileId)
     (gone : ℕ → Bool) (lost : ℕ → ℕ) (next : ℕ) : Type 0 where
   pub is_manifest : IsManifest m
   pub is_tree : IsTree (tree_over m made added gone next)
   pub made_are_later : (file : ℕ) → IsSome (get made file) → length m.lines + 2 ≤ file
-  -- a link that was added gives a made file, which has its directory; and back
-  pub added_are_made : (dir : FileId) (name : List ℕ) (file : FileId) → get added (dir.0, name) ≡ Some file →
-      dir_made made file.0 ≡ Some dir
-  pub made_are_added : (file dir : FileId) → dir_made made file.0 ≡ Some dir →
-      (name : List ℕ) × (get added (dir.0, name) ≡ Some file)
+  -- a link that was added is not one of the manifest's
+  pub added_differ : (dir : FileId) (name : List ℕ) (file : FileId) → get added (dir.0, name) ≡ Some file →
+      get (links_from 2 m.lines) (dir.0, name) ≢ Some file
   -- and stands where the manifest has no link, or one that is gone
   pub added_are_apart : (dir : ℕ) (name : List ℕ) → IsSome (get added (dir, name)) →
       still gone (get (links_from 2 m.lines) (dir, name)) ≡ None

@@ -1,6 +1,7 @@
 //! What a checkout contains: the manifest that every daemon is handed, and the tree that requests change.
 #![tactic(auto)]
 
+mod added;
 mod backing;
 mod changes;
 mod content;

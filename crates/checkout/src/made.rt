@@ -1,5 +1,5 @@
 //! The files that were made since the manifest.
-ghost use Rattle.std.specs.Prelude.{◌≡◌, map, IsSome, IfSome, None, IfOk, OnOk, OnErr};
+ghost use Rattle.std.specs.Prelude.{◌≡◌, map, None, IfOk, OnOk, OnErr};
 ghost use Rattle.std.specs.FinMap.{empty, entries, get, insert};
 ghost use Rattle.checkout.specs.Listing.{listed_file};
 
@@ -14,8 +14,6 @@ use std::marker::Model;
 pub struct MadeFile {
     pub kind: Kind,
     pub perm: Perm,
-    /// The directory in which its link stands, if it has one.
-    pub dir: Option<FileId>,
 }
 
 /// They are kept by their ids.
@@ -80,20 +78,5 @@ impl MadeFiles {
             })?;
         }
         Ok(list)
-    }
-
-    /// Takes a file's directory from it. Takes no memory.
-    pub fn unlink(&mut self, file: FileId)
-        requires { IsSome (get self.old file.0) }
-        ensures { IfSome (get self.old file.0) (λ m.
-            self.new ≡ insert self.old file.0 (record { kind = m.kind; perm = m.perm; dir = None })) }
-    {
-        let made = self.get(file).unwrap();
-        let unlinked = MadeFile {
-            kind: made.kind,
-            perm: made.perm,
-            dir: None,
-        };
-        self.insert(file, unlinked).unwrap();
     }
 }

@@ -10,8 +10,8 @@ ghost use Rattle.checkout.specs.Create.{IsCreateRefusal};
 ghost use Rattle.checkout.specs.Overlay.{is_line};
 ghost use Rattle.checkout.specs.Tree.{Tree as TreeState, IsTree, tree_of, child_of, kind_of, attr_of, file_of, perm_made, next_file, nlink_of, has_links, is_empty_dir, is_full_dir, is_linked, is_unlinked, created, removed};
 
+use crate::added::Added;
 use crate::gone::Gone;
-use crate::links::Links;
 use crate::made::{MadeFile, MadeFiles};
 use crate::order::sort;
 use crate::tally::Tally;
@@ -21,14 +21,14 @@ use std::alloc::Global;
 use std::marker::Model;
 
 /// What the requests of a mount read and change. It starts as its manifest says, and holds what differs from it alone:
-/// the files that were made and their links, which of the manifest's files lost their link, and how many of a
-/// directory's links that were. The room for losses is taken at once, so that no name is too many to remove.
+/// the files that were made, the links that were added, which of the manifest's files lost their link, and how many of
+/// a directory's links that were. The room for losses is taken at once, so that no name is too many to remove.
 #[derive(Drop)]
 pub struct Tree {
     alloc: Global,
     manifest: Manifest,
     made: MadeFiles,
-    added: Links,
+    added: Added,
     gone: Gone,
     lost: Tally,
     next_file: u64,
@@ -67,7 +67,7 @@ impl Tree {
             alloc,
             manifest,
             made: MadeFiles::new(alloc),
-            added: Links::new(alloc),
+            added: Added::new(alloc),
             gone,
             lost,
             next_file: files as u64,
@@ -124,10 +124,7 @@ impl Tree {
     pub fn is_linked(&self, file: FileId) -> bool
         ensures linked { result ≡ is_linked self.now file }
     {
-        match self.made.get(file) {
-            Some(made) => made.dir.is_some(),
-            None => self.is_line(file) && !self.gone.has(file),
-        }
+        self.added.dir_of(file).is_some() || (self.is_line(file) && !self.gone.has(file))
     }
 
     /// Returns whether the file is one of the manifest, below the root.
@@ -179,14 +176,14 @@ impl Tree {
     fn has_links(&self, dir: FileId) -> bool
         ensures { result ≡ has_links self.now dir }
     {
-        self.added.has_links(dir) || self.lost.count(dir.0) < self.manifest.kids(dir)
+        self.added.links().has_links(dir) || self.lost.count(dir.0) < self.manifest.kids(dir)
     }
 
     /// Returns the file under a name in a directory.
     pub fn child(&self, dir: FileId, name: &Name) -> Option<FileId>
         ensures child { result ≡ child_of self.now dir name.now }
     {
-        if let Some(file) = self.added.get(dir, name.bytes()) {
+        if let Some(file) = self.added.links().get(dir, name.bytes()) {
             return Some(file);
         }
         let file = self.manifest.child(dir, name.bytes())?;
@@ -208,9 +205,10 @@ impl Tree {
     {
         let made = self.made.list(self.alloc)?;
         let mut links = Vec::new(self.alloc);
-        self.added.list(self.alloc, &mut links)?;
+        let added = self.added.links();
+        added.list(self.alloc, &mut links)?;
         self.gone
-            .list(self.alloc, self.manifest.lines(), &self.added, &mut links)?;
+            .list(self.alloc, self.manifest.lines(), added, &mut links)?;
         sort(&mut links);
         Ok(Changes {
             made: MadeList::of(made),
@@ -243,11 +241,7 @@ impl Tree {
         let Ok(()) = self.added.insert(self.alloc, dir, name.bytes(), file) else {
             return Err(CreateFault::NoMemory);
         };
-        let made = MadeFile {
-            kind,
-            perm,
-            dir: Some(dir),
-        };
+        let made = MadeFile { kind, perm };
         let Ok(()) = self.made.insert(file, made) else {
             self.added.remove(dir, name.bytes());
             return Err(CreateFault::NoMemory);
@@ -265,7 +259,6 @@ impl Tree {
         ensures is_tree { IsTree self.new }
     {
         if let Some(file) = self.added.remove(dir, name.bytes()) {
-            self.made.unlink(file);
             return file;
         }
         let file = self.manifest.child(dir, name.bytes()).unwrap();

@@ -1,6 +1,7 @@
 -- What the parts of the overlay list is what tells the tree from its manifest's.
 use Rattle.std.proofs.Common.{◌++◌, map, refl, ap, sym, subst, ◌∙◌}
 use Rattle.std.specs.FinMap.{entries, entries_sorted, get-entries}
+use Rattle.std.specs.List.{AllByRecursion}
 use Rattle.std.specs.List.Sorted.{IsPermutation}
 use Rattle.eden_base.specs.Name.{IsNameText}
 use Rattle.checkout.specs.Changes.{AreLinkChanges, AreMade}
@@ -22,10 +23,9 @@ pub list-requires-2 : goal.list-requires-2
 list-requires-2 c =
     let i = c.self.inside in
     let o = c.self.invariant.0 in
-    record {
-      names = all_entries link_cmp_total (λ link. IsNameText link.0.1) (entries i.added) (entries_sorted i.added) (λ k v found.
-          o.is_tree.links_have_names (record { 0 = k.0 }) k.1 v (child_added i.manifest i.made i.added (is_gone i.gone) (count_of i.lost) i.next_file o (record { 0 = k.0 }) k.1 v (get-entries i.added k ∙ found)));
-    }
+    let names = all_entries link_cmp_total (λ link. IsNameText link.0.1) (entries i.added) (entries_sorted i.added) (λ k v found.
+    o.is_tree.links_have_names (record { 0 = k.0 }) k.1 v (child_added i.manifest i.made i.added (is_gone i.gone) (count_of i.lost) i.next_file o (record { 0 = k.0 }) k.1 v (get-entries i.added k ∙ found))) in
+    record { names = subst (λ links. AllByRecursion (λ link. IsNameText link.0.1) (entries links)) (sym c.links-added.ensures) names }
 
 pub list-requires-3 : goal.list-requires-3
 list-requires-3 c =
@@ -37,8 +37,8 @@ returns-clause-changes c =
     let i = c.self.inside in
     let o = c.self.invariant.0 in
     let made = c.of.ensures.files ∙ c.in_ok-made.ensures in
-    let listed = c.in_ok-list-2.ensures.listed ∙ ap (λ ls. c.list-2.new.links.items ++ gone_changes i.added ls i.gone.files) c.lines.ensures.lines
-    ∙ ap (λ xs. xs ++ gone_changes i.added i.manifest.lines i.gone.files) (c.in_ok-list.ensures ∙ ap (λ xs. xs ++ map added_change (entries i.added)) c.new-links.ensures.items) in
+    let listed = c.in_ok-list-2.ensures.listed ∙ ap (λ links. c.list-2.new.links.items ++ gone_changes links c.lines.result.now i.gone.files) c.links-added.ensures ∙ ap (λ ls. c.list-2.new.links.items ++ gone_changes i.added ls i.gone.files) c.lines.ensures.lines
+    ∙ ap (λ xs. xs ++ gone_changes i.added i.manifest.lines i.gone.files) (c.in_ok-list.ensures ∙ ap (λ links. c.new-links.result.items ++ map added_change (entries links)) c.links-added.ensures ∙ ap (λ xs. xs ++ map added_change (entries i.added)) c.new-links.ensures.items) in
     let moved = subst (λ xs. IsPermutation xs c.sort.new.links.items) listed c.sort.ensures.permutation in
     let links = AreLinkChanges-over i.manifest i.made i.added (is_gone i.gone) (count_of i.lost) i.next_file o i.gone.files c.sort.new.links.items (λ q. refl) c.in_ok-list-2.ensures.distinct (all_gone i.gone) moved c.sort.ensures.sorted in
     record {

@@ -1,8 +1,19 @@
 -- The file is made, or nothing is changed.
+use Rattle.std.proofs.Common.{refl}
 use Rattle.checkout.specs.Gone.{is_gone}
 use Rattle.checkout.specs.Tally.{count_of}
-use Rattle.checkout.proofs.OverlaySteps.{undone, create-step}
+use Rattle.checkout.proofs.OverlaySteps.{create-step, next_is_new, none_there, undone}
 use Rattle.checkout.proofs.tree.Tree.create.Goals as goal
+
+pub insert-requires-clause-free : goal.insert-requires-clause-free
+insert-requires-clause-free c =
+    let i = c.self.inside in
+    none_there i.manifest i.made i.added (is_gone i.gone) (count_of i.lost) i.next_file c.self.invariant.0 _ c.self.view_is c.args.dir c.args.name.now c.requires.free _ c.bytes.ensures.bytes
+
+pub insert-requires-clause-new : goal.insert-requires-clause-new
+insert-requires-clause-new c =
+    let i = c.self.inside in
+    next_is_new i.manifest i.made i.added (is_gone i.gone) (count_of i.lost) i.next_file c.self.invariant.0 _ c.self.view_is c.args.dir c.args.name.now (record { 0 = i.next_file }) refl
 
 pub invariant_of-self-in_default-insert : goal.invariant_of-self-in_default-insert
 invariant_of-self-in_default-insert c =

@@ -3,34 +3,29 @@ use Rattle.std.proofs.Common.{arith, sym, ◌∙◌}
 use Rattle.checkout.specs.Gone.{is_gone}
 use Rattle.checkout.specs.Tally.{count_of}
 use Rattle.checkout.proofs.GoneLemmas.{is_gone-added}
-use Rattle.checkout.proofs.OverlaySteps.{is_made, remove_added-step, is_found, found-is, remove_line-step}
+use Rattle.checkout.proofs.OverlaySteps.{remove_added-step, is_found, found-is, remove_line-step}
 use Rattle.checkout.proofs.tree.Tree.remove.Goals as goal
-
-pub unlink-requires : goal.unlink-requires
-unlink-requires c =
-    let i = c.self.inside in
-    is_made i.manifest i.made i.added (is_gone i.gone) (count_of i.lost) i.next_file c.self.invariant.0 _ c.self.view_is c.args.dir c.args.name.now c.requires.not_full _ c.in-Some.file c.bytes.ensures.bytes (sym c.remove.ensures.value ∙ c.in-Some.is)
 
 pub invariant_of-self : goal.invariant_of-self
 invariant_of-self c =
     let i = c.self.inside in
-    let done = remove_added-step i.manifest i.made i.added (is_gone i.gone) (count_of i.lost) i.next_file c.self.invariant.0 _ c.self.view_is c.args.dir c.args.name.now c.requires.not_full _ c.in-Some.file _ _ c.bytes.ensures.bytes (sym c.remove.ensures.value ∙ c.in-Some.is) c.unlink.ensures c.remove.ensures.links in
+    let done = remove_added-step i.manifest i.made i.added (is_gone i.gone) (count_of i.lost) i.next_file c.self.invariant.0 _ c.self.view_is c.args.dir c.args.name.now c.requires.not_full _ c.in-Some.file _ c.bytes.ensures.bytes (sym c.remove.ensures.value ∙ c.in-Some.is) c.remove.ensures.links in
     (done.0, c.self.invariant.1, c.self.invariant.2)
 
 pub returns-in-Some-clause-file : goal.returns-in-Some-clause-file
 returns-in-Some-clause-file c =
     let i = c.self.inside in
-    (remove_added-step i.manifest i.made i.added (is_gone i.gone) (count_of i.lost) i.next_file c.self.invariant.0 _ c.self.view_is c.args.dir c.args.name.now c.requires.not_full _ c.in-Some.file _ _ c.bytes.ensures.bytes (sym c.remove.ensures.value ∙ c.in-Some.is) c.unlink.ensures c.remove.ensures.links).2
+    (remove_added-step i.manifest i.made i.added (is_gone i.gone) (count_of i.lost) i.next_file c.self.invariant.0 _ c.self.view_is c.args.dir c.args.name.now c.requires.not_full _ c.in-Some.file _ c.bytes.ensures.bytes (sym c.remove.ensures.value ∙ c.in-Some.is) c.remove.ensures.links).2
 
 pub returns-in-Some-clause-removed : goal.returns-in-Some-clause-removed
 returns-in-Some-clause-removed c =
     let i = c.self.inside in
-    (remove_added-step i.manifest i.made i.added (is_gone i.gone) (count_of i.lost) i.next_file c.self.invariant.0 _ c.self.view_is c.args.dir c.args.name.now c.requires.not_full _ c.in-Some.file _ _ c.bytes.ensures.bytes (sym c.remove.ensures.value ∙ c.in-Some.is) c.unlink.ensures c.remove.ensures.links).1
+    (remove_added-step i.manifest i.made i.added (is_gone i.gone) (count_of i.lost) i.next_file c.self.invariant.0 _ c.self.view_is c.args.dir c.args.name.now c.requires.not_full _ c.in-Some.file _ c.bytes.ensures.bytes (sym c.remove.ensures.value ∙ c.in-Some.is) c.remove.ensures.links).1
 
 pub returns-in-Some-clause-is_tree : goal.returns-in-Some-clause-is_tree
 returns-in-Some-clause-is_tree c =
     let i = c.self.inside in
-    (remove_added-step i.manifest i.made i.added (is_gone i.gone) (count_of i.lost) i.next_file c.self.invariant.0 _ c.self.view_is c.args.dir c.args.name.now c.requires.not_full _ c.in-Some.file _ _ c.bytes.ensures.bytes (sym c.remove.ensures.value ∙ c.in-Some.is) c.unlink.ensures c.remove.ensures.links).0.is_tree
+    (remove_added-step i.manifest i.made i.added (is_gone i.gone) (count_of i.lost) i.next_file c.self.invariant.0 _ c.self.view_is c.args.dir c.args.name.now c.requires.not_full _ c.in-Some.file _ c.bytes.ensures.bytes (sym c.remove.ensures.value ∙ c.in-Some.is) c.remove.ensures.links).0.is_tree
 
 pub unwrap-file-requires : goal.unwrap-file-requires
 unwrap-file-requires c =

@@ -1,0 +1,94 @@
+//! The links that were added since the manifest, from both ends.
+ghost use Rattle.std.specs.Prelude.{◌≡◌, List, ℕ, None, Some, false, MatchOption, OnErr, OnOk};
+ghost use Rattle.std.specs.FinMap.{empty, get, insert, remove};
+ghost use Rattle.checkout.specs.Added.{gives};
+
+use crate::links::Links;
+use eden_base::{FileId, NoMemory};
+use std::alloc::Global;
+use std::collections::BTreeMap;
+use std::marker::Model;
+
+/// Each gives a file that no other gives: one that was made, or one of the manifest that stands elsewhere now.
+#[derive(Drop)]
+pub struct Added {
+    links: Links,
+    /// The directory in which the link of a file stands.
+    dirs: BTreeMap<u64, FileId>,
+}
+
+impl Model for Added {
+    ghost use Rattle.std.specs.Ordering.{nat_cmp};
+    ghost use Rattle.std.specs.BTreeMap.{IsOrdered, get as dir_at};
+    ghost use Rattle.std.specs.FinMap.{FinMap};
+    ghost use Rattle.eden_base.specs.declared.number.FileId.{FileId};
+    ghost use Rattle.checkout.specs.Added.{AreDirsOf};
+    ghost use Rattle.checkout.specs.Codes.{links_code};
+    ghost use Rattle.checkout.specs.Tree.{link_cmp};
+
+    ghost Value = { FinMap link_cmp FileId };
+
+    ghost coded = { links_code };
+
+    ghost view = { λ a. a.links };
+
+    ghost invariant = { λ a. IsOrdered nat_cmp a.dirs × AreDirsOf a.links (dir_at nat_cmp a.dirs) };
+}
+
+impl Added {
+    /// Returns no links.
+    pub fn new(alloc: Global) -> Added
+        ensures { result ≡ empty }
+    {
+        Added {
+            links: Links::new(alloc),
+            dirs: BTreeMap::new(alloc),
+        }
+    }
+
+    /// Returns the links by directory and name.
+    pub fn links(&self) -> &Links
+        ensures { result.now ≡ self.now }
+    {
+        &self.links
+    }
+
+    /// Returns the directory in which a link gives the file.
+    pub fn dir_of(&self, file: FileId) -> Option<FileId>
+        ensures { MatchOption result (gives self.now file ≡ false) (λ dir.
+            (name : List ℕ) × (get self.now (dir.0, name) ≡ Some file)) }
+    {
+        self.dirs.get(&file.0).copied()
+    }
+
+    /// Lets a new name in a directory give a file that no link gives.
+    pub fn insert(
+        &mut self,
+        alloc: Global,
+        dir: FileId,
+        name: &[u8],
+        file: FileId,
+    ) -> Result<(), NoMemory>
+        requires free { get self.old (dir.0, name.now) ≡ None }
+        requires new { gives self.old file ≡ false }
+        ensures ok { OnOk result (self.new ≡ insert self.old (dir.0, name.now) file) }
+        ensures err { OnErr result (self.new ≡ self.old) }
+    {
+        self.dirs.insert(file.0, dir)?;
+        let Ok(()) = self.links.insert(alloc, dir, name, file) else {
+            self.dirs.remove(&file.0);
+            return Err(NoMemory);
+        };
+        Ok(())
+    }
+
+    /// Takes a name out of a directory, and returns the file that it gave. Takes no memory.
+    pub fn remove(&mut self, dir: FileId, name: &[u8]) -> Option<FileId>
+        ensures value { result ≡ get self.old (dir.0, name.now) }
+        ensures links { self.new ≡ remove self.old (dir.0, name.now) }
+    {
+        let file = self.links.remove(dir, name)?;
+        self.dirs.remove(&file.0);
+        Some(file)
+    }
+}
