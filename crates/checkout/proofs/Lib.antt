@@ -1,4 +1,7 @@
 pub mod AttrLaws
+pub mod BadChangeCauses
+pub mod BadChangeLaws
+pub mod BadChangeRows
 pub mod ChangeLists
 pub mod ChangesLaws
 pub mod CreateLaws

@@ -1,4 +1,5 @@
 pub mod Added
+pub mod BadChanges
 pub mod Changes
 pub mod Codes
 pub mod Create
