@@ -33,12 +33,3 @@ pub use reply_to_fault::fault_reply;
 pub use reply_writer::{MAX_REPLY_LEN, write_reply};
 pub use request_reader::{read_items, read_request, read_request_to};
 pub use request_writer::write_request;
-
-#[cfg(test)]
-mod tests;
-#[cfg(test)]
-mod vectors;
-#[cfg(test)]
-mod wide_tests;
-#[cfg(test)]
-mod wide_vectors;

@@ -10,8 +10,3 @@ mod way;
 
 pub use inode_map::{Forgot, GiveFault, InodeMap, Kept};
 pub use loaded::LoadedAttr;
-
-#[cfg(test)]
-mod sequence_tests;
-#[cfg(test)]
-mod tests;

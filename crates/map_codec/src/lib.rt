@@ -21,8 +21,3 @@ pub use image::{Entries, Image};
 pub use image_reader::read;
 pub use image_writer::write;
 pub use served_image::image_of;
-
-#[cfg(test)]
-mod tests;
-#[cfg(test)]
-mod vectors;

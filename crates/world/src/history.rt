@@ -56,6 +56,3 @@ fn outcomes_of(alloc: Global, world: &mut World, events: &[Event]) -> Result<Vec
     }
     Ok(outcomes)
 }
-
-#[cfg(test)]
-mod tests;

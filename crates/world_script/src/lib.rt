@@ -15,8 +15,6 @@ mod run;
 mod run_error;
 mod script;
 mod sources;
-#[cfg(test)]
-mod tests;
 
 pub use ending::Ending;
 pub use fault::{Fault, write_fault};

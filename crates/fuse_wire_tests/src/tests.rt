@@ -3,9 +3,12 @@
 ghost use Rattle.std.specs.Prelude.{◌≡◌, ◌<◌, ◌^◌, IfOk};
 ghost use Rattle.fuse_wire.specs.RequestText.{IsSendable};
 
-use super::*;
 use crate::vectors::*;
 use eden_base::{Attr, Errno, Kind, NameFault, NameRoom, NoMemory, Number, Perm};
+use fuse_wire::{
+    Answer, Ask, Batch, BatchRoom, Item, Items, Reply, Request, WireFault, fault_reply, read_items,
+    read_reply, read_request, read_request_to, write_reply, write_request,
+};
 use std::alloc::Global;
 use std::test::Fail;
 

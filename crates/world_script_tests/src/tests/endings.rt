@@ -1,7 +1,7 @@
 //! Words, what the program prints for them, and how it ends.
-use crate::{Ending, Fault, Sources, run_program};
 use std::alloc::Global;
 use std::io::{self, BufWriter, ErrorKind, Write};
+use world_script::{Ending, Fault, Sources, run_program};
 
 /// A script on standard input, and two in files.
 const INPUT: &[u8] = b"commit 0123456789abcdef0123456789abcdef01234567\n--\nstart\n";

@@ -3,9 +3,9 @@ ghost use Rattle.std.specs.Prelude.{IfOk};
 ghost use Rattle.std.specs.Counts.{IsPrefixLen};
 
 use super::MANIFEST;
-use crate::{DEFAULT_LIMIT, Fault, run_world};
 use std::alloc::Global;
 use std::io::{self, BufWriter, ErrorKind, Read, Write};
+use world_script::{DEFAULT_LIMIT, Fault, run_world};
 
 /// What a reader does once its text is read.
 #[derive(Clone, Copy)]

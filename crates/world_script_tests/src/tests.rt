@@ -6,9 +6,9 @@ mod rows;
 mod sizes;
 mod streams;
 
-use crate::{DEFAULT_LIMIT, run_world, write_fault};
 use std::alloc::Global;
 use std::io::Read;
+use world_script::{DEFAULT_LIMIT, run_world, write_fault};
 
 /// A manifest of five files in two directories, and the line behind it.
 const MANIFEST: &[u8] =

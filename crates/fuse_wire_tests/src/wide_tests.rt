@@ -1,9 +1,12 @@
 //! Each field of a message has its place and its width.
 ghost use Rattle.fuse_wire.specs.RequestText.{IsSendable};
 
-use super::*;
 use crate::wide_vectors::*;
 use eden_base::{Attr, Errno, Kind, Name, Number, Perm};
+use fuse_wire::{
+    Answer, Ask, Item, Reply, Request, read_items, read_reply, read_request, write_reply,
+    write_request,
+};
 use std::alloc::Global;
 use std::test::Fail;
 
@@ -67,7 +70,7 @@ fn keeps_modes(alloc: Global) -> Option<bool> {
     Some(mkdir && create)
 }
 
-#[tactic(auto, unfolding(crate::specs::Opcode::opcode_of))]
+#[tactic(auto, unfolding(fuse_wire::specs::Opcode::opcode_of))]
 fn keeps_nodes(alloc: Global) -> Option<bool> {
     let node = NODE;
     let getattr = is_kept(alloc, Request::Getattr { node }, &GETATTR, &GETATTR_FILLED)?;

@@ -1,11 +1,12 @@
 //! Worked examples of whole lists of events.
-use super::*;
-use crate::{Happened, Refusal};
 use broker_core::Seat;
+use checkout::Manifest;
 use eden_base::{Attr, DaemonId, Errno, Kind, Name, Number, Perm, Place};
 use fuse_wire::{Answer, Batch, Item, Reply, Request};
 use inode_map::{Forgot, InodeMap};
+use std::alloc::Global;
 use std::test::Fail;
+use world::{Event, Happened, Outcome, Refusal, World, run};
 
 const TEXT: &[u8] =
     b"commit 0123456789abcdef0123456789abcdef01234567\ndir src\nfile 0644 12 src/a\nfile 0755 0 src/b\nfile 0644 7 README\n";

@@ -3,12 +3,12 @@
 ghost use Rattle.std.specs.Prelude.{IfOk};
 ghost use Rattle.map_codec.specs.Fit.{IsFit};
 
-use super::*;
 use crate::vectors::{CHANGED, LOOKED_UP};
 use checkout::{Manifest, ManifestFault};
 use eden_base::{Name, NameFault, NoMemory, Number};
 use fuse_ops::Served;
 use fuse_wire::{Answer, Request};
+use map_codec::{Entries, Image, ImageFault, WriteFault, image_of, read, write};
 use std::alloc::{AllocError, Global};
 use std::test::Fail;
 

@@ -2,9 +2,9 @@
 ghost use Rattle.std.specs.Prelude.{◌+◌, ◌<◌, ◌≤◌};
 ghost use Rattle.eden_base.specs.Limits.{end_of_numbers};
 
-use crate::{Forgot, GiveFault, InodeMap, Kept};
 use checkout::{Manifest, ManifestFault, ManifestFaultKind, Tree};
 use eden_base::{Attr, FileId, Kind, Name, NameFault, NoMemory, Number, Perm, Place};
+use inode_map::{Forgot, GiveFault, InodeMap, Kept};
 use std::alloc::{AllocError, Global};
 use std::test::Fail;
 

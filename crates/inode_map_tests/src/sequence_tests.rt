@@ -1,6 +1,6 @@
 //! A long sequence of calls, on a map and on a plain list of the same entries.
-use crate::{Forgot, GiveFault, InodeMap};
 use eden_base::{FileId, Name, NameFault, Number, Place};
+use inode_map::{Forgot, GiveFault, InodeMap};
 use std::alloc::{AllocError, Global};
 use std::test::Fail;
 

@@ -1,0 +1,5 @@
+//! Tests of `world_script` by its public calls.
+#![tactic(auto)]
+
+#[cfg(test)]
+mod tests;
