@@ -213,16 +213,19 @@ fn reads_the_items_of_forgets(rt: HostRuntime) -> Result<(), Fail> {
     Ok(())
 }
 
-/// Returns whether the reply is written as these bytes, and these are read as one that is.
-fn is_written_as(reply: &Reply, bytes: &[u8]) -> bool {
+/// Returns whether the reply is written as these bytes.
+fn is_spelled(reply: &Reply, bytes: &[u8]) -> bool {
     let mut out = [7u8; 160];
     let len = write_reply(reply, &mut out);
-    let Ok(again) = read_reply(bytes) else {
-        return false;
-    };
-    let mut second = [7u8; 160];
-    let second_len = write_reply(&again, &mut second);
-    out[..len].len() == bytes.len() && &out[..len] == bytes && &second[..second_len] == bytes
+    &out[..len] == bytes
+}
+
+/// Returns whether the reply is written as these bytes, and these are read as one that is.
+fn is_written_as(reply: &Reply, bytes: &[u8]) -> bool {
+    match read_reply(bytes) {
+        Ok(again) => is_spelled(reply, bytes) && is_spelled(&again, bytes),
+        Err(_) => false,
+    }
 }
 
 #[test]
@@ -251,42 +254,14 @@ fn writes_and_reads_each_answer(rt: HostRuntime) {
         number: Number(2),
         attr: twelve,
     };
-    assert!(rt;
-        is_written_as(
-            &Reply {
-                unique: 3,
-                answer: entry
-            },
-            &ENTRY
-        )
-    );
-    assert!(rt;
-        is_written_as(
-            &Reply {
-                unique: 8,
-                answer: opened
-            },
-            &OPENED
-        )
-    );
-    assert!(rt;
-        is_written_as(
-            &Reply {
-                unique: 4,
-                answer: attrs
-            },
-            &ATTRS
-        )
-    );
-    assert!(rt;
-        is_written_as(
-            &Reply {
-                unique: 6,
-                answer: Answer::Done
-            },
-            &DONE
-        )
-    );
+    for (unique, answer, bytes) in [
+        (3, entry, ENTRY.as_slice()),
+        (8, opened, OPENED.as_slice()),
+        (4, attrs, ATTRS.as_slice()),
+        (6, Answer::Done, DONE.as_slice()),
+    ] {
+        assert!(rt; is_written_as(&Reply { unique, answer }, bytes));
+    }
 }
 
 #[test]
@@ -318,44 +293,49 @@ fn writes_and_reads_each_error(rt: HostRuntime) {
 #[test]
 fn refuses_other_replies(rt: HostRuntime) {
     let other_error = [16, 0, 0, 0, 0xff, 0xff, 0xff, 0xff, 7, 0, 0, 0, 0, 0, 0, 0];
-    assert!(rt; matches!(read_reply(&other_error), Err(WireFault::BadBody)));
-    assert!(rt; matches!(read_reply(&DONE[..15]), Err(WireFault::Short)));
-    assert!(rt; matches!(read_reply(&ENTRY[..143]), Err(WireFault::BadLength)));
     let mut kept = ENTRY;
     kept[24] = 1;
-    assert!(rt; matches!(read_reply(&kept), Err(WireFault::BadBody)));
     let mut link = ENTRY;
     link[117] = 0xa1;
-    assert!(rt; matches!(read_reply(&link), Err(WireFault::BadBody)));
+    for (bytes, fault) in [
+        (other_error.as_slice(), WireFault::BadBody),
+        (&DONE[..15], WireFault::Short),
+        (&ENTRY[..143], WireFault::BadLength),
+        (kept.as_slice(), WireFault::BadBody),
+        (link.as_slice(), WireFault::BadBody),
+    ] {
+        assert!(rt; read_reply(bytes) == Err(fault));
+    }
+}
+
+/// Returns whether the bytes are no request, for this cause.
+fn is_refused(alloc: Global, bytes: &[u8], fault: WireFault) -> bool {
+    match read_request(alloc, bytes) {
+        Ok(_) => false,
+        Err(told) => told == fault,
+    }
 }
 
 #[test]
 fn refuses_broken_headers_and_bodies(rt: HostRuntime) {
-    let alloc = rt.alloc();
     let mut long = OPEN;
     long[0] = 41;
-    assert!(rt; matches!(read_request(alloc, &long), Err(WireFault::BadLength)));
-    assert!(rt; matches!(read_request(alloc, &OPEN[..39]), Err(WireFault::Short)));
     let mut open_end = LOOKUP;
     open_end[43] = b'x';
-    assert!(rt; matches!(read_request(alloc, &open_end), Err(WireFault::BadBody)));
     let mut inner = LOOKUP;
     inner[41] = 0;
-    assert!(rt;
-        matches!(
-            read_request(alloc, &inner),
-            Err(WireFault::BadName(NameFault::BadByte))
-        )
-    );
     let mut lone = [0u8; 41];
     lone[0] = 41;
     lone[4] = 1;
-    assert!(rt;
-        matches!(
-            read_request(alloc, &lone),
-            Err(WireFault::BadName(NameFault::Empty))
-        )
-    );
+    for (bytes, fault) in [
+        (long.as_slice(), WireFault::BadLength),
+        (&OPEN[..39], WireFault::Short),
+        (open_end.as_slice(), WireFault::BadBody),
+        (inner.as_slice(), WireFault::BadName(NameFault::BadByte)),
+        (lone.as_slice(), WireFault::BadName(NameFault::Empty)),
+    ] {
+        assert!(rt; is_refused(rt.alloc(), bytes, fault));
+    }
 }
 
 /// Makes a request whose body begins with these bytes, goes on with one byte repeated, and ends with NUL.
@@ -425,14 +405,10 @@ fn takes_memory_once_for_a_name(rt: HostRuntime) {
 fn reads_no_name_of_256_bytes(rt: HostRuntime) -> Result<(), Fail> {
     let longer = lookup_of(rt.alloc(), 256)?;
     let too_long = WireFault::BadName(NameFault::TooLong);
-    assert!(rt; read_request(rt.alloc(), longer.as_slice()) == Err(too_long));
+    assert!(rt; is_refused(rt.alloc(), longer.as_slice(), too_long));
     let reply = fault_reply(longer.as_slice(), &too_long).ok_or("a reply")?;
-    let mut out = [0u8; 160];
-    let len = write_reply(&reply, &mut out);
-    assert_eq!(rt;
-        &out[..len],
-        [16, 0, 0, 0, 0xdc, 0xff, 0xff, 0xff, 7, 0, 0, 0, 0, 0, 0, 0].as_slice()
-    );
+    let bytes = [16, 0, 0, 0, 0xdc, 0xff, 0xff, 0xff, 7, 0, 0, 0, 0, 0, 0, 0];
+    assert!(rt; is_spelled(&reply, &bytes));
     Ok(())
 }
 
@@ -443,12 +419,7 @@ fn reads_256_items_and_no_more(rt: HostRuntime) -> Result<(), Fail> {
     assert_eq!(rt; read_items(full.as_slice())?.len(), 256);
     let over = batch_text(rt.alloc(), 257)?;
     assert!(rt; matches!(read_items(over.as_slice()), Err(WireFault::BadCount)));
-    assert!(rt;
-        matches!(
-            read_request(rt.alloc(), over.as_slice()),
-            Err(WireFault::BadCount)
-        )
-    );
+    assert!(rt; is_refused(rt.alloc(), over.as_slice(), WireFault::BadCount));
     Ok(())
 }
 
@@ -462,29 +433,30 @@ fn copies_a_batch(rt: HostRuntime) -> Result<(), Fail> {
     Ok(())
 }
 
+/// Returns whether the bytes are an ask that goes to one number, 0 for a forget, which goes to none.
+fn goes_to(alloc: Global, bytes: &[u8], node: u64) -> Result<bool, WireFault> {
+    let ask = read(alloc, bytes)?;
+    let nodes = ask.what.nodes();
+    match nodes.as_slice().first() {
+        Some(first) => Ok(ask.what.is_ask() && first.0 == node && nodes.as_slice().len() == 1),
+        None => Ok(!ask.what.is_ask() && node == 0),
+    }
+}
+
 #[test]
 fn tells_asks_and_their_numbers(rt: HostRuntime) -> Result<(), Fail> {
-    let alloc = rt.alloc();
-    for bytes in [
-        LOOKUP.as_slice(),
-        UNLINK.as_slice(),
-        RMDIR.as_slice(),
-        MKDIR.as_slice(),
-        CREATE.as_slice(),
+    for (bytes, node) in [
+        (LOOKUP.as_slice(), 1),
+        (UNLINK.as_slice(), 1),
+        (RMDIR.as_slice(), 1),
+        (MKDIR.as_slice(), 1),
+        (CREATE.as_slice(), 1),
+        (GETATTR.as_slice(), 2),
+        (OPEN.as_slice(), 2),
+        (FORGET.as_slice(), 0),
+        (BATCH_FORGET.as_slice(), 0),
     ] {
-        let ask = read(alloc, bytes)?;
-        assert!(rt; ask.what.is_ask());
-        assert_eq!(rt; ask.what.nodes().as_slice(), [Number(1)].as_slice());
-    }
-    for bytes in [GETATTR.as_slice(), OPEN.as_slice()] {
-        let ask = read(alloc, bytes)?;
-        assert!(rt; ask.what.is_ask());
-        assert_eq!(rt; ask.what.nodes().as_slice(), [Number(2)].as_slice());
-    }
-    for bytes in [FORGET.as_slice(), BATCH_FORGET.as_slice()] {
-        let ask = read(alloc, bytes)?;
-        assert!(rt; !ask.what.is_ask());
-        assert_eq!(rt; ask.what.nodes().as_slice().len(), 0);
+        assert!(rt; goes_to(rt.alloc(), bytes, node)?);
     }
     Ok(())
 }
@@ -500,27 +472,29 @@ fn makes_a_request_of_another_opcode_alone(rt: HostRuntime) {
     }
 }
 
+/// Returns an error's reply.
+fn error_of(unique: u64, errno: Errno) -> Option<Reply> {
+    let answer = Answer::Error(errno);
+    Some(Reply { unique, answer })
+}
+
 #[test]
 fn answers_no_forget(rt: HostRuntime) {
-    assert!(rt; fault_reply(&FORGET, &WireFault::BadBody).is_none());
-    assert!(rt; fault_reply(&BATCH_FORGET, &WireFault::BadCount).is_none());
-    assert!(rt; fault_reply(&LOOKUP[..39], &WireFault::Short).is_none());
-    assert!(rt;
-        matches!(
-            fault_reply(&LOOKUP, &WireFault::NoMemory),
-            Some(Reply {
-                unique: 3,
-                answer: Answer::Error(Errno::ENOMEM)
-            })
-        )
-    );
-    assert!(rt;
-        matches!(
-            fault_reply(&OPEN, &WireFault::BadBody),
-            Some(Reply {
-                unique: 9,
-                answer: Answer::Error(Errno::EINVAL)
-            })
-        )
-    );
+    for (bytes, fault, reply) in [
+        (FORGET.as_slice(), WireFault::BadBody, None),
+        (BATCH_FORGET.as_slice(), WireFault::BadCount, None),
+        (&LOOKUP[..39], WireFault::Short, None),
+        (
+            LOOKUP.as_slice(),
+            WireFault::NoMemory,
+            error_of(3, Errno::ENOMEM),
+        ),
+        (
+            OPEN.as_slice(),
+            WireFault::BadBody,
+            error_of(9, Errno::EINVAL),
+        ),
+    ] {
+        assert!(rt; fault_reply(bytes, &fault) == reply);
+    }
 }

@@ -26,18 +26,6 @@ fn given_below(alloc: Global, map: &mut InodeMap, name: &Name, depth: u64) -> Op
     Some(last)
 }
 
-#[test]
-fn gives_each_name_one_number(rt: HostRuntime) -> Result<(), Fail> {
-    let a = parsed(rt.alloc(), b"a")?;
-    let b = parsed(rt.alloc(), b"b")?;
-    let mut map = map_of(rt.alloc(), 4)?;
-    assert!(rt; given(rt.alloc(), &mut map, Number::ROOT, &a) == Some(Number(2)));
-    assert!(rt; given(rt.alloc(), &mut map, Number::ROOT, &b) == Some(Number(3)));
-    assert!(rt; given(rt.alloc(), &mut map, Number::ROOT, &a) == Some(Number(2)));
-    assert!(rt; map.next() == 4);
-    Ok(())
-}
-
 /// Parses a name, and parses it again where memory was short.
 fn parsed(alloc: Global, bytes: &[u8]) -> Result<Name, NameFault> {
     match Name::parse(alloc, bytes) {
@@ -106,20 +94,6 @@ fn given_ready(alloc: Global, map: &mut InodeMap, parent: Number, name: Name) ->
 }
 
 #[test]
-fn gives_numbers_in_room_that_was_made_before(rt: HostRuntime) -> Result<(), Fail> {
-    let mut map = map_of(rt.alloc(), 2)?;
-    let a = parsed(rt.alloc(), b"a")?;
-    assert!(rt; given_ready(rt.alloc(), &mut map, Number::ROOT, a) == Some(Number(2)));
-    let b = parsed(rt.alloc(), b"b")?;
-    assert!(rt; given_ready(rt.alloc(), &mut map, Number(2), b) == Some(Number(3)));
-    let again = parsed(rt.alloc(), b"b")?;
-    assert!(rt; given_ready(rt.alloc(), &mut map, Number(2), again) == Some(Number(3)));
-    assert!(rt; map.next() == 4 && map.count(Number(2)) == 1 && map.count(Number(3)) == 2);
-    assert!(rt; map.known(Number::ROOT) && map.known(Number(3)) && !map.known(Number(4)));
-    Ok(())
-}
-
-#[test]
 fn finds_each_file_of_a_deep_path(rt: HostRuntime) -> Result<(), Fail> {
     let text = nested(rt.alloc())?;
     let manifest = read(rt.alloc(), text.as_slice())?;
@@ -136,32 +110,6 @@ fn finds_each_file_of_a_deep_path(rt: HostRuntime) -> Result<(), Fail> {
     Ok(())
 }
 
-#[test]
-fn goes_over_its_numbers_and_forgets_upwards(rt: HostRuntime) -> Result<(), Fail> {
-    let a = parsed(rt.alloc(), b"a")?;
-    let mut map = map_of(rt.alloc(), 4)?;
-    assert!(rt; given_below(rt.alloc(), &mut map, &a, 3) == Some(Number(4)));
-    assert!(rt; map.after(Number::ROOT) == Some(Number(2)));
-    assert!(rt; map.after(Number(3)) == Some(Number(4)) && map.after(Number(4)) == None);
-    assert!(rt; map.number_for(Number(3), &a) == Some(Number(4)));
-    assert!(rt;
-        matches!(
-            map.entry(Number(4)),
-            Some(Place::Linked {
-                parent: Number(3),
-                ..
-            })
-        )
-    );
-    assert!(rt; map.forget(Number(2), 1) == Forgot::Lowered);
-    assert!(rt; map.forgot(Number(4), 1) == Forgot::Dropped && map.count(Number(4)) == 1);
-    assert!(rt; map.forget(Number(4), 1) == Forgot::Dropped);
-    assert!(rt; map.after(Number::ROOT) == Some(Number(2)) && map.after(Number(3)) == None);
-    assert!(rt; map.forget(Number(3), 1) == Forgot::Dropped);
-    assert!(rt; map.after(Number::ROOT) == None && map.next() == 5);
-    Ok(())
-}
-
 /// Loads an attribute whose size is the number, unless the number is unknown or has one.
 fn load(map: &mut InodeMap, number: Number) {
     if map.entry(number).is_some() && map.attr(number).is_none() {
@@ -173,57 +121,6 @@ fn load(map: &mut InodeMap, number: Number) {
         };
         map.load(number, attr);
     }
-}
-
-/// Returns the size in the loaded attribute of a number.
-fn size_loaded(map: &mut InodeMap, number: u64) -> Option<u64> {
-    Some(map.attr(Number(number))?.size)
-}
-
-#[test]
-fn unloads_the_oldest_attribute_at_the_limit(rt: HostRuntime) -> Result<(), Fail> {
-    let mut map = map_of(rt.alloc(), 2)?;
-    let src = parsed(rt.alloc(), b"src")?;
-    let readme = parsed(rt.alloc(), b"README")?;
-    assert!(rt; given_ready(rt.alloc(), &mut map, Number::ROOT, src) == Some(Number(2)));
-    load(&mut map, Number(2));
-    assert!(rt; given(rt.alloc(), &mut map, Number::ROOT, &readme) == Some(Number(3)));
-    load(&mut map, Number(3));
-    assert!(rt; size_loaded(&mut map, 2) == Some(2));
-    assert!(rt; given(rt.alloc(), &mut map, Number(2), &readme) == Some(Number(4)));
-    load(&mut map, Number(4));
-    for (number, size) in [(3, None), (2, Some(2)), (4, Some(4))] {
-        assert_eq!(rt; size_loaded(&mut map, number), size);
-    }
-    assert!(rt; map.unload_oldest() && size_loaded(&mut map, 2) == None);
-    assert!(rt; map.unload_oldest() && !map.unload_oldest());
-    for number in 2..5u64 {
-        assert!(rt; map.count(Number(number)) == 1);
-    }
-    Ok(())
-}
-
-#[test]
-fn tells_what_each_forget_comes_to(rt: HostRuntime) -> Result<(), Fail> {
-    let mut map = map_of(rt.alloc(), 1)?;
-    let src = parsed(rt.alloc(), b"src")?;
-    let readme = parsed(rt.alloc(), b"README")?;
-    for name in [&src, &src, &readme] {
-        assert!(rt; given(rt.alloc(), &mut map, Number::ROOT, name).is_some());
-    }
-    for (number, k, forgot) in [
-        (2, 1, Forgot::Lowered),
-        (9, 1, Forgot::Bad),
-        (2, 5, Forgot::Bad),
-        (2, 0, Forgot::Bad),
-        (1, 3, Forgot::Root),
-        (3, 1, Forgot::Dropped),
-    ] {
-        assert_eq!(rt; map.forget(Number(number), k), forgot, "{number} {k}");
-    }
-    assert!(rt; map.count(Number(2)) == 1 && map.bad_items() == 3);
-    assert!(rt; !map.known(Number(3)) && map.next() == 4);
-    Ok(())
 }
 
 /// Makes a map of one entry, whose number is the last that was given, again where memory was short.
@@ -244,43 +141,271 @@ fn map_of_one(alloc: Global, number: Number, place: Place, count: u64) -> Result
     }
 }
 
+/// A call and what it answers, as data, so that a test is a table. For no number stands 0.
+#[derive(Clone, Copy)]
+enum Deed {
+    /// Gives the number of a name in the directory of a number.
+    Give(u64, &'static [u8], u64),
+    /// Gives it in room that was made before.
+    GiveReady(u64, &'static [u8], u64),
+    /// Is refused a number.
+    Refuse(u64, &'static [u8], GiveFault),
+    /// Looks for the number of a name.
+    Find(u64, &'static [u8], u64),
+    Forget(u64, u64, Forgot),
+    /// Tells what would become of a forget.
+    Foresee(u64, u64, Forgot),
+    After(u64, u64),
+    Count(u64, u64),
+    /// The directory of a number.
+    Parent(u64, u64),
+    /// Tells whether a number is known.
+    Know(u64, bool),
+    /// The next number, and how many forgets were bad.
+    At(u64, u64),
+    /// Loads an attribute whose size is the number.
+    Load(u64),
+    /// The size in the loaded attribute of a number, 0 for none.
+    Size(u64, u64),
+    /// Unloads the oldest, where there is one.
+    Unload(bool),
+}
+
+/// Returns the number, or 0.
+fn number_or_0(number: Option<Number>) -> u64 {
+    match number {
+        Some(number) => number.0,
+        None => 0,
+    }
+}
+
+/// Gives the number of a name, and returns it.
+fn number_given(alloc: Global, map: &mut InodeMap, parent: u64, name: &[u8]) -> u64 {
+    match parsed(alloc, name) {
+        Ok(name) => number_or_0(given(alloc, map, Number(parent), &name)),
+        Err(_refused) => 0,
+    }
+}
+
+/// Gives it in room that was made before, and returns it.
+fn number_given_ready(alloc: Global, map: &mut InodeMap, parent: u64, name: &[u8]) -> u64 {
+    match parsed(alloc, name) {
+        Ok(name) => number_or_0(given_ready(alloc, map, Number(parent), name)),
+        Err(_refused) => 0,
+    }
+}
+
+/// Returns whether no number is given, for this cause.
+fn is_refused(alloc: Global, map: &mut InodeMap, place: (u64, &[u8]), fault: GiveFault) -> bool {
+    let (parent, name) = place;
+    match parsed(alloc, name) {
+        Ok(name) => map.give(alloc, Number(parent), &name) == Err(fault),
+        Err(_refused) => false,
+    }
+}
+
+/// Returns the number of a name.
+fn number_found(alloc: Global, map: &InodeMap, parent: u64, name: &[u8]) -> u64 {
+    match parsed(alloc, name) {
+        Ok(name) => number_or_0(map.number_for(Number(parent), &name)),
+        Err(_refused) => 0,
+    }
+}
+
+/// Returns the size in the loaded attribute of a number, or 0.
+fn size_loaded(map: &mut InodeMap, number: u64) -> u64 {
+    match map.attr(Number(number)) {
+        Some(attr) => attr.size,
+        None => 0,
+    }
+}
+
+/// Returns the number of the directory in which a number stands, or 0.
+fn parent_of(map: &InodeMap, number: u64) -> u64 {
+    match map.entry(Number(number)) {
+        Some(Place::Linked { parent, .. }) => parent.0,
+        Some(Place::Unlinked { .. }) => 0,
+        None => 0,
+    }
+}
+
+/// Makes a call, and returns whether it answers what it says.
+fn goes_so(alloc: Global, map: &mut InodeMap, deed: Deed) -> bool {
+    match deed {
+        Deed::Give(parent, name, number) => number_given(alloc, map, parent, name) == number,
+        Deed::GiveReady(parent, name, number) => {
+            number_given_ready(alloc, map, parent, name) == number
+        }
+        Deed::Refuse(parent, name, fault) => is_refused(alloc, map, (parent, name), fault),
+        Deed::Find(parent, name, number) => number_found(alloc, map, parent, name) == number,
+        Deed::Forget(number, k, forgot) => map.forget(Number(number), k) == forgot,
+        Deed::Foresee(number, k, forgot) => map.forgot(Number(number), k) == forgot,
+        Deed::After(number, next) => number_or_0(map.after(Number(number))) == next,
+        Deed::Count(number, count) => map.count(Number(number)) == count,
+        Deed::Parent(number, parent) => parent_of(map, number) == parent,
+        Deed::Know(number, known) => map.known(Number(number)) == known,
+        Deed::At(next, bad) => map.next() == next && map.bad_items() == bad,
+        Deed::Load(number) => {
+            load(map, Number(number));
+            true
+        }
+        Deed::Size(number, size) => size_loaded(map, number) == size,
+        Deed::Unload(any) => map.unload_oldest() == any,
+    }
+}
+
+/// Makes the calls of a table, and returns the place of the first that answers something else.
+fn first_wrong(alloc: Global, map: &mut InodeMap, deeds: &[Deed]) -> Option<usize> {
+    for place in 0..deeds.len() {
+        if !goes_so(alloc, map, deeds[place]) {
+            return Some(place);
+        }
+    }
+    None
+}
+
+#[test]
+fn gives_each_name_one_number(rt: HostRuntime) -> Result<(), Fail> {
+    let mut map = map_of(rt.alloc(), 4)?;
+    let deeds = [
+        Deed::Give(1, b"a", 2),
+        Deed::Give(1, b"b", 3),
+        Deed::Give(1, b"a", 2),
+        Deed::At(4, 0),
+    ];
+    assert_eq!(rt; first_wrong(rt.alloc(), &mut map, &deeds), None);
+    Ok(())
+}
+
+#[test]
+fn gives_numbers_in_room_that_was_made_before(rt: HostRuntime) -> Result<(), Fail> {
+    let mut map = map_of(rt.alloc(), 2)?;
+    let deeds = [
+        Deed::GiveReady(1, b"a", 2),
+        Deed::GiveReady(2, b"b", 3),
+        Deed::GiveReady(2, b"b", 3),
+        Deed::At(4, 0),
+        Deed::Count(2, 1),
+        Deed::Count(3, 2),
+        Deed::Know(1, true),
+        Deed::Know(3, true),
+        Deed::Know(4, false),
+    ];
+    assert_eq!(rt; first_wrong(rt.alloc(), &mut map, &deeds), None);
+    Ok(())
+}
+
+#[test]
+fn goes_over_its_numbers_and_forgets_upwards(rt: HostRuntime) -> Result<(), Fail> {
+    let mut map = map_of(rt.alloc(), 4)?;
+    let deeds = [
+        Deed::Give(1, b"a", 2),
+        Deed::Give(2, b"a", 3),
+        Deed::Give(3, b"a", 4),
+        Deed::After(1, 2),
+        Deed::After(3, 4),
+        Deed::After(4, 0),
+        Deed::Find(3, b"a", 4),
+        Deed::Find(4, b"a", 0),
+        Deed::Parent(4, 3),
+        Deed::Forget(2, 1, Forgot::Lowered),
+        Deed::Foresee(4, 1, Forgot::Dropped),
+        Deed::Count(4, 1),
+        Deed::Forget(4, 1, Forgot::Dropped),
+        Deed::After(1, 2),
+        Deed::After(3, 0),
+        Deed::Forget(3, 1, Forgot::Dropped),
+        Deed::After(1, 0),
+        Deed::At(5, 0),
+    ];
+    assert_eq!(rt; first_wrong(rt.alloc(), &mut map, &deeds), None);
+    Ok(())
+}
+
+#[test]
+fn unloads_the_oldest_attribute_at_the_limit(rt: HostRuntime) -> Result<(), Fail> {
+    let mut map = map_of(rt.alloc(), 2)?;
+    let deeds = [
+        Deed::GiveReady(1, b"src", 2),
+        Deed::Load(2),
+        Deed::Give(1, b"README", 3),
+        Deed::Load(3),
+        Deed::Size(2, 2),
+        Deed::Give(2, b"README", 4),
+        Deed::Load(4),
+        Deed::Size(3, 0),
+        Deed::Size(2, 2),
+        Deed::Size(4, 4),
+        Deed::Unload(true),
+        Deed::Size(2, 0),
+        Deed::Unload(true),
+        Deed::Unload(false),
+        Deed::Count(2, 1),
+        Deed::Count(3, 1),
+        Deed::Count(4, 1),
+    ];
+    assert_eq!(rt; first_wrong(rt.alloc(), &mut map, &deeds), None);
+    Ok(())
+}
+
+#[test]
+fn tells_what_each_forget_comes_to(rt: HostRuntime) -> Result<(), Fail> {
+    let mut map = map_of(rt.alloc(), 1)?;
+    let deeds = [
+        Deed::Give(1, b"src", 2),
+        Deed::Give(1, b"src", 2),
+        Deed::Give(1, b"README", 3),
+        Deed::Forget(2, 1, Forgot::Lowered),
+        Deed::Forget(9, 1, Forgot::Bad),
+        Deed::Forget(2, 5, Forgot::Bad),
+        Deed::Forget(2, 0, Forgot::Bad),
+        Deed::Forget(1, 3, Forgot::Root),
+        Deed::Forget(3, 1, Forgot::Dropped),
+        Deed::Count(2, 1),
+        Deed::Know(3, false),
+        Deed::At(4, 3),
+    ];
+    assert_eq!(rt; first_wrong(rt.alloc(), &mut map, &deeds), None);
+    Ok(())
+}
+
 #[test]
 fn gives_up_at_the_greatest_count_and_behind_the_last_number(rt: HostRuntime) -> Result<(), Fail> {
-    let src = parsed(rt.alloc(), b"src")?;
-    let readme = parsed(rt.alloc(), b"README")?;
     let place = Place::Linked {
         parent: Number::ROOT,
         name: parsed(rt.alloc(), b"src")?,
     };
-    let last = Number(9223372036854775806);
-    let mut map = map_of_one(rt.alloc(), last, place, 4294967294)?;
-    assert!(rt; map.next() == 9223372036854775807);
-    assert!(rt; map.give(rt.alloc(), Number::ROOT, &src) == Ok(last));
-    assert!(rt; map.give(rt.alloc(), Number::ROOT, &src) == Err(GiveFault::TooMany));
-    assert!(rt; map.give(rt.alloc(), Number::ROOT, &readme) == Err(GiveFault::NoNumber));
-    assert!(rt; map.give(rt.alloc(), last, &src) == Err(GiveFault::NoNumber));
-    assert!(rt; map.count(last) == 4294967295 && map.next() == 9223372036854775807);
-    assert!(rt; map.forget(last, 4294967295) == Forgot::Dropped && !map.known(last));
+    let mut map = map_of_one(rt.alloc(), Number(9223372036854775806), place, 4294967294)?;
+    let deeds = [
+        Deed::At(9223372036854775807, 0),
+        Deed::Give(1, b"src", 9223372036854775806),
+        Deed::Refuse(1, b"src", GiveFault::TooMany),
+        Deed::Refuse(1, b"README", GiveFault::NoNumber),
+        Deed::Refuse(9223372036854775806, b"src", GiveFault::NoNumber),
+        Deed::Count(9223372036854775806, 4294967295),
+        Deed::At(9223372036854775807, 0),
+        Deed::Forget(9223372036854775806, 4294967295, Forgot::Dropped),
+        Deed::Know(9223372036854775806, false),
+    ];
+    assert_eq!(rt; first_wrong(rt.alloc(), &mut map, &deeds), None);
     Ok(())
 }
 
 #[test]
 fn names_the_file_of_a_mark_until_it_is_forgotten(rt: HostRuntime) -> Result<(), Fail> {
-    let manifest = read(
-        rt.alloc(),
-        b"commit 0123456789abcdef0123456789abcdef01234567\n",
-    )?;
+    let commit = b"commit 0123456789abcdef0123456789abcdef01234567\n";
+    let manifest = read(rt.alloc(), commit)?;
     let tree = tree_of(rt.alloc(), &manifest)?;
-    let mut map = map_of_one(
-        rt.alloc(),
-        Number(5),
-        Place::Unlinked { file: FileId(7) },
-        2,
-    )?;
-    assert!(rt; map.after(Number::ROOT) == Some(Number(5)) && map.next() == 6);
+    let place = Place::Unlinked { file: FileId(7) };
+    let mut map = map_of_one(rt.alloc(), Number(5), place, 2)?;
     assert!(rt; map.locate(&tree, Number(5)) == Some(FileId(7)));
-    assert!(rt; map.forget(Number(5), 1) == Forgot::Lowered);
-    assert!(rt; map.forget(Number(5), 1) == Forgot::Dropped);
+    let deeds = [
+        Deed::After(1, 5),
+        Deed::At(6, 0),
+        Deed::Forget(5, 1, Forgot::Lowered),
+        Deed::Forget(5, 1, Forgot::Dropped),
+    ];
+    assert_eq!(rt; first_wrong(rt.alloc(), &mut map, &deeds), None);
     assert!(rt; map.locate(&tree, Number(5)) == None);
     Ok(())
 }
