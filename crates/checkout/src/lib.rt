@@ -27,8 +27,3 @@ pub use field::mode_of;
 pub use line::Line;
 pub use manifest::Manifest;
 pub use tree::Tree;
-
-#[cfg(test)]
-mod change_tests;
-#[cfg(test)]
-mod tests;

@@ -1,6 +1,6 @@
 //! What tells a tree from its manifest's, as names come and go.
 use crate::tests::{SMALL, created_again, removed_at, tree_of};
-use crate::{Changes, LinkChange, Tree};
+use checkout::{Changes, LinkChange, Tree};
 use eden_base::{FileId, Kind, NoMemory, Perm};
 use std::alloc::Global;
 use std::process::Abort;

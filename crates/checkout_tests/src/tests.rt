@@ -1,5 +1,5 @@
 //! What a small manifest says, and the first fault of lines that are none.
-use crate::{
+use checkout::{
     Backing, CreateFault, Line, Manifest, ManifestBacking, ManifestFault, ManifestFaultKind, Tree,
 };
 use eden_base::{FileId, Kind, Name, Number, Perm};
@@ -450,7 +450,7 @@ pub fn created_again(
 }
 
 /// Takes a name out where the call's conditions hold.
-#[tactic(auto, using(crate::proofs::RemoveLaws::not_full_rules))]
+#[tactic(auto, using(checkout::proofs::RemoveLaws::not_full_rules))]
 fn removed(tree: &mut Tree, dir: FileId, name: &Name) -> Option<FileId> {
     let file = tree.child(dir, name)?;
     if tree.is_empty_dir(file) {

@@ -1,0 +1,7 @@
+//! Tests of `checkout` by its public calls.
+#![tactic(auto)]
+
+#[cfg(test)]
+mod change_tests;
+#[cfg(test)]
+mod tests;
