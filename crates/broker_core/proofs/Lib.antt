@@ -1,7 +1,10 @@
 pub mod Accepted
+mod AskedLaws
 mod Changes
 pub mod HeldLaws
+mod Moves
 mod Places
+mod Queues
 mod Rising
 mod Searching
 pub mod SeatLaws

@@ -1,5 +1,8 @@
 pub mod Broker
+pub mod Form
 pub mod Held
 pub mod Holdings
 pub mod Inside
 pub mod Kept
+pub mod Roomy
+pub mod Traffic

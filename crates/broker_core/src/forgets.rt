@@ -1,0 +1,125 @@
+//! The forget items that wait for a daemon.
+ghost use Rattle.std.specs.Prelude.{◌≡◌, ◌≤◌, [], ◌∷◌, ◌++◌, length, take, drop, sum_by, IfOk, OnOk, OnErr};
+ghost use Rattle.broker_core.specs.Traffic.{forget_of, taken_back};
+
+use eden_base::{NoMemory, Number};
+use fuse_wire::{Batch, BatchRoom, Item, Items, Request};
+use std::alloc::Global;
+use std::collections::VecDeque;
+use std::marker::Model;
+
+/// The items that wait, the first in first, with room for the batches in which they can be taken.
+#[derive(Drop)]
+pub(crate) struct Forgets {
+    items: VecDeque<Item>,
+    rooms: Vec<BatchRoom>,
+    alloc: Global,
+}
+
+impl Model for Forgets {
+    ghost use Rattle.std.specs.Prelude.{List};
+    ghost use Rattle.fuse_wire.specs.declared.item.Item.{Item};
+
+    ghost Value = { List Item };
+
+    ghost view = { λ forgets. forgets.items.items };
+
+    ghost use Rattle.broker_core.specs.Roomy.{IsRoomyForBatches};
+
+    ghost invariant = { IsRoomyForBatches };
+}
+
+impl Forgets {
+    /// Returns no items.
+    pub(crate) fn new(alloc: Global) -> Forgets
+        ensures none { result ≡ [] }
+    {
+        Forgets {
+            items: VecDeque::new(alloc),
+            rooms: Vec::new(alloc),
+            alloc,
+        }
+    }
+
+    /// Returns how many items wait.
+    pub(crate) fn len(&self) -> usize
+        ensures len { result ≡ length self.now }
+    {
+        self.items.len()
+    }
+
+    /// Adds an item behind the others, and makes room for the batch that it may be taken in.
+    pub(crate) fn push(&mut self, item: Item) -> Result<(), NoMemory>
+        ensures pushed { OnOk result (self.new ≡ self.old ++ item ∷ []) }
+        ensures unchanged { OnErr result (self.new ≡ self.old) }
+    {
+        if self.items.len() / Items::MAX_LEN >= self.rooms.len() {
+            let room = BatchRoom::new(self.alloc)?;
+            self.rooms.push(room)?;
+        }
+        self.items.push_back(item)?;
+        Ok(())
+    }
+
+    /// Takes the first items as one request, as many as a batch has. It takes no memory: each item
+    /// came with its room.
+    pub(crate) fn take(&mut self) -> Option<Request>
+        ensures taken { result ≡ forget_of (take 256 self.old) }
+        ensures left { self.new ≡ drop 256 self.old }
+    {
+        if self.items.len() <= 1 {
+            let item = self.items.pop_front()?;
+            return Some(Request::Forget(item));
+        }
+        let first = first_items(&mut self.items);
+        match self.rooms.pop() {
+            Some(room) => Some(Request::BatchForget(Batch::of_to(room, first.as_slice()))),
+            None => unreachable!(),
+        }
+    }
+
+    /// Returns how often the items take a number back.
+    pub(crate) fn on(&self, number: Number) -> u64
+        requires fits { sum_by (taken_back number.0) self.now ≤ u64.MAX }
+        ensures sum { result ≡ sum_by (taken_back number.0) self.now }
+    {
+        let (first, second) = self.items.as_slices();
+        taken_back(first, number) + taken_back(second, number)
+    }
+
+    /// Lets all items go.
+    pub(crate) fn clear(&mut self)
+        ensures none { self.new ≡ [] }
+    {
+        self.items.clear();
+    }
+}
+
+/// Takes the first items, as many as a batch has.
+fn first_items(items: &mut VecDeque<Item>) -> Items
+    ensures first { result ≡ take 256 items.old.items }
+    ensures left { items.new.items ≡ drop 256 items.old.items }
+{
+    let mut first = Items::new();
+    for _ in 0..Items::MAX_LEN {
+        let Some(item) = items.pop_front() else {
+            return first;
+        };
+        first.push(item);
+    }
+    first
+}
+
+/// Returns how often items take a number back.
+fn taken_back(items: &[Item], number: Number) -> u64
+    requires { sum_by (taken_back number.0) items.now ≤ u64.MAX }
+    ensures { result ≡ sum_by (taken_back number.0) items.now }
+{
+    let mut sum = 0;
+    for item in items {
+        if item.node == number {
+            sum += item.k;
+        }
+    }
+    sum
+}

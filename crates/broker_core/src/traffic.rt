@@ -1,0 +1,275 @@
+//! What is under way at the kernel's side of a mount.
+ghost use Rattle.std.specs.Prelude.{◌≡◌, ◌≤◌, true, length, count_by, is_ok, IfErr, OnOk, OnErr};
+ghost use Rattle.fuse_wire.specs.Ask.{is_ask};
+ghost use Rattle.broker_core.specs.Roomy.{is_not_before};
+ghost use Rattle.broker_core.specs.Traffic.{no_traffic, front, asks_under_way, ask_refusal, item_refusal, IsRefusal, IsLater, ask_issued, item_issued, next_taken, left_by_take, form_asked, is_asked, may_be_given, reply_posted, reply_delivered, forgets_on, gives, entries_of};
+
+use crate::broker::IssueFault;
+use crate::forgets::Forgets;
+use crate::form::Form;
+use eden_base::{NoMemory, Number};
+use fuse_wire::{Answer, Ask, Item, Items, Reply, Request};
+use std::alloc::Global;
+use std::collections::{BTreeMap, VecDeque};
+use std::marker::Model;
+use thiserror::Error;
+
+/// Why a reply is not taken: no taken ask without a reply has its unique, the answer does not belong to that ask, or
+/// it gives number 0 or the root out.
+#[derive(Clone, Copy, Debug, PartialEq, Eq, Error)]
+#[error("the reply answers nothing that was asked")]
+pub struct NotAsked;
+
+/// Asks from issue to delivery, and forget items until they are taken. Clauses see it as a `TrafficState`. Only an
+/// issue takes memory.
+#[derive(Drop)]
+pub struct Traffic {
+    untaken: VecDeque<Ask>,
+    /// The form that answers each ask without a reply. The untaken asks are the last.
+    unanswered: BTreeMap<u64, Form>,
+    /// It has room for a reply to each ask without one.
+    posted: VecDeque<Reply>,
+    forgets: Forgets,
+    alloc: Global,
+}
+
+impl Model for Traffic {
+    ghost use Rattle.broker_core.specs.Traffic.{TrafficState, traffic_state_code};
+    ghost use Rattle.broker_core.specs.Roomy.{IsRoomyForReplies, taken_among};
+
+    ghost Value = { TrafficState };
+
+    ghost coded = { traffic_state_code };
+
+    ghost view = { λ t. record {
+      untaken = t.untaken.items;
+      taken = taken_among t.unanswered.entries t.untaken.items;
+      items = t.forgets;
+      posted = t.posted.items;
+    } };
+
+    ghost invariant = { IsRoomyForReplies };
+}
+
+impl Traffic {
+    /// How many asks may be under way, from issue to delivery.
+    pub const MOST_ASKS: usize = 1024;
+
+    /// How many forget items may wait.
+    pub const MOST_ITEMS: usize = 4096;
+
+    /// Returns queues in which nothing is.
+    pub fn new(alloc: Global) -> Traffic
+        ensures none { result ≡ no_traffic }
+    {
+        Traffic {
+            untaken: VecDeque::new(alloc),
+            unanswered: BTreeMap::new(alloc),
+            posted: VecDeque::new(alloc),
+            forgets: Forgets::new(alloc),
+            alloc,
+        }
+    }
+
+    /// Returns why no further ask is taken.
+    pub fn ask_refusal(&self) -> Option<IssueFault>
+        ensures fault { result ≡ ask_refusal self.now }
+    {
+        if self.unanswered.len() + self.posted.len() >= Traffic::MOST_ASKS {
+            return Some(IssueFault::Full);
+        }
+        None
+    }
+
+    /// Returns why no further forget item is taken.
+    pub fn item_refusal(&self) -> Option<IssueFault>
+        ensures fault { result ≡ item_refusal self.now }
+    {
+        if self.forgets.len() >= Traffic::MOST_ITEMS {
+            return Some(IssueFault::Full);
+        }
+        None
+    }
+
+    /// Takes an ask of the kernel, with all the memory that it needs until its reply is delivered. Its unique is above
+    /// those of all asks without a reply.
+    pub fn issue_ask(&mut self, unique: u64, request: &Request) -> Result<(), IssueFault>
+        requires ask { is_ask request.now ≡ true }
+        requires later { IsLater self.old unique }
+        ensures issued { OnOk result (self.new ≡ ask_issued self.old unique request.now) }
+        ensures accepted { OnOk result (ask_refusal self.old ≡ None) }
+        ensures refused { IfErr result (IsRefusal (ask_refusal self.old)) }
+        ensures unchanged { OnErr result (self.new ≡ self.old) }
+    {
+        if let Some(fault) = self.ask_refusal() {
+            return Err(fault);
+        }
+        self.queue_ask(unique, request)
+            .map_err(|_| IssueFault::NoMemory)
+    }
+
+    fn queue_ask(&mut self, unique: u64, request: &Request) -> Result<(), NoMemory>
+        requires later { IsLater self.old unique }
+        ensures issued { OnOk result (self.new ≡ ask_issued self.old unique request.now) }
+        ensures unchanged { OnErr result (self.new ≡ self.old) }
+    {
+        let what = request.copy(self.alloc)?;
+        self.untaken.reserve(1)?;
+        self.posted.reserve(self.unanswered.len() + 1)?;
+        self.unanswered.insert(unique, Form::of(request))?;
+        self.untaken.push_back_reserved(Ask { unique, what });
+        Ok(())
+    }
+
+    /// Takes a forget item of the kernel, with the memory that it needs until it is taken.
+    pub fn issue_item(&mut self, item: Item) -> Result<(), IssueFault>
+        ensures issued { OnOk result (self.new ≡ item_issued self.old item) }
+        ensures accepted { OnOk result (item_refusal self.old ≡ None) }
+        ensures refused { IfErr result (IsRefusal (item_refusal self.old)) }
+        ensures unchanged { OnErr result (self.new ≡ self.old) }
+    {
+        if let Some(fault) = self.item_refusal() {
+            return Err(fault);
+        }
+        self.forgets.push(item).map_err(|_| IssueFault::NoMemory)
+    }
+
+    /// Hands the first untaken ask out, or the first items as one request where no ask waits or 256 items do; nothing
+    /// exactly where nothing waits. It takes no memory.
+    pub fn take(&mut self) -> Option<Ask>
+        ensures first { result ≡ next_taken self.old }
+        ensures left { self.new ≡ left_by_take self.old }
+    {
+        if self.untaken.is_empty() || self.forgets.len() >= Items::MAX_LEN {
+            let what = self.forgets.take()?;
+            return Some(Ask { unique: 0, what });
+        }
+        self.untaken.pop_front()
+    }
+
+    /// Returns whether the reply answers a taken ask that has none.
+    pub fn is_asked(&self, reply: &Reply) -> bool
+        ensures asked { result ≡ is_asked self.now reply.now }
+    {
+        match self.form_asked(reply.unique) {
+            Some(form) => form.admits(&reply.answer) && may_be_given(&reply.answer),
+            None => false,
+        }
+    }
+
+    /// Returns the form of the taken ask of this unique, if one has no reply.
+    fn form_asked(&self, unique: u64) -> Option<Form>
+        ensures { result ≡ form_asked self.now unique }
+    {
+        if is_not_before(&self.untaken, unique) {
+            return None;
+        }
+        self.unanswered.get(&unique).copied()
+    }
+
+    /// Queues a daemon's reply for the kernel. It takes no memory: its ask made the room.
+    pub fn post(&mut self, reply: Reply) -> Result<(), NotAsked>
+        ensures posted { OnOk result (self.new ≡ reply_posted self.old reply) }
+        ensures asked { is_ok result ≡ is_asked self.old reply }
+        ensures unchanged { OnErr result (self.new ≡ self.old) }
+    {
+        if !self.is_asked(&reply) {
+            return Err(NotAsked);
+        }
+        let _form = self.unanswered.remove(&reply.unique);
+        self.posted.push_back_reserved(reply);
+        Ok(())
+    }
+
+    /// Returns the reply that reaches the kernel next.
+    pub fn next_reply(&self) -> Option<Reply>
+        ensures first { result ≡ front self.now.posted }
+    {
+        self.posted.front().copied()
+    }
+
+    /// Hands the first posted reply to the kernel.
+    pub fn deliver(&mut self) -> Option<Reply>
+        ensures first { result ≡ front self.old.posted }
+        ensures left { self.new ≡ reply_delivered self.old }
+    {
+        self.posted.pop_front()
+    }
+
+    /// Returns how many taken asks have no reply.
+    pub fn unanswered(&self) -> usize
+        ensures taken { result ≡ length self.now.taken }
+    {
+        self.unanswered.len() - self.untaken.len()
+    }
+
+    /// Returns how often the waiting items take a number back.
+    pub fn forgets_waiting(&self, number: Number) -> u64
+        requires fits { forgets_on self.now number.0 ≤ u64.MAX }
+        ensures sum { result ≡ forgets_on self.now number.0 }
+    {
+        self.forgets.on(number)
+    }
+
+    /// Returns how many posted replies give a number out.
+    pub fn entries_posted(&self, number: Number) -> u64
+        ensures count { result ≡ entries_of self.now number.0 }
+    {
+        let (first, second) = self.posted.as_slices();
+        entries_of(first, number) + entries_of(second, number)
+    }
+
+    /// Lets all that is under way go.
+    pub fn clear(&mut self)
+        ensures none { self.new ≡ no_traffic }
+    {
+        self.untaken.clear();
+        self.unanswered.clear();
+        self.posted.clear();
+        self.forgets.clear();
+    }
+}
+
+/// Returns whether an answer gives out neither number 0 nor the root, if any.
+fn may_be_given(answer: &Answer) -> bool
+    ensures { result ≡ may_be_given answer.now }
+{
+    match answer.given_out() {
+        Some(number) => number.0 > 1,
+        None => true,
+    }
+}
+
+/// Returns whether a unique is that of the first untaken ask or a later one.
+fn is_not_before(untaken: &VecDeque<Ask>, unique: u64) -> bool
+    ensures { result ≡ is_not_before untaken.now.items unique }
+{
+    match untaken.front() {
+        Some(ask) => ask.unique <= unique,
+        None => false,
+    }
+}
+
+/// Returns how many replies give a number out.
+fn entries_of(replies: &[Reply], number: Number) -> u64
+    ensures count { result ≡ count_by (gives number.0) replies.now }
+    ensures at_most { result ≤ length replies.now }
+{
+    let mut count = 0;
+    for reply in replies {
+        if gives(reply, number) {
+            count += 1;
+        }
+    }
+    count
+}
+
+/// Returns whether a reply gives a number out.
+fn gives(reply: &Reply, number: Number) -> bool
+    ensures { result ≡ gives number.0 reply.now }
+{
+    match reply.answer.given_out() {
+        Some(given) => given == number,
+        None => false,
+    }
+}
