@@ -2,6 +2,7 @@ pub mod Accepted
 mod AskedLaws
 mod Changes
 pub mod HeldLaws
+pub mod LaterLaws
 mod Moves
 mod Places
 mod Queues
