@@ -273,3 +273,6 @@ fn gives(reply: &Reply, number: Number) -> bool
         None => false,
     }
 }
+
+#[cfg(test)]
+mod tests;
