@@ -194,6 +194,26 @@ impl InodeMap {
         self.table.locate(tree, number)
     }
 
+    /// Returns the number that a name in a directory would be given once more, or nothing where it would be given the
+    /// next one; or why it would be given none, out of memory apart.
+    pub fn number_to_give(&self, parent: Number, name: &Name) -> Result<Option<Number>, GiveFault>
+        ensures number { IfOk result (λ number. number
+            ≡ option_map number_of_kept (entry_at self.now.entries parent.0 name.now)) }
+        ensures accepted { OnOk result (give_fault self.now parent.0 name.now ≡ None) }
+        ensures refused { IfErr result (λ fault. give_fault self.now parent.0 name.now ≡ Some fault) }
+    {
+        let Some(number) = self.table.find(parent, name) else {
+            if self.table.next() >= END_OF_NUMBERS {
+                return Err(GiveFault::NoNumber);
+            }
+            return Ok(None);
+        };
+        if self.count(number) >= GREATEST_COUNT {
+            return Err(GiveFault::TooMany);
+        }
+        Ok(Some(number))
+    }
+
     /// Gives the number of a name in a directory, which is then held once more: the one that it has, or the next.
     pub fn give(&mut self, alloc: Global, parent: Number, name: &Name) -> Result<Number, GiveFault>
         ensures number { IfOk result (λ number. number ≡ number_given self.old parent.0 name.now) }
@@ -243,8 +263,8 @@ impl InodeMap {
         Ok(self.table.add(parent, name))
     }
 
-    /// Gives the number that a name has.
-    fn give_again(
+    /// Gives the number that a name in a directory has, as `give` does. It takes no memory.
+    pub fn give_again(
         &mut self,
         parent: Number,
         name: &Name,
