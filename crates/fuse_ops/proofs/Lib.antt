@@ -8,12 +8,16 @@ pub mod ForgettingLaw
 pub mod GivingLaw
 pub mod Keeping
 pub mod Known
+pub mod Loaded
+pub mod LoadedLists
 pub mod Making
 pub mod MakingLaw
 pub mod PlaceNumbers
 pub mod ReadyMaking
 pub mod Remembering
+pub mod NoEio
 pub mod Replays
+pub mod SameManifest
 pub mod Shapes
 pub mod Taking
 pub mod UnnamingLaw

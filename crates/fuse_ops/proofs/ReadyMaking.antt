@@ -1,5 +1,5 @@
 -- What the code makes in the room that was made before: a file under a name, its number, and what is remembered of it.
-use Rattle.std.proofs.Common.{◌≡◌, ℕ, ◌+◌, ◌<◌, Bool, true, false, List, [], ◌∷◌, ◌++◌, Some, None, is_some, Ok, refl, sym, ap, ◌∙◌, subst}
+use Rattle.std.proofs.Common.{◌≡◌, ℕ, ◌+◌, ◌<◌, ◌≤◌, Bool, true, false, List, [], ◌∷◌, ◌++◌, Option, Some, None, is_some, Ok, refl, arith, sym, ap, ◌∙◌, subst}
 use Rattle.std.specs.Prelude.{if◌then◌else◌}
 use Rattle.eden_base.specs.First.{changed_where}
 use Rattle.eden_base.specs.Limits.{end_of_numbers}
@@ -9,14 +9,19 @@ use Rattle.eden_base.specs.declared.attr.Perm.{Perm}
 use Rattle.eden_base.specs.declared.number.FileId.{FileId}
 use Rattle.eden_base.specs.declared.number.Number.{Number}
 use Rattle.checkout.proofs.CreateLaws.{child_of-created}
-use Rattle.checkout.specs.Tree.{Tree, IsTree, attr_of, next_file, created}
-use Rattle.inode_map.specs.InodeMap.{MapState, stands_at, once_more, new_entry, entry_of, entry_at, give_fault, given, number_given, IsFileOf}
+use Rattle.checkout.specs.Tree.{Tree, IsTree, attr_of as file_attr, next_file, created}
+use Rattle.inode_map.specs.InodeMap.{MapState, stands_at, once_more, new_entry, entry_of, entry_at, give_fault, given, number_given, number_of_kept, attr_of, load, remembered, IsFileOf}
+use Rattle.inode_map.specs.declared.inode_map.Kept.{Kept}
+use Rattle.inode_map.specs.declared.loaded.LoadedAttr.{LoadedAttr}
+use Rattle.std.specs.Option.{option_map_or}
+use Rattle.fuse_ops.specs.Loading.{LoadsTold}
 use Rattle.fuse_ops.specs.Gifts.{served_over, Gave}
 use Rattle.fuse_ops.specs.Served.{ServedState, PlainState, plain}
 use Rattle.fuse_ops.specs.Soundness.{IsSound}
 use Rattle.fuse_ops.specs.Work.{IsSamePlainly, Makes}
 use Rattle.std.specs.Prelude.{IsSome}
-use Rattle.fuse_ops.specs.Soundness.{AreRemembered}
+use Rattle.fuse_ops.specs.Soundness.{AreRemembered, AreLoaded}
+use Rattle.fuse_ops.proofs.Loaded.{attr-content, gave-loaded, given-loaded, plainly-loaded, stays-loaded, created-has, next-unloaded, load-true, told-new}
 use Rattle.fuse_ops.proofs.Making.{MayMake, sound-plainly, clear_next, absent, made, made-keeps, made-gave}
 use Rattle.fuse_ops.proofs.Remembering.{gave-entry, gave-remembers, given-remembered, plainly-remembers, stays-remembers}
 use Rattle.fuse_ops.specs.Changes.{KeepsNames}
@@ -68,10 +73,10 @@ module _ (served : ServedState) (dir : Number) (name : List ℕ) (above : FileId
 
   -- and is what was promised
   pub made-makes : (map ready : MapState) (tree : Tree) (number : Number) (attr : Attr) → ready ≡ record served.map { spare = 1 } → map ≡ given ready dir name → tree ≡ created served.tree above name kind perm →
-      IsTree tree → number ≡ number_given ready dir.0 name → attr_of tree (next_file served.tree) ≡ Some attr → Makes served dir name kind perm (Ok (number, attr)) (served_over tree map)
+      IsTree tree → number ≡ number_given ready dir.0 name → file_attr tree (next_file served.tree) ≡ Some attr → Makes served dir name kind perm (Ok (number, attr)) (served_over tree map)
   made-makes map ready tree number attr r m t is_tree is is_attr =
       made served dir name above may kind perm number attr (served_over tree map) few (is ∙ ap (λ (x : MapState). number_given x dir.0 name) r)
-      (ap (λ (x : Tree). attr_of x (next_file served.tree)) (sym t) ∙ is_attr)
+      (ap (λ (x : Tree). file_attr x (next_file served.tree)) (sym t) ∙ is_attr)
       ((subst IsTree t is_tree).links_have_names above name (next_file served.tree) (child_of-created served.tree above name kind perm)) (made-plainly map ready tree r m t)
 
   -- the number names the file, and what is remembered is right
@@ -110,6 +115,57 @@ module _ (served : ServedState) (dir : Number) (name : List ℕ) (above : FileId
     same_files : map.remembered ≡ (given served.map dir name).remembered
     same_files = ap (λ (x : MapState). x.remembered) m ∙ given-remembered ready dir name ∙ ap (λ (x : MapState). x.remembered) r ∙ sym (given-remembered served.map dir name)
 
+  -- nothing is loaded by that
+  made-kept : (map ready : MapState) → ready ≡ record served.map { spare = 1 } → map ≡ given ready dir name → (map.loaded ≡ served.map.loaded) × (map.limit ≡ served.map.limit)
+  made-kept map ready r m = (
+    ap (λ (x : MapState). x.loaded) m ∙ (given-loaded ready dir name).0 ∙ ap (λ (x : MapState). x.loaded) r,
+    ap (λ (x : MapState). x.limit) m ∙ (given-loaded ready dir name).1 ∙ ap (λ (x : MapState). x.limit) r,
+  )
+
+  -- what is loaded is true
+  made-loaded : (map ready : MapState) (tree : Tree) → ready ≡ record served.map { spare = 1 } → map ≡ given ready dir name → tree ≡ created served.tree above name kind perm → IsTree tree → AreLoaded served → AreLoaded (served_over tree map)
+  made-loaded map ready tree r m t is_tree right =
+      plainly-loaded (served_over more new) (served_over tree map) (made-plainly map ready tree r m t).plainly ((made-kept map ready r m).0 ∙ sym (given-loaded served.map dir name).0)
+      (gave-loaded more served.map new (number_given served.map dir.0 name).0 (next_file served.tree) keeps.sound (made-gave served dir name above may kind perm few (subst IsTree t is_tree)) (given-loaded served.map dir name).0
+      (stays-loaded served (served_over more served.map) (created-has served.tree above name kind perm may.is_tree) refl refl keeps.sound keeps.names right)) where
+        more : Tree
+        more = created served.tree above name kind perm
+
+        new : MapState
+        new = given served.map dir name
+
+        keeps : KeepsNames served (record served { tree = created served.tree above name kind perm })
+        keeps = made-keeps served dir name above may kind perm
+
+  -- nothing of the new number
+  made-unloaded : (ready : MapState) (number : Number) → ready ≡ record served.map { spare = 1 } → number ≡ number_given ready dir.0 name → AreLoaded served → attr_of served.map.loaded number.0 ≡ None
+  made-unloaded ready number r is right =
+      next-unloaded served may.sound right number.0 (ap (λ (n : Number). n.0) is ∙ ap (λ (x : MapState). (number_given x dir.0 name).0) r
+      ∙ ap (λ (o : Option Kept). (option_map_or number_of_kept o (record { 0 = served.map.next })).0) (absent served dir name above may))
+
+  -- and once its file is remembered, and the file's attributes are loaded
+  module _ (map ready now : MapState) (tree : Tree) (number : Number) (file : FileId) (r : ready ≡ record served.map { spare = 1 }) (m : map ≡ given ready dir name) (t : tree ≡ created served.tree above name kind perm) (is_tree : IsTree tree)
+      (is : number ≡ number_given ready dir.0 name) (right : AreLoaded served) (after : now ≡ record map { remembered = remembered map.remembered number.0 file }) where
+    kept-now : (now.loaded ≡ served.map.loaded) × (now.limit ≡ served.map.limit)
+    kept-now = (ap (λ (x : MapState). x.loaded) after ∙ (made-kept map ready r m).0, ap (λ (x : MapState). x.limit) after ∙ (made-kept map ready r m).1)
+
+    pub made-may_load : attr_of now.loaded number.0 ≡ None
+    made-may_load = ap (λ (xs : List LoadedAttr). attr_of xs number.0) kept-now.0 ∙ made-unloaded ready number r is right
+
+    module _ (later : MapState) (attr : Attr) (names : IsFileOf tree map.entries number.0 file) (is_attr : file_attr tree file ≡ Some attr) (loads : later ≡ record now { loaded = load now.limit now.loaded number attr }) where
+      pub made-loads : AreLoaded (served_over tree later)
+      made-loads = subst (λ (x : MapState). AreLoaded (served_over tree x)) (sym loads)
+          (load-true (served_over tree now) number attr file (subst (λ (x : MapState). IsFileOf tree x.entries number.0 file) (sym after) names) (attr-content tree file attr is_attr)
+          (plainly-loaded (served_over tree map) (served_over tree now) (ap (λ (x : MapState). plain (served_over tree x)) after) (ap (λ (x : MapState). x.loaded) after) (made-loaded map ready tree r m t is_tree right)))
+
+      pub made-told : LoadsTold served.map number attr later
+      made-told = record {
+        loaded = ap (λ (x : MapState). x.loaded) loads ∙ (λ i. load (kept-now.1 i) (kept-now.0 i) number attr) ∙ sym (told-new served.map number attr other (made-unloaded ready number r is right));
+        limit = ap (λ (x : MapState). x.limit) loads ∙ kept-now.1;
+      } where
+        other : number.0 ≡ 1 → ⊥
+        other one = let low : 2 ≤ number.0 = subst (λ (n : Number). 2 ≤ n.0) (sym (is ∙ ap (λ (x : MapState). number_given x dir.0 name) r)) (made-gave served dir name above may kind perm few (subst IsTree t is_tree)).low in omega arith
+
   -- where the file was not made, nothing was
   pub unmade : (map : MapState) (tree : Tree) → map ≡ record served.map { spare = 1 } → tree ≡ served.tree → IsSamePlainly served (served_over tree map)
   unmade map tree m t = record {
@@ -119,3 +175,6 @@ module _ (served : ServedState) (dir : Number) (name : List ℕ) (above : FileId
 
   pub unmade-remembers : (map : MapState) (tree : Tree) → map ≡ record served.map { spare = 1 } → tree ≡ served.tree → AreRemembered served → AreRemembered (served_over tree map)
   unmade-remembers map tree m t right = plainly-remembers served (served_over tree map) (unmade map tree m t).plainly (ap (λ (x : MapState). x.remembered) m) right
+
+  pub unmade-loaded : (map : MapState) (tree : Tree) → map ≡ record served.map { spare = 1 } → tree ≡ served.tree → AreLoaded served → AreLoaded (served_over tree map)
+  unmade-loaded map tree m t right = plainly-loaded served (served_over tree map) (unmade map tree m t).plainly (ap (λ (x : MapState). x.loaded) m) right

@@ -6,7 +6,7 @@ use Rattle.eden_base.specs.declared.attr.Kind.{Kind}
 use Rattle.eden_base.specs.declared.attr.Kind.TheVariants.{Dir, File}
 use Rattle.eden_base.specs.declared.attr.Perm.{Perm}
 use Rattle.eden_base.specs.declared.errno.Errno.{Errno}
-use Rattle.eden_base.specs.declared.errno.Errno.TheVariants.{ENOSYS, ESTALE}
+use Rattle.eden_base.specs.declared.errno.Errno.TheVariants.{ENOSYS, ESTALE, EIO}
 use Rattle.eden_base.specs.declared.number.FileId.{FileId}
 use Rattle.eden_base.specs.declared.number.Number.{Number}
 use Rattle.checkout.specs.Tree.{Tree, IsTree, attr_of, is_full_dir, removed, created, next_file}
@@ -17,7 +17,7 @@ use Rattle.fuse_wire.specs.declared.reply.Answer.TheVariants.{Entry, Opened, Att
 use Rattle.inode_map.specs.InodeMap.{IsGiveRefusal, give_fault, given, number_given}
 use Rattle.inode_map.specs.declared.inode_map.GiveFault.{GiveFault}
 use Rattle.inode_map.specs.declared.inode_map.GiveFault.TheVariants.{NoNumber, TooMany, NoMemory}
-use Rattle.fuse_ops.specs.Answers.{none_left, at_greatest, Effect, comes_to, found_in, free_in, enters, makes, takes, takes_from, unless, against_unlink, against_rmdir, telling, Answers, AnswersFile}
+use Rattle.fuse_ops.specs.Answers.{none_left, at_greatest, Effect, IsBacked, comes_to, found_in, free_in, enters, makes, takes, takes_from, unless, against_unlink, against_rmdir, telling, Answers, AnswersFile}
 use Rattle.checkout.proofs.CreateLaws.{created-IsTree}
 use Rattle.checkout.proofs.RemoveLaws.{removed-IsTree}
 use Rattle.fuse_ops.proofs.Keeping.{found-child}
@@ -28,7 +28,7 @@ use Rattle.fuse_ops.proofs.Shapes.{GoesTo, TellsEntry, TakesPlace, lookup-goes, 
 
 -- an answer that the table has for what a request comes to, and what it makes
 record Legally (old : ServedState) (request : Request) (result : Result Effect Errno) (answer : Answer) (new : ServedState) : Type 0 where
-  answers : Answers (numbers_at old.map (place_told request)) request result answer
+  answers : Answers (numbers_at old (place_told request)) request result answer
   makes : plain new ≡ plain (served_after old request result answer)
   bad_items : new.map.bad_items ≡ old.map.bad_items
   keeps_tree : IsTree old.tree → IsTree new.tree
@@ -42,7 +42,7 @@ replays old request dir comes above answer new goes at l =
       record {
         files = λ n. above;
         locates = subst (λ (nodes : List Number). AllByRecursion (λ (node : Number). IsLocated old node.0 above) nodes) (sym goes.looks) (at, tt);
-        answers = subst (λ (r : Result Effect Errno). Answers (numbers_at old.map (place_told request)) request r answer) (sym came) l.answers;
+        answers = subst (λ (r : Result Effect Errno). Answers (numbers_at old (place_told request)) request r answer) (sym came) l.answers;
         makes = l.makes ∙ ap (λ (r : Result Effect Errno). plain (served_after old request r answer)) (sym came);
         bad_items = l.bad_items;
         keeps_tree = l.keeps_tree;
@@ -68,7 +68,7 @@ entry-legally : (old : ServedState) (request : Request) (dir : Number) (name : L
     give_fault old.map dir.0 name ≡ None → number ≡ number_given old.map dir.0 name → attr_of tree file ≡ Some attr → (IsTree old.tree → IsTree tree) → IsSamePlainly (record { map = given old.map dir name; tree = tree }) new →
     Legally old request (Ok (entered tree file)) (telling request number attr) new
 entry-legally old request dir name tree file number attr new tells clear is is_attr stays same = record {
-  answers = subst (λ (p : Option (Number × List ℕ)). AnswersFile (numbers_at old.map p) request tree (Some file) true (telling request number attr)) (sym tells.told)
+  answers = subst (λ (p : Option (Number × List ℕ)). AnswersFile (numbers_at old p) request tree (Some file) true (telling request number attr)) (sym tells.told)
       (None, sym (ap number_fault clear), inl (record { number = number; attr = attr; is = refl; is_number = ap (λ (n : Number). n.0) is; is_attr = is_attr }));
   makes = same.plainly ∙ sym (ap plain (entry-after old request dir name (entered tree file) (telling request number attr) number tells (tells.gives number attr)));
   bad_items = same.bad_items ∙ given-bad_items old.map dir name;
@@ -76,15 +76,20 @@ entry-legally old request dir name tree file number attr new tells clear is is_a
 }
 
 refused_in : (old : ServedState) (request : Request) (dir : Number) (name : List ℕ) (tree : Tree) (file : FileId) (errno : Errno) (fault : GiveFault) → IsGiveRefusal old.map dir.0 name fault → errno ≡ errno_of fault →
-    AnswersFile (numbers_at old.map (Some (dir, name))) request tree (Some file) true (Error errno)
+    AnswersFile (numbers_at old (Some (dir, name))) request tree (Some file) true (Error errno)
 refused_in old request dir name tree file errno NoNumber refusal e = (Some none_left, sym (ap number_fault refusal), ap Error e)
 refused_in old request dir name tree file errno TooMany refusal e = (Some at_greatest, sym (ap number_fault refusal), ap Error e)
 refused_in old request dir name tree file errno NoMemory refusal e = (None, sym (ap number_fault refusal.1), inr (inr (ap Error e, refusal.0)))
 
-refused-legally : (old : ServedState) (request : Request) (dir : Number) (name : List ℕ) (tree : Tree) (file : FileId) (errno : Errno) (fault : GiveFault) (new : ServedState) → TellsEntry request dir name →
-    IsGiveRefusal old.map dir.0 name fault → errno ≡ errno_of fault → IsSamePlainly old new → Legally old request (Ok (entered tree file)) (Error errno) new
-refused-legally old request dir name tree file errno fault new tells refusal e same = record {
-  answers = subst (λ (p : Option (Number × List ℕ)). AnswersFile (numbers_at old.map p) request tree (Some file) true (Error errno)) (sym tells.told) (refused_in old request dir name tree file errno fault refusal e);
+-- nothing stands against its number, and the backing failed
+backed_in : (old : ServedState) (request : Request) (dir : Number) (name : List ℕ) (tree : Tree) (file : FileId) (errno : Errno) → errno ≡ EIO → give_fault old.map dir.0 name ≡ None → IsBacked old.tree file →
+    AnswersFile (numbers_at old (Some (dir, name))) request tree (Some file) true (Error errno)
+backed_in old request dir name tree file errno e clear is = (None, sym (ap number_fault clear), inr (inl (ap Error e, is)))
+
+unentered-legally : (old : ServedState) (request : Request) (dir : Number) (name : List ℕ) (tree : Tree) (file : FileId) (errno : Errno) (new : ServedState) → TellsEntry request dir name →
+    AnswersFile (numbers_at old (Some (dir, name))) request tree (Some file) true (Error errno) → IsSamePlainly old new → Legally old request (Ok (entered tree file)) (Error errno) new
+unentered-legally old request dir name tree file errno new tells refusal same = record {
+  answers = subst (λ (p : Option (Number × List ℕ)). AnswersFile (numbers_at old p) request tree (Some file) true (Error errno)) (sym tells.told) refusal;
   makes = same.plainly ∙ sym (ap plain (error-after old request (Ok (entered tree file)) errno));
   bad_items = same.bad_items;
   keeps_tree = tree-same old new same.plainly;
@@ -98,7 +103,10 @@ same_of old new e = record { plainly = ap plain e; bad_items = ap (λ (s : Serve
 gives_in : (old : ServedState) (dir : Number) (name : List ℕ) (file : FileId) (answer : Answer) (new : ServedState) → GivesEntry old dir name file answer new → Legally old (Lookup dir name) (enters old.tree (Ok file)) answer new
 gives_in old dir name file (Entry number attr) new (clear, is, attr_is, same) =
     entry-legally old (Lookup dir name) dir name old.tree file number attr new (lookup-tells dir name) clear is attr_is (λ was. was) same
-gives_in old dir name file (Error errno) new ((fault, refusal, e), same) = refused-legally old (Lookup dir name) dir name old.tree file errno fault new (lookup-tells dir name) refusal e (same_of old new same)
+gives_in old dir name file (Error errno) new (inl (fault, refusal, e), same) =
+    unentered-legally old (Lookup dir name) dir name old.tree file errno new (lookup-tells dir name) (refused_in old (Lookup dir name) dir name old.tree file errno fault refusal e) (same_of old new same)
+gives_in old dir name file (Error errno) new (inr (e, clear, is), same) =
+    unentered-legally old (Lookup dir name) dir name old.tree file errno new (lookup-tells dir name) (backed_in old (Lookup dir name) dir name old.tree file errno e clear is) (same_of old new same)
 gives_in old dir name file (Opened number attr) new h = absurd h
 gives_in old dir name file (Attrs number attr) new h = absurd h
 gives_in old dir name file Done new h = absurd h
@@ -127,7 +135,7 @@ makes_in old request dir name kind perm (Ok above) (Ok (number, attr)) new tells
     entry-legally old request dir name (created old.tree above name kind perm) (next_file old.tree) number attr new tells clear is attr_is
     (λ was. created-IsTree old.tree above name kind perm was place.is_dir place.reached place.free is_name place.fits) same
 makes_in old request dir name kind perm (Ok above) (Err errno) new tells free ((fault, refusal, e), same) =
-    refused-legally old request dir name (created old.tree above name kind perm) (next_file old.tree) errno fault new tells refusal e same
+    unentered-legally old request dir name (created old.tree above name kind perm) (next_file old.tree) errno new tells (refused_in old request dir name (created old.tree above name kind perm) (next_file old.tree) errno fault refusal e) same
 
 pub create-replay : (old : ServedState) (dir : Number) (name : List ℕ) (perm : Perm) (told : Result (Number × Attr) Errno) (new : ServedState) → Makes old dir name File perm told new →
     Replay old (Create dir name perm) (Some (made_answer (Create dir name perm) told)) new
@@ -173,19 +181,23 @@ rmdir-replay old dir name answer new t =
 pub other-replay : (old : ServedState) (opcode : ℕ) (node : Number) → Replay old (Other opcode node) (Some (Error ENOSYS)) old
 other-replay old opcode node = (refl, record { files = λ n. None; locates = tt; answers = refl; makes = refl; bad_items = refl; keeps_tree = λ was. was })
 
--- a GETATTR is a legal step, which leaves what there was
-pub getattr-replay : (old : ServedState) (node : Number) (answer : Answer) → Shows old node answer → Replay old (Getattr node) (Some answer) old
-getattr-replay old node answer s = by_file s.file s.located s.shows where
-  by_file : (file : Option FileId) → IsLocated old node.0 file → ShowsFile old node file answer → Replay old (Getattr node) (Some answer) old
-  by_file None at e = rw e (refl, record { files = λ n. None; locates = (at, tt); answers = refl; makes = refl; bad_items = refl; keeps_tree = λ was. was })
-  by_file (Some file) at (attr, is_attr, e) = rw e (
+-- a GETATTR is a legal step, after which there is plainly what there was
+pub getattr-replay : (old : ServedState) (node : Number) (answer : Answer) (new : ServedState) → Shows old node answer → IsSamePlainly old new → Replay old (Getattr node) (Some answer) new
+getattr-replay old node answer new s same = by_file s.file s.located s.shows where
+  by_file : (file : Option FileId) → IsLocated old node.0 file → ShowsFile old node file answer → Replay old (Getattr node) (Some answer) new
+  by_file None at e = rw e (refl, record { files = λ n. None; locates = (at, tt); answers = refl; makes = same.plainly; bad_items = same.bad_items; keeps_tree = tree-same old new same.plainly })
+  by_file (Some file) at (inl (attr, is_attr, e)) = rw e (
     refl,
     record {
       files = λ n. Some file;
       locates = (at, tt);
       answers = inl (record { number = node; attr = attr; is = refl; is_number = (0, (let low : 0 < 1 = omega arith in low), refl); is_attr = is_attr });
-      makes = refl;
-      bad_items = refl;
-      keeps_tree = λ was. was;
+      makes = same.plainly;
+      bad_items = same.bad_items;
+      keeps_tree = tree-same old new same.plainly;
     },
+  )
+  by_file (Some file) at (inr (e, is)) = rw e (
+    refl,
+    record { files = λ n. Some file; locates = (at, tt); answers = inr (refl, is); makes = same.plainly; bad_items = same.bad_items; keeps_tree = tree-same old new same.plainly },
   )

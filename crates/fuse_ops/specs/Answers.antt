@@ -1,7 +1,7 @@
 -- What each request is answered, as a table: first what it comes to in the tree, then what stands against a number,
 -- then what may fail. The world's moves and what `apply` promises read the same rows. The requests are those of
 -- `linux/fuse.h`; which errors there are, and in which order they are told, is this project's own.
-use Rattle.std.specs.Prelude.{◌≡◌, ℕ, ◌⊎◌, Bool, true, false, nat_le, List, [], ◌∷◌, Contains, Option, Some, None, is_some, Result, Ok, Err, if◌then◌else◌}
+use Rattle.std.specs.Prelude.{◌≡◌, ℕ, ◌+◌, ◌<◌, ◌⊎◌, Bool, true, false, nat_le, List, [], ◌∷◌, length, Contains, Option, Some, None, is_some, Result, Ok, Err, if◌then◌else◌}
 use Rattle.std.specs.Option.{option_map_or}
 use Rattle.eden_base.specs.Limits.{end_of_files}
 use Rattle.eden_base.specs.declared.attr.Attr.{Attr}
@@ -183,6 +183,10 @@ AnswersFile numbers request tree None counts answer = answer ≡ Done
 abbrev pub Answers : Numbers → Request → Result Effect Errno → Answer → Type 0
 Answers numbers request (Ok effect) answer = AnswersFile numbers request effect.tree effect.file effect.counts answer
 Answers numbers request (Err errno) answer = answer ≡ Error errno
+
+-- a regular file of the manifest, which alone a backing is asked for
+abbrev pub IsBacked : Tree → FileId → Type 0
+IsBacked tree file = (kind_of tree file ≡ Some File) × (file.0 < length tree.manifest.lines + 2)
 
 -- ---- afterwards
 

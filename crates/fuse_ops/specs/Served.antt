@@ -18,7 +18,7 @@ use Rattle.inode_map.specs.InodeMap.{MapState, IsFileOf, new_map, entry_at, give
 use Rattle.inode_map.specs.declared.inode_map.Kept.{Kept}
 use Rattle.inode_map.specs.declared.inode_map.GiveFault.{GiveFault}
 use Rattle.inode_map.specs.declared.inode_map.GiveFault.TheVariants.{NoNumber, TooMany, NoMemory}
-use Rattle.fuse_ops.specs.Answers.{NumberFault, none_left, at_greatest, Numbers, Effect, looks_at, comes_to, Answers, tree_after, file_unnamed}
+use Rattle.fuse_ops.specs.Answers.{NumberFault, none_left, at_greatest, Numbers, Effect, IsBacked, looks_at, comes_to, Answers, tree_after, file_unnamed}
 
 -- the numbers that a daemon gave, and the tree of its checkout
 pub record ServedState : Type 0 where
@@ -71,16 +71,21 @@ number_fault (Some TooMany) = Some at_greatest
 number_fault (Some NoMemory) = None
 number_fault None = None
 
--- what a daemon reads the table by: its map says which number a place has; memory is wanted for a new number alone
-abbrev pub numbers_at : MapState → Option (Number × List ℕ) → Numbers
-numbers_at map (Some (dir, name)) = record {
-  IsAgainst = λ file fault. fault ≡ number_fault (give_fault map dir.0 name);
-  IsNumber = λ file n. n ≡ (number_given map dir.0 name).0;
-  MayFail = λ file. ⊥;
-  MayWant = λ file. entry_at map.entries dir.0 name ≡ None;
+-- what a daemon reads the table by: its map says which number a place has; its backing may fail to tell a regular file
+-- of the manifest; memory is wanted for a new number alone
+abbrev pub numbers_at : ServedState → Option (Number × List ℕ) → Numbers
+numbers_at served (Some (dir, name)) = record {
+  IsAgainst = λ file fault. fault ≡ number_fault (give_fault served.map dir.0 name);
+  IsNumber = λ file n. n ≡ (number_given served.map dir.0 name).0;
+  MayFail = IsBacked served.tree;
+  MayWant = λ file. entry_at served.map.entries dir.0 name ≡ None;
 }
-numbers_at map None =
-    record { IsAgainst = λ file fault. ⊥; IsNumber = λ file n. ⊥; MayFail = λ file. ⊥; MayWant = λ file. ⊥ }
+numbers_at served None = record {
+  IsAgainst = λ file fault. ⊥;
+  IsNumber = λ file n. ⊥;
+  MayFail = IsBacked served.tree;
+  MayWant = λ file. ⊥;
+}
 
 -- the map after an answer: what is given out is counted once more
 abbrev pub map_after : MapState → Option (Number × List ℕ) → Option Number → MapState
@@ -109,7 +114,7 @@ served_after old request result answer = record {
 pub record IsLegal (old : ServedState) (request : Request) (answer : Answer) (new : ServedState) : Type 0 where
   pub files : ℕ → Option FileId
   pub locates : Locates old request files
-  pub answers : Answers (numbers_at old.map (place_told request)) request (comes_to old.tree files request) answer
+  pub answers : Answers (numbers_at old (place_told request)) request (comes_to old.tree files request) answer
   pub makes : plain new ≡ plain (served_after old request (comes_to old.tree files request) answer)
   pub bad_items : new.map.bad_items ≡ old.map.bad_items
   -- files and links stay a tree

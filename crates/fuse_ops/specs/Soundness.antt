@@ -2,11 +2,13 @@
 -- (EdenFS's documents on inodes; libfuse's rules for lookup counts, `fuse_lowlevel.h`.)
 use Rattle.std.specs.Prelude.{◌≡◌, ℕ, ◌≤◌, ◌↔◌, IsTrue, IsSome, Some}
 use Rattle.eden_base.specs.Limits.{greatest_count, end_of_numbers}
+use Rattle.eden_base.specs.declared.attr.Attr.{Attr}
 use Rattle.eden_base.specs.declared.number.FileId.{FileId}
 use Rattle.eden_base.specs.declared.place.Place.{Place}
 use Rattle.eden_base.specs.declared.place.Place.TheVariants.{Linked, Unlinked}
 use Rattle.checkout.specs.Tree.{file_of as tree_file, is_unlinked}
-use Rattle.inode_map.specs.InodeMap.{entry_of, file_remembered, is_of_use, AreNumbers, IsFileOf}
+use Rattle.checkout.specs.declared.content.Content.{Content}
+use Rattle.inode_map.specs.InodeMap.{entry_of, attr_of, file_remembered, is_of_use, AreNumbers, IsFileOf}
 use Rattle.inode_map.specs.declared.inode_map.Kept.{Kept}
 use Rattle.fuse_ops.specs.Served.{ServedState}
 
@@ -23,6 +25,15 @@ Names served n file = IsFileOf served.tree served.map.entries n file
 abbrev pub AreRemembered : ServedState → Type 0
 AreRemembered served = (n : ℕ) (file : FileId) →
     file_remembered served.map.remembered n ≡ Some file → Names served n file
+
+-- what attributes say of a file, its names apart
+abbrev pub content_in : Attr → Content
+content_in attr = record { kind = attr.kind; perm = attr.perm; size = attr.size }
+
+-- what is loaded of a number is true: the kind, the permissions and the size of the file that it names
+abbrev pub AreLoaded : ServedState → Type 0
+AreLoaded served = (n : ℕ) (attr : Attr) → attr_of served.map.loaded n ≡ Some attr →
+    (file : FileId) × Names served n file × (tree_file served.tree file ≡ Some (content_in attr))
 
 -- what a daemon knows fits together
 pub record IsSound (served : ServedState) : Type 0 where

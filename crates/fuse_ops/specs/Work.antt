@@ -6,7 +6,7 @@ use Rattle.eden_base.specs.declared.attr.Kind.{Kind}
 use Rattle.eden_base.specs.declared.attr.Perm.{Perm}
 use Rattle.eden_base.specs.declared.attr.Attr.{Attr}
 use Rattle.eden_base.specs.declared.errno.Errno.{Errno}
-use Rattle.eden_base.specs.declared.errno.Errno.TheVariants.{ESTALE, ENOSPC, EOVERFLOW, ENOMEM}
+use Rattle.eden_base.specs.declared.errno.Errno.TheVariants.{ESTALE, ENOSPC, EOVERFLOW, EIO, ENOMEM}
 use Rattle.eden_base.specs.declared.number.FileId.{FileId}
 use Rattle.eden_base.specs.declared.number.Number.{Number}
 use Rattle.checkout.specs.Tree.{Tree, child_of, attr_of, next_file, created, removed}
@@ -15,7 +15,7 @@ use Rattle.fuse_wire.specs.declared.reply.Answer.TheVariants.{Entry, Attrs, Done
 use Rattle.inode_map.specs.InodeMap.{IsGiveRefusal, give_fault, given, number_given}
 use Rattle.inode_map.specs.declared.inode_map.GiveFault.{GiveFault}
 use Rattle.inode_map.specs.declared.inode_map.GiveFault.TheVariants.{NoNumber, TooMany, NoMemory}
-use Rattle.fuse_ops.specs.Answers.{found_in, free_in, unless}
+use Rattle.fuse_ops.specs.Answers.{IsBacked, found_in, free_in, unless}
 use Rattle.fuse_ops.specs.Served.{ServedState, IsLocated, plain, name_taken}
 use Rattle.fuse_ops.specs.declared.served.Found.{Found}
 
@@ -42,14 +42,19 @@ pub record IsSamePlainly (old new : ServedState) : Type 0 where
   pub plainly : plain new ≡ plain old
   pub bad_items : new.map.bad_items ≡ old.map.bad_items
 
+-- why a file that was found is no entry: its number can't be given, or else the backing didn't tell the file
+abbrev pub IsEntryRefusal : ServedState → Number → List ℕ → FileId → Errno → Type 0
+IsEntryRefusal old dir name file errno =
+    ((fault : GiveFault) × IsGiveRefusal old.map dir.0 name fault × (errno ≡ errno_of fault))
+    ⊎ ((errno ≡ EIO) × (give_fault old.map dir.0 name ≡ None) × IsBacked old.tree file)
+
 -- the answer for a file that was found, and what the daemon knows after it
 abbrev pub GivesEntry : ServedState → Number → List ℕ → FileId → Answer → ServedState → Type 0
 GivesEntry old dir name file (Entry number attr) new =
     (give_fault old.map dir.0 name ≡ None) × (number ≡ number_given old.map dir.0 name)
     × (attr_of old.tree file ≡ Some attr)
     × IsSamePlainly (record old { map = given old.map dir name }) new
-GivesEntry old dir name file (Error errno) new =
-    ((fault : GiveFault) × IsGiveRefusal old.map dir.0 name fault × (errno ≡ errno_of fault)) × (new ≡ old)
+GivesEntry old dir name file (Error errno) new = IsEntryRefusal old dir name file errno × (new ≡ old)
 GivesEntry old dir name file answer new = ⊥
 
 -- an error is told as it is, and for a file its number is given
@@ -64,10 +69,11 @@ pub record LooksUp (old : ServedState) (dir : Number) (name : List ℕ) (answer 
   pub located : IsLocated old dir.0 dir_file
   pub gives : GivesFound old dir name (found_in old.tree dir_file name) answer new
 
--- the answer with the attributes of a number's file
+-- the answer with the attributes of a number's file, which the backing may fail to tell
 abbrev pub ShowsFile : ServedState → Number → Option FileId → Answer → Type 0
 ShowsFile served node (Some file) answer =
-    (attr : Attr) × (attr_of served.tree file ≡ Some attr) × (answer ≡ Attrs node attr)
+    ((attr : Attr) × (attr_of served.tree file ≡ Some attr) × (answer ≡ Attrs node attr))
+    ⊎ ((answer ≡ Error EIO) × IsBacked served.tree file)
 ShowsFile served node None answer = answer ≡ Error ESTALE
 
 -- a GETATTR's answer

@@ -1,15 +1,20 @@
 //! The numbers and the tree that one daemon serves.
-ghost use Rattle.std.specs.Prelude.{◌≡◌, ◌<◌, true, false, Some, IsSome, IfOk, IfErr, IfSome, OnOk, OnErr};
+ghost use Rattle.std.specs.Prelude.{◌≡◌, ◌<◌, true, false, None, Some, Ok, IsSome, IfOk, IfErr, IfSome, OnOk, OnErr};
 ghost use Rattle.eden_base.specs.Limits.{end_of_numbers};
-ghost use Rattle.checkout.specs.Tree.{child_of, is_full_dir};
-ghost use Rattle.fuse_wire.specs.declared.ask.Request.TheVariants.{Create, Mkdir};
-ghost use Rattle.inode_map.specs.InodeMap.{forgotten, IsFileOf};
-ghost use Rattle.fuse_ops.specs.Answers.{against_unlink, against_rmdir};
+ghost use Rattle.eden_base.specs.declared.number.FileId.{FileId};
+ghost use Rattle.std.specs.Option.{option_map};
+ghost use Rattle.checkout.specs.Tree.{IsTree, child_of, attr_of, is_full_dir};
+ghost use Rattle.eden_base.specs.declared.errno.Errno.TheVariants.{EIO};
+ghost use Rattle.fuse_wire.specs.declared.reply.Answer.TheVariants.{Error};
+ghost use Rattle.fuse_wire.specs.declared.ask.Request.TheVariants.{Lookup, Getattr, Create, Mkdir, Unlink, Rmdir};
+ghost use Rattle.inode_map.specs.InodeMap.{entry_at, number_of_kept, give_fault, forgotten, IsFileOf};
+ghost use Rattle.fuse_ops.specs.Answers.{IsBacked, against_unlink, against_rmdir};
+ghost use Rattle.fuse_ops.specs.Loading.{Backs, FailsAs, Loads, LoadsTold, LoadsNone, loaded_told};
 ghost use Rattle.fuse_ops.specs.Served.{new_served, forgotten_all, IsLocated, Replay};
-ghost use Rattle.fuse_ops.specs.Soundness.{IsSound, AreRemembered};
-ghost use Rattle.fuse_ops.specs.Work.{errno_of, Finds, IsFree, IsNextRefusal, LooksUp, Makes, NameIsTaken, Shows, Takes};
+ghost use Rattle.fuse_ops.specs.Soundness.{IsSound, Names, AreRemembered, AreLoaded};
+ghost use Rattle.fuse_ops.specs.Work.{errno_of, Finds, GivesEntry, IsFree, IsNextRefusal, IsSamePlainly, LooksUp, Makes, NameIsTaken, Shows, Takes};
 
-use checkout::{Manifest, Tree};
+use checkout::{Backing, BackingFault, Manifest, Tree};
 use eden_base::{
     Attr, END_OF_FILES, END_OF_NUMBERS, Errno, FileId, Kind, Name, NoMemory, Number, Perm,
 };
@@ -35,13 +40,14 @@ impl Model for Served {
     ghost coded = { Prim.hlevel (codes, tree_code) };
 
     ghost use Rattle.checkout.specs.Tree.{IsTree};
-    ghost use Rattle.fuse_ops.specs.Soundness.{IsSound, AreRemembered};
+    ghost use Rattle.fuse_ops.specs.Soundness.{IsSound, AreRemembered, AreLoaded};
 
     ghost view = { λ s. record { map = s.map; tree = s.tree } };
 
     ghost invariant = { λ s. IsTree s.tree
         × IsSound (record { map = s.map; tree = s.tree })
-        × AreRemembered (record { map = s.map; tree = s.tree }) };
+        × AreRemembered (record { map = s.map; tree = s.tree })
+        × AreLoaded (record { map = s.map; tree = s.tree }) };
 }
 
 /// The directory of a number, and the file under a name in it.
@@ -54,7 +60,7 @@ struct Found {
 
 impl Served {
     /// Returns a daemon that begins to serve what a manifest says. So many attributes may be loaded at once, and
-    /// one at least; every file counts as loaded yet.
+    /// one at least.
     pub fn new(alloc: Global, manifest: &Manifest, limit: usize) -> Result<Served, NoMemory>
         ensures new { IfOk result (λ served. served ≡ new_served manifest.now limit) }
         ensures sound { IfOk result IsSound }
@@ -69,6 +75,7 @@ impl Served {
         ensures map { result.now ≡ self.now.map }
         ensures sound { IsSound self.now }
         ensures remembered { AreRemembered self.now }
+        ensures loaded { AreLoaded self.now }
     {
         &self.map
     }
@@ -80,14 +87,24 @@ impl Served {
         &self.tree
     }
 
-    /// Answers an ask, or applies the items of a forget, which has no answer. An error changes no number, no place and
-    /// no tree.
-    pub fn apply(&mut self, alloc: Global, request: &Request) -> Option<Answer>
+    /// Answers an ask, or applies the items of a forget, which has no answer. A file that isn't loaded is asked of the
+    /// backing, before anything changes. An error changes no number, no place and no tree, and loads nothing.
+    pub fn apply<B: Backing>(
+        &mut self,
+        alloc: Global,
+        backing: &mut B,
+        request: &Request,
+    ) -> Option<Answer>
+        requires backs { Backs (B.content backing.old) self.old.tree }
         ensures replay { Replay self.old request.now result self.new }
+        ensures loads { Loads self.old.map request.now result self.new.map }
+        ensures fails { FailsAs result (B.failed backing.old) (B.failed backing.new) }
+        ensures same_content { (file : FileId) → B.content backing.new file ≡ B.content backing.old file }
+        ensures same_manifest { self.new.tree.manifest ≡ self.old.tree.manifest }
     {
         match request {
-            Request::Lookup { dir, name } => Some(self.look_up(alloc, *dir, name)),
-            Request::Getattr { node } => Some(self.get_attr(*node)),
+            Request::Lookup { dir, name } => Some(self.look_up(alloc, backing, *dir, name)),
+            Request::Getattr { node } => Some(self.get_attr(backing, *node)),
             Request::Create { dir, name, perm } => Some(self.create(alloc, *dir, name, *perm)),
             Request::Mkdir { dir, name, perm } => Some(self.make_dir(alloc, *dir, name, *perm)),
             Request::Unlink { dir, name } => Some(self.unlink(*dir, name)),
@@ -104,25 +121,128 @@ impl Served {
         }
     }
 
-    /// Answers a lookup. The number of the file that it finds is held once more.
-    fn look_up(&mut self, alloc: Global, dir: Number, name: &Name) -> Answer
+    /// Answers a lookup. What stands against the number of the file that it finds is looked for first.
+    fn look_up<B: Backing>(
+        &mut self,
+        alloc: Global,
+        backing: &mut B,
+        dir: Number,
+        name: &Name,
+    ) -> Answer
+        requires backs { Backs (B.content backing.old) self.old.tree }
         ensures answer { LooksUp self.old dir name.now result self.new }
+        ensures loads { Loads self.old.map (Lookup dir name.now) (Some result) self.new.map }
+        ensures fails { FailsAs (Some result) (B.failed backing.old) (B.failed backing.new) }
+        ensures same_content { (file : FileId) → B.content backing.new file ≡ B.content backing.old file }
     {
         let found = match self.find(dir, name) {
             Ok(found) => found,
             Err(errno) => return Answer::Error(errno),
         };
-        let attr = found.attr;
-        let next = self.map.next();
+        let kept = match self.map.number_to_give(dir, name) {
+            Ok(kept) => kept,
+            Err(fault) => return Answer::Error(errno_of(fault)),
+        };
+        match kept {
+            Some(number) => self.enter_again(backing, dir, name, number, found),
+            None => self.enter_next(alloc, backing, dir, name, found),
+        }
+    }
+
+    /// Tells the entry of a file that was found under a name with a number, which is held once more.
+    fn enter_again<B: Backing>(
+        &mut self,
+        backing: &mut B,
+        dir: Number,
+        name: &Name,
+        number: Number,
+        found: Found,
+    ) -> Answer
+        requires backs { Backs (B.content backing.old) self.old.tree }
+        requires found { Finds self.old dir.0 name.now (Ok found) }
+        requires names { Names self.old number.0 found.file }
+        requires has { Some number ≡ option_map number_of_kept (entry_at self.old.map.entries dir.0 name.now) }
+        requires clear { give_fault self.old.map dir.0 name.now ≡ None }
+        ensures entry { GivesEntry self.old dir name.now found.file result self.new }
+        ensures loads { Loads self.old.map (Lookup dir name.now) (Some result) self.new.map }
+        ensures fails { FailsAs (Some result) (B.failed backing.old) (B.failed backing.new) }
+        ensures same_content { (file : FileId) → B.content backing.new file ≡ B.content backing.old file }
+    {
+        let Ok(attr) = self.load(backing, number, found.file, found.attr) else {
+            return Answer::Error(Errno::EIO);
+        };
+        match self.map.give_again(dir, name, number) {
+            Ok(number) => Answer::Entry { number, attr },
+            Err(_) => unreachable!(),
+        }
+    }
+
+    /// Tells the entry of a file that was found under a name without a number, which is given the next.
+    fn enter_next<B: Backing>(
+        &mut self,
+        alloc: Global,
+        backing: &mut B,
+        dir: Number,
+        name: &Name,
+        found: Found,
+    ) -> Answer
+        requires backs { Backs (B.content backing.old) self.old.tree }
+        requires found { Finds self.old dir.0 name.now (Ok found) }
+        requires free { entry_at self.old.map.entries dir.0 name.now ≡ None }
+        requires clear { give_fault self.old.map dir.0 name.now ≡ None }
+        ensures entry { GivesEntry self.old dir name.now found.file result self.new }
+        ensures loads { Loads self.old.map (Lookup dir name.now) (Some result) self.new.map }
+        ensures fails { FailsAs (Some result) (B.failed backing.old) (B.failed backing.new) }
+        ensures same_content { (file : FileId) → B.content backing.new file ≡ B.content backing.old file }
+    {
+        let Ok(attr) = ask(&self.tree, backing, found.file, found.attr) else {
+            return Answer::Error(Errno::EIO);
+        };
         match self.map.give(alloc, dir, name) {
             Ok(number) => {
-                if number.0 == next {
-                    self.map.remember(number, found.file);
-                }
+                self.map.remember(number, found.file);
+                self.map.load(number, attr);
                 Answer::Entry { number, attr }
             }
             Err(fault) => Answer::Error(errno_of(fault)),
         }
+    }
+
+    /// Tells the attributes of a number's file, which become the most recent that are loaded. Those that aren't loaded
+    /// are asked for; how many names lead to the file is the tree's to tell.
+    fn load<B: Backing>(
+        &mut self,
+        backing: &mut B,
+        number: Number,
+        file: FileId,
+        attr: Attr,
+    ) -> Result<Attr, BackingFault>
+        requires backs { Backs (B.content backing.old) self.old.tree }
+        requires names { Names self.old number.0 file }
+        requires attr { attr_of self.old.tree file ≡ Some attr }
+        ensures attr { IfOk result (λ told. attr_of self.old.tree file ≡ Some told) }
+        ensures loaded { IfOk result (λ told. self.new
+            ≡ record self.old { map = record self.old.map { loaded = loaded_told self.old.map number told } }) }
+        ensures unchanged { OnErr result (self.new ≡ self.old) }
+        ensures backed { OnErr result (IsBacked self.old.tree file) }
+        ensures answered { OnOk result (B.failed backing.new ≡ B.failed backing.old) }
+        ensures failed { OnErr result (B.failed backing.old < B.failed backing.new) }
+        ensures same_content { (file : FileId) → B.content backing.new file ≡ B.content backing.old file }
+    {
+        if number == Number::ROOT {
+            return Ok(attr);
+        }
+        if let Some(loaded) = self.map.attr(number) {
+            return Ok(Attr {
+                kind: loaded.kind,
+                perm: loaded.perm,
+                size: loaded.size,
+                nlink: attr.nlink,
+            });
+        }
+        let told = ask(&self.tree, backing, file, attr)?;
+        self.map.load(number, told);
+        Ok(told)
     }
 
     /// Returns the file that a number names. Where that is not remembered, the way to the root is walked.
@@ -158,6 +278,8 @@ impl Served {
     /// Answers a CREATE.
     fn create(&mut self, alloc: Global, dir: Number, name: &Name, perm: Perm) -> Answer
         ensures replay { Replay self.old (Create dir name.now perm) (Some result) self.new }
+        ensures loads { Loads self.old.map (Create dir name.now perm) (Some result) self.new.map }
+        ensures no_eio { result ≡ Error EIO → ⊥ }
     {
         match self.make(alloc, dir, name, Kind::File, perm) {
             Ok((number, attr)) => Answer::Opened { number, attr },
@@ -168,6 +290,8 @@ impl Served {
     /// Answers a MKDIR.
     fn make_dir(&mut self, alloc: Global, dir: Number, name: &Name, perm: Perm) -> Answer
         ensures replay { Replay self.old (Mkdir dir name.now perm) (Some result) self.new }
+        ensures loads { Loads self.old.map (Mkdir dir name.now perm) (Some result) self.new.map }
+        ensures no_eio { result ≡ Error EIO → ⊥ }
     {
         match self.make(alloc, dir, name, Kind::Dir, perm) {
             Ok((number, attr)) => Answer::Entry { number, attr },
@@ -186,6 +310,8 @@ impl Served {
         perm: Perm,
     ) -> Result<(Number, Attr), Errno>
         ensures makes { Makes self.old dir name.now kind perm result self.new }
+        ensures loads { IfOk result (λ made. LoadsTold self.old.map made.0 made.1 self.new.map) }
+        ensures loads_none { OnErr result (LoadsNone self.old.map self.new.map) }
     {
         let above = self.free_place(dir, name)?;
         let own = match ready(&mut self.map, alloc, name) {
@@ -199,10 +325,11 @@ impl Served {
             unreachable!()
         };
         self.map.remember(number, file);
-        match self.tree.attr(file) {
-            Some(attr) => Ok((number, attr)),
-            None => unreachable!(),
-        }
+        let Some(attr) = self.tree.attr(file) else {
+            unreachable!()
+        };
+        self.map.load(number, attr);
+        Ok((number, attr))
     }
 
     /// Finds the directory of a number, where a name is free in it and a file may be made.
@@ -273,17 +400,24 @@ impl Served {
         }
     }
 
-    /// Answers a GETATTR. It changes nothing.
-    fn get_attr(&mut self, node: Number) -> Answer
+    /// Answers a GETATTR. It takes no memory.
+    fn get_attr<B: Backing>(&mut self, backing: &mut B, node: Number) -> Answer
+        requires backs { Backs (B.content backing.old) self.old.tree }
         ensures answer { Shows self.old node result }
-        ensures unchanged { self.new ≡ self.old }
+        ensures plainly { IsSamePlainly self.old self.new }
+        ensures loads { Loads self.old.map (Getattr node) (Some result) self.new.map }
+        ensures fails { FailsAs (Some result) (B.failed backing.old) (B.failed backing.new) }
+        ensures same_content { (file : FileId) → B.content backing.new file ≡ B.content backing.old file }
     {
         let Some(file) = self.file_of(node) else {
             return Answer::Error(Errno::ESTALE);
         };
-        match self.tree.attr(file) {
-            Some(attr) => Answer::Attrs { number: node, attr },
-            None => unreachable!(),
+        let Some(attr) = self.tree.attr(file) else {
+            unreachable!()
+        };
+        match self.load(backing, node, file, attr) {
+            Ok(attr) => Answer::Attrs { number: node, attr },
+            Err(BackingFault) => Answer::Error(Errno::EIO),
         }
     }
 
@@ -302,6 +436,38 @@ impl Served {
             self.forget(*item);
         }
     }
+}
+
+/// Asks the backing for a file of a tree that has these attributes, where it is a regular one of the manifest. What is
+/// known of others is the tree's to tell.
+fn ask<B: Backing>(
+    tree: &Tree,
+    backing: &mut B,
+    file: FileId,
+    attr: Attr,
+) -> Result<Attr, BackingFault>
+    requires is_tree { IsTree tree.now }
+    requires attr { attr_of tree.now file ≡ Some attr }
+    requires backs { Backs (B.content backing.old) tree.now }
+    ensures attr { IfOk result (λ told. attr_of tree.now file ≡ Some told) }
+    ensures backed { OnErr result (IsBacked tree.now file) }
+    ensures answered { OnOk result (B.failed backing.new ≡ B.failed backing.old) }
+    ensures failed { OnErr result (B.failed backing.old < B.failed backing.new) }
+    ensures same_content { (other : FileId) → B.content backing.new other ≡ B.content backing.old other }
+{
+    if attr.kind == Kind::Dir {
+        return Ok(attr);
+    }
+    if tree.perm_made(file).is_some() {
+        return Ok(attr);
+    }
+    let content = backing.attr(file)?;
+    Ok(Attr {
+        kind: content.kind,
+        perm: content.perm,
+        size: content.size,
+        nlink: attr.nlink,
+    })
 }
 
 /// Takes the memory for the next number under a name, and returns the name to give it for.
@@ -334,6 +500,3 @@ fn errno_of(fault: GiveFault) -> Errno
         GiveFault::NoMemory => Errno::ENOMEM,
     }
 }
-
-#[cfg(test)]
-mod tests;

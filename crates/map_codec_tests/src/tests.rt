@@ -1,10 +1,10 @@
 //! Images from outside, each of their cuts and changes, and limits. Where one allocation is refused, the calls that take
 //! memory tell so, and succeed when they are made once more, as under `rt try --test --fail-alloc N`.
-ghost use Rattle.std.specs.Prelude.{IfOk};
+ghost use Rattle.std.specs.Prelude.{◌≡◌, IfOk};
 ghost use Rattle.map_codec.specs.Fit.{IsFit};
 
 use crate::vectors::{CHANGED, LOOKED_UP};
-use checkout::{Manifest, ManifestFault};
+use checkout::{Manifest, ManifestBacking, ManifestFault};
 use eden_base::{Name, NameFault, NoMemory, Number};
 use fuse_ops::Served;
 use fuse_wire::{Answer, Request};
@@ -191,7 +191,9 @@ fn manifest_of(alloc: Global, text: &[u8]) -> Result<Manifest, ManifestFault> {
 }
 
 /// Begins to serve, and once more where memory was refused.
-fn served_of(alloc: Global, manifest: &Manifest) -> Result<Served, NoMemory> {
+fn served_of(alloc: Global, manifest: &Manifest) -> Result<Served, NoMemory>
+    ensures manifest { IfOk result (λ served. served.tree.manifest ≡ manifest.now) }
+{
     match Served::new(alloc, manifest, 8) {
         Ok(served) => Ok(served),
         Err(NoMemory) => Served::new(alloc, manifest, 8),
@@ -225,8 +227,9 @@ fn takes_the_image_of_one_lookup(rt: HostRuntime) -> Result<(), Fail> {
         dir: Number::ROOT,
         name: name_of(alloc, b"src")?,
     };
-    if let Some(Answer::Error(_)) = served.apply(alloc, &lookup) {
-        served.apply(alloc, &lookup);
+    let mut backing = ManifestBacking::of(&manifest);
+    if let Some(Answer::Error(_)) = served.apply(alloc, &mut backing, &lookup) {
+        served.apply(alloc, &mut backing, &lookup);
     }
     let image = image_taken(alloc, &served)?;
     let text = text_of(alloc, &image, 1)?;

@@ -4,12 +4,13 @@
 #![tactic(auto)]
 
 use anyhow::Result;
-use checkout::Manifest;
+use checkout::{Manifest, ManifestBacking};
 use eden_base::{Kind, Name, Number, Perm};
 use fuse_ops::Served;
 use fuse_wire::{Answer, Batch, Item, Request};
 use std::alloc::{AllocError, Global};
 use std::env;
+use std::marker::Model;
 
 /// How many requests of a kind are asked.
 const ASKED: u64 = 1000;
@@ -18,6 +19,42 @@ const ASKED: u64 = 1000;
 const EACH: u64 = 64;
 
 const LOADED_LIMIT: usize = 64;
+
+/// What a daemon serves, with the manifest that is its backing.
+#[derive(Drop)]
+struct Hosted {
+    served: Served,
+    manifest: Manifest,
+}
+
+impl Model for Hosted {
+    ghost use Rattle.std.specs.Prelude.{◌≡◌};
+    ghost use Rattle.fuse_ops.specs.Served.{ServedState};
+    ghost use Rattle.std.specs.Coded.{codes};
+    ghost use Rattle.checkout.specs.Codes.{tree_code};
+
+    ghost Value = { ServedState };
+
+    ghost coded = { Prim.hlevel (codes, tree_code) };
+
+    ghost view = { λ h. h.served };
+
+    ghost invariant = { λ h. h.served.tree.manifest ≡ h.manifest };
+}
+
+impl Hosted {
+    /// Begins to serve a manifest.
+    fn of(alloc: Global, manifest: Manifest) -> Result<Hosted> {
+        let served = Served::new(alloc, &manifest, LOADED_LIMIT)?;
+        Ok(Hosted { served, manifest })
+    }
+
+    /// Answers a request.
+    fn apply(&mut self, alloc: Global, request: &Request) -> Option<Answer> {
+        let mut backing = ManifestBacking::of(&self.manifest);
+        self.served.apply(alloc, &mut backing, request)
+    }
+}
 
 /// Makes the text of a manifest of this many lines.
 fn manifest_text(alloc: Global, lines: u64) -> Result<Vec<u8>, AllocError> {
@@ -56,7 +93,7 @@ fn number_told(answer: Option<Answer>) -> Number {
 
 /// Looks every second file up, and every directory. Lists the requests for each of the others, as far as they are
 /// wanted.
-fn look_half_up(alloc: Global, served: &mut Served, lines: u64) -> Result<Vec<Request>> {
+fn look_half_up(alloc: Global, served: &mut Hosted, lines: u64) -> Result<Vec<Request>> {
     let mut others = Vec::new(alloc);
     let every = (lines / ASKED).max(2);
     let mut dir = Number::ROOT;
@@ -78,7 +115,7 @@ fn look_half_up(alloc: Global, served: &mut Served, lines: u64) -> Result<Vec<Re
 }
 
 /// Makes a directory in a directory, so many times, and returns the number of the last.
-fn make_deep(alloc: Global, served: &mut Served, depth: u64) -> Result<Number> {
+fn make_deep(alloc: Global, served: &mut Hosted, depth: u64) -> Result<Number> {
     let mut dir = Number::ROOT;
     for _ in 0..depth {
         let name = Name::parse(alloc, b"deeper")?;
@@ -120,7 +157,7 @@ fn list_asked(alloc: Global, dir: Number) -> Result<Asked> {
 }
 
 #[inline(never)]
-fn look_up_held(alloc: Global, served: &mut Served, request: &Request, held: Number) -> bool {
+fn look_up_held(alloc: Global, served: &mut Hosted, request: &Request, held: Number) -> bool {
     match served.apply(alloc, request) {
         Some(Answer::Entry { number, .. }) => number == held,
         _ => false,
@@ -128,7 +165,7 @@ fn look_up_held(alloc: Global, served: &mut Served, request: &Request, held: Num
 }
 
 #[inline(never)]
-fn look_up_fresh(alloc: Global, served: &mut Served, request: &Request) -> Option<Kind> {
+fn look_up_fresh(alloc: Global, served: &mut Hosted, request: &Request) -> Option<Kind> {
     match served.apply(alloc, request) {
         Some(Answer::Entry { attr, .. }) => Some(attr.kind),
         _ => None,
@@ -136,7 +173,7 @@ fn look_up_fresh(alloc: Global, served: &mut Served, request: &Request) -> Optio
 }
 
 #[inline(never)]
-fn create(alloc: Global, served: &mut Served, request: &Request) -> Option<Number> {
+fn create(alloc: Global, served: &mut Hosted, request: &Request) -> Option<Number> {
     match served.apply(alloc, request) {
         Some(Answer::Opened { number, .. }) => Some(number),
         _ => None,
@@ -144,7 +181,7 @@ fn create(alloc: Global, served: &mut Served, request: &Request) -> Option<Numbe
 }
 
 #[inline(never)]
-fn get_attr(alloc: Global, served: &mut Served, request: &Request) -> Option<u64> {
+fn get_attr(alloc: Global, served: &mut Hosted, request: &Request) -> Option<u64> {
     match served.apply(alloc, request) {
         Some(Answer::Attrs { attr, .. }) => Some(attr.size),
         _ => None,
@@ -152,7 +189,7 @@ fn get_attr(alloc: Global, served: &mut Served, request: &Request) -> Option<u64
 }
 
 #[inline(never)]
-fn unlink(alloc: Global, served: &mut Served, request: &Request) -> bool {
+fn unlink(alloc: Global, served: &mut Hosted, request: &Request) -> bool {
     match served.apply(alloc, request) {
         Some(Answer::Done) => true,
         _ => false,
@@ -160,12 +197,12 @@ fn unlink(alloc: Global, served: &mut Served, request: &Request) -> bool {
 }
 
 #[inline(never)]
-fn forget_one(alloc: Global, served: &mut Served, request: &Request) -> bool {
+fn forget_one(alloc: Global, served: &mut Hosted, request: &Request) -> bool {
     served.apply(alloc, request).is_none()
 }
 
 #[inline(never)]
-fn forget_last(alloc: Global, served: &mut Served, request: &Request) -> u8 {
+fn forget_last(alloc: Global, served: &mut Hosted, request: &Request) -> u8 {
     match served.apply(alloc, request) {
         Some(_) => 0,
         None => 2,
@@ -173,7 +210,7 @@ fn forget_last(alloc: Global, served: &mut Served, request: &Request) -> u8 {
 }
 
 #[inline(never)]
-fn forget_batch(alloc: Global, served: &mut Served, request: &Request) -> u64 {
+fn forget_batch(alloc: Global, served: &mut Hosted, request: &Request) -> u64 {
     match served.apply(alloc, request) {
         Some(_) => 0,
         None => 1,
@@ -181,7 +218,7 @@ fn forget_batch(alloc: Global, served: &mut Served, request: &Request) -> u64 {
 }
 
 /// Asks for names that were never looked up, and counts those that are there.
-fn ask_fresh(alloc: Global, served: &mut Served, others: &[Request]) -> u64 {
+fn ask_fresh(alloc: Global, served: &mut Hosted, others: &[Request]) -> u64 {
     let mut found = 0u64;
     for request in others {
         if look_up_fresh(alloc, served, request).is_some() {
@@ -192,7 +229,7 @@ fn ask_fresh(alloc: Global, served: &mut Served, others: &[Request]) -> u64 {
 }
 
 /// Makes files, looks each up once more, asks for its attributes, forgets it once, unlinks it and forgets it again.
-fn ask_made(alloc: Global, served: &mut Served, asked: &Asked) -> u64 {
+fn ask_made(alloc: Global, served: &mut Hosted, asked: &Asked) -> u64 {
     let mut done = 0u64;
     for j in 0..asked.creates.len() {
         let Some(number) = create(alloc, served, &asked.creates[j]) else {
@@ -232,7 +269,7 @@ fn batch_from(alloc: Global, first: u64) -> Result<Batch> {
 }
 
 /// Forgets the first numbers once, in batches.
-fn ask_batches(alloc: Global, served: &mut Served) -> Result<u64> {
+fn ask_batches(alloc: Global, served: &mut Hosted) -> Result<u64> {
     let mut batches = 0u64;
     for first in [2, 258, 514, 770] {
         let request = Request::BatchForget(batch_from(alloc, first)?);
@@ -245,14 +282,14 @@ fn measure(rt: &HostRuntime, lines: u64, depth: u64) -> Result<()> {
     let alloc = rt.alloc();
     let text = manifest_text(alloc, lines)?;
     let manifest = Manifest::read(alloc, text.as_slice())?;
-    let mut served = Served::new(alloc, &manifest, LOADED_LIMIT)?;
+    let mut served = Hosted::of(alloc, manifest)?;
     let others = look_half_up(alloc, &mut served, lines)?;
     let found = ask_fresh(alloc, &mut served, others.as_slice());
     let dir = make_deep(alloc, &mut served, depth)?;
     let asked = list_asked(alloc, dir)?;
     let done = ask_made(alloc, &mut served, &asked);
     let batches = ask_batches(alloc, &mut served)?;
-    let next = served.map().next();
+    let next = served.served.map().next();
     println!(rt;
         "{lines} lines, depth {depth}: {found} found, {done} made, {batches} batches, next {next}"
     )?;

@@ -5,7 +5,7 @@ use Rattle.std.specs.List.{AllByRecursion}
 use Rattle.eden_base.specs.declared.attr.Kind.{Kind}
 use Rattle.eden_base.specs.declared.attr.Perm.{Perm}
 use Rattle.eden_base.specs.declared.errno.Errno.{Errno}
-use Rattle.eden_base.specs.declared.errno.Errno.TheVariants.{ESTALE, ENOSYS}
+use Rattle.eden_base.specs.declared.errno.Errno.TheVariants.{ESTALE, EIO, ENOSYS}
 use Rattle.eden_base.specs.declared.number.FileId.{FileId}
 use Rattle.eden_base.specs.declared.number.Number.{Number}
 use Rattle.checkout.specs.Tree.{Tree, IsTree, is_full_dir, next_file, created, removed}
@@ -21,7 +21,7 @@ use Rattle.fuse_ops.specs.Gifts.{served_over}
 use Rattle.fuse_ops.specs.Served.{ServedState, PlainState, plain, IsLocated, place_told, name_taken, numbers_at, served_after, IsLegal}
 use Rattle.world.specs.World.{World, file_named, owed, numbers_of, effect_in, MayAnswer}
 use Rattle.world.specs.Agreement.{Knows}
-use Rattle.world.proofs.Entering.{Answered, enters-worked}
+use Rattle.world.proofs.Entering.{Answered, backed, enters-worked}
 use Rattle.world.proofs.Knowing.{live-named, knows-along, knows-plain, kept-knows}
 use Rattle.world.proofs.Placed.{found-number, found-enters, made-number, made-enters}
 use Rattle.world.proofs.Worked.{Worked, worked-from, error-worked}
@@ -33,11 +33,12 @@ use Rattle.fuse_ops.proofs.UnnamingLaw.{unnaming-keeps}
 -- what a daemon knows of a world, in which it answers
 record Serves (w : World) (m : MapState) : Type 0 where
   is_tree : IsTree w.tree
+  of_manifest : w.tree.manifest ≡ w.manifest
   knows : Knows w.tree w.names (owed w) (served_over w.tree m)
 
 -- a legal answer, by what the request comes to
 record Legal (w : World) (m : MapState) (request : Request) (result : Result Effect Errno) (answer : Answer) (later : ServedState) : Type 0 where
-  answers : Answers (numbers_at m (place_told request)) request result answer
+  answers : Answers (numbers_at (served_over w.tree m) (place_told request)) request result answer
   answered : Answered w m request result answer later
 
 -- ---- errors
@@ -89,8 +90,8 @@ lookup_in w m dir name answer later s above at e is came l = in_ (found_in w.tre
       let child = found-child w.tree above file name found in
       let legal = subst (λ (x : Effect). Legal w m (Lookup dir name) (Ok x) answer later) (sym same) l in
       enters-worked w m (Lookup dir name) dir name w.tree file
-      (found-enters w m dir name above file s.is_tree s.knows at child (Lookup dir name) (lookup-tells dir name) (came ∙ ap (λ (x : Effect). Ok x) (sym same))) answer later legal.answered
-      (found-number w m dir name above file s.is_tree s.knows at child) legal.answers
+      (found-enters w m dir name above file s.is_tree s.of_manifest s.knows at child (Lookup dir name) (lookup-tells dir name) (came ∙ ap (λ (x : Effect). Ok x) (sym same))) answer later legal.answered
+      (found-number w m dir name above file s.is_tree s.of_manifest s.knows at child) legal.answers
 
 -- an entry of a file that is made
 make_in : (w : World) (m : MapState) (request : Request) (dir : Number) (name : List ℕ) (kind : Kind) (perm : Perm) (answer : Answer) (later : ServedState) → Serves w m → TellsEntry request dir name →
@@ -105,8 +106,8 @@ make_in w m request dir name kind perm answer later s tells above at e is came l
       let same : entered (created w.tree dir_file name kind perm) (next_file w.tree) ≡ e = cc in
       let legal = subst (λ (x : Effect). Legal w m request (Ok x) answer later) (sym same) l in
       enters-worked w m request dir name _ _
-      (made-enters w m dir name dir_file kind perm s.is_tree s.knows at' place.1 request tells (came ∙ ap (λ (x : Effect). Ok x) (sym same))) answer later legal.answered
-      (inr (made-number w m dir name dir_file kind perm s.is_tree s.knows at' place.1)) legal.answers
+      (made-enters w m dir name dir_file kind perm s.is_tree s.of_manifest s.knows at' place.1 request tells (came ∙ ap (λ (x : Effect). Ok x) (sym same))) answer later legal.answered
+      (inr (made-number w m dir name dir_file kind perm s.is_tree s.of_manifest s.knows at' place.1)) legal.answers
 
 -- a name that is taken away
 abbrev taken : Tree → FileId → List ℕ → FileId → Effect
@@ -152,8 +153,11 @@ getattr_in w m node answer later s (Some file) at l = by_answer l.answers where
   came : effect_in w (Getattr node) ≡ shows w.tree (Some file)
   came = ap (shows w.tree) ((s.knows).files node.0 file at)
 
-  by_answer : AnswersShown (numbers_at m None) (Getattr node) w.tree file answer → Worked w (Getattr node) answer later
-  by_answer (inr (e, none)) = absurd none
+  by_answer : AnswersShown (numbers_at (served_over w.tree m) None) (Getattr node) w.tree file answer → Worked w (Getattr node) answer later
+  by_answer (inr (e, is)) = subst (λ (a : Answer). Worked w (Getattr node) a later) (sym e)
+      (error-worked w m (Getattr node) (shows w.tree (Some file)) EIO later s.is_tree s.knows
+      ((l.answered).makes ∙ ap (λ (a : Answer). plain (served_after (served_over w.tree m) (Getattr node) (shows w.tree (Some file)) a)) e)
+      (inr (subst (λ (r : Result Effect Errno). Answers (numbers_of w) (Getattr node) r (Error EIO)) (sym came) (inr (refl, backed w file s.of_manifest is)))))
   by_answer (inl t) = subst (λ (a : Answer). Worked w (Getattr node) a later) (sym t.is)
       (worked-from w (Getattr node) told later (shows w.tree (Some file)) None came refl
       (inr (subst (λ (r : Result Effect Errno). Answers (numbers_of w) (Getattr node) r told) (sym came)
@@ -188,8 +192,8 @@ legal_in w m (Getattr node) answer later s l = getattr_in w m node answer later 
 legal_in w m request answer later s l = error_in w m request ENOSYS answer later s (record { answers = l.answers; answered = record { makes = l.makes; keeps_tree = l.keeps_tree } }) (inr refl)
 
 -- A legal answer is one that the world may give, and what the daemon knows after it is what the world has then.
-pub answers-worked : (w : World) (served later : ServedState) (request : Request) (answer : Answer) → IsTree w.tree → Knows w.tree w.names (owed w) served → IsLegal served request answer later →
+pub answers-worked : (w : World) (served later : ServedState) (request : Request) (answer : Answer) → IsTree w.tree → w.tree.manifest ≡ w.manifest → Knows w.tree w.names (owed w) served → IsLegal served request answer later →
     Worked w request answer later
-answers-worked w served later request answer is k l =
+answers-worked w served later request answer is of_manifest k l =
     let over : served ≡ served_over w.tree served.map = λ i. record served { tree = (k.tree_is) i } in
-    legal_in w served.map request answer later (record { is_tree = is; knows = subst (λ (s : ServedState). Knows w.tree w.names (owed w) s) over k }) (subst (λ (s : ServedState). IsLegal s request answer later) over l)
+    legal_in w served.map request answer later (record { is_tree = is; of_manifest = of_manifest; knows = subst (λ (s : ServedState). Knows w.tree w.names (owed w) s) over k }) (subst (λ (s : ServedState). IsLegal s request answer later) over l)

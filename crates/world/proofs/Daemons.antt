@@ -71,13 +71,14 @@ seated-knows w state seat served knows at = let k = knows seat at.has_seat in
     subst (λ (s : ServedState). Knows w.tree w.names (owed w) s) (seated-same state seat seat k.0 served k.1 at).1 k.2
 
 -- the state matches once the seat's daemon went on: what a call of the broker and one of the daemon keep
-pub goes-on : (w new : World) (old : State) (broker : BrokerState) (seat : Seat) (d : Daemon) (later : ServedState) → Matches w old → new.manifest ≡ w.manifest → IsTree new.tree → Books new broker →
+pub goes-on : (w new : World) (old : State) (broker : BrokerState) (seat : Seat) (d : Daemon) (later : ServedState) → Matches w old → new.manifest ≡ w.manifest → IsTree new.tree → new.tree.manifest ≡ new.manifest → Books new broker →
     SeatIsLast new → IsQuiet new → AnsweredBefore new → broker.seat ≡ Some seat → daemon_of old seat.daemon ≡ Some d → Knows new.tree new.names (owed new) later →
     Matches new (with_daemon (record old { broker = broker }) seat.daemon (Serving later))
-goes-on w new old broker seat d later m manifest is books last quiet answered at there knows = record {
+goes-on w new old broker seat d later m manifest is of_manifest books last quiet answered at there knows = record {
   manifest = manifest ∙ m.manifest;
   is_tree = m.is_tree;
   tree_is_tree = is;
+  of_manifest = of_manifest;
   books = books;
   seat_is_last = last;
   quiet = quiet;

@@ -1,15 +1,17 @@
 -- A request that tells an entry: which number of the file may be told, and what stands against it, in the world as for
 -- the daemon.
-use Rattle.std.proofs.Common.{◌≡◌, ℕ, ◌+◌, ◌<◌, ◌≤◌, Bool, true, false, List, Option, Some, None, Result, Ok, refl, sym, ap, ◌∙◌, subst, inl, inr, ◌⊎◌, arith}
+use Rattle.std.proofs.Common.{◌≡◌, ℕ, ◌+◌, ◌<◌, ◌≤◌, Bool, true, false, List, Option, Some, None, length, Result, Ok, refl, sym, ap, ◌∙◌, subst, inl, inr, ◌⊎◌, arith}
 use Rattle.std.specs.Prelude.{◌==◌, nat_le, IsSome, if◌then◌else◌}
 use Rattle.std.proofs.lemmas.Bool.Decides.{nat_tests}
 use Rattle.eden_base.specs.Limits.{greatest_count, end_of_numbers}
 use Rattle.eden_base.specs.declared.errno.Errno.{Errno}
-use Rattle.eden_base.specs.declared.errno.Errno.TheVariants.{ENOMEM}
+use Rattle.eden_base.specs.declared.errno.Errno.TheVariants.{EIO, ENOMEM}
 use Rattle.eden_base.specs.declared.number.FileId.{FileId}
 use Rattle.eden_base.specs.declared.number.Number.{Number}
 use Rattle.eden_base.proofs.NumberTests.{eq-or}
-use Rattle.checkout.specs.Tree.{Tree, IsTree}
+use Rattle.checkout.specs.Manifest.{Manifest}
+use Rattle.eden_base.specs.declared.attr.Kind.TheVariants.{File}
+use Rattle.checkout.specs.Tree.{Tree, IsTree, kind_of}
 use Rattle.fuse_wire.specs.Given.{given_out}
 use Rattle.fuse_wire.specs.declared.ask.Request.{Request}
 use Rattle.fuse_wire.specs.declared.reply.Answer.{Answer}
@@ -17,18 +19,23 @@ use Rattle.fuse_wire.specs.declared.reply.Answer.TheVariants.{Error}
 use Rattle.inode_map.specs.InodeMap.{MapState, count_of, give_fault, given, number_given}
 use Rattle.inode_map.specs.declared.inode_map.GiveFault.{GiveFault}
 use Rattle.inode_map.specs.declared.inode_map.GiveFault.TheVariants.{NoNumber, TooMany, NoMemory}
-use Rattle.fuse_ops.specs.Answers.{NumberFault, none_left, at_greatest, number_errno, Effect, Tells, Answers, AnswersFile, AnswersCounted, telling, tree_after}
+use Rattle.fuse_ops.specs.Answers.{NumberFault, none_left, at_greatest, number_errno, Effect, Tells, Answers, AnswersFile, AnswersCounted, telling, tree_after, IsBacked as IsBackedIn}
 use Rattle.fuse_ops.specs.Gifts.{served_over}
 use Rattle.fuse_ops.specs.Served.{ServedState, PlainState, plain, place_told, numbers_at, number_fault, served_after}
 use Rattle.fuse_ops.proofs.Shapes.{entered, TellsEntry, gift-tree, entry-after}
-use Rattle.world.specs.World.{World, file_named, owed, IsLive, IsNumberOf, MayNumber, IsAtGreatest, MayBeGiven, IsAgainst, numbers_of, effect_in, MayAnswer, names_after}
+use Rattle.world.specs.World.{World, file_named, owed, IsLive, IsNumberOf, MayNumber, IsAtGreatest, MayBeGiven, IsAgainst, IsBacked, numbers_of, effect_in, MayAnswer, names_after}
 use Rattle.world.specs.Agreement.{Knows}
 use Rattle.world.proofs.Knowing.{named, knows-plain}
 use Rattle.world.proofs.Worked.{Worked, one_more, worked-from, error-worked}
 
+-- what a daemon asks its backing for is backed
+pub backed : (w : World) (file : FileId) → w.tree.manifest ≡ w.manifest → IsBackedIn w.tree file → IsBacked w file
+backed w file same is = subst (λ (m : Manifest). (kind_of w.tree file ≡ Some File) × (file.0 < length m.lines + 2)) same is
+
 -- a request that comes to an entry of a file of a tree, and what the daemon knows once the number is given
 pub record Enters (w : World) (m : MapState) (request : Request) (dir : Number) (name : List ℕ) (tree : Tree) (file : FileId) : Type 0 where
   pub is_tree : IsTree w.tree
+  pub of_manifest : w.tree.manifest ≡ w.manifest
   pub knows : Knows w.tree w.names (owed w) (served_over w.tree m)
   pub tells : TellsEntry request dir name
   pub comes : effect_in w request ≡ Ok (entered tree file)
@@ -114,20 +121,20 @@ module _ (w : World) (m : MapState) (request : Request) (dir : Number) (name : L
 
   -- what stands against a place's number is answered, and else the number is given
   by_fault : (told : Option GiveFault) → give_fault m dir.0 name ≡ told → IsAgainst w file (number_fault told) → (told ≡ None → MayNumber w file (number_given m dir.0 name).0) → (told ≡ Some NoMemory → ⊥) →
-      (fault : Option NumberFault) → fault ≡ number_fault (give_fault m dir.0 name) → AnswersCounted (numbers_at m (Some (dir, name))) request tree file fault answer → Worked w request answer later
-  by_fault told f against number real fault is answers = in_ told f against number real (subst (λ (x : Option NumberFault). AnswersCounted (numbers_at m (Some (dir, name))) request tree file x answer) (is ∙ ap number_fault f) answers) where
+      (fault : Option NumberFault) → fault ≡ number_fault (give_fault m dir.0 name) → AnswersCounted (numbers_at (served_over w.tree m) (Some (dir, name))) request tree file fault answer → Worked w request answer later
+  by_fault told f against number real fault is answers = in_ told f against number real (subst (λ (x : Option NumberFault). AnswersCounted (numbers_at (served_over w.tree m) (Some (dir, name))) request tree file x answer) (is ∙ ap number_fault f) answers) where
     in_ : (t : Option GiveFault) → give_fault m dir.0 name ≡ t → IsAgainst w file (number_fault t) → (t ≡ None → MayNumber w file (number_given m dir.0 name).0) → (t ≡ Some NoMemory → ⊥) →
-        AnswersCounted (numbers_at m (Some (dir, name))) request tree file (number_fault t) answer → Worked w request answer later
+        AnswersCounted (numbers_at (served_over w.tree m) (Some (dir, name))) request tree file (number_fault t) answer → Worked w request answer later
     in_ (Some NoNumber) f' ag nu re a = error_in (number_errno none_left) a (may_in (Error (number_errno none_left)) (Some none_left, ag, refl))
     in_ (Some TooMany) f' ag nu re a = error_in (number_errno at_greatest) a (may_in (Error (number_errno at_greatest)) (Some at_greatest, ag, refl))
     in_ (Some NoMemory) f' ag nu re a = absurd (re refl)
     in_ None f' ag nu re (inl t) = told_in f' ag (nu refl) t
-    in_ None f' ag nu re (inr (inl (is', none))) = absurd none
+    in_ None f' ag nu re (inr (inl (is', of))) = error_in EIO is' (may_in (Error EIO) (None, ag, inr (inl (refl, backed w file e.of_manifest of))))
     in_ None f' ag nu re (inr (inr (is', absent))) = error_in ENOMEM is' (may_in (Error ENOMEM) (None, ag, inr (inr (refl, tt))))
 
   -- what an entry is answered, by what stands against its number
   abbrev Asked : Type 0
-  Asked = (fault : Option NumberFault) → fault ≡ number_fault (give_fault m dir.0 name) → AnswersCounted (numbers_at m (Some (dir, name))) request tree file fault answer → Worked w request answer later
+  Asked = (fault : Option NumberFault) → fault ≡ number_fault (give_fault m dir.0 name) → AnswersCounted (numbers_at (served_over w.tree m) (Some (dir, name))) request tree file fault answer → Worked w request answer later
 
   -- a file that has a number: it may be given out once more, or is counted as often as may be
   numbered_in : Numbered w m dir name file → Asked
@@ -169,8 +176,8 @@ module _ (w : World) (m : MapState) (request : Request) (dir : Number) (name : L
       may = inr (record { no_number = n.nobody; low = n.low; high = grind (arith, nat_tests); named = inl n.not_named })
 
   -- A legal answer to a request that tells an entry is one of the world's.
-  pub enters-worked : Numbered w m dir name file ⊎ Unnumbered w m dir name file → Answers (numbers_at m (place_told request)) request (Ok (entered tree file)) answer → Worked w request answer later
-  enters-worked numbers answers = in_ numbers (subst (λ (p : Option (Number × List ℕ)). AnswersFile (numbers_at m p) request tree (Some file) true answer) ((e.tells).told) answers) where
-    in_ : Numbered w m dir name file ⊎ Unnumbered w m dir name file → AnswersFile (numbers_at m (Some (dir, name))) request tree (Some file) true answer → Worked w request answer later
+  pub enters-worked : Numbered w m dir name file ⊎ Unnumbered w m dir name file → Answers (numbers_at (served_over w.tree m) (place_told request)) request (Ok (entered tree file)) answer → Worked w request answer later
+  enters-worked numbers answers = in_ numbers (subst (λ (p : Option (Number × List ℕ)). AnswersFile (numbers_at (served_over w.tree m) p) request tree (Some file) true answer) ((e.tells).told) answers) where
+    in_ : Numbered w m dir name file ⊎ Unnumbered w m dir name file → AnswersFile (numbers_at (served_over w.tree m) (Some (dir, name))) request tree (Some file) true answer → Worked w request answer later
     in_ (inl n) (fault, is, a) = numbered_in n fault is a
     in_ (inr n) (fault, is, a) = unnumbered_in n fault is a

@@ -21,7 +21,7 @@ use Rattle.inode_map.specs.InodeMap.{forgot, forgotten}
 use Rattle.inode_map.specs.declared.inode_map.Forgot.{Forgot}
 use Rattle.fuse_ops.specs.Gifts.{IsTaken}
 use Rattle.fuse_ops.specs.Served.{ServedState, new_served, forgotten_all, IsLegal, Replay}
-use Rattle.world.specs.World.{World, issue, mount, gives, times, owed, after}
+use Rattle.world.specs.World.{World, file_named, issue, mount, gives, times, owed, after}
 use Rattle.world.specs.Agreement.{Knows, IsGoodForget, IsAnswered, Matches, MovesOn}
 use Rattle.world.specs.State.{State, fault, refusal_of_issue, daemon_of, with_daemon, IsSeated}
 use Rattle.world.specs.Step.{told_of, told, done, Does, Mounts, Starts, Makes, Refuses, TakesMemory, StepBy, Step}
@@ -32,6 +32,7 @@ use Rattle.world.specs.declared.outcome.Happened.{Happened}
 use Rattle.world.specs.declared.outcome.Happened.TheVariants as happened
 use Rattle.world.specs.declared.outcome.Refusal.{Refusal}
 use Rattle.world.specs.declared.outcome.Refusal.TheVariants as refusal
+use Rattle.fuse_ops.proofs.SameManifest.{answered-manifest}
 use Rattle.world.proofs.Answering.{answers-worked}
 use Rattle.world.proofs.Worked.{Worked}
 use Rattle.world.proofs.Daemons.{may_mount, served_of-more, serving-is, seated-knows, goes-on}
@@ -50,6 +51,7 @@ starts-matched w old outcome new m (is, makes) = subst (λ (o : List Happened). 
   manifest = m.manifest;
   is_tree = m.is_tree;
   tree_is_tree = m.tree_is_tree;
+  of_manifest = m.of_manifest;
   books = m.books;
   seat_is_last = m.seat_is_last;
   quiet = m.quiet;
@@ -63,7 +65,7 @@ shows-matched w old outcome new m (is, same) = subst (λ (o : List Happened). Mo
 mounts-matched : (w : World) (old : State) (daemon : DaemonId) (outcome : List Happened) (new : State) → Matches w old → fault old (Mount daemon) ≡ None → Mounts old daemon outcome new → MovesOn w old (Mount daemon) outcome new
 mounts-matched w old daemon outcome new m clear (is, makes) = subst (λ (o : List Happened). MovesOn w old (Mount daemon) o new) (sym is) (record {
   run = ((m.books).seat ∙ may.1, tt);
-  matches = subst (λ (s : State). Matches w' s) (sym makes) (goes-on w w' old (mounted old.broker daemon) seat Waiting (new_served old.manifest old.limit) m refl is_tree (books-mounted w old.broker daemon m.books) (seat-mounted w daemon)
+  matches = subst (λ (s : State). Matches w' s) (sym makes) (goes-on w w' old (mounted old.broker daemon) seat Waiting (new_served old.manifest old.limit) m refl is_tree refl (books-mounted w old.broker daemon m.books) (seat-mounted w daemon)
       (record { asks = (m.quiet).asks; items = (m.quiet).items; replies = (m.quiet).replies }) (answered-mounted w daemon m.answered) refl may.0 (subst (λ (x : Manifest). Knows w'.tree w'.names (owed w') (new_served x old.limit)) m.manifest knows));
   forgets = (tt, tt);
   answered = tt;
@@ -91,7 +93,7 @@ asks-matched : (v : World) (old : State) (seat : Seat) (served later : ServedSta
 asks-matched v old seat served later request answer new m clear is at legal makes = record {
   run = asked-run v seat ask answer (record { seat = refl; is = is; fresh = λ c. let low : unique < unique = (m.books).uniques unique c in omega arith; held = may_go w old.broker m.books (nodes request) held.0 }) worked.may;
   matches = subst (λ (x : World). Matches x new) (sym (asked-after v seat ask answer)) (subst (λ (s : State). Matches w' s) (sym makes)
-      (goes-on w w' old (settled (asked old.broker) answer) seat (Serving served) later m refl worked.is_tree (books-asked w old.broker seat request answer m.books at.has_seat) (seat-stays w w' seat m.seat_is_last refl refl refl)
+      (goes-on w w' old (settled (asked old.broker) answer) seat (Serving served) later m refl worked.is_tree (answered-manifest w.tree (file_named w.names) request answer ∙ m.of_manifest) (books-asked w old.broker seat request answer m.books at.has_seat) (seat-stays w w' seat m.seat_is_last refl refl refl)
       (record { asks = refl; items = refl; replies = refl }) (answered-asked w seat ask answer m.answered m.seat_is_last refl) (settled-seat (asked old.broker) answer ∙ at.has_seat) (serving-is old seat.daemon served at.serves)
       (knows-along w'.tree w'.names (λ n. owed w n + (if gives n answer then 1 else 0)) (owed w') later (λ n. asked-owed v seat ask answer n) worked.knows)));
   forgets = (tt, tt);
@@ -114,7 +116,7 @@ asks-matched v old seat served later request answer new m clear is at legal make
   held = accepted-ask old.broker request clear is
 
   worked : Worked (after w (issue ask)) request answer later
-  worked = answers-worked (after w (issue ask)) served later request answer m.tree_is_tree
+  worked = answers-worked (after w (issue ask)) served later request answer m.tree_is_tree m.of_manifest
       (seated-knows w old seat served m.knows at) legal
 
 -- a forget that the seated daemon applied, in a world in which nothing was under way
@@ -124,7 +126,7 @@ forgets-matched : (v : World) (old : State) (seat : Seat) (served : ServedState)
 forgets-matched v old seat served request item new m accepted at makes = record {
   run = forgot-run v seat item (record { seat = refl; no_root = accepted.not_root; some = accepted.some; at_most = at_most });
   matches = subst (λ (x : World). Matches x new) (sym (forgot-after v seat item)) (subst (λ (s : State). Matches w' s) (sym makes)
-      (goes-on w w' old (broker_forgot old.broker item) seat (Serving served) (record served { map = forgotten served.map item.node.0 item.k }) m refl m.tree_is_tree (books-forgot w old.broker seat item m.books at.has_seat)
+      (goes-on w w' old (broker_forgot old.broker item) seat (Serving served) (record served { map = forgotten served.map item.node.0 item.k }) m refl m.tree_is_tree m.of_manifest (books-forgot w old.broker seat item m.books at.has_seat)
       (seat-stays w w' seat m.seat_is_last refl refl refl) (record { asks = refl; items = refl; replies = refl })
       (record { one_daemon = (m.answered).one_daemon; at_most = (m.answered).at_most; holder = (m.answered).holder }) at.has_seat (serving-is old seat.daemon served at.serves)
       (subst (λ (s : ServedState). Knows w.tree w.names (owed w') s) (λ i. record { map = forgotten served.map item.node.0 item.k; tree = sym known.tree_is i })

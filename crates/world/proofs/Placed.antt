@@ -35,7 +35,7 @@ not-named w tree m k = in_ (file_named w.names m.next) refl where
 
 -- ---- a file that a lookup found
 
-module _ (w : World) (m : MapState) (dir : Number) (name : List ℕ) (above file : FileId) (is : IsTree w.tree) (k : Knows w.tree w.names (owed w) (served_over w.tree m)) (at : IsFileOf w.tree m.entries dir.0 above) (child : child_of w.tree above name ≡ Some file) where
+module _ (w : World) (m : MapState) (dir : Number) (name : List ℕ) (above file : FileId) (is : IsTree w.tree) (of_manifest : w.tree.manifest ≡ w.manifest) (k : Knows w.tree w.names (owed w) (served_over w.tree m)) (at : IsFileOf w.tree m.entries dir.0 above) (child : child_of w.tree above name ≡ Some file) where
   place : IsPlaced (served_over w.tree m) dir.0 name above file
   place = record { is_tree = is; sound = k.sound; at = at; child = child }
 
@@ -79,6 +79,7 @@ module _ (w : World) (m : MapState) (dir : Number) (name : List ℕ) (above file
   pub found-enters : (request : Request) → TellsEntry request dir name → effect_in w request ≡ Ok (entered w.tree file) → Enters w m request dir name w.tree file
   found-enters request tells came = record {
     is_tree = is;
+    of_manifest = of_manifest;
     knows = k;
     tells = tells;
     comes = came;
@@ -87,7 +88,7 @@ module _ (w : World) (m : MapState) (dir : Number) (name : List ℕ) (above file
 
 -- ---- a file that is made
 
-module _ (w : World) (m : MapState) (dir : Number) (name : List ℕ) (above : FileId) (kind : Kind) (perm : Perm) (is : IsTree w.tree) (k : Knows w.tree w.names (owed w) (served_over w.tree m)) (at : IsFileOf w.tree m.entries dir.0 above) (free : IsFreePlace w.tree above name) where
+module _ (w : World) (m : MapState) (dir : Number) (name : List ℕ) (above : FileId) (kind : Kind) (perm : Perm) (is : IsTree w.tree) (of_manifest : w.tree.manifest ≡ w.manifest) (k : Knows w.tree w.names (owed w) (served_over w.tree m)) (at : IsFileOf w.tree m.entries dir.0 above) (free : IsFreePlace w.tree above name) where
   abbrev tree : Tree
   tree = created w.tree above name kind perm
 
@@ -113,6 +114,7 @@ module _ (w : World) (m : MapState) (dir : Number) (name : List ℕ) (above : Fi
       Enters w m request dir name (created w.tree above name kind perm) (next_file w.tree)
   made-enters request tells came = record {
     is_tree = is;
+    of_manifest = of_manifest;
     knows = k;
     tells = tells;
     comes = came;

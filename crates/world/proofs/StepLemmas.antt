@@ -13,6 +13,8 @@ use Rattle.broker_core.specs.declared.seat.Seat.{Seat}
 use Rattle.inode_map.specs.declared.inode_map.Forgot.{Forgot}
 use Rattle.broker_core.specs.declared.broker.MountFault.{MountFault}
 use Rattle.broker_core.specs.declared.broker.IssueFault.{IssueFault}
+use Rattle.checkout.specs.Manifest.{Manifest}
+use Rattle.fuse_ops.proofs.SameManifest.{replay-manifest}
 use Rattle.fuse_ops.specs.Served.{ServedState, new_served}
 use Rattle.world.specs.declared.daemon.Daemon.{Daemon}
 use Rattle.world.specs.declared.daemon.Daemon.TheVariants.{Waiting, Serving}
@@ -22,7 +24,7 @@ use Rattle.world.specs.declared.outcome.Happened.{Happened}
 use Rattle.world.specs.declared.outcome.Happened.TheVariants as happened
 use Rattle.world.specs.State.{State, daemon_of, with_daemon, served_in, mount_refusal, refusal_of_mount, refusal_of_issue}
 use Rattle.world.specs.Step.{told_of, told, done, Does, Mounts, Step, StepBy, Steps}
-use Rattle.world.specs.DaemonWork.{ServesAt, AppliesAt, TellsAt, HolderServes}
+use Rattle.world.specs.DaemonWork.{ServesAt, ServesOver, AppliesAt, TellsAt, HolderServes}
 use Rattle.world.specs.Holder.{place_of_daemon, HolderIsAt}
 use Rattle.world.proofs.DaemonWrites.{place-is, daemon_of-place, HolderServes-set}
 
@@ -58,14 +60,18 @@ none-unless None never = refl
 none-unless (Some x) never = absurd (never x refl)
 
 -- whoever has the seat serves still
-pub serves-still : (broker new : BrokerState) (daemons later : List Daemon) (place : ℕ) (request : Request) (answer : Option Answer) → AppliesAt daemons place request answer later → new.seat ≡ broker.seat →
-    ((seat : Seat) → broker.seat ≡ Some seat → HolderServes daemons seat) → (seat : Seat) → new.seat ≡ Some seat → HolderServes later seat
-serves-still broker new daemons later place request answer applies same serves seat e =
-    subst (λ (ds : List Daemon). HolderServes ds seat) (sym applies.makes) (HolderServes-set daemons place applies.later seat (serves seat (sym same ∙ e)))
+pub serves-still : (manifest : Manifest) (broker new : BrokerState) (daemons later : List Daemon) (place : ℕ) (request : Request) (answer : Option Answer) → AppliesAt daemons place request answer later → new.seat ≡ broker.seat →
+    ((seat : Seat) → broker.seat ≡ Some seat → HolderServes manifest daemons seat) → (seat : Seat) → new.seat ≡ Some seat → HolderServes manifest later seat
+serves-still manifest broker new daemons later place request answer applies same serves seat e =
+    subst (λ (ds : List Daemon). HolderServes manifest ds seat) (sym applies.makes)
+    (HolderServes-set manifest daemons place applies.served applies.later seat applies.was (replay-manifest applies.served request answer applies.later applies.replay) (serves seat (sym same ∙ e)))
 
 -- the seated daemon serves at its place
 pub ServesAt-holder : (state : State) (place : ℕ) → HolderIsAt state place → ServesAt state.daemons place
 ServesAt-holder state place at = record { served = at.served; is_there = at.serves }
+
+pub ServesOver-holder : (state : State) (place : ℕ) → HolderIsAt state place → ServesOver state.manifest state.daemons place
+ServesOver-holder state place at = record { serves = record { served = at.served; is_there = at.serves }; of_manifest = at.of_manifest }
 
 -- an ask that was answered under its unique
 pub Step-asks : (old : State) (request : Request) (place unique : ℕ) (given : Option ℕ) (answer : Answer) (daemons : List Daemon) (issued_to broker : BrokerState) (outcome : List Happened) →

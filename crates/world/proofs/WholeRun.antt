@@ -78,6 +78,7 @@ first-matches manifest limit is = record {
   manifest = refl;
   is_tree = is;
   tree_is_tree = is;
+  of_manifest = refl;
   books = record { seat = refl; last = refl; held = λ n. sym (held_count-none n); uniques = λ u c. absurd (nothing u c) };
   seat_is_last = record { is_last = λ seat e. absurd (nobody seat e); empty = λ e. refl };
   quiet = record { asks = refl; items = refl; replies = refl };

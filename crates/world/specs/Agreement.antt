@@ -161,6 +161,7 @@ pub record Matches (world : World) (state : State) : Type 0 where
   pub manifest : world.manifest ≡ state.manifest
   pub is_tree : IsTree (tree_of state.manifest)
   pub tree_is_tree : IsTree world.tree
+  pub of_manifest : world.tree.manifest ≡ world.manifest
   pub books : Books world state.broker
   pub seat_is_last : SeatIsLast world
   pub quiet : IsQuiet world

@@ -1,5 +1,6 @@
 -- What a daemon's code says of its results, by the daemon's phase.
 use Rattle.std.specs.Prelude.{◌≡◌, ℕ, ◌-◌, ◌≤◌, Bool, true, false, List, Option, Some, slice_get, slice_set}
+use Rattle.checkout.specs.Manifest.{Manifest}
 use Rattle.fuse_wire.specs.declared.ask.Request.{Request}
 use Rattle.fuse_wire.specs.declared.item.Item.{Item}
 use Rattle.fuse_wire.specs.declared.reply.Answer.{Answer}
@@ -20,6 +21,11 @@ abbrev pub IsServing : Daemon → Type 0
 IsServing Waiting = ⊥
 IsServing (Serving served) = Unit {0}
 
+-- a daemon mounted a tree of this manifest
+abbrev pub IsServingOver : Manifest → Daemon → Type 0
+IsServingOver manifest Waiting = ⊥
+IsServingOver manifest (Serving served) = served.tree.manifest ≡ manifest
+
 -- a serving daemon answers or applies a request
 abbrev pub DaemonApplies : Daemon → Request → Option Answer → Daemon → Type 0
 DaemonApplies (Serving old) request answer (Serving new) = Replay old request answer new
@@ -29,6 +35,11 @@ DaemonApplies old request answer new = ⊥
 pub record ServesAt (daemons : List Daemon) (place : ℕ) : Type 0 where
   pub served : ServedState
   pub is_there : slice_get daemons place ≡ Some (Serving served)
+
+-- it serves a tree of this manifest
+pub record ServesOver (manifest : Manifest) (daemons : List Daemon) (place : ℕ) : Type 0 where
+  pub serves : ServesAt daemons place
+  pub of_manifest : (serves.served).tree.manifest ≡ manifest
 
 -- the daemon at a place answers or applies a request
 pub record AppliesAt (old : List Daemon) (place : ℕ) (request : Request) (answer : Option Answer)
@@ -45,8 +56,9 @@ pub record TellsAt (daemons : List Daemon) (place : ℕ) (item : Item) (told : F
   pub is_there : slice_get daemons place ≡ Some (Serving served)
   pub tells : told ≡ forgot served.map item.node.0 item.k
 
--- the daemon of the seat serves
-pub record HolderServes (daemons : List Daemon) (seat : Seat) : Type 0 where
+-- the daemon of the seat serves a tree of the manifest
+pub record HolderServes (manifest : Manifest) (daemons : List Daemon) (seat : Seat) : Type 0 where
   pub served : ServedState
   pub some : 1 ≤ seat.daemon.0
   pub serves : slice_get daemons (seat.daemon.0 - 1) ≡ Some (Serving served)
+  pub of_manifest : served.tree.manifest ≡ manifest

@@ -3,8 +3,9 @@ ghost use Rattle.std.specs.Prelude.{◌≡◌, vec_len};
 ghost use Rattle.std.specs.Option.{option_copied};
 ghost use Rattle.inode_map.specs.InodeMap.{forgot};
 ghost use Rattle.world.specs.State.{served_in};
-ghost use Rattle.world.specs.DaemonWork.{is_waiting, IsServing, DaemonApplies, ServesAt, AppliesAt, TellsAt};
+ghost use Rattle.world.specs.DaemonWork.{is_waiting, IsServingOver, DaemonApplies, ServesAt, ServesOver, AppliesAt, TellsAt};
 
+use checkout::{Manifest, ManifestBacking};
 use fuse_ops::Served;
 use fuse_wire::{Answer, Item, Request};
 use inode_map::Forgot;
@@ -38,14 +39,17 @@ impl Daemon {
         }
     }
 
-    /// Answers an ask, or applies a forget, from what it serves.
-    fn apply(&mut self, alloc: Global, request: &Request) -> Option<Answer>
-        requires serves { IsServing self.old }
+    /// Answers an ask, or applies a forget, from what it serves. Its backing is the manifest.
+    fn apply(&mut self, alloc: Global, manifest: &Manifest, request: &Request) -> Option<Answer>
+        requires serves { IsServingOver manifest.now self.old }
         ensures applied { DaemonApplies self.old request.now result self.new }
     {
         match self {
             Daemon::Waiting => unreachable!(),
-            Daemon::Serving(served) => served.apply(alloc, request),
+            Daemon::Serving(served) => {
+                let mut backing = ManifestBacking::of(manifest);
+                served.apply(alloc, &mut backing, request)
+            }
         }
     }
 }
@@ -55,14 +59,15 @@ pub(crate) fn apply_at(
     daemons: &mut Vec<Daemon>,
     place: usize,
     alloc: Global,
+    manifest: &Manifest,
     request: &Request,
 ) -> Option<Answer>
-    requires serves { ServesAt daemons.old.items place }
+    requires serves { ServesOver manifest.now daemons.old.items place }
     ensures applied { AppliesAt daemons.old.items place request.now result daemons.new.items }
     ensures len { vec_len daemons.new ≡ vec_len daemons.old }
 {
     let daemon = &mut daemons[place];
-    daemon.apply(alloc, request)
+    daemon.apply(alloc, manifest, request)
 }
 
 /// Returns what would become of an item at the daemon at a place.

@@ -176,7 +176,13 @@ impl World {
         let Ok(unique) = self.broker.issue(request) else {
             return Outcome::refused(Refusal::NoMemory);
         };
-        let answer = apply_at(&mut self.daemons, place, self.alloc, request);
+        let answer = apply_at(
+            &mut self.daemons,
+            place,
+            self.alloc,
+            &self.manifest,
+            request,
+        );
         let Some(unique) = unique else { unreachable!() };
         let Some(answer) = answer else { unreachable!() };
         let reply = Reply { unique, answer };
@@ -199,7 +205,13 @@ impl World {
             Ok(_unique) => {}
             Err(_no_memory) => unreachable!(),
         }
-        let _answer = apply_at(&mut self.daemons, place, self.alloc, request);
+        let _answer = apply_at(
+            &mut self.daemons,
+            place,
+            self.alloc,
+            &self.manifest,
+            request,
+        );
         Outcome::of(Happened::Forgot { item, forgot })
     }
 

@@ -1,20 +1,15 @@
--- A number is given that has an entry, and what is known then fits together.
-use Rattle.std.proofs.Common.{◌∙◌}
-use Rattle.fuse_ops.specs.Gifts.{served_over}
-use Rattle.fuse_ops.proofs.Entering.{may-enter, entered-entry, entered-knows, remembered-knows}
+-- The number that the name has names the file that was found.
+use Rattle.std.proofs.Common.{sym, ap, ◌∙◌, subst}
+use Rattle.std.specs.Option.{option_map}
+use Rattle.inode_map.specs.InodeMap.{entry_at, number_of_kept}
+use Rattle.fuse_ops.specs.Served.{ServedState}
+use Rattle.fuse_ops.specs.Soundness.{IsSound, Names}
+use Rattle.fuse_ops.proofs.Keeping.{found-names}
 use Rattle.fuse_ops.proofs.served.Served.look_up.Goals as goal
 
-pub remember-requires : goal.remember-requires
-remember-requires c =
-    let may = may-enter (served_over c.self.inside.tree c.self.inside.map) c.args.self.now c.args.dir c.args.name.now c.in-Ok.found (c.self.view_is ∙ c.find.ensures.unchanged) c.self.invariant c.in-Ok.ensures.found c.in-Ok-give.ensures.accepted in
-    record { entry = entered-entry _ _ _ _ may c.give.new.self c.in-Ok-give.number c.in-Ok-give.ensures.number c.in-Ok-give.ensures.given }
-
-pub invariant_of-self : goal.invariant_of-self
-invariant_of-self c =
-    let may = may-enter (served_over c.self.inside.tree c.self.inside.map) c.args.self.now c.args.dir c.args.name.now c.in-Ok.found (c.self.view_is ∙ c.find.ensures.unchanged) c.self.invariant c.in-Ok.ensures.found c.in-Ok-give.ensures.accepted in
-    remembered-knows _ _ _ _ may c.give.new.self c.in-Ok-give.number c.in-Ok-give.ensures.number c.in-Ok-give.ensures.given c.remember.new.self c.remember.ensures.remembered
-
-pub invariant_of-self-else-number-next : goal.invariant_of-self-else-number-next
-invariant_of-self-else-number-next c =
-    let may = may-enter (served_over c.self.inside.tree c.self.inside.map) c.args.self.now c.args.dir c.args.name.now c.in-Ok.found (c.self.view_is ∙ c.find.ensures.unchanged) c.self.invariant c.in-Ok.ensures.found c.in-Ok-give.ensures.accepted in
-    entered-knows _ _ _ _ may c.give.new.self c.in-Ok-give.number c.in-Ok-give.ensures.number c.in-Ok-give.ensures.given
+pub enter_again-requires-clause-names : goal.enter_again-requires-clause-names
+enter_again-requires-clause-names g c =
+    let same = c.self.view_is ∙ c.find.ensures.unchanged in
+    subst (λ (s : ServedState). Names s c.in-Some.number.0 c.in-Ok.found.file) (sym c.find.ensures.unchanged)
+    (found-names c.args.self.now c.args.dir c.args.name.now c.in-Ok.found c.in-Some.number (subst IsSound same c.self.invariant.1) c.in-Ok.ensures.found
+    (sym c.in-Some.is ∙ c.in-Ok-number_to_give.ensures.number ∙ ap (λ (s : ServedState). option_map number_of_kept (entry_at s.map.entries c.args.dir.0 c.args.name.now)) same))

@@ -4,23 +4,23 @@ use Rattle.eden_base.specs.declared.errno.Errno.TheVariants.{ENOMEM}
 use Rattle.checkout.proofs.AttrLaws.{attr_of-created}
 use Rattle.eden_base.specs.declared.number.FileId.{FileId}
 use Rattle.checkout.specs.Tree.{Tree, attr_of, next_file}
-use Rattle.inode_map.specs.InodeMap.{MapState, given, number_given, IsFileOf}
+use Rattle.inode_map.specs.InodeMap.{MapState, entry_of, given, number_given, IsFileOf}
+use Rattle.std.specs.Prelude.{IsSome}
+use Rattle.fuse_ops.specs.Loading.{LoadsTold}
 use Rattle.fuse_ops.specs.Gifts.{served_over}
 use Rattle.fuse_ops.specs.Served.{ServedState, plain}
 use Rattle.fuse_ops.specs.Work.{Makes}
 use Rattle.fuse_ops.proofs.Making.{may-make, next-refused, sound-plainly}
-use Rattle.fuse_ops.proofs.ReadyMaking.{same-map, ready-clear, made-sound, made-remembers, unmade, unmade-remembers}
-use Rattle.fuse_ops.proofs.Remembering.{remembers-in}
+use Rattle.fuse_ops.proofs.ReadyMaking.{same-map, ready-clear, made-sound, made-remembers, made-may_load, made-loads, made-told, unmade, unmade-remembers, unmade-loaded}
+use Rattle.fuse_ops.proofs.Remembering.{plainly-remembers, remembers-in}
 use Rattle.fuse_ops.proofs.served.Served.make.Goals as goal
 
-pub returns-in-Err : goal.returns-in-Err
-returns-in-Err c =
+pub returns-in-Err-clause-makes : goal.returns-in-Err-clause-makes
+returns-in-Err-clause-makes c =
     let same = c.self.view_is ∙ c.free_place.ensures.unchanged in
     let may = may-make (served_over c.self.inside.tree c.self.inside.map) c.args.self.now c.args.dir c.args.name.now c.in_ok-above.above same c.self.invariant.0 c.self.invariant.1 c.in_ok-above.ensures.free in
-    record {
-      makes = subst (λ (s : ServedState). Makes s c.args.dir c.args.name.now c.args.kind c.args.perm (Err c.in-Err.errno) (served_over c.self.inside.tree c.ready.new.map)) same
-          (next-refused _ _ _ _ may c.args.kind c.args.perm c.in-Err.errno _ c.in-Err.ensures.refused (same-map c.self.inside.tree c.self.inside.map c.ready.new.map c.in-Err.ensures.unchanged));
-    }
+    subst (λ (s : ServedState). Makes s c.args.dir c.args.name.now c.args.kind c.args.perm (Err c.in-Err.errno) (served_over c.self.inside.tree c.ready.new.map)) same
+    (next-refused _ _ _ _ may c.args.kind c.args.perm c.in-Err.errno _ c.in-Err.ensures.refused (same-map c.self.inside.tree c.self.inside.map c.ready.new.map c.in-Err.ensures.unchanged))
 
 pub invariant_of-self-in_default : goal.invariant_of-self-in_default
 invariant_of-self-in_default c =
@@ -30,16 +30,15 @@ invariant_of-self-in_default c =
       sound-plainly (served_over c.self.inside.tree c.self.inside.map) _
           (unmade _ _ _ _ may c.args.kind c.args.perm c.in-Ok.ensures.left c.ready.new.map c.create.new.self c.in-Ok.ensures.room c.in_default.ensures.unchanged).plainly c.self.invariant.1,
       unmade-remembers _ _ _ _ may c.args.kind c.args.perm c.in-Ok.ensures.left c.ready.new.map c.create.new.self c.in-Ok.ensures.room c.in_default.ensures.unchanged c.self.invariant.2,
+      unmade-loaded _ _ _ _ may c.args.kind c.args.perm c.in-Ok.ensures.left c.ready.new.map c.create.new.self c.in-Ok.ensures.room c.in_default.ensures.unchanged c.self.invariant.3,
     )
 
-pub returns-in_default : goal.returns-in_default
-returns-in_default c =
+pub returns-in_default-clause-makes : goal.returns-in_default-clause-makes
+returns-in_default-clause-makes c =
     let same = c.self.view_is ∙ c.free_place.ensures.unchanged in
     let may = may-make (served_over c.self.inside.tree c.self.inside.map) c.args.self.now c.args.dir c.args.name.now c.in_ok-above.above same c.self.invariant.0 c.self.invariant.1 c.in_ok-above.ensures.free in
-    record {
-      makes = subst (λ (s : ServedState). Makes s c.args.dir c.args.name.now c.args.kind c.args.perm (Err ENOMEM) (served_over c.create.new.self c.ready.new.map)) same
-          (next-refused _ _ _ _ may c.args.kind c.args.perm ENOMEM _ (inr (refl, c.in-Ok.ensures.left)) (unmade _ _ _ _ may c.args.kind c.args.perm c.in-Ok.ensures.left c.ready.new.map c.create.new.self c.in-Ok.ensures.room c.in_default.ensures.unchanged));
-    }
+    subst (λ (s : ServedState). Makes s c.args.dir c.args.name.now c.args.kind c.args.perm (Err ENOMEM) (served_over c.create.new.self c.ready.new.map)) same
+    (next-refused _ _ _ _ may c.args.kind c.args.perm ENOMEM _ (inr (refl, c.in-Ok.ensures.left)) (unmade _ _ _ _ may c.args.kind c.args.perm c.in-Ok.ensures.left c.ready.new.map c.create.new.self c.in-Ok.ensures.room c.in_default.ensures.unchanged))
 
 pub unreachable-requires : goal.unreachable-requires
 unreachable-requires c =
@@ -50,12 +49,12 @@ unreachable-requires c =
     let name = c.in-Ok.ensures.name in
     cc (clear, fault, name)
 
-pub unreachable-requires-in-None : goal.unreachable-requires-in-None
-unreachable-requires-in-None c =
+pub unreachable-requires-in_default-attr : goal.unreachable-requires-in_default-attr
+unreachable-requires-in_default-attr c =
     let there = attr_of-created c.self.inside.tree c.in_ok-above.above c.args.name.now c.args.kind c.args.perm in
     let made = ap (λ (t : Tree). attr_of t (next_file c.self.inside.tree)) c.in-Ok-create.ensures.created in
     let file = c.in-Ok-create.ensures.file in
-    let none = c.in-None.ensures.attr in
+    let none = sym c.in_default-attr.is ∙ c.attr.ensures.attr in
     cc (there, made, file, none)
 
 pub remember-requires : goal.remember-requires
@@ -66,6 +65,18 @@ remember-requires c =
     let number = c.in-Ok-give_ready.ensures.number ∙ ap (number_given c.ready.new.map c.args.dir.0) c.in-Ok.ensures.name in
     record { entry = (made-remembers _ _ _ _ may c.args.kind c.args.perm c.in-Ok.ensures.left c.give_ready.new.self c.ready.new.map c.create.new.self c.in-Ok-give_ready.number c.in-Ok.ensures.room gave c.in-Ok-create.ensures.created c.create.ensures.is_tree number c.self.invariant.2).1 }
 
+pub load-requires : goal.load-requires
+load-requires c =
+    let same = c.self.view_is ∙ c.free_place.ensures.unchanged in
+    let may = may-make (served_over c.self.inside.tree c.self.inside.map) c.args.self.now c.args.dir c.args.name.now c.in_ok-above.above same c.self.invariant.0 c.self.invariant.1 c.in_ok-above.ensures.free in
+    let gave = c.in-Ok-give_ready.ensures.given ∙ ap (given c.ready.new.map c.args.dir) c.in-Ok.ensures.name in
+    let number = c.in-Ok-give_ready.ensures.number ∙ ap (number_given c.ready.new.map c.args.dir.0) c.in-Ok.ensures.name in
+    let right = made-remembers _ _ _ _ may c.args.kind c.args.perm c.in-Ok.ensures.left c.give_ready.new.self c.ready.new.map c.create.new.self c.in-Ok-give_ready.number c.in-Ok.ensures.room gave c.in-Ok-create.ensures.created c.create.ensures.is_tree number c.self.invariant.2 in
+    record {
+      entry = subst (λ (m : MapState). IsSome (entry_of m.entries c.in-Ok-give_ready.number.0)) (sym c.remember.ensures.remembered) right.1;
+      unloaded = made-may_load _ _ _ _ may c.args.kind c.args.perm c.in-Ok.ensures.left c.give_ready.new.self c.ready.new.map c.remember.new.self c.create.new.self c.in-Ok-give_ready.number c.in-Ok-create.file c.in-Ok.ensures.room gave c.in-Ok-create.ensures.created c.create.ensures.is_tree number c.self.invariant.3 c.remember.ensures.remembered;
+    }
+
 pub invariant_of-self-2 : goal.invariant_of-self-2
 invariant_of-self-2 c =
     let same = c.self.view_is ∙ c.free_place.ensures.unchanged in
@@ -74,8 +85,24 @@ invariant_of-self-2 c =
     let number = c.in-Ok-give_ready.ensures.number ∙ ap (number_given c.ready.new.map c.args.dir.0) c.in-Ok.ensures.name in
     let right = made-remembers _ _ _ _ may c.args.kind c.args.perm c.in-Ok.ensures.left c.give_ready.new.self c.ready.new.map c.create.new.self c.in-Ok-give_ready.number c.in-Ok.ensures.room gave c.in-Ok-create.ensures.created c.create.ensures.is_tree number c.self.invariant.2 in
     let sound = made-sound _ _ _ _ may c.args.kind c.args.perm c.in-Ok.ensures.left c.give_ready.new.self c.ready.new.map c.create.new.self c.in-Ok.ensures.room gave c.in-Ok-create.ensures.created c.create.ensures.is_tree in
-    let names = subst (λ (f : FileId). IsFileOf c.create.new.self c.give_ready.new.self.entries c.in-Ok-give_ready.number.0 f) (sym c.in-Ok-create.ensures.file) right.0 in (
+    let names = subst (λ (f : FileId). IsFileOf c.create.new.self c.give_ready.new.self.entries c.in-Ok-give_ready.number.0 f) (sym c.in-Ok-create.ensures.file) right.0 in
+    let loads = ap (λ (m : MapState). plain (served_over c.create.new.self m)) c.load.ensures.loaded in (
       c.create.ensures.is_tree,
-      sound-plainly (served_over c.create.new.self c.give_ready.new.self) _ (ap (λ (m : MapState). plain (served_over c.create.new.self m)) c.remember.ensures.remembered) sound,
-      remembers-in c.create.new.self c.give_ready.new.self _ c.in-Ok-give_ready.number.0 c.in-Ok-create.file c.remember.ensures.remembered names right.2,
+      sound-plainly (served_over c.create.new.self c.give_ready.new.self) (served_over c.create.new.self c.load.new.self) (loads ∙ ap (λ (m : MapState). plain (served_over c.create.new.self m)) c.remember.ensures.remembered) sound,
+      plainly-remembers (served_over c.create.new.self c.remember.new.self) (served_over c.create.new.self c.load.new.self) loads (ap (λ (m : MapState). m.remembered) c.load.ensures.loaded)
+          (remembers-in c.create.new.self c.give_ready.new.self _ c.in-Ok-give_ready.number.0 c.in-Ok-create.file c.remember.ensures.remembered names right.2),
+      made-loads _ _ _ _ may c.args.kind c.args.perm c.in-Ok.ensures.left c.give_ready.new.self c.ready.new.map c.remember.new.self c.create.new.self c.in-Ok-give_ready.number c.in-Ok-create.file c.in-Ok.ensures.room gave c.in-Ok-create.ensures.created c.create.ensures.is_tree number c.self.invariant.3 c.remember.ensures.remembered
+          c.load.new.self c.in-Some.attr names (sym c.attr.ensures.attr ∙ c.in-Some.is) c.load.ensures.loaded,
     )
+
+pub returns-clause-loads : goal.returns-clause-loads
+returns-clause-loads c =
+    let same = c.self.view_is ∙ c.free_place.ensures.unchanged in
+    let may = may-make (served_over c.self.inside.tree c.self.inside.map) c.args.self.now c.args.dir c.args.name.now c.in_ok-above.above same c.self.invariant.0 c.self.invariant.1 c.in_ok-above.ensures.free in
+    let gave = c.in-Ok-give_ready.ensures.given ∙ ap (given c.ready.new.map c.args.dir) c.in-Ok.ensures.name in
+    let number = c.in-Ok-give_ready.ensures.number ∙ ap (number_given c.ready.new.map c.args.dir.0) c.in-Ok.ensures.name in
+    let right = made-remembers _ _ _ _ may c.args.kind c.args.perm c.in-Ok.ensures.left c.give_ready.new.self c.ready.new.map c.create.new.self c.in-Ok-give_ready.number c.in-Ok.ensures.room gave c.in-Ok-create.ensures.created c.create.ensures.is_tree number c.self.invariant.2 in
+    let names = subst (λ (f : FileId). IsFileOf c.create.new.self c.give_ready.new.self.entries c.in-Ok-give_ready.number.0 f) (sym c.in-Ok-create.ensures.file) right.0 in
+    subst (λ (s : ServedState). LoadsTold s.map c.in-Ok-give_ready.number c.in-Some.attr c.load.new.self) same
+    (made-told _ _ _ _ may c.args.kind c.args.perm c.in-Ok.ensures.left c.give_ready.new.self c.ready.new.map c.remember.new.self c.create.new.self c.in-Ok-give_ready.number c.in-Ok-create.file c.in-Ok.ensures.room gave c.in-Ok-create.ensures.created c.create.ensures.is_tree number c.self.invariant.3 c.remember.ensures.remembered
+    c.load.new.self c.in-Some.attr names (sym c.attr.ensures.attr ∙ c.in-Some.is) c.load.ensures.loaded)

@@ -1,6 +1,7 @@
 -- The number of the name is linked and has no kids, and what is known after it fits together.
 use Rattle.std.proofs.Common.{sym, ◌∙◌}
 use Rattle.fuse_ops.specs.Gifts.{served_over}
+use Rattle.fuse_ops.proofs.Loaded.{taken-loaded}
 use Rattle.fuse_ops.proofs.Remembering.{taken-remembers}
 use Rattle.fuse_ops.proofs.Taking.{may-lose, taken-number, taken-none, taken-sound}
 use Rattle.fuse_ops.proofs.served.Served.take_name.Goals as goal
@@ -23,6 +24,7 @@ invariant_of-self c =
       c.remove-file.ensures.is_tree,
       taken-sound _ _ _ _ _ c.unlink.new.self c.remove-file.new.self may taken c.remove-file.ensures.removed,
       taken-remembers _ _ _ _ _ c.unlink.new.self c.remove-file.new.self may taken c.remove-file.ensures.removed c.self.invariant.2,
+      taken-loaded _ _ _ _ _ c.unlink.new.self c.remove-file.new.self may taken c.remove-file.ensures.removed c.self.invariant.3,
     )
 
 pub invariant_of-self-in_default : goal.invariant_of-self-in_default
@@ -32,4 +34,5 @@ invariant_of-self-in_default c =
       c.remove-file.ensures.is_tree,
       taken-sound _ _ _ _ _ c.self.inside.map c.remove-file.new.self may none c.remove-file.ensures.removed,
       taken-remembers _ _ _ _ _ c.self.inside.map c.remove-file.new.self may none c.remove-file.ensures.removed c.self.invariant.2,
+      taken-loaded _ _ _ _ _ c.self.inside.map c.remove-file.new.self may none c.remove-file.ensures.removed c.self.invariant.3,
     )

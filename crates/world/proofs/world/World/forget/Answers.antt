@@ -8,7 +8,7 @@ use Rattle.world.specs.Holder.{HolderIsAt}
 use Rattle.world.specs.State.{State}
 use Rattle.world.specs.Step.{Step}
 use Rattle.broker_core.proofs.SeatLaws.{issued-seat}
-use Rattle.world.proofs.StepLemmas.{serves-still, ServesAt-holder, Step-forgets}
+use Rattle.world.proofs.StepLemmas.{serves-still, ServesOver-holder, ServesAt-holder, Step-forgets}
 use Rattle.world.proofs.world.World.forget.Goals as goal
 
 pub forgot_at-forgot-requires : goal.forgot_at-forgot-requires
@@ -22,11 +22,11 @@ forgot_at-forgot-requires c =
 pub apply_at-answer-requires : goal.apply_at-answer-requires
 apply_at-answer-requires c =
     let state : State = record { manifest = c.self.inside.manifest; limit = c.self.inside.limit; broker = c.self.inside.broker; daemons = c.self.inside.daemons.items } in
-    record { serves = ServesAt-holder state c.args.place (subst (λ (s : State). HolderIsAt s c.args.place) (sym c.self.view_is) c.requires.holder) }
+    record { serves = ServesOver-holder state c.args.place (subst (λ (s : State). HolderIsAt s c.args.place) (sym c.self.view_is) c.requires.holder) }
 
 pub invariant_of-self : goal.invariant_of-self
 invariant_of-self c = record {
-  holder_serves = serves-still c.self.inside.broker c.issue.new.self c.self.inside.daemons.items c.apply_at-answer.new.daemons.items c.args.place c.args.request.now c.apply_at-answer.result c.apply_at-answer.ensures.applied
+  holder_serves = serves-still c.self.inside.manifest c.self.inside.broker c.issue.new.self c.self.inside.daemons.items c.apply_at-answer.new.daemons.items c.args.place c.args.request.now c.apply_at-answer.result c.apply_at-answer.ensures.applied
       (ap (λ (b : BrokerState). b.seat) c.in-Ok.ensures.issued ∙ issued-seat c.self.inside.broker c.args.request.now) c.self.invariant.holder_serves;
   few = omega (arith, c.apply_at-answer.ensures.len, c.self.invariant.few);
 }

@@ -4,6 +4,7 @@ use Rattle.broker_core.specs.Broker.{BrokerState}
 use Rattle.world.specs.declared.daemon.Daemon.TheVariants.{Serving}
 use Rattle.world.specs.declared.event.Event.TheVariants.{Mount}
 use Rattle.world.specs.declared.outcome.Happened.TheVariants as happened
+use Rattle.fuse_ops.specs.Served.{ServedState}
 use Rattle.world.specs.State.{State}
 use Rattle.world.specs.Step.{Step}
 use Rattle.world.proofs.DaemonWrites.{HolderServes-mounted, waits-read}
@@ -16,7 +17,7 @@ invariant_of-self c =
     let bound : c.in-Some.place < length items = omega (arith, c.if-place-len.false, c.len.ensures, c.self.inside.daemons.ok.0) in
     let seated : Some (record { generation = c.self.inside.broker.last + 1; daemon = c.args.daemon }) ≡ c.mount-generation.new.self.seat = ap (λ (b : BrokerState). b.seat) (sym c.mount-generation.ensures.mounted) in
     record {
-      holder_serves = λ seat e. HolderServes-mounted items c.args.daemon c.in-Some.place (c.self.inside.broker.last + 1) c.in-Ok.served seat (sym c.in-Some.ensures) bound (seated ∙ e);
+      holder_serves = λ seat e. HolderServes-mounted c.self.inside.manifest items c.args.daemon c.in-Some.place (c.self.inside.broker.last + 1) c.in-Ok.served seat (sym c.in-Some.ensures) bound (seated ∙ e) (ap (λ (s : ServedState). s.tree.manifest) c.in-Ok.ensures.new);
       few = c.self.invariant.few;
     }
 

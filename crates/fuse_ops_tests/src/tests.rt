@@ -1,7 +1,13 @@
 //! What one daemon answers, and what it counts afterwards.
-use super::*;
-use eden_base::Perm;
-use fuse_wire::Batch;
+ghost use Rattle.std.specs.Prelude.{◌≡◌, if◌then◌else◌};
+ghost use Rattle.checkout.specs.Tree.{file_of, tree_of};
+
+use checkout::{Backing, BackingFault, Content, Manifest, ManifestBacking};
+use eden_base::{Attr, Errno, FileId, Kind, Name, NoMemory, Number, Perm};
+use fuse_ops::Served;
+use fuse_wire::{Answer, Batch, Item, Request};
+use std::alloc::Global;
+use std::marker::Model;
 use std::test::Fail;
 
 const TEXT: &[u8] =
@@ -79,15 +85,85 @@ enum Deed {
     At(u64, u64, u64, u64, u64),
 }
 
-/// Serves the text, made again where memory was refused.
-fn served(alloc: Global) -> Result<Served, Fail> {
-    let manifest = match Manifest::read(alloc, TEXT) {
-        Ok(manifest) => manifest,
-        Err(_refused) => Manifest::read(alloc, TEXT)?,
-    };
-    match Served::new(alloc, &manifest, 8) {
-        Ok(served) => Ok(served),
-        Err(NoMemory) => Ok(Served::new(alloc, &manifest, 8)?),
+/// What a daemon serves, with the manifest that it serves.
+#[derive(Drop)]
+struct Hosted {
+    served: Served,
+    manifest: Manifest,
+}
+
+impl Model for Hosted {
+    ghost use Rattle.std.specs.Prelude.{◌≡◌};
+    ghost use Rattle.fuse_ops.specs.Served.{ServedState};
+    ghost use Rattle.std.specs.Coded.{codes};
+    ghost use Rattle.checkout.specs.Codes.{tree_code};
+
+    ghost Value = { ServedState };
+
+    ghost coded = { Prim.hlevel (codes, tree_code) };
+
+    ghost view = { λ h. h.served };
+
+    ghost invariant = { λ h. h.served.tree.manifest ≡ h.manifest };
+}
+
+impl Hosted {
+    /// Serves a text, made again where memory was refused.
+    fn of(alloc: Global, text: &[u8], limit: usize) -> Result<Hosted, Fail> {
+        let manifest = match Manifest::read(alloc, text) {
+            Ok(manifest) => manifest,
+            Err(_refused) => Manifest::read(alloc, text)?,
+        };
+        match Served::new(alloc, &manifest, limit) {
+            Ok(served) => Ok(Hosted { served, manifest }),
+            Err(NoMemory) => {
+                let served = Served::new(alloc, &manifest, limit)?;
+                Ok(Hosted { served, manifest })
+            }
+        }
+    }
+
+    /// Answers a request from the manifest.
+    fn apply(&mut self, alloc: Global, request: &Request) -> Option<Answer> {
+        let mut backing = ManifestBacking::of(&self.manifest);
+        self.served.apply(alloc, &mut backing, request)
+    }
+
+    /// Answers a request from a backing that answers so many times, and then fails once.
+    fn apply_failing(&mut self, alloc: Global, answers: u64, request: &Request) -> Option<Answer> {
+        let mut backing = FailingBacking {
+            manifest: ManifestBacking::of(&self.manifest),
+            answers,
+            has_failed: false,
+        };
+        self.served.apply(alloc, &mut backing, request)
+    }
+}
+
+/// A backing that answers a few times, and then fails once.
+#[derive(Drop)]
+struct FailingBacking<'a> {
+    manifest: ManifestBacking<'a>,
+    answers: u64,
+    has_failed: bool,
+}
+
+impl Backing for FailingBacking<'_> {
+    ghost content = { λ backing file. file_of (tree_of backing.manifest) file };
+
+    ghost failed = { λ backing. if backing.has_failed then 1 else 0 };
+
+    fn attr(&mut self, file: FileId) -> Result<Content, BackingFault> {
+        if self.answers == 0 && !self.has_failed {
+            self.has_failed = true;
+            return Err(BackingFault);
+        }
+        self.answers = self.answers.saturating_sub(1);
+        self.manifest.attr(file)
+    }
+
+    fn failures(&self) -> u64 {
+        if self.has_failed { 1 } else { 0 }
     }
 }
 
@@ -120,7 +196,7 @@ fn batch_of(alloc: Global, items: &[Item; 6]) -> Result<Batch, NoMemory> {
 }
 
 /// Answers a request, once more where memory was refused.
-fn answer(alloc: Global, served: &mut Served, request: &Request) -> Option<Answer> {
+fn answer(alloc: Global, served: &mut Hosted, request: &Request) -> Option<Answer> {
     match served.apply(alloc, request) {
         Some(Answer::Error(Errno::ENOMEM)) => served.apply(alloc, request),
         answer => answer,
@@ -130,7 +206,7 @@ fn answer(alloc: Global, served: &mut Served, request: &Request) -> Option<Answe
 /// Returns whether a request is answered so.
 fn is_answered(
     alloc: Global,
-    served: &mut Served,
+    served: &mut Hosted,
     asks: Asks,
     place: (u64, &[u8]),
     expected: Answer,
@@ -141,20 +217,20 @@ fn is_answered(
 }
 
 /// Returns whether a number's attributes are answered so.
-fn is_shown(alloc: Global, served: &mut Served, node: u64, expected: Answer) -> bool {
+fn is_shown(alloc: Global, served: &mut Hosted, node: u64, expected: Answer) -> bool {
     let node = Number(node);
     served.apply(alloc, &Request::Getattr { node }) == Some(expected)
 }
 
 /// Forgets numbers, and returns whether that has no answer.
-fn is_forgotten(alloc: Global, served: &mut Served, items: &[Item; 6]) -> Result<bool, Fail> {
+fn is_forgotten(alloc: Global, served: &mut Hosted, items: &[Item; 6]) -> Result<bool, Fail> {
     let batch = batch_of(alloc, items)?;
     Ok(served.apply(alloc, &Request::BatchForget(batch)).is_none())
 }
 
 /// Returns whether these are the counts of numbers 2 and 3, the number after them, and how many items were bad.
-fn is_at(served: &Served, two: u64, three: u64, next: u64, bad: u64) -> bool {
-    let map = served.map();
+fn is_at(served: &Hosted, two: u64, three: u64, next: u64, bad: u64) -> bool {
+    let map = served.served.map();
     if map.count(Number(2)) != two || map.count(Number(3)) != three {
         return false;
     }
@@ -162,7 +238,7 @@ fn is_at(served: &Served, two: u64, three: u64, next: u64, bad: u64) -> bool {
 }
 
 /// Does a deed, and returns whether it comes to what it says.
-fn goes_so(alloc: Global, served: &mut Served, deed: Deed) -> Result<bool, Fail> {
+fn goes_so(alloc: Global, served: &mut Hosted, deed: Deed) -> Result<bool, Fail> {
     match deed {
         Deed::Refuse(asks, dir, name, errno) => {
             is_answered(alloc, served, asks, (dir, name), Answer::Error(errno))
@@ -194,14 +270,17 @@ fn goes_so(alloc: Global, served: &mut Served, deed: Deed) -> Result<bool, Fail>
         }
         Deed::ForgetAll(items) => is_forgotten(alloc, served, items),
         Deed::At(two, three, next, bad, file) => {
-            Ok(is_at(served, two, three, next, bad) && served.tree().next_file() == FileId(file))
+            Ok(
+                is_at(served, two, three, next, bad)
+                    && served.served.tree().next_file() == FileId(file),
+            )
         }
     }
 }
 
 /// Does each deed in turn on what the text says, and returns whether all go so.
 fn all_go_so(alloc: Global, deeds: &[Deed]) -> Result<bool, Fail> {
-    let mut served = served(alloc)?;
+    let mut served = Hosted::of(alloc, TEXT, 8)?;
     for deed in deeds {
         if !goes_so(alloc, &mut served, *deed)? {
             return Ok(false);
@@ -420,5 +499,91 @@ const ASKED_OF_A_FILE: [Deed; 9] = [
 #[test]
 fn tells_that_no_directory_is_asked_before_what_is_missing(rt: HostRuntime) -> Result<(), Fail> {
     assert!(rt; all_go_so(rt.alloc(), &ASKED_OF_A_FILE)?);
+    Ok(())
+}
+
+const FOUR_FILES: &[u8] =
+    b"commit 0123456789abcdef0123456789abcdef01234567\ndir src\nfile 0644 12 src/a\nfile 0600 3 src/b\nfile 0644 40 README\n";
+
+/// Returns the requests of a test: each of the files is looked up, and then one is asked for that a limit of one
+/// unloaded.
+fn asked_in_turn(alloc: Global, place: usize) -> Result<Request, Fail> {
+    match place {
+        0 => asked(alloc, Asks::LookUp, 1, b"src"),
+        1 => asked(alloc, Asks::LookUp, 2, b"a"),
+        2 => asked(alloc, Asks::LookUp, 2, b"b"),
+        3 => asked(alloc, Asks::LookUp, 1, b"README"),
+        _ => Ok(Request::Getattr { node: Number(3) }),
+    }
+}
+
+/// Returns the number of an answer that tells one.
+fn number_told(answer: Option<Answer>) -> u64 {
+    match answer {
+        Some(Answer::Entry { number, .. }) => number.0,
+        Some(Answer::Attrs { number, .. }) => number.0,
+        _ => 0,
+    }
+}
+
+/// Answers all requests in turn, one of them from a backing that fails at once. Returns whether that one is answered
+/// EIO where it asks the backing, and what it is without a failure when it is made again.
+fn fails_at(alloc: Global, place: usize, next: u64) -> Result<bool, Fail> {
+    let mut served = Hosted::of(alloc, FOUR_FILES, 1)?;
+    for before in 0..place {
+        let request = asked_in_turn(alloc, before)?;
+        served.apply(alloc, &request);
+    }
+    let request = asked_in_turn(alloc, place)?;
+    let failed = served.apply_failing(alloc, 0, &request);
+    if failed != Some(Answer::Error(Errno::EIO)) {
+        return Ok(false);
+    }
+    let map = served.served.map();
+    if map.next() != next || map.known(Number(next)) {
+        return Ok(false);
+    }
+    let again = served.apply_failing(alloc, 1, &request);
+    Ok(number_told(again) == if place == 4 { 3 } else { next })
+}
+
+#[test]
+fn answers_eio_where_the_backing_fails_and_changes_nothing(rt: HostRuntime) -> Result<(), Fail> {
+    let alloc = rt.alloc();
+    assert!(rt; fails_at(alloc, 1, 3)? && fails_at(alloc, 2, 4)? && fails_at(alloc, 3, 5)?);
+    assert!(rt; fails_at(alloc, 4, 6)? && !fails_at(alloc, 0, 2)?);
+    Ok(())
+}
+
+/// Returns whether the attributes of a number are told though the backing fails.
+fn is_loaded(alloc: Global, served: &mut Hosted, node: u64) -> bool {
+    let node = Number(node);
+    match served.apply_failing(alloc, 0, &Request::Getattr { node }) {
+        Some(answer) => answer != Answer::Error(Errno::EIO),
+        None => false,
+    }
+}
+
+/// Looks each file up at a limit, and returns whether just these of the three regular ones stay loaded.
+fn stay_loaded(alloc: Global, limit: usize, expected: [bool; 3]) -> Result<bool, Fail> {
+    let mut served = Hosted::of(alloc, FOUR_FILES, limit)?;
+    for place in 0..4 {
+        let request = asked_in_turn(alloc, place)?;
+        answer(alloc, &mut served, &request);
+    }
+    let are = [
+        is_loaded(alloc, &mut served, 3),
+        is_loaded(alloc, &mut served, 4),
+        is_loaded(alloc, &mut served, 5),
+    ];
+    Ok(are == expected)
+}
+
+#[test]
+fn keeps_as_many_loaded_as_the_limit_says(rt: HostRuntime) -> Result<(), Fail> {
+    let alloc = rt.alloc();
+    assert!(rt; stay_loaded(alloc, 1, [false, false, true])?);
+    assert!(rt; stay_loaded(alloc, 2, [false, true, true])?);
+    assert!(rt; stay_loaded(alloc, 3, [true, true, true])?);
     Ok(())
 }

@@ -1,0 +1,70 @@
+-- The tree stays one of its manifest, whatever a daemon is asked.
+use Rattle.std.proofs.Common.{◌≡◌, ℕ, List, Option, Some, None, Result, Ok, Err, refl, sym, ap, ◌∙◌}
+use Rattle.eden_base.specs.declared.attr.Kind.{Kind}
+use Rattle.eden_base.specs.declared.attr.Kind.TheVariants.{Dir, File}
+use Rattle.eden_base.specs.declared.attr.Perm.{Perm}
+use Rattle.eden_base.specs.declared.errno.Errno.{Errno}
+use Rattle.eden_base.specs.declared.number.FileId.{FileId}
+use Rattle.checkout.specs.Tree.{Tree}
+use Rattle.fuse_wire.specs.declared.ask.Request.{Request}
+use Rattle.fuse_wire.specs.declared.ask.Request.TheVariants.{Lookup, Getattr, Create, Mkdir, Unlink, Rmdir, Forget, BatchForget, Other}
+use Rattle.fuse_wire.specs.declared.reply.Answer.{Answer}
+use Rattle.fuse_wire.specs.declared.reply.Answer.TheVariants.{Entry, Opened, Attrs, Done, Error}
+use Rattle.fuse_ops.specs.Answers.{Effect, comes_to, found_in, free_in, enters, shows, makes, takes, takes_from, unless, against_unlink, against_rmdir, tree_after}
+use Rattle.fuse_ops.specs.Served.{ServedState, PlainState, plain, Replay}
+
+-- a success is over a tree of the same manifest
+abbrev pub IsOver : Tree → Result Effect Errno → Type 0
+IsOver tree (Ok effect) = effect.tree.manifest ≡ tree.manifest
+IsOver tree (Err errno) = Unit {0}
+
+enters-over : (tree : Tree) (r : Result FileId Errno) → IsOver tree (enters tree r)
+enters-over tree (Ok file) = refl
+enters-over tree (Err errno) = tt
+
+shows-over : (tree : Tree) (o : Option FileId) → IsOver tree (shows tree o)
+shows-over tree (Some file) = refl
+shows-over tree None = tt
+
+makes-over : (tree : Tree) (name : List ℕ) (kind : Kind) (perm : Perm) (r : Result FileId Errno) → IsOver tree (makes tree name kind perm r)
+makes-over tree name kind perm (Ok dir) = refl
+makes-over tree name kind perm (Err errno) = tt
+
+takes-over : (tree : Tree) (dir : FileId) (name : List ℕ) (r : Result FileId Errno) → IsOver tree (takes tree dir name r)
+takes-over tree dir name (Ok file) = refl
+takes-over tree dir name (Err errno) = tt
+
+takes_from-over : (tree : Tree) (against : FileId → Option Errno) (o : Option FileId) (name : List ℕ) → IsOver tree (takes_from tree against o name)
+takes_from-over tree against (Some dir) name = takes-over tree dir name (unless against (found_in tree (Some dir) name))
+takes_from-over tree against None name = tt
+
+comes-over : (tree : Tree) (files : ℕ → Option FileId) (request : Request) → IsOver tree (comes_to tree files request)
+comes-over tree files (Lookup dir name) = enters-over tree (found_in tree (files dir.0) name)
+comes-over tree files (Getattr node) = shows-over tree (files node.0)
+comes-over tree files (Create dir name perm) = makes-over tree name File perm (free_in tree (files dir.0) name)
+comes-over tree files (Mkdir dir name perm) = makes-over tree name Dir perm (free_in tree (files dir.0) name)
+comes-over tree files (Unlink dir name) = takes_from-over tree (against_unlink tree) (files dir.0) name
+comes-over tree files (Rmdir dir name) = takes_from-over tree (against_rmdir tree) (files dir.0) name
+comes-over tree files (Forget item) = tt
+comes-over tree files (BatchForget items) = tt
+comes-over tree files (Other opcode node) = tt
+
+after-over : (tree : Tree) (r : Result Effect Errno) (answer : Answer) → IsOver tree r → (tree_after tree r answer).manifest ≡ tree.manifest
+after-over tree r (Error errno) over = refl
+after-over tree (Ok effect) (Entry number attr) over = over
+after-over tree (Ok effect) (Opened number attr) over = over
+after-over tree (Ok effect) (Attrs number attr) over = over
+after-over tree (Ok effect) Done over = over
+after-over tree (Err errno) (Entry number attr) over = refl
+after-over tree (Err errno) (Opened number attr) over = refl
+after-over tree (Err errno) (Attrs number attr) over = refl
+after-over tree (Err errno) Done over = refl
+
+-- the tree after an answer to a request
+pub answered-manifest : (tree : Tree) (files : ℕ → Option FileId) (request : Request) (answer : Answer) → (tree_after tree (comes_to tree files request) answer).manifest ≡ tree.manifest
+answered-manifest tree files request answer = after-over tree (comes_to tree files request) answer (comes-over tree files request)
+
+-- and after a step
+pub replay-manifest : (old : ServedState) (request : Request) (answer : Option Answer) (new : ServedState) → Replay old request answer new → new.tree.manifest ≡ old.tree.manifest
+replay-manifest old request (Some answer) new (is, legal) = ap (λ (p : PlainState). p.tree.manifest) legal.makes ∙ answered-manifest old.tree legal.files request answer
+replay-manifest old request None new (is, same) = ap (λ (s : ServedState). s.tree.manifest) same

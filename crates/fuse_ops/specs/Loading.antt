@@ -1,0 +1,59 @@
+-- Where the attributes of a file come from, and which of them stay loaded. (EdenFS's inodes and backing stores; which
+-- number a request loads is this project's own.)
+use Rattle.std.specs.Prelude.{◌≡◌, ℕ, ◌<◌, ◌==◌, List, Option, Some, None, is_some, if◌then◌else◌}
+use Rattle.eden_base.specs.declared.attr.Attr.{Attr}
+use Rattle.eden_base.specs.declared.attr.Kind.TheVariants.{File}
+use Rattle.eden_base.specs.declared.errno.Errno.TheVariants.{EIO}
+use Rattle.eden_base.specs.declared.number.FileId.{FileId}
+use Rattle.eden_base.specs.declared.number.Number.{Number}
+use Rattle.checkout.specs.Tree.{Tree, file_of, tree_of}
+use Rattle.checkout.specs.declared.content.Content.{Content}
+use Rattle.fuse_wire.specs.Ask.{items_of}
+use Rattle.fuse_wire.specs.declared.ask.Request.{Request}
+use Rattle.fuse_wire.specs.declared.reply.Answer.{Answer}
+use Rattle.fuse_wire.specs.declared.reply.Answer.TheVariants.{Entry, Opened, Attrs, Done, Error}
+use Rattle.inode_map.specs.InodeMap.{MapState, attr_of, load, used}
+use Rattle.inode_map.specs.declared.loaded.LoadedAttr.{LoadedAttr}
+use Rattle.fuse_ops.specs.Served.{place_taken, map_without, forgotten_all}
+
+-- ---- the backing
+
+-- the backing holds each regular file of the tree's manifest, as it stands there
+abbrev pub Backs : (FileId → Option Content) → Tree → Type 0
+Backs content tree = (file : FileId) (f : Content) →
+    file_of (tree_of tree.manifest) file ≡ Some f → f.kind ≡ File → content file ≡ Some f
+
+-- the backing failed in a call exactly where EIO is answered
+pub record FailsAs (answer : Option Answer) (before after : ℕ) : Type 0 where
+  pub eio : answer ≡ Some (Error EIO) → before < after
+  pub answered : (answer ≡ Some (Error EIO) → ⊥) → after ≡ before
+
+-- ---- what is loaded
+
+-- The attributes of a number are told, and become the most recent: those that are loaded of it, or else these, for
+-- which the oldest makes place at the limit. The root's are never loaded.
+abbrev pub loaded_told : MapState → Number → Attr → List LoadedAttr
+loaded_told map number attr =
+    if number.0 == 1 then map.loaded
+    else if is_some (attr_of map.loaded number.0) then used map.loaded number.0
+    else load map.limit map.loaded number attr
+
+-- they are, and the limit stays
+pub record LoadsTold (old : MapState) (number : Number) (attr : Attr) (new : MapState) : Type 0 where
+  pub loaded : new.loaded ≡ loaded_told old number attr
+  pub limit : new.limit ≡ old.limit
+
+-- nothing becomes more recent, is loaded or unloaded
+pub record LoadsNone (old new : MapState) : Type 0 where
+  pub loaded : new.loaded ≡ old.loaded
+  pub limit : new.limit ≡ old.limit
+
+-- What a request makes of what is loaded, by its answer: a number that is told with attributes is loaded, and none with
+-- an error. With a number that is dropped goes what is loaded of it.
+abbrev pub Loads : MapState → Request → Option Answer → MapState → Type 0
+Loads old request (Some (Entry number attr)) new = LoadsTold old number attr new
+Loads old request (Some (Opened number attr)) new = LoadsTold old number attr new
+Loads old request (Some (Attrs number attr)) new = LoadsTold old number attr new
+Loads old request (Some Done) new = (file : FileId) × (new ≡ map_without old (place_taken request) (Some file))
+Loads old request (Some (Error errno)) new = LoadsNone old new
+Loads old request None new = new ≡ forgotten_all old (items_of request)

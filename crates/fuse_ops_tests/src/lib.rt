@@ -1,0 +1,5 @@
+//! Tests of `fuse_ops` by its public calls.
+#![tactic(auto)]
+
+#[cfg(test)]
+mod tests;
