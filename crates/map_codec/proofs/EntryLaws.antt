@@ -5,6 +5,7 @@ use Rattle.std.specs.Option.{option_map, option_map_or}
 use Rattle.std.specs.List.{list_all, AllByRecursion}
 use Rattle.std.proofs.lemmas.Bool.Decides.{nat_tests}
 use Rattle.std.proofs.lemmas.List.{append-nil}
+use Rattle.checkout.specs.Changes.{AreChanges}
 use Rattle.eden_base.specs.First.{first_where}
 use Rattle.eden_base.specs.declared.number.Number.{Number}
 use Rattle.eden_base.specs.declared.place.Place.{Place}
@@ -13,7 +14,8 @@ use Rattle.inode_map.specs.declared.inode_map.Kept.{Kept}
 use Rattle.fuse_ops.specs.Served.{ServedState}
 use Rattle.fuse_ops.specs.Soundness.{IsSound}
 use Rattle.map_codec.specs.declared.image.Image.{Image}
-use Rattle.map_codec.specs.Fit.{rises, is_next_number, entry_follows, HasName, IsFit}
+use Rattle.map_codec.specs.Fit.{rises, is_next_number, entry_follows, HasName, IsNamedLink, IsFit}
+use Rattle.map_codec.proofs.InOrder.{made_files_rise, changed_links_rise}
 
 -- none passes a test
 abbrev pub NonePass : (Kept → Bool) → List Kept → Type 0
@@ -176,15 +178,15 @@ one_named [] kept all one = (one, tt)
 one_named (first ∷ entries) kept all one = (all.0, one_named entries kept all.1 one)
 
 -- what is taken of a sound daemon is fit
-pub fit_taken : (image : Image) (served : ServedState) → image.entries ≡ served.map.entries → image.changes.made ≡ [] → image.changes.links ≡ [] → AllByRecursion (λ (k : Kept). HasName k.place) image.entries → IsSound served → IsFit image
-fit_taken image served same made links named sound =
+pub fit_taken : (image : Image) (served : ServedState) → image.entries ≡ served.map.entries → AreChanges served.tree image.changes → AllByRecursion IsNamedLink image.changes.links → AllByRecursion (λ (k : Kept). HasName k.place) image.entries → IsSound served → IsFit image
+fit_taken image served same changes link_names named sound =
     let entries = served.map.entries in
     let next = served.map.next in
     record {
       entries_rise = rw same (entries_rise next entries sound.numbers);
       entries_have_names = named;
       each_of_use = rw same (all_of_use entries [] entries next 1 sound.each_of_use (split_first entries next sound.numbers));
-      made_rise = rw made refl;
-      links_rise = rw links refl;
-      links_have_names = rw links tt;
+      made_rise = made_files_rise served.tree image.changes.made changes.made;
+      links_rise = changed_links_rise served.tree image.changes.links changes.links;
+      links_have_names = link_names;
     }

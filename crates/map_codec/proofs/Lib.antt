@@ -6,6 +6,7 @@ pub mod Loop
 pub mod FieldLaws
 pub mod MemberLaws
 pub mod ListLaws
+pub mod InOrder
 pub mod ImageLaws
 pub mod UsageLaws
 pub mod EntryLaws

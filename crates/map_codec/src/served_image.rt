@@ -5,10 +5,9 @@ ghost use Rattle.std.specs.Option.{option_map};
 ghost use Rattle.inode_map.specs.InodeMap.{entry_of, count_of, place_of_kept};
 ghost use Rattle.inode_map.specs.declared.inode_map.Kept.{Kept};
 ghost use Rattle.map_codec.specs.Fit.{HasName, IsFit};
-ghost use Rattle.map_codec.specs.Taking.{image_taken};
+ghost use Rattle.map_codec.specs.Taking.{IsImageOf};
 
 use crate::{Entries, Image};
-use checkout::{Changes, LinkList, MadeList};
 use eden_base::{Name, NoMemory, Number, Place};
 use fuse_ops::Served;
 use inode_map::{InodeMap, Kept};
@@ -68,9 +67,9 @@ fn entries_of(alloc: Global, map: &InodeMap) -> Result<Vec<Kept>, NoMemory>
 }
 
 /// Makes the image of what a daemon serves at a generation: every number that it keeps, whether it is loaded or not.
-/// What was made and removed in the checkout is left out so far, but for the next file.
+/// Of the checkout it has what differs from its manifest.
 pub fn image_of(alloc: Global, served: &Served, generation: u64) -> Result<Image, NoMemory>
-    ensures image { IfOk result (λ image. image ≡ image_taken served.now generation) }
+    ensures image { IfOk result (IsImageOf served.now generation) }
     ensures fit { IfOk result IsFit }
 {
     let map = served.map();
@@ -78,11 +77,7 @@ pub fn image_of(alloc: Global, served: &Served, generation: u64) -> Result<Image
     let entries = entries_of(alloc, map)?;
     let commit = tree.commit();
     let next_number = map.next();
-    let changes = Changes {
-        made: MadeList::of(Vec::new(alloc)),
-        links: LinkList::of(Vec::new(alloc)),
-        next_file: tree.next_file(),
-    };
+    let changes = tree.changes()?;
     Ok(Image {
         commit,
         generation,

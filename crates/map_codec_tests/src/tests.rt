@@ -3,9 +3,9 @@
 ghost use Rattle.std.specs.Prelude.{◌≡◌, IfOk};
 ghost use Rattle.map_codec.specs.Fit.{IsFit};
 
-use crate::vectors::{CHANGED, LOOKED_UP};
+use crate::vectors::{CHANGED, LOOKED_UP, MOVED};
 use checkout::{Manifest, ManifestBacking, ManifestFault};
-use eden_base::{Name, NameFault, NoMemory, Number};
+use eden_base::{Name, NameFault, NoMemory, Number, Perm};
 use fuse_ops::Served;
 use fuse_wire::{Answer, Request};
 use map_codec::{Entries, Image, ImageFault, WriteFault, image_of, read, write};
@@ -218,22 +218,86 @@ fn name_of(alloc: Global, bytes: &[u8]) -> Result<Name, NameFault> {
     }
 }
 
+/// Makes a lookup in the root.
+fn lookup_of(alloc: Global, name: &[u8]) -> Result<Request, NameFault> {
+    Ok(Request::Lookup {
+        dir: Number::ROOT,
+        name: name_of(alloc, name)?,
+    })
+}
+
+/// Makes a CREATE in the root.
+fn create_of(alloc: Global, name: &[u8], perm: Perm) -> Result<Request, NameFault> {
+    Ok(Request::Create {
+        dir: Number::ROOT,
+        name: name_of(alloc, name)?,
+        perm,
+    })
+}
+
+/// Makes an UNLINK in the directory of a number.
+fn unlink_of(alloc: Global, dir: u64, name: &[u8]) -> Result<Request, NameFault> {
+    Ok(Request::Unlink {
+        dir: Number(dir),
+        name: name_of(alloc, name)?,
+    })
+}
+
+/// Answers a request, and once more where memory was refused.
+fn does(alloc: Global, served: &mut Served, manifest: &Manifest, request: &Request)
+    requires over { served.old.tree.manifest ≡ manifest.now }
+    ensures over { served.new.tree.manifest ≡ manifest.now }
+{
+    let mut backing = ManifestBacking::of(manifest);
+    if let Some(Answer::Error(_)) = served.apply(alloc, &mut backing, request) {
+        served.apply(alloc, &mut backing, request);
+    }
+}
+
+/// Returns whether the image of what a daemon serves is spelled so.
+fn is_spelled(alloc: Global, served: &Served, bytes: &[u8]) -> Result<bool, Fail> {
+    let image = image_taken(alloc, served)?;
+    let text = text_of(alloc, &image, 1)?;
+    Ok(text.as_slice() == bytes)
+}
+
 #[test]
 fn takes_the_image_of_one_lookup(rt: HostRuntime) -> Result<(), Fail> {
     let alloc = rt.alloc();
     let manifest = manifest_of(alloc, CHECKOUT)?;
     let mut served = served_of(alloc, &manifest)?;
-    let lookup = Request::Lookup {
-        dir: Number::ROOT,
-        name: name_of(alloc, b"src")?,
-    };
-    let mut backing = ManifestBacking::of(&manifest);
-    if let Some(Answer::Error(_)) = served.apply(alloc, &mut backing, &lookup) {
-        served.apply(alloc, &mut backing, &lookup);
-    }
-    let image = image_taken(alloc, &served)?;
-    let text = text_of(alloc, &image, 1)?;
-    assert_eq!(rt; text.as_slice(), LOOKED_UP.as_slice());
+    does(alloc, &mut served, &manifest, &lookup_of(alloc, b"src")?);
+    assert!(rt; is_spelled(alloc, &served, LOOKED_UP.as_slice())?);
+    Ok(())
+}
+
+#[test]
+fn takes_a_made_file_without_a_name(rt: HostRuntime) -> Result<(), Fail> {
+    let alloc = rt.alloc();
+    let manifest = manifest_of(alloc, CHECKOUT)?;
+    let mut served = served_of(alloc, &manifest)?;
+    let readme = lookup_of(alloc, b"README")?;
+    does(alloc, &mut served, &manifest, &lookup_of(alloc, b"src")?);
+    does(alloc, &mut served, &manifest, &readme);
+    does(alloc, &mut served, &manifest, &readme);
+    does(alloc, &mut served, &manifest, &readme);
+    let create = create_of(alloc, b"t", Perm { bits: 0o600 })?;
+    does(alloc, &mut served, &manifest, &create);
+    does(alloc, &mut served, &manifest, &unlink_of(alloc, 1, b"t")?);
+    assert!(rt; is_spelled(alloc, &served, CHANGED.as_slice())?);
+    Ok(())
+}
+
+#[test]
+fn takes_names_that_changed(rt: HostRuntime) -> Result<(), Fail> {
+    let alloc = rt.alloc();
+    let manifest = manifest_of(alloc, CHECKOUT)?;
+    let mut served = served_of(alloc, &manifest)?;
+    does(alloc, &mut served, &manifest, &lookup_of(alloc, b"src")?);
+    let create = create_of(alloc, b"a", Perm { bits: 0o644 })?;
+    does(alloc, &mut served, &manifest, &create);
+    does(alloc, &mut served, &manifest, &unlink_of(alloc, 2, b"a")?);
+    assert!(rt; is_spelled(alloc, &served, MOVED.as_slice())?);
     Ok(())
 }
 

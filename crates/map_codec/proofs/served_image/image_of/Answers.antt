@@ -1,5 +1,7 @@
 use Rattle.std.proofs.Common.{◌≡◌, sym, ap, subst, ◌∙◌}
 use Rattle.std.specs.List.{AllByRecursion}
+use Rattle.checkout.specs.Changes.{AreChanges}
+use Rattle.checkout.specs.Tree.{Tree}
 use Rattle.inode_map.specs.InodeMap.{MapState}
 use Rattle.inode_map.specs.declared.inode_map.Kept.{Kept}
 use Rattle.map_codec.specs.Fit.{HasName}
@@ -8,6 +10,8 @@ use Rattle.map_codec.proofs.served_image.image_of.Goals as goal
 
 pub returns-clause-fit : goal.returns-clause-fit
 returns-clause-fit c =
-    let entries : c.of-3.result ≡ c.args.served.now.map.entries = c.of-3.ensures.entries ∙ c.in_ok-entries.ensures.entries ∙ ap (λ (m : MapState). m.entries) c.map-map.ensures.map in
-    let named : AllByRecursion (λ (k : Kept). HasName k.place) c.of-3.result = subst (AllByRecursion (λ (k : Kept). HasName k.place)) (sym c.of-3.ensures.entries) c.in_ok-entries.ensures.named in
-    fit_taken _ c.args.served.now entries (c.of.ensures.files ∙ c.new.ensures.items) (c.of-2.ensures.links ∙ c.new-2.ensures.items) named c.map-map.ensures.sound
+    let served = c.args.served.now in
+    let entries : c.of.result ≡ served.map.entries = c.of.ensures.entries ∙ c.in_ok-entries.ensures.entries ∙ ap (λ (m : MapState). m.entries) c.map-map.ensures.map in
+    let named : AllByRecursion (λ (k : Kept). HasName k.place) c.of.result = subst (AllByRecursion (λ (k : Kept). HasName k.place)) (sym c.of.ensures.entries) c.in_ok-entries.ensures.named in
+    let changes : AreChanges served.tree c.in_ok-changes.changes = subst (λ (t : Tree). AreChanges t c.in_ok-changes.changes) c.tree-tree.ensures.tree c.in_ok-changes.ensures.changes in
+    fit_taken _ served entries changes c.in_ok-changes.ensures.names named c.map-map.ensures.sound
