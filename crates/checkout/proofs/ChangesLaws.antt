@@ -18,7 +18,7 @@ use Rattle.checkout.proofs.ManifestTree.{file_with, same_id}
 use Rattle.checkout.proofs.OneList.{one_list}
 
 -- two files, or the want of one, are the same or not
-same_or_not : (a b : Option FileId) → (a ≡ b) ⊎ (a ≢ b)
+pub same_or_not : (a b : Option FileId) → (a ≡ b) ⊎ (a ≢ b)
 same_or_not None None = inl refl
 same_or_not None (Some g) = inr (λ e. cc)
 same_or_not (Some f) None = inr (λ e. cc)

@@ -3,7 +3,9 @@ pub mod BadChangeCauses
 pub mod BadChangeLaws
 pub mod BadChangeRows
 pub mod ChangeLists
+pub mod ChangedLinks
 pub mod ChangesLaws
+pub mod CircleLaws
 pub mod CreateLaws
 pub mod FlatLemmas
 pub mod DirLaws
