@@ -13,6 +13,7 @@ pub mod EntryForms
 pub mod FieldForms
 pub mod FormLaws
 pub mod FormReads
+pub mod GoodChanges
 pub mod GoneLemmas
 pub mod GoneListing
 pub mod HexForms
