@@ -27,5 +27,6 @@ is_not_before untaken unique = option_map_or (λ ask. nat_le ask.unique unique) 
 -- the asks without a reply are the taken ones and then the untaken ones, and for a reply to each there is room
 pub record IsRoomyForReplies (traffic : Traffic) : Type 0 where
   pub rising : IsStrictlySortedBy nat_cmp (keys_of traffic.unanswered.entries)
-  pub parts : traffic.unanswered.entries ≡ taken_among traffic.unanswered.entries traffic.untaken.items ++ map asked_of traffic.untaken.items
+  pub parts : traffic.unanswered.entries
+      ≡ taken_among traffic.unanswered.entries traffic.untaken.items ++ map asked_of traffic.untaken.items
   pub room : deque_len traffic.posted + btree_map_len traffic.unanswered ≤ deque_capacity traffic.posted

@@ -32,7 +32,8 @@ pub record TrafficState : Type 0 where
 abbrev pub traffic_state_code : Coded TrafficState
 traffic_state_code =
     code_by (List Ask × (List (ℕ × Form) × (List Item × List Reply)))
-    (coded× (coded_list ask_row.coded) (coded× (coded_list (coded× coded_ℕ form_row.coded)) (coded× (coded_list item_row.coded) (coded_list reply_row.coded))))
+    (coded× (coded_list ask_row.coded) (coded× (coded_list (coded× coded_ℕ form_row.coded))
+    (coded× (coded_list item_row.coded) (coded_list reply_row.coded))))
     (λ t. (t.untaken, (t.taken, (t.items, t.posted))))
     (λ p. record { untaken = p.0; taken = p.1.0; items = p.1.1.0; posted = p.1.1.1 })
     (λ _. refl)
@@ -127,7 +128,8 @@ form_asked traffic unique = option_map (λ asked. asked.1) (first_where (is_of u
 -- a taken ask without a reply has the unique of a reply, and its answer belongs to it
 abbrev pub is_asked : TrafficState → Reply → Bool
 is_asked traffic reply =
-    option_map_or (λ form. belongs form reply.answer && may_be_given reply.answer) (form_asked traffic reply.unique) false
+    option_map_or (λ form. belongs form reply.answer && may_be_given reply.answer)
+    (form_asked traffic reply.unique) false
 
 -- a reply goes behind the others, and its ask waits for none
 abbrev pub reply_posted : TrafficState → Reply → TrafficState

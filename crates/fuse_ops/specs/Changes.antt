@@ -26,7 +26,8 @@ MakingLaw =
     KeepsNames served (record served { tree = created served.tree dir name kind perm })
 
 -- a name in the directory of a number, which may be taken away
-pub record MayLose (served : ServedState) (number : Number) (dir : FileId) (name : List ℕ) (file : FileId) : Type 0 where
+pub record MayLose (served : ServedState) (number : Number) (dir : FileId) (name : List ℕ)
+    (file : FileId) : Type 0 where
   pub is_tree : IsTree served.tree
   pub sound : IsSound served
   pub at : IsFileOf served.tree served.map.entries number.0 dir

@@ -89,7 +89,8 @@ IsNextRefusal next errno =
 
 -- the number and the attributes of a file that was made under a free name, and what the daemon knows after it; or why
 -- it was not made
-abbrev pub MakesFile : ServedState → Number → List ℕ → FileId → Tree → Result (Number × Attr) Errno → ServedState → Type 0
+abbrev pub MakesFile : ServedState → Number → List ℕ → FileId → Tree → Result (Number × Attr) Errno → ServedState →
+    Type 0
 MakesFile old dir name file tree (Ok (number, attr)) new =
     (give_fault old.map dir.0 name ≡ None) × (number ≡ number_given old.map dir.0 name)
     × (attr_of tree file ≡ Some attr) × IsNameText name
