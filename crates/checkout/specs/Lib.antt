@@ -1,5 +1,6 @@
 pub mod Added
 pub mod BadChanges
+pub mod Changed
 pub mod Changes
 pub mod Codes
 pub mod Create

@@ -46,6 +46,16 @@ pub enum CreateFault {
     NoMemory,
 }
 
+/// Why changes make no tree of a manifest.
+#[derive(Clone, Copy, Debug, PartialEq, Eq, Error)]
+pub enum ChangeFault {
+    /// Its place: 0 for the next file, and then the files that were made and the links that were changed, from 1.
+    #[error("change {0} is bad")]
+    BadChange(usize),
+    #[error("out of memory")]
+    NoMemory,
+}
+
 impl fmt::Display for ManifestFaultKind {
     ghost output = { λ kind. Some (kind_text kind) };
 

@@ -22,7 +22,7 @@ mod tree;
 pub use backing::{Backing, BackingFault, ManifestBacking};
 pub use changes::{Changes, LinkChange, LinkList, Made, MadeList};
 pub use content::Content;
-pub use fault::{CreateFault, ManifestFault, ManifestFaultKind};
+pub use fault::{ChangeFault, CreateFault, ManifestFault, ManifestFaultKind};
 pub use field::mode_of;
 pub use line::Line;
 pub use manifest::Manifest;
