@@ -12,7 +12,7 @@ use Rattle.checkout.specs.declared.made.MadeFile.{MadeFile}
 use Rattle.checkout.specs.Changes.{IsLinkChange}
 use Rattle.checkout.specs.Listing.{added_change, gone_change, gone_changes}
 use Rattle.checkout.specs.Manifest.{Line, Manifest}
-use Rattle.checkout.specs.Overlay.{still, tree_over, IsOverlay}
+use Rattle.checkout.specs.Overlay.{still, tree_over, AreParts}
 use Rattle.checkout.specs.Tree.{Tree, link_cmp, links_from}
 use Rattle.checkout.proofs.ChangeLists.{all_entries, all-map, all-append, contains_found}
 use Rattle.checkout.proofs.FlatLemmas.{link_cmp_total, link_cmp-same}
@@ -41,7 +41,7 @@ listed_there added lines (f ∷ fs) file x h place =
     behind None k = k
     behind (Some y) k = Contains-append_right (y ∷ []) (gone_changes added lines fs) x k
 
-module _ (m : Manifest) (made : FinMap nat_cmp MadeFile) (added : FinMap link_cmp FileId) (gone : ℕ → Bool) (lost : ℕ → ℕ) (next : ℕ) (is : IsOverlay m made added gone lost next) where
+module _ (m : Manifest) (made : FinMap nat_cmp MadeFile) (added : FinMap link_cmp FileId) (gone : ℕ → Bool) (lost : ℕ → ℕ) (next : ℕ) (is : AreParts m made added gone lost) where
   abbrev tree : Tree
   tree = tree_over m made added gone next
 

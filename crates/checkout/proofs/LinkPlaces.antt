@@ -14,7 +14,7 @@ use Rattle.checkout.specs.declared.made.MadeFile.{MadeFile}
 use Rattle.checkout.specs.Changes.{AreLinkChanges, IsLinkChange, place_of}
 use Rattle.checkout.specs.Listing.{added_change, gone_change, gone_changes}
 use Rattle.checkout.specs.Manifest.{Manifest}
-use Rattle.checkout.specs.Overlay.{tree_over, IsOverlay}
+use Rattle.checkout.specs.Overlay.{tree_over, AreParts}
 use Rattle.checkout.specs.Tree.{Tree, link_cmp, links_from}
 use Rattle.checkout.proofs.ChangeLists.{all_entries, all-map, distinct-append, keys_rise, rising_from_sorted}
 use Rattle.checkout.proofs.FlatLemmas.{link_cmp_total, link_cmp-same}
@@ -38,7 +38,7 @@ all_weaker : {X : Type 0} (P Q : X → Type 0) → ((x : X) → P x → Q x) →
 all_weaker P Q f [] h = tt
 all_weaker P Q f (x ∷ xs) h = (f x h.0, all_weaker P Q f xs h.1)
 
-module _ (m : Manifest) (made : FinMap nat_cmp MadeFile) (added : FinMap link_cmp FileId) (gone : ℕ → Bool) (lost : ℕ → ℕ) (next : ℕ) (is : IsOverlay m made added gone lost next) where
+module _ (m : Manifest) (made : FinMap nat_cmp MadeFile) (added : FinMap link_cmp FileId) (gone : ℕ → Bool) (lost : ℕ → ℕ) (next : ℕ) (is : AreParts m made added gone lost) where
   abbrev tree : Tree
   tree = tree_over m made added gone next
 

@@ -14,7 +14,7 @@ use Rattle.checkout.specs.declared.made.MadeFile.{MadeFile}
 use Rattle.checkout.specs.Changes.{AreMade, IsMade, file_ids}
 use Rattle.checkout.specs.Listing.{listed_file}
 use Rattle.checkout.specs.Manifest.{Manifest}
-use Rattle.checkout.specs.Overlay.{file_made, tree_over, IsOverlay}
+use Rattle.checkout.specs.Overlay.{file_made, tree_over, AreParts}
 use Rattle.checkout.specs.Tree.{Tree, link_cmp, files_from, made_file}
 use Rattle.checkout.proofs.ChangeLists.{all_entries, all-map, contains_found, keys_rise}
 use Rattle.checkout.proofs.ManifestIsTree.{tree_of-IsTree}
@@ -24,7 +24,7 @@ ids_of : (es : List (ℕ × MadeFile)) → file_ids (map listed_file es) ≡ map
 ids_of [] = refl
 ids_of (e ∷ es) = ap (λ ids. e.0 ∷ ids) (ids_of es)
 
-module _ (m : Manifest) (made : FinMap nat_cmp MadeFile) (added : FinMap link_cmp FileId) (gone : ℕ → Bool) (lost : ℕ → ℕ) (next : ℕ) (is : IsOverlay m made added gone lost next) where
+module _ (m : Manifest) (made : FinMap nat_cmp MadeFile) (added : FinMap link_cmp FileId) (gone : ℕ → Bool) (lost : ℕ → ℕ) (next : ℕ) (is : AreParts m made added gone lost) where
   abbrev tree : Tree
   tree = tree_over m made added gone next
 

@@ -71,35 +71,37 @@ module _ (m : Manifest) (made : FinMap nat_cmp MadeFile) (added : FinMap link_cm
     no_link_added =
         elim (get added (dir.0, name)) as (λ o. get added (dir.0, name) ≡ o → o ≡ None) [
           | None ↦ λ e. refl
-          | Some f ↦ λ e. let there = child_added m made added gone lost next is dir name f e in absurd (cc (there, free))
+          | Some f ↦ λ e. let there = child_added m made added gone lost next is.parts dir name f e in absurd (cc (there, free))
         ] refl
 
     no_link_left : still gone (get (links_from 2 m.lines) (dir.0, name)) ≡ None
-    no_link_left = sym (child-over m made added gone lost next is dir name ∙ ap (λ o. option_or o (still gone (get (links_from 2 m.lines) (dir.0, name)))) no_link_added) ∙ free
+    no_link_left = sym (child-over m made added gone lost next is.parts dir name ∙ ap (λ o. option_or o (still gone (get (links_from 2 m.lines) (dir.0, name)))) no_link_added) ∙ free
 
     pub create-IsOverlay : IsOverlay m made' added' gone lost (next + 1)
     create-IsOverlay = record {
-      is_manifest = is.is_manifest;
+      parts = record {
+        is_manifest = is.parts.is_manifest;
+        made_are_later = λ file h.
+            let f = some-is _ h in
+            elim (get-insert_cases nat_cmp_total nat_cmp-IsAntisymmetric made next (kept_file kind perm) file f.0 f.1) [
+              | inl w ↦ omega (arith, w.0, later)
+              | inr old ↦ is.parts.made_are_later file (some-IsSome _ f.0 old)
+            ];
+        added_differ = λ d n file h. elim (get-insert_cases link_cmp_total link_cmp-same added (dir.0, name) (file_with next) (d.0, n) file h) [
+          | inl w ↦ λ first.
+              let id : next ≡ file.0 = ap (λ (f : FileId). f.0) w.1 in
+              let within = within_lines m file (line_of_base m made added gone lost next is.parts d n file first) in
+              omega (arith, id, within.1, later)
+          | inr old ↦ is.parts.added_differ d n file old
+        ];
+        added_are_apart = λ d n h.
+            let f = some-is _ h in
+            elim (get-insert_cases link_cmp_total link_cmp-same added (dir.0, name) (file_with next) (d, n) f.0 f.1) [
+              | inl w ↦ ap (λ k. still gone (get (links_from 2 m.lines) k)) w.0 ∙ no_link_left
+              | inr old ↦ is.parts.added_are_apart d n (some-IsSome _ f.0 old)
+            ];
+        gone_are_lines = is.parts.gone_are_lines;
+        lost_are_counted = is.parts.lost_are_counted;
+      };
       is_tree = subst IsTree (sym (tree_over-created m made added gone next dir name kind perm)) (created-IsTree tree dir name kind perm is.is_tree is_dir is_reached free is_name fits);
-      made_are_later = λ file h.
-          let f = some-is _ h in
-          elim (get-insert_cases nat_cmp_total nat_cmp-IsAntisymmetric made next (kept_file kind perm) file f.0 f.1) [
-            | inl w ↦ omega (arith, w.0, later)
-            | inr old ↦ is.made_are_later file (some-IsSome _ f.0 old)
-          ];
-      added_differ = λ d n file h. elim (get-insert_cases link_cmp_total link_cmp-same added (dir.0, name) (file_with next) (d.0, n) file h) [
-        | inl w ↦ λ first.
-            let id : next ≡ file.0 = ap (λ (f : FileId). f.0) w.1 in
-            let within = within_lines m file (line_of_base m made added gone lost next is d n file first) in
-            omega (arith, id, within.1, later)
-        | inr old ↦ is.added_differ d n file old
-      ];
-      added_are_apart = λ d n h.
-          let f = some-is _ h in
-          elim (get-insert_cases link_cmp_total link_cmp-same added (dir.0, name) (file_with next) (d, n) f.0 f.1) [
-            | inl w ↦ ap (λ k. still gone (get (links_from 2 m.lines) k)) w.0 ∙ no_link_left
-            | inr old ↦ is.added_are_apart d n (some-IsSome _ f.0 old)
-          ];
-      gone_are_lines = is.gone_are_lines;
-      lost_are_counted = is.lost_are_counted;
     }

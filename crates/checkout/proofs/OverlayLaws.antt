@@ -12,7 +12,7 @@ use Rattle.checkout.specs.declared.made.MadeFile.{MadeFile}
 use Rattle.checkout.specs.Added.{gives}
 use Rattle.checkout.specs.Manifest.{Manifest}
 use Rattle.checkout.specs.Tree.{Tree, link_cmp, child_of, has_links, is_linked, links_from}
-use Rattle.checkout.specs.Overlay.{still, tree_over, kids_in, lost_in, is_line, IsOverlay}
+use Rattle.checkout.specs.Overlay.{still, tree_over, kids_in, lost_in, is_line, AreParts}
 use Rattle.checkout.proofs.FlatLemmas.{link_cmp_total, has_link, has_no_link}
 use Rattle.checkout.proofs.LineCounts.{left_from_lost, lost_from_left}
 use Rattle.checkout.proofs.LinkLaws.{given_from_link, link_from_given, linked_from_child, child_from_linked}
@@ -49,7 +49,7 @@ within_lines m file h =
     let b = w.1 in
     (grind (arith, nat_tests), grind (arith, nat_tests))
 
-module _ (m : Manifest) (made : FinMap nat_cmp MadeFile) (added : FinMap link_cmp FileId) (gone : ℕ → Bool) (lost : ℕ → ℕ) (next : ℕ) (is : IsOverlay m made added gone lost next) where
+module _ (m : Manifest) (made : FinMap nat_cmp MadeFile) (added : FinMap link_cmp FileId) (gone : ℕ → Bool) (lost : ℕ → ℕ) (next : ℕ) (is : AreParts m made added gone lost) where
   abbrev tree : Tree
   tree = tree_over m made added gone next
 

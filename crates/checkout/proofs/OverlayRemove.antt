@@ -56,19 +56,21 @@ module _ (m : Manifest) (made : FinMap nat_cmp MadeFile) (added : FinMap link_cm
 
     pub tree_over-removed_added : tree_over m made added' gone next ≡ removed tree dir name
     tree_over-removed_added =
-        let links = remove-links_over added added' gone gone base (dir.0, name) (get-remove_same link_cmp_total added (dir.0, name)) (is.added_are_apart dir.0 name (some-IsSome _ file here))
+        let links = remove-links_over added added' gone gone base (dir.0, name) (get-remove_same link_cmp_total added (dir.0, name)) (is.parts.added_are_apart dir.0 name (some-IsSome _ file here))
         (λ q other. ap (λ o. option_or o (still gone (get base q))) (get-remove_other link_cmp_total link_cmp-same added (dir.0, name) q other)) in
         λ i. record { manifest = m; files = files_over made (files_from 2 m.lines); links = links i; next_file = next }
 
     pub remove_added-IsOverlay : IsOverlay m made added' gone lost next
     remove_added-IsOverlay = record {
-      is_manifest = is.is_manifest;
-      is_tree = subst IsTree (sym tree_over-removed_added) (removed-IsTree tree dir name file is.is_tree (child_added m made added gone lost next is dir name file here) not_full);
-      made_are_later = is.made_are_later;
-      added_differ = λ d n g h. is.added_differ d n g (get-remove_cases link_cmp_total link_cmp-same added (dir.0, name) (d.0, n) g h).0;
-      added_are_apart = λ d n h. let x = some-is _ h in is.added_are_apart d n (some-IsSome _ x.0 (get-remove_cases link_cmp_total link_cmp-same added (dir.0, name) (d, n) x.0 x.1).0);
-      gone_are_lines = is.gone_are_lines;
-      lost_are_counted = is.lost_are_counted;
+      parts = record {
+        is_manifest = is.parts.is_manifest;
+        made_are_later = is.parts.made_are_later;
+        added_differ = λ d n g h. is.parts.added_differ d n g (get-remove_cases link_cmp_total link_cmp-same added (dir.0, name) (d.0, n) g h).0;
+        added_are_apart = λ d n h. let x = some-is _ h in is.parts.added_are_apart d n (some-IsSome _ x.0 (get-remove_cases link_cmp_total link_cmp-same added (dir.0, name) (d, n) x.0 x.1).0);
+        gone_are_lines = is.parts.gone_are_lines;
+        lost_are_counted = is.parts.lost_are_counted;
+      };
+      is_tree = subst IsTree (sym tree_over-removed_added) (removed-IsTree tree dir name file is.is_tree (child_added m made added gone lost next is.parts dir name file here) not_full);
     }
 
   -- a link of the manifest
@@ -85,7 +87,7 @@ module _ (m : Manifest) (made : FinMap nat_cmp MadeFile) (added : FinMap link_cm
           | true ↦ λ e.
               let id : g.0 ≡ file.0 = grind (arith, nat_tests) in
               let there = here ∙ ap (λ x. Some x) (same_id file g (sym id)) in
-              let w = (tree_of-IsTree m is.is_manifest).links_are_apart (record { 0 = q.0 }) dir q.1 name g h there in
+              let w = (tree_of-IsTree m is.parts.is_manifest).links_are_apart (record { 0 = q.0 }) dir q.1 name g h there in
               absurd (other (λ i. ((w.0 i).0, w.1 i)))
         ] refl
 
@@ -103,20 +105,22 @@ module _ (m : Manifest) (made : FinMap nat_cmp MadeFile) (added : FinMap link_cm
 
     pub remove-IsOverlay : IsOverlay m made added gone' lost' next
     remove-IsOverlay = record {
-      is_manifest = is.is_manifest;
-      is_tree = subst IsTree (sym tree_over-removed) (removed-IsTree tree dir name file is.is_tree (child_left m made added gone lost next is dir name file here left) not_full);
-      made_are_later = is.made_are_later;
-      added_differ = is.added_differ;
-      added_are_apart = λ d n h. let o = is.added_are_apart d n h in at_all d n o;
-      gone_are_lines = λ q h. gone_line q (sym (one_more q.0) ∙ h);
-      lost_are_counted = λ d. counted d ∙ count d;
+      parts = record {
+        is_manifest = is.parts.is_manifest;
+        made_are_later = is.parts.made_are_later;
+        added_differ = is.parts.added_differ;
+        added_are_apart = λ d n h. let o = is.parts.added_are_apart d n h in at_all d n o;
+        gone_are_lines = λ q h. gone_line q (sym (one_more q.0) ∙ h);
+        lost_are_counted = λ d. counted d ∙ count d;
+      };
+      is_tree = subst IsTree (sym tree_over-removed) (removed-IsTree tree dir name file is.is_tree (child_left m made added gone lost next is.parts dir name file here left) not_full);
     }
       where
         gone_line : (q : FileId) → ((q.0 == file.0) || gone q.0) ≡ true → is_line m q ≡ true
         gone_line q h =
             elim (q.0 == file.0) as (λ b. (q.0 == file.0) ≡ b → (b || gone q.0) ≡ true → is_line m q ≡ true) [
-              | true ↦ λ e k. let id : q.0 ≡ file.0 = grind (arith, nat_tests) in ap (is_line m) (same_id q file id) ∙ line_of_base m made added gone lost next is dir name file here
-              | false ↦ λ e k. is.gone_are_lines q k
+              | true ↦ λ e k. let id : q.0 ≡ file.0 = grind (arith, nat_tests) in ap (is_line m) (same_id q file id) ∙ line_of_base m made added gone lost next is.parts dir name file here
+              | false ↦ λ e k. is.parts.gone_are_lines q k
             ] refl h
 
         at_all : (d : ℕ) (n : List ℕ) → still gone (get base (d, n)) ≡ None → still gone' (get base (d, n)) ≡ None
@@ -133,7 +137,7 @@ module _ (m : Manifest) (made : FinMap nat_cmp MadeFile) (added : FinMap link_cm
             let r = line_of_link m.lines 2 dir.0 name file here in
             let more = lost-one_more gone gone' file.0 one_more left d 2 r.place m.lines r.line r.here r.file_is in
             let at = ap (λ (x : ℕ). x == d) r.dir_is in
-            let before = is.lost_are_counted d in
+            let before = is.parts.lost_are_counted d in
             elim (d == dir.0) as (λ b. (d == dir.0) ≡ b → (if b then lost d + 1 else lost d) ≡ lost_in gone' d 2 m.lines) [
               | true ↦ λ e. let yes : (dir.0 == d) ≡ true = grind (arith, nat_tests) in let c = ap {B = ℕ} (λ b. cond b 1 0) (at ∙ yes) in omega (arith, more, c, before)
               | false ↦ λ e. let no : (dir.0 == d) ≡ false = grind (arith, nat_tests) in let c = ap {B = ℕ} (λ b. cond b 1 0) (at ∙ no) in omega (arith, more, c, before)

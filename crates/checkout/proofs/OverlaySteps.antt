@@ -13,7 +13,7 @@ use Rattle.eden_base.specs.declared.number.FileId.{FileId}
 use Rattle.checkout.specs.declared.made.MadeFile.{MadeFile}
 use Rattle.checkout.specs.Added.{gives}
 use Rattle.checkout.specs.Manifest.{Manifest, IsManifest}
-use Rattle.checkout.specs.Overlay.{tree_over, IsOverlay}
+use Rattle.checkout.specs.Overlay.{tree_over, AreParts, IsOverlay}
 use Rattle.checkout.specs.Tree.{Tree, IsTree, link_cmp, kind_of, child_of, is_unlinked, is_full_dir, created, removed, tree_of, files_from, links_from}
 use Rattle.checkout.proofs.FlatLemmas.{link_cmp_total, link_cmp-same}
 use Rattle.checkout.proofs.CreateLaws.{linked_is_below}
@@ -34,16 +34,18 @@ start-is m gone none =
     let links = links_over-nothing gone (links_from 2 m.lines) none in
     λ i. record { manifest = m; files = files i; links = links i; next_file = length m.lines + 2 }
 
-pub start-IsOverlay : (m : Manifest) (gone : ℕ → Bool) (lost : ℕ → ℕ) → IsManifest m → ((q : ℕ) → gone q ≡ false) → ((q : ℕ) → lost q ≡ 0) → IsOverlay m empty empty gone lost (length m.lines + 2)
-start-IsOverlay m gone lost is none no_loss = record {
+pub start-AreParts : (m : Manifest) (gone : ℕ → Bool) (lost : ℕ → ℕ) → IsManifest m → ((q : ℕ) → gone q ≡ false) → ((q : ℕ) → lost q ≡ 0) → AreParts m empty empty gone lost
+start-AreParts m gone lost is none no_loss = record {
   is_manifest = is;
-  is_tree = subst IsTree (sym (start-is m gone none)) (tree_of-IsTree m is);
   made_are_later = λ file h. let e = get-empty {X = MadeFile} nat_cmp file in absurd (let s : IsSome {T = MadeFile} None = subst IsSome e h in cc (s));
   added_differ = λ dir name file h. let e = get-empty {X = FileId} link_cmp (dir.0, name) in absurd (cc (e, h));
   added_are_apart = λ dir name h. let e = get-empty {X = FileId} link_cmp (dir, name) in absurd (let s : IsSome {T = FileId} None = subst IsSome e h in cc (s));
   gone_are_lines = λ file h. let e = none file.0 in absurd (cc (e, h));
   lost_are_counted = λ dir. no_loss dir ∙ sym (lost_in-none gone none dir 2 m.lines);
 }
+
+pub start-IsOverlay : (m : Manifest) (gone : ℕ → Bool) (lost : ℕ → ℕ) → IsManifest m → ((q : ℕ) → gone q ≡ false) → ((q : ℕ) → lost q ≡ 0) → IsOverlay m empty empty gone lost (length m.lines + 2)
+start-IsOverlay m gone lost is none no_loss = record { parts = start-AreParts m gone lost is none no_loss; is_tree = subst IsTree (sym (start-is m gone none)) (tree_of-IsTree m is) }
 
 module _ (m : Manifest) (made : FinMap nat_cmp MadeFile) (added : FinMap link_cmp FileId) (gone : ℕ → Bool) (lost : ℕ → ℕ) (next : ℕ) (is : IsOverlay m made added gone lost next) (self : Tree) (view : tree_over m made added gone next ≡ self) (dir : FileId) (name : List ℕ) where
   abbrev tree : Tree
@@ -56,7 +58,7 @@ module _ (m : Manifest) (made : FinMap nat_cmp MadeFile) (added : FinMap link_cm
         | false ↦ λ _. refl
         | true ↦ λ e.
             let at = link_from_given added file e in
-            let below = linked_is_below tree is.is_tree at.0 at.1 file (child_added m made added gone lost next is at.0 at.1 file at.2) in
+            let below = linked_is_below tree is.is_tree at.0 at.1 file (child_added m made added gone lost next is.parts at.0 at.1 file at.2) in
             absurd (omega (arith, below, id))
       ] refl
 
@@ -68,7 +70,7 @@ module _ (m : Manifest) (made : FinMap nat_cmp MadeFile) (added : FinMap link_cm
     none_added =
         elim (get added (dir.0, name)) as (λ o. get added (dir.0, name) ≡ o → o ≡ None) [
           | None ↦ λ e. refl
-          | Some f ↦ λ e. let there = child_added m made added gone lost next is dir name f e in absurd (cc (there, free_here))
+          | Some f ↦ λ e. let there = child_added m made added gone lost next is.parts dir name f e in absurd (cc (there, free_here))
         ] refl
 
     pub none_there : (bytes : List ℕ) → bytes ≡ name → get added (dir.0, bytes) ≡ None
@@ -102,7 +104,7 @@ module _ (m : Manifest) (made : FinMap nat_cmp MadeFile) (added : FinMap link_cm
     remove_added-step bytes file added' e here a =
         let here' = sym (ap (λ (n : List ℕ). get added (dir.0, n)) e) ∙ here in
         let a' = a ∙ ap (λ (n : List ℕ). remove added (dir.0, n)) e in
-        let there = child_added m made added gone lost next is dir name file here' in
+        let there = child_added m made added gone lost next is.parts dir name file here' in
         let empty_or_file = not_full_here file there in
         rw a' (
           remove_added-IsOverlay m made added gone lost next is dir name file here' empty_or_file,
@@ -117,7 +119,7 @@ module _ (m : Manifest) (made : FinMap nat_cmp MadeFile) (added : FinMap link_cm
       -- what is not an added link is one of the manifest's
       pub line_link : (file : FileId) → child_of self dir name ≡ Some file → (get (links_from 2 m.lines) (dir.0, name) ≡ Some file) × (gone file.0 ≡ false)
       line_link file h =
-          elim (child_cases m made added gone lost next is dir name file (ap (λ (t : Tree). child_of t dir name) view ∙ h)) [ inl a ↦ absurd (cc (a, none_here)) | inr w ↦ w ]
+          elim (child_cases m made added gone lost next is.parts dir name file (ap (λ (t : Tree). child_of t dir name) view ∙ h)) [ inl a ↦ absurd (cc (a, none_here)) | inr w ↦ w ]
 
       pub is_found : (found : Option FileId) → IsSome (child_of self dir name) → found ≡ get (links_from 2 m.lines) (dir.0, bytes') → IsSome found
       is_found found there f =
@@ -141,11 +143,11 @@ module _ (m : Manifest) (made : FinMap nat_cmp MadeFile) (added : FinMap link_cm
           let same : w.0 ≡ file = let x = at.0 in cc (x, found_here) in
           let r = line_of_link m.lines 2 dir.0 name file found_here in
           let within = slice_get_within m.lines r.place r.line r.here in
-          let dir_before = (is.is_manifest.lines.each r.place r.line r.here).dir_before in
-          let counted = is.lost_are_counted dir.0 in
+          let dir_before = (is.parts.is_manifest.lines.each r.place r.line r.here).dir_before in
+          let counted = is.parts.lost_are_counted dir.0 in
           let kids = lost-le-kids gone dir.0 2 m.lines in
           let all = kids-le-length dir.0 m.lines in
-          let few = is.is_manifest.lines.few in
+          let few = is.parts.is_manifest.lines.few in
           record {
             child = w.1 ∙ ap (λ x. Some x) same;
             here = found_here;

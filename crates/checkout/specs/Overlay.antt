@@ -53,11 +53,10 @@ abbrev pub lost_in : (ℕ → Bool) → ℕ → ℕ → List Line → ℕ
 lost_in gone dir id [] = 0
 lost_in gone dir id (l ∷ ls) = (if (l.dir.0 == dir) && gone id then 1 else 0) + lost_in gone dir (id + 1) ls
 
--- what holds of such differences
-pub record IsOverlay (m : Manifest) (made : FinMap nat_cmp MadeFile) (added : FinMap link_cmp FileId)
-    (gone : ℕ → Bool) (lost : ℕ → ℕ) (next : ℕ) : Type 0 where
+-- what holds of such differences, whether or not they leave a tree
+pub record AreParts (m : Manifest) (made : FinMap nat_cmp MadeFile) (added : FinMap link_cmp FileId)
+    (gone : ℕ → Bool) (lost : ℕ → ℕ) : Type 0 where
   pub is_manifest : IsManifest m
-  pub is_tree : IsTree (tree_over m made added gone next)
   pub made_are_later : (file : ℕ) → IsSome (get made file) → length m.lines + 2 ≤ file
   -- a link that was added is not one of the manifest's
   pub added_differ : (dir : FileId) (name : List ℕ) (file : FileId) → get added (dir.0, name) ≡ Some file →
@@ -67,3 +66,9 @@ pub record IsOverlay (m : Manifest) (made : FinMap nat_cmp MadeFile) (added : Fi
       still gone (get (links_from 2 m.lines) (dir, name)) ≡ None
   pub gone_are_lines : (file : FileId) → gone file.0 ≡ true → is_line m file ≡ true
   pub lost_are_counted : (dir : ℕ) → lost dir ≡ lost_in gone dir 2 m.lines
+
+-- what holds of the differences of a tree
+pub record IsOverlay (m : Manifest) (made : FinMap nat_cmp MadeFile) (added : FinMap link_cmp FileId)
+    (gone : ℕ → Bool) (lost : ℕ → ℕ) (next : ℕ) : Type 0 where
+  pub parts : AreParts m made added gone lost
+  pub is_tree : IsTree (tree_over m made added gone next)

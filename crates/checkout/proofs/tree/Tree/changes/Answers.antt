@@ -24,13 +24,13 @@ list-requires-2 c =
     let i = c.self.inside in
     let o = c.self.invariant.0 in
     let names = all_entries link_cmp_total (λ link. IsNameText link.0.1) (entries i.added) (entries_sorted i.added) (λ k v found.
-    o.is_tree.links_have_names (record { 0 = k.0 }) k.1 v (child_added i.manifest i.made i.added (is_gone i.gone) (count_of i.lost) i.next_file o (record { 0 = k.0 }) k.1 v (get-entries i.added k ∙ found))) in
+    o.is_tree.links_have_names (record { 0 = k.0 }) k.1 v (child_added i.manifest i.made i.added (is_gone i.gone) (count_of i.lost) i.next_file o.parts (record { 0 = k.0 }) k.1 v (get-entries i.added k ∙ found))) in
     record { names = subst (λ links. AllByRecursion (λ link. IsNameText link.0.1) (entries links)) (sym c.links-added.ensures) names }
 
 pub list-requires-3 : goal.list-requires-3
 list-requires-3 c =
     let i = c.self.inside in
-    record { lines = subst (λ ls. HaveLines ls i.gone.files) (sym c.lines.ensures.lines) (all_have_lines i.manifest i.gone c.self.invariant.0.gone_are_lines) }
+    record { lines = subst (λ ls. HaveLines ls i.gone.files) (sym c.lines.ensures.lines) (all_have_lines i.manifest i.gone c.self.invariant.0.parts.gone_are_lines) }
 
 pub returns-clause-changes : goal.returns-clause-changes
 returns-clause-changes c =
@@ -40,9 +40,9 @@ returns-clause-changes c =
     let listed = c.in_ok-list-2.ensures.listed ∙ ap (λ links. c.list-2.new.links.items ++ gone_changes links c.lines.result.now i.gone.files) c.links-added.ensures ∙ ap (λ ls. c.list-2.new.links.items ++ gone_changes i.added ls i.gone.files) c.lines.ensures.lines
     ∙ ap (λ xs. xs ++ gone_changes i.added i.manifest.lines i.gone.files) (c.in_ok-list.ensures ∙ ap (λ links. c.new-links.result.items ++ map added_change (entries links)) c.links-added.ensures ∙ ap (λ xs. xs ++ map added_change (entries i.added)) c.new-links.ensures.items) in
     let moved = subst (λ xs. IsPermutation xs c.sort.new.links.items) listed c.sort.ensures.permutation in
-    let links = AreLinkChanges-over i.manifest i.made i.added (is_gone i.gone) (count_of i.lost) i.next_file o i.gone.files c.sort.new.links.items (λ q. refl) c.in_ok-list-2.ensures.distinct (all_gone i.gone) moved c.sort.ensures.sorted in
+    let links = AreLinkChanges-over i.manifest i.made i.added (is_gone i.gone) (count_of i.lost) i.next_file o.parts i.gone.files c.sort.new.links.items (λ q. refl) c.in_ok-list-2.ensures.distinct (all_gone i.gone) moved c.sort.ensures.sorted in
     record {
-      made = subst (AreMade c.args.self.now) (sym made) (subst (λ t. AreMade t (map listed_file (entries i.made))) c.self.view_is (AreMade-over i.manifest i.made i.added (is_gone i.gone) (count_of i.lost) i.next_file o));
+      made = subst (AreMade c.args.self.now) (sym made) (subst (λ t. AreMade t (map listed_file (entries i.made))) c.self.view_is (AreMade-over i.manifest i.made i.added (is_gone i.gone) (count_of i.lost) i.next_file o.parts));
       links = subst (AreLinkChanges c.args.self.now) (sym c.of-2.ensures.links) (subst (λ t. AreLinkChanges t c.sort.new.links.items) c.self.view_is links);
       next = c.next_file.ensures.next_file;
     }
@@ -56,5 +56,5 @@ returns-clause-no_others c others too = one_changes c.args.self.now _ others (re
 
 pub returns-clause-names : goal.returns-clause-names
 returns-clause-names c =
-    let first = subst (λ t. IsTree (tree_of t.manifest)) c.self.view_is (tree_of-IsTree c.self.inside.manifest c.self.invariant.0.is_manifest) in
+    let first = subst (λ t. IsTree (tree_of t.manifest)) c.self.view_is (tree_of-IsTree c.self.inside.manifest c.self.invariant.0.parts.is_manifest) in
     changed_names c.args.self.now _ c.next_file.ensures.is_tree first (returns-clause-changes c)

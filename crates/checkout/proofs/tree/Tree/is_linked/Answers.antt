@@ -19,14 +19,14 @@ is_given added file None none = sym none
 pub returns-then-is_some : goal.returns-then-is_some
 returns-then-is_some c =
     let i = c.self.inside in
-    let all = is_linked-over i.manifest i.made i.added (is_gone i.gone) (count_of i.lost) i.next_file c.self.invariant.0 c.args.file in
+    let all = is_linked-over i.manifest i.made i.added (is_gone i.gone) (count_of i.lost) i.next_file c.self.invariant.0.parts c.args.file in
     let given = sym (is_given i.added c.args.file c.dir_of.result c.dir_of.ensures) ∙ sym c.is_some.ensures ∙ c.if-is_some.true in
     rw (← c.self.view_is) (record { linked = c.if-is_some.true ∙ sym (all ∙ ap (λ b. b || (is_line i.manifest c.args.file && not (is_gone i.gone c.args.file.0))) given) })
 
 pub returns-then-is_line : goal.returns-then-is_line
 returns-then-is_line c =
     let i = c.self.inside in
-    let all = is_linked-over i.manifest i.made i.added (is_gone i.gone) (count_of i.lost) i.next_file c.self.invariant.0 c.args.file in
+    let all = is_linked-over i.manifest i.made i.added (is_gone i.gone) (count_of i.lost) i.next_file c.self.invariant.0.parts c.args.file in
     let given = sym (is_given i.added c.args.file c.dir_of.result c.dir_of.ensures) ∙ sym c.is_some.ensures ∙ c.if-is_some.false in
     let line = ap (λ m. is_line m c.args.file) (ap (λ t. t.manifest) c.self.view_is) ∙ sym c.is_line.ensures ∙ c.if-is_line.true in
     rw (← c.self.view_is) (record { linked = ap not c.has.ensures ∙ sym (all ∙ ap (λ b. b || (is_line i.manifest c.args.file && not (is_gone i.gone c.args.file.0))) given ∙ ap (λ b. b && not (is_gone i.gone c.args.file.0)) line) })
@@ -34,7 +34,7 @@ returns-then-is_line c =
 pub returns-else-is_line : goal.returns-else-is_line
 returns-else-is_line c =
     let i = c.self.inside in
-    let all = is_linked-over i.manifest i.made i.added (is_gone i.gone) (count_of i.lost) i.next_file c.self.invariant.0 c.args.file in
+    let all = is_linked-over i.manifest i.made i.added (is_gone i.gone) (count_of i.lost) i.next_file c.self.invariant.0.parts c.args.file in
     let given = sym (is_given i.added c.args.file c.dir_of.result c.dir_of.ensures) ∙ sym c.is_some.ensures ∙ c.if-is_some.false in
     let line = ap (λ m. is_line m c.args.file) (ap (λ t. t.manifest) c.self.view_is) ∙ sym c.is_line.ensures ∙ c.if-is_line.false in
     rw (← c.self.view_is) (record { linked = c.if-is_line.false ∙ sym (all ∙ ap (λ b. b || (is_line i.manifest c.args.file && not (is_gone i.gone c.args.file.0))) given ∙ ap (λ b. b && not (is_gone i.gone c.args.file.0)) line) })

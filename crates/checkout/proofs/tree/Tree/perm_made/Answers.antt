@@ -41,6 +41,6 @@ returns c =
     let base = files_from 2 i.manifest.lines in
     let there = sym c.get.ensures ∙ c.in_ok-made.was in
     let file = get-files_over i.made base c.args.file.0 ∙ ap (λ o. option_or (option_map file_made o) (get base c.args.file.0)) there in
-    let later = c.self.invariant.0.made_are_later c.args.file.0 (some-IsSome _ c.in_ok-made.made there) in
+    let later = c.self.invariant.0.parts.made_are_later c.args.file.0 (some-IsSome _ c.in_ok-made.made there) in
     let past : nat_lt c.args.file.0 (length i.manifest.lines + 2) ≡ false = grind (arith, nat_tests) in
     rw (← c.self.view_is) (record { perm = sym (ap (λ o. if nat_lt c.args.file.0 (length i.manifest.lines + 2) then None else perm_of o) file ∙ ap (λ (b : Bool). if b then None else Some c.in_ok-made.made.perm) past) })
