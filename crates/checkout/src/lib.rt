@@ -16,6 +16,7 @@ mod links;
 mod made;
 mod manifest;
 mod order;
+mod overlay;
 mod tally;
 mod tree;
 

@@ -7,7 +7,6 @@ ghost use Rattle.eden_base.specs.declared.attr.Kind.TheVariants.{Dir};
 ghost use Rattle.checkout.specs.Changes.{AreChanges};
 ghost use Rattle.checkout.specs.declared.changes.Changes.{Changes as ChangesState};
 ghost use Rattle.checkout.specs.Create.{IsCreateRefusal};
-ghost use Rattle.checkout.specs.Overlay.{is_line};
 ghost use Rattle.checkout.specs.Tree.{Tree as TreeState, IsTree, tree_of, child_of, kind_of, attr_of, file_of, perm_made, next_file, nlink_of, has_links, is_empty_dir, is_full_dir, is_linked, is_unlinked, created, removed};
 
 use crate::added::Added;
@@ -15,7 +14,7 @@ use crate::gone::Gone;
 use crate::made::{MadeFile, MadeFiles};
 use crate::order::sort;
 use crate::tally::Tally;
-use crate::{Changes, Content, CreateFault, LinkList, MadeList, Manifest};
+use crate::{Changes, Content, CreateFault, LinkList, MadeList, Manifest, overlay};
 use eden_base::{Attr, END_OF_FILES, FileId, Kind, Name, NoMemory, Perm};
 use std::alloc::Global;
 use std::marker::Model;
@@ -124,14 +123,7 @@ impl Tree {
     pub fn is_linked(&self, file: FileId) -> bool
         ensures linked { result ≡ is_linked self.now file }
     {
-        self.added.dir_of(file).is_some() || (self.is_line(file) && !self.gone.has(file))
-    }
-
-    /// Returns whether the file is one of the manifest, below the root.
-    fn is_line(&self, file: FileId) -> bool
-        ensures { result ≡ is_line self.now.manifest file }
-    {
-        2 <= file.0 && file.0 < self.manifest.lines().len() as u64 + 2
+        overlay::is_linked(&self.manifest, &self.added, &self.gone, file)
     }
 
     /// Returns what a daemon tells the kernel of a file of the tree.
@@ -176,7 +168,7 @@ impl Tree {
     fn has_links(&self, dir: FileId) -> bool
         ensures { result ≡ has_links self.now dir }
     {
-        self.added.links().has_links(dir) || self.lost.count(dir.0) < self.manifest.kids(dir)
+        overlay::has_links(&self.manifest, &self.added, &self.lost, dir)
     }
 
     /// Returns the file under a name in a directory.

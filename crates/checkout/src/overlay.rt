@@ -1,0 +1,43 @@
+//! The names of a tree that is laid over a manifest's, by its parts. They may not make a tree yet.
+ghost use Rattle.std.specs.Prelude.{◌≡◌, ◌==◌, ◌&&◌, ◌||◌, nat_lt, not};
+ghost use Rattle.std.specs.FinMap.{entries};
+ghost use Rattle.std.specs.List.{list_any};
+ghost use Rattle.checkout.specs.Added.{gives};
+ghost use Rattle.checkout.specs.Gone.{is_gone};
+ghost use Rattle.checkout.specs.Overlay.{is_line, kids_in};
+ghost use Rattle.checkout.specs.Tally.{count_of};
+
+use crate::Manifest;
+use crate::added::Added;
+use crate::gone::Gone;
+use crate::tally::Tally;
+use eden_base::FileId;
+
+/// Returns whether the file is one of the manifest, below the root.
+pub fn is_line(manifest: &Manifest, file: FileId) -> bool
+    ensures { result ≡ is_line manifest.now file }
+{
+    2 <= file.0 && file.0 < manifest.lines().len() as u64 + 2
+}
+
+/// Returns whether a link of the manifest gives the file still.
+pub fn is_left(manifest: &Manifest, gone: &Gone, file: FileId) -> bool
+    ensures { result ≡ (is_line manifest.now file && not (is_gone gone.now file.0)) }
+{
+    is_line(manifest, file) && !gone.has(file)
+}
+
+/// Returns whether some name leads to the file. None leads to the root.
+pub fn is_linked(manifest: &Manifest, added: &Added, gone: &Gone, file: FileId) -> bool
+    ensures { result ≡ (gives added.now file || (is_line manifest.now file && not (is_gone gone.now file.0))) }
+{
+    added.dir_of(file).is_some() || is_left(manifest, gone, file)
+}
+
+/// Returns whether a name stands in the directory.
+pub fn has_links(manifest: &Manifest, added: &Added, lost: &Tally, dir: FileId) -> bool
+    ensures { result ≡ (list_any (λ link. link.0.0 == dir.0) (entries added.now)
+        || nat_lt (count_of lost.now dir.0) (kids_in dir.0 manifest.now.lines)) }
+{
+    added.links().has_links(dir) || lost.count(dir.0) < manifest.kids(dir)
+}
