@@ -38,5 +38,7 @@ pub mod PartsLaws
 pub mod PathLaws
 pub mod ReadLemmas
 pub mod RemoveLaws
+pub mod TakenLaws
+pub mod TakenSteps
 pub mod TextLemmas
 pub mod UnionLaws

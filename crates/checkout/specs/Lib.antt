@@ -7,6 +7,7 @@ pub mod Create
 pub mod Flat
 pub mod Gone
 pub mod MadeCodes
+pub mod Laying
 pub mod Listing
 pub mod Manifest
 pub mod ManifestForm

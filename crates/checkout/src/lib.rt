@@ -10,6 +10,7 @@ mod entry;
 mod fault;
 mod field;
 mod gone;
+mod laying;
 mod line;
 mod lines;
 mod links;

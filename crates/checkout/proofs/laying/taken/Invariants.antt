@@ -1,0 +1,13 @@
+-- What went and what goes still are all that go, and what goes still is left.
+use Rattle.std.proofs.Common.{◌≡◌, ◌++◌, drop}
+use Rattle.std.specs.List.{AllByRecursion}
+use Rattle.checkout.specs.Laying.{taken, AreTaken, IsLeft, StandApart}
+use Rattle.checkout.proofs.laying.taken.Given as goal
+
+abbrev pub invariant-loop-change : goal.invariant-loop-change
+invariant-loop-change l = record {
+  files : l.gone.files ++ taken l.manifest (drop l.change-index l.links) ≡ taken l.manifest l.links;
+  so_far : AreTaken l.manifest l.gone l.lost;
+  left : AllByRecursion (IsLeft l.manifest l.gone) (drop l.change-index l.links);
+  apart : StandApart (drop l.change-index l.links);
+}
