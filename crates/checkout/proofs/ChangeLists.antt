@@ -29,6 +29,10 @@ pub all-map : {X Y : Type 0} (P : Y → Type 0) (f : X → Y) (xs : List X) → 
 all-map P f [] h = tt
 all-map P f (x ∷ xs) h = (h.0, all-map P f xs h.1)
 
+pub all_weaker : {X : Type 0} (P Q : X → Type 0) → ((x : X) → P x → Q x) → (xs : List X) → AllByRecursion P xs → AllByRecursion Q xs
+all_weaker P Q f [] h = tt
+all_weaker P Q f (x ∷ xs) h = (f x h.0, all_weaker P Q f xs h.1)
+
 -- what is found is an entry
 pub contains_found : {K X Y : Type 0} (R : K → K → Ordering) → ((x y : K) → R x y ≡ Equal → x ≡ y) → (f : K × X → Y) (q : K) (v : X) (es : List (K × X)) → find R q es ≡ Some v → Contains (map f es) (f (q, v))
 contains_found R same f q v [] h = absurd (cc)

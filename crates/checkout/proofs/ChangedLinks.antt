@@ -11,7 +11,7 @@ use Rattle.eden_base.specs.declared.number.FileId.{FileId}
 use Rattle.checkout.specs.declared.changes.Changes.{Changes}
 use Rattle.checkout.specs.declared.changes.LinkChange.{LinkChange}
 use Rattle.checkout.specs.BadChanges.{Link, changed_links, file_below, file_in, given, is_at, lines_links}
-use Rattle.checkout.specs.Changes.{AreChanges, IsLinkChange, place_of}
+use Rattle.checkout.specs.Changes.{AreLinkChanges, IsLinkChange, place_of}
 use Rattle.checkout.specs.Manifest.{Line}
 use Rattle.checkout.specs.Tree.{Tree, child_of, file_at, link_cmp, links_from}
 use Rattle.checkout.proofs.ChangesLaws.{same_or_not}
@@ -89,7 +89,7 @@ file_in-given t (x ∷ xs) place all = given_step t x xs place all.0 (file_in-gi
 place_there : (xs : List LinkChange) (x : LinkChange) → Contains xs x → list_any (λ change. is_at (place_of x) (place_of change)) xs ≡ true
 place_there xs x h = list_any_at (λ change. is_at (place_of x) (place_of change)) xs h.0 x h.1 (ap (λ (y : LinkChange). is_at (place_of x) (place_of y)) h.2 ∙ ap is_eq (tied_itself link_cmp_total (place_of x)))
 
-module _ (t : Tree) (c : Changes) (has : AreChanges t c) where
+module _ (t : Tree) (c : Changes) (has : AreLinkChanges t c.links) where
   abbrev touched : ℕ × List ℕ → Bool
   touched place = list_any (λ change. is_at place (place_of change)) c.links
 
@@ -100,7 +100,7 @@ module _ (t : Tree) (c : Changes) (has : AreChanges t c) where
         | inl same ↦ sym same
         | inr differs ↦
             let change : LinkChange = record { dir = record { 0 = place.0 }; name = place.1; target = get t.links place } in
-            let there = place_there c.links change ((has.links.each change).1 (record { target = refl; differs = differs })) in
+            let there = place_there c.links change ((has.each change).1 (record { target = refl; differs = differs })) in
             absurd (cc (there, none))
       ]
 
@@ -130,7 +130,7 @@ module _ (t : Tree) (c : Changes) (has : AreChanges t c) where
       or_none (Some f) = refl
 
       all : AllByRecursion (IsLinkChange t) c.links
-      all = each c.links (λ x h. (has.links.each x).0 h)
+      all = each c.links (λ x h. (has.each x).0 h)
         where
           each : (xs : List LinkChange) → ((x : LinkChange) → Contains xs x → IsLinkChange t x) → AllByRecursion (IsLinkChange t) xs
           each [] h = tt

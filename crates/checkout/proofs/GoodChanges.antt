@@ -50,7 +50,7 @@ module _ (t : Tree) (c : Changes) (is : IsTree t) (has : AreChanges t c) where
   -- the third round finds nothing
   pub none_is_above : (change : LinkChange) → IsLinkChange t change → IsAboveItself links change → ⊥
   none_is_above change told above =
-      not_above_itself t is change.dir change.name above.0 above.1 (sym told.target ∙ above.2) (sym (file_below-is t c has above.0 above.1) ∙ above.3)
+      not_above_itself t is change.dir change.name above.0 above.1 (sym told.target ∙ above.2) (sym (file_below-is t c has.links above.0 above.1) ∙ above.3)
 
   -- nor does the fourth
   pub none_cut_off : (dir : FileId) → is_cut_off links dir ≡ false
@@ -61,9 +61,9 @@ module _ (t : Tree) (c : Changes) (is : IsTree t) (has : AreChanges t c) where
           | false ↦ λ _. and-false (not (is_given links dir))
           | true ↦ λ g.
               let r = name_found links dir g in
-              let link = sym (changed_links-get t c has (dir.0, r.0)) ∙ r.2 in
+              let link = sym (changed_links-get t c has.links (dir.0, r.0)) ∙ r.2 in
               let at = child_from_linked t dir (dir_is_linked t is dir r.0 r.1 link e) in
-              let given = given_found links (at.0.0, at.1) dir (changed_links-get t c has (at.0.0, at.1) ∙ at.2) in
+              let given = given_found links (at.0.0, at.1) dir (changed_links-get t c has.links (at.0.0, at.1) ∙ at.2) in
               ap (λ b. not b && true) given
         ] refl
       ] refl

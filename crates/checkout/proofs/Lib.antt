@@ -4,9 +4,11 @@ pub mod BadChangeLaws
 pub mod BadChangeRows
 pub mod ChangeLists
 pub mod ChangedLinks
+pub mod ChangedMaps
 pub mod ChangesLaws
 pub mod CircleLaws
 pub mod CreateLaws
+pub mod FirstBadLaws
 pub mod FlatLemmas
 pub mod DirLaws
 pub mod EntryForms

@@ -16,7 +16,7 @@ use Rattle.checkout.specs.Listing.{added_change, gone_change, gone_changes}
 use Rattle.checkout.specs.Manifest.{Manifest}
 use Rattle.checkout.specs.Overlay.{tree_over, AreParts}
 use Rattle.checkout.specs.Tree.{Tree, link_cmp, links_from}
-use Rattle.checkout.proofs.ChangeLists.{all_entries, all-map, distinct-append, keys_rise, rising_from_sorted}
+use Rattle.checkout.proofs.ChangeLists.{all_entries, all-map, all_weaker, distinct-append, keys_rise, rising_from_sorted}
 use Rattle.checkout.proofs.FlatLemmas.{link_cmp_total, link_cmp-same}
 use Rattle.checkout.proofs.LinkChanges.{all_differ, differing_there, line_of_gone}
 use Rattle.checkout.proofs.ManifestTree.{file_with}
@@ -33,10 +33,6 @@ no_tie P x y h lacks =
       | false ↦ λ _. refl
       | true ↦ λ e. absurd (lacks (subst P (tied_key link_cmp-same x y e) h))
     ] refl
-
-all_weaker : {X : Type 0} (P Q : X → Type 0) → ((x : X) → P x → Q x) → (xs : List X) → AllByRecursion P xs → AllByRecursion Q xs
-all_weaker P Q f [] h = tt
-all_weaker P Q f (x ∷ xs) h = (f x h.0, all_weaker P Q f xs h.1)
 
 module _ (m : Manifest) (made : FinMap nat_cmp MadeFile) (added : FinMap link_cmp FileId) (gone : ℕ → Bool) (lost : ℕ → ℕ) (next : ℕ) (is : AreParts m made added gone lost) where
   abbrev tree : Tree
