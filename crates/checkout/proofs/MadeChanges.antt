@@ -1,5 +1,5 @@
 -- The files that were made, in a tree that is laid over a manifest's, are the made files of the tree.
-use Rattle.std.proofs.Common.{◌≡◌, ℕ, ◌+◌, ◌≤◌, Bool, List, [], ◌∷◌, map, length, Some, None, refl, sym, ap, subst, ◌∙◌, arith}
+use Rattle.std.proofs.Common.{◌≡◌, ℕ, Bool, List, [], ◌∷◌, map, Some, None, refl, sym, ap, subst, ◌∙◌}
 use Rattle.std.proofs.lemmas.List.Elements.{All-contains, All-from_recursion}
 use Rattle.std.specs.Cmp.{nat_cmp_total}
 use Rattle.std.specs.FinMap.{FinMap, entries, entries_sorted, get, get-entries, nat_cmp-IsAntisymmetric}
@@ -17,7 +17,7 @@ use Rattle.checkout.specs.Manifest.{Manifest}
 use Rattle.checkout.specs.Overlay.{file_made, tree_over, AreParts}
 use Rattle.checkout.specs.Tree.{Tree, link_cmp, files_from, made_file}
 use Rattle.checkout.proofs.ChangeLists.{all_entries, all-map, contains_found, keys_rise}
-use Rattle.checkout.proofs.ManifestIsTree.{tree_of-IsTree}
+use Rattle.checkout.proofs.ManifestTree.{no_later_file}
 use Rattle.checkout.proofs.UnionLaws.{get-files_over}
 
 ids_of : (es : List (ℕ × MadeFile)) → file_ids (map listed_file es) ≡ map (λ (e : ℕ × MadeFile). e.0) es
@@ -34,18 +34,10 @@ module _ (m : Manifest) (made : FinMap nat_cmp MadeFile) (added : FinMap link_cm
     file = get-files_over made (files_from 2 m.lines) id ∙ ap (λ o. option_or (option_map file_made o) (get (files_from 2 m.lines) id)) here;
   }
 
-  -- the manifest has no such file
-  not_first : (id : ℕ) → length m.lines + 2 ≤ id → get (files_from 2 m.lines) id ≡ None
-  not_first id later =
-      elim (get (files_from 2 m.lines) id) as (λ o. get (files_from 2 m.lines) id ≡ o → o ≡ None) [
-        | None ↦ λ _. refl
-        | Some f ↦ λ e. let below = (tree_of-IsTree m is.is_manifest).ids_below_next (record { 0 = id }) (some-IsSome _ f e) in absurd (omega (arith, below, later))
-      ] refl
-
   made_there : (x : Made) → IsMade tree x → Contains (map listed_file (entries made)) x
   made_there x h =
       let both = sym (get-files_over made (files_from 2 m.lines) x.file.0) ∙ h.file in
-      let only = ap (option_or (option_map file_made (get made x.file.0))) (sym (not_first x.file.0 h.later)) ∙ both in
+      let only = ap (option_or (option_map file_made (get made x.file.0))) (sym (no_later_file m.lines x.file.0 h.later)) ∙ both in
       elim (get made x.file.0) as (λ o. get made x.file.0 ≡ o → option_or (option_map file_made o) None ≡ Some (made_file x.kind x.perm) → Contains (map listed_file (entries made)) x) [
         | None ↦ λ e k. absurd (cc)
         | Some f ↦ λ e k.

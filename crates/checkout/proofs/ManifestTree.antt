@@ -108,6 +108,13 @@ no_file lines file other h =
         let none : slice_get lines (file.0 - 2) ≡ None = ap (λ b. if b then None else slice_get lines (file.0 - 2)) (sym test) ∙ h in
         slice_get_inside lines (file.0 - 2) (omega arith) none
 
+pub no_later_file : (lines : List Line) (id : ℕ) → length lines + 2 ≤ id → get (files_from 2 lines) id ≡ None
+no_later_file lines id later =
+    elim (get (files_from 2 lines) id) as (λ o. get (files_from 2 lines) id ≡ o → o ≡ None) [
+      | None ↦ λ _. refl
+      | Some f ↦ λ e. absurd (elim (id_of_file 2 lines id f e) [ inl one ↦ omega (arith, one, later) | inr w ↦ omega (arith, w.1, later) ])
+    ] refl
+
 pub line_at : (lines : List Line) (i : ℕ) → i < length lines → (line : Line) × (slice_get lines i ≡ Some line)
 line_at [] i lt = absurd (omega arith)
 line_at (l ∷ ls) zero lt = (l, refl)
