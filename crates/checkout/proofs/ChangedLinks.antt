@@ -1,5 +1,6 @@
 -- The links of a tree, as its changes tell them.
 use Rattle.std.proofs.Common.{◌≡◌, ◌+◌, ◌||◌, ℕ, Bool, true, false, not, cond, List, [], ◌∷◌, ◌++◌, Option, Some, None, refl, sym, ap, ◌∙◌, inl, inr, arith}
+use Rattle.std.proofs.Math.Bool.{or-true}
 use Rattle.std.proofs.lemmas.List.Elements.{Contains-append_right}
 use Rattle.std.proofs.lemmas.List.Folds.{list_any_at}
 use Rattle.std.specs.Cmp.{tied_itself}
@@ -47,6 +48,18 @@ filter_step test x xs place b h rest =
           | false ↦ rest
         ]
 
+-- a test that a place and what stands there pass is passed by some link
+pub any_link : (test : Link → Bool) (links : List Link) (place : ℕ × List ℕ) (file : FileId) → test (place, file) ≡ true → file_in links place ≡ Some file → list_any test links ≡ true
+any_link test [] place file passes h = absurd (cc)
+any_link test (x ∷ xs) place file passes h =
+    elim (is_at place x.0) as (λ b. is_at place x.0 ≡ b → option_map (λ (link : Link). link.1) (cond b (Some x) (find (λ (link : Link). is_at place link.0) xs)) ≡ Some file → list_any test (x ∷ xs) ≡ true) [
+      | true ↦ λ e g.
+          let at = tied_key link_cmp-same place x.0 e in
+          let same : x.1 ≡ file = cc in
+          ap (λ b. b || list_any test xs) (ap test (λ i. (sym at i, same i)) ∙ passes)
+      | false ↦ λ e g. ap (λ b. test x || b) (any_link test xs place file passes g) ∙ or-true (test x)
+    ] refl h
+
 -- what links that a test leaves have at a place, where it tells no two links of the place apart
 pub file_in-filter : (test : Link → Bool) (links : List Link) (place : ℕ × List ℕ) (b : Bool) → ((link : Link) → is_at place link.0 ≡ true → test link ≡ b) → file_in (filter test links) place ≡ cond b (file_in links place) None
 file_in-filter test [] place true h = refl
@@ -90,11 +103,11 @@ place_there : (xs : List LinkChange) (x : LinkChange) → Contains xs x → list
 place_there xs x h = list_any_at (λ change. is_at (place_of x) (place_of change)) xs h.0 x h.1 (ap (λ (y : LinkChange). is_at (place_of x) (place_of y)) h.2 ∙ ap is_eq (tied_itself link_cmp_total (place_of x)))
 
 module _ (t : Tree) (c : Changes) (has : AreLinkChanges t c.links) where
-  abbrev touched : ℕ × List ℕ → Bool
+  abbrev pub touched : ℕ × List ℕ → Bool
   touched place = list_any (λ change. is_at place (place_of change)) c.links
 
   -- where nothing was changed the tree has what the manifest has
-  untouched : (place : ℕ × List ℕ) → touched place ≡ false → get (links_from 2 t.manifest.lines) place ≡ get t.links place
+  pub untouched : (place : ℕ × List ℕ) → touched place ≡ false → get (links_from 2 t.manifest.lines) place ≡ get t.links place
   untouched place none =
       elim (same_or_not (get t.links place) (get (links_from 2 t.manifest.lines) place)) [
         | inl same ↦ sym same

@@ -12,7 +12,7 @@ use Rattle.checkout.specs.declared.changes.LinkChange.{LinkChange}
 use Rattle.checkout.specs.BadChanges.{Link, changed_links, file_in, has_names, is_at, is_cut_off, is_given, IsAboveItself}
 use Rattle.checkout.specs.Changes.{AreChanges, IsLinkChange}
 use Rattle.checkout.specs.Tree.{Tree, IsTree}
-use Rattle.checkout.proofs.ChangedLinks.{changed_links-get, file_below-is}
+use Rattle.checkout.proofs.ChangedLinks.{any_link, changed_links-get, file_below-is}
 use Rattle.checkout.proofs.CircleLaws.{dir_is_linked, not_above_itself}
 use Rattle.checkout.proofs.FlatLemmas.{link_cmp_total}
 use Rattle.checkout.proofs.LinkLaws.{child_from_linked}
@@ -36,12 +36,7 @@ name_found (x ∷ xs) dir h =
 
 -- what stands somewhere is given
 given_found : (links : List Link) (place : ℕ × List ℕ) (file : FileId) → file_in links place ≡ Some file → is_given links file ≡ true
-given_found [] place file h = absurd (cc)
-given_found (x ∷ xs) place file h =
-    elim (is_at place x.0) as (λ b. option_map (λ (link : Link). link.1) (cond b (Some x) (find (λ (link : Link). is_at place link.0) xs)) ≡ Some file → is_given (x ∷ xs) file ≡ true) [
-      | true ↦ λ g. let same : x.1 ≡ file = cc in ap (λ b. b || is_given xs file) (eq-eqb x.1.0 file.0 (ap (λ (f : FileId). f.0) same))
-      | false ↦ λ g. elim (x.1.0 == file.0) as (λ b. (b || is_given xs file) ≡ true) [ true ↦ refl | false ↦ given_found xs place file g ]
-    ] h
+given_found links place file h = any_link (λ (link : Link). link.1.0 == file.0) links place file (eq-eqb file.0 file.0 refl) h
 
 module _ (t : Tree) (c : Changes) (is : IsTree t) (has : AreChanges t c) where
   abbrev links : List Link

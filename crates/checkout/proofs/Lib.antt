@@ -45,3 +45,4 @@ pub mod TakenLaws
 pub mod TakenSteps
 pub mod TextLemmas
 pub mod UnionLaws
+pub mod UpwardLaws
