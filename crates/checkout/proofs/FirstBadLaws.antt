@@ -4,13 +4,16 @@ use Rattle.std.proofs.lemmas.Bool.Decides.{nat_tests}
 use Rattle.std.specs.Cmp.{IsTotalOrder, nat_cmp_total}
 use Rattle.std.specs.List.{AllByRecursion}
 use Rattle.std.specs.List.Sorted.{IsStrictlySortedBy}
+use Rattle.std.specs.Option.{option_or}
 use Rattle.std.specs.Ordering.{is_lt, nat_cmp}
 use Rattle.std.specs.declared.cmp.Ordering.{Ordering}
 use Rattle.std.specs.declared.cmp.Ordering.TheVariants.{Less, Equal, Greater}
+use Rattle.eden_base.specs.Limits.{end_of_files}
 use Rattle.eden_base.specs.declared.number.FileId.{FileId}
+use Rattle.checkout.specs.declared.changes.Changes.{Changes}
 use Rattle.checkout.specs.declared.changes.LinkChange.{LinkChange}
 use Rattle.checkout.specs.declared.changes.Made.{Made}
-use Rattle.checkout.specs.BadChanges.{first_bad, gives_same, is_bad_link, is_bad_made, is_behind, is_target, kind_with, last_file, manifest_target, rises}
+use Rattle.checkout.specs.BadChanges.{bad_itself, first_bad, first_link, gives_same, is_bad_link, is_bad_made, is_behind, is_target, kind_with, last_file, manifest_target, rises}
 use Rattle.checkout.specs.Changes.{file_ids, place_of}
 use Rattle.checkout.specs.Manifest.{Manifest}
 use Rattle.checkout.specs.Tree.{is_dir, link_cmp}
@@ -25,7 +28,7 @@ step_good bad i before x xs h =
     ] h
 
 -- what the test says of one that isn't bad holds of each
-all_good : {X : Type 0} (bad : Option X → X → Bool) (P : X → Type 0) → ((before : Option X) (x : X) → bad before x ≡ false → P x) → (i : ℕ) (before : Option X) (xs : List X) → first_bad bad i before xs ≡ None → AllByRecursion P xs
+pub all_good : {X : Type 0} (bad : Option X → X → Bool) (P : X → Type 0) → ((before : Option X) (x : X) → bad before x ≡ false → P x) → (i : ℕ) (before : Option X) (xs : List X) → first_bad bad i before xs ≡ None → AllByRecursion P xs
 all_good bad P good i before [] h = tt
 all_good bad P good i before (x ∷ xs) h =
     let w = step_good bad i before x xs h in
@@ -113,3 +116,20 @@ module _ (m : Manifest) (next : FileId) (i : ℕ) (made : List Made) (none : fir
 pub gives_same_itself : (o : Option FileId) → gives_same o o ≡ true
 gives_same_itself None = refl
 gives_same_itself (Some f) = eq-eqb f.0 f.0 refl
+
+-- the first round finds nothing: neither the next file nor a made one nor a link is bad by itself
+pub record IsGoodItself (m : Manifest) (c : Changes) : Type 0 where
+  pub next_after : nat_lt (last_file m) c.next_file.0 ≡ true
+  pub next_fits : nat_lt end_of_files c.next_file.0 ≡ false
+  pub made : first_bad (is_bad_made m c.next_file) 1 None c.made ≡ None
+  pub links : first_bad (is_bad_link m c.made) (first_link c) None c.links ≡ None
+
+pub good_itself : (m : Manifest) (c : Changes) → bad_itself m c ≡ None → IsGoodItself m c
+good_itself m c h = by_cases (nat_lt (last_file m) c.next_file.0) (nat_lt end_of_files c.next_file.0) (first_bad (is_bad_made m c.next_file) 1 None c.made) refl refl refl h
+  where
+    by_cases : (a b : Bool) (o : Option ℕ) → nat_lt (last_file m) c.next_file.0 ≡ a → nat_lt end_of_files c.next_file.0 ≡ b → first_bad (is_bad_made m c.next_file) 1 None c.made ≡ o →
+        (if not a || b then Some 0 else option_or o (first_bad (is_bad_link m c.made) (first_link c) None c.links)) ≡ None → IsGoodItself m c
+    by_cases false b o g k l none = absurd (cc)
+    by_cases true true o g k l none = absurd (cc)
+    by_cases true false (Some place) g k l none = absurd (cc)
+    by_cases true false None g k l none = record { next_after = g; next_fits = k; made = l; links = none }

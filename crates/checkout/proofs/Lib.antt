@@ -3,6 +3,7 @@ pub mod BadChangeCauses
 pub mod BadChangeLaws
 pub mod BadChangeRows
 pub mod ChangeLists
+pub mod ChangedAround
 pub mod ChangedFiles
 pub mod ChangedLinks
 pub mod ChangedMaps
