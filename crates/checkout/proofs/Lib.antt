@@ -21,6 +21,7 @@ pub mod GoodChanges
 pub mod GoneLemmas
 pub mod GoneListing
 pub mod HexForms
+pub mod KindLemmas
 pub mod LineCounts
 pub mod LinkChanges
 pub mod LinkLaws
@@ -28,6 +29,8 @@ pub mod LinkPlaces
 pub mod ListLemmas
 pub mod MadeLemmas
 pub mod MadeChanges
+pub mod MadeRise
+pub mod MadeSearch
 pub mod ManifestIsTree
 pub mod ManifestTree
 pub mod MapLemmas

@@ -3,6 +3,7 @@
 
 mod added;
 mod backing;
+mod bad_itself;
 mod changes;
 mod content;
 mod directory;

@@ -9,7 +9,7 @@ use crate::LinkChange;
 use std::cmp::Ordering;
 
 /// Compares where two names stand: by directory, and then byte by byte.
-fn compare(a: &LinkChange, b: &LinkChange) -> Ordering
+pub fn compare(a: &LinkChange, b: &LinkChange) -> Ordering
     ensures { result ≡ link_cmp (place_of a.now) (place_of b.now) }
 {
     a.dir.0.cmp(&b.dir.0).then(a.name.cmp(&b.name))
