@@ -50,3 +50,6 @@ pub mod TakenSteps
 pub mod TextLemmas
 pub mod UnionLaws
 pub mod UpwardLaws
+pub mod LaidLinks
+pub mod LaidFiles
+pub mod LaidTree
