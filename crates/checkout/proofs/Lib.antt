@@ -4,9 +4,11 @@ pub mod BadChangeLaws
 pub mod BadChangeRows
 pub mod ChangeLists
 pub mod ChangedAround
+pub mod ChangedCircles
 pub mod ChangedFiles
 pub mod ChangedLinks
 pub mod ChangedMaps
+pub mod ChangedUpward
 pub mod ChangesLaws
 pub mod CircleLaws
 pub mod CreateLaws
