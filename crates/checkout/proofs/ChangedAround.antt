@@ -42,7 +42,7 @@ dir_if_so None h = absurd (cc)
 dir_if_so (Some RegularFile) h = absurd (cc)
 dir_if_so (Some Dir) h = refl
 
-kind_there : (o : Option File) → is_some (option_map (λ (f : File). f.kind) o) ≡ true → IsSome o
+pub kind_there : (o : Option File) → is_some (option_map (λ (f : File). f.kind) o) ≡ true → IsSome o
 kind_there None h = absurd (cc)
 kind_there (Some f) h = refl
 

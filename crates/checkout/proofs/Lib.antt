@@ -6,6 +6,7 @@ pub mod ChangeLists
 pub mod ChangedAround
 pub mod ChangedCircles
 pub mod ChangedFiles
+pub mod ChangedIsTree
 pub mod ChangedLinks
 pub mod ChangedMaps
 pub mod ChangedUpward
