@@ -1,4 +1,5 @@
 pub mod Added
+pub mod Around
 pub mod BadChanges
 pub mod Changed
 pub mod Changes

@@ -2,9 +2,11 @@
 #![tactic(auto)]
 
 mod added;
+mod around;
 mod backing;
 mod bad_itself;
 mod changes;
+mod colours;
 mod content;
 mod directory;
 mod entry;

@@ -49,7 +49,7 @@ impl Line {
 }
 
 /// Returns the line of a file among these, of which the first is of file 2; the root has none.
-fn line_of(lines: &[Line], file: FileId) -> Option<&Line>
+pub fn line_of(lines: &[Line], file: FileId) -> Option<&Line>
     ensures { option_copied result ≡ line_of lines.now file }
 {
     if file.0 < 2 {

@@ -1,0 +1,47 @@
+-- A link that is above itself is one whose target stands on a circle; and it is so by a list of links as by a map.
+use Rattle.std.proofs.Common.{◌≡◌, ℕ, List, [], ◌∷◌, ◌++◌, Some, None, refl, sym, ap, subst, ◌∙◌, inl, inr}
+use Rattle.std.specs.FinMap.{FinMap, get}
+use Rattle.std.specs.Option.{option_and_then}
+use Rattle.eden_base.specs.declared.number.FileId.{FileId}
+use Rattle.checkout.specs.declared.changes.Changes.{Changes}
+use Rattle.checkout.specs.declared.changes.LinkChange.{LinkChange}
+use Rattle.checkout.specs.Around.{end_of, AreApart, GivesTarget, IsAbove, IsUnder, Leads, StandsIn}
+use Rattle.checkout.specs.BadChanges.{Link, changed_links, file_below, file_in, IsAboveItself}
+use Rattle.checkout.specs.Changes.{place_of}
+use Rattle.checkout.specs.Manifest.{Manifest}
+use Rattle.checkout.specs.Tree.{link_cmp}
+use Rattle.checkout.proofs.AroundPaths.{one_dir}
+
+module _ (links : FinMap link_cmp FileId) (change : LinkChange) (file : FileId) (gives : GivesTarget links change) (target : change.target ≡ Some file) where
+  target_stands : StandsIn links file change.dir
+  target_stands = (change.name, gives ∙ target)
+
+  -- the target of a link that is above itself stands on a circle
+  pub under_from_above : IsAbove links change → IsUnder links file file
+  under_from_above above =
+      let same : above.0 ≡ file = let e = above.2 in cc (e, target) in
+      let to : Leads links file change.dir = subst (λ (f : FileId). Leads links f change.dir) same (above.1, above.3) in
+      record { dir = change.dir; to_dir = to; stands = target_stands }
+
+  -- a link whose target stands on a circle is above itself
+  pub above_from_under : AreApart links → IsUnder links file file → IsAbove links change
+  above_from_under are on =
+      let same : on.dir ≡ change.dir = one_dir links are file on.dir change.dir on.stands target_stands in
+      let to : Leads links file change.dir = subst (λ (d : FileId). Leads links file d) same on.to_dir in
+      (file, to.0, target, to.1)
+
+module _ (m : Manifest) (c : Changes) (links : FinMap link_cmp FileId) (same : (place : ℕ × List ℕ) → file_in (changed_links m c) place ≡ get links place) where
+  -- where the links at each place are the same, so are the files at the end of names
+  pub file_below-end_of : (dir : FileId) (names : List (List ℕ)) → file_below (changed_links m c) dir names ≡ end_of links dir names
+  file_below-end_of dir [] = refl
+  file_below-end_of dir (name ∷ names) =
+      ap (λ o. option_and_then (λ (child : FileId). file_below (changed_links m c) child names) o) (same (dir.0, name))
+      ∙ (elim (get links (dir.0, name)) as (λ o. option_and_then (λ (child : FileId). file_below (changed_links m c) child names) o ≡ option_and_then (λ (child : FileId). end_of links child names) o) [
+        | None ↦ refl
+        | Some child ↦ file_below-end_of child names
+      ])
+
+  -- so a change is above itself by the one where it is by the other
+  pub above_itself-is : (change : LinkChange) → (IsAboveItself (changed_links m c) change → IsAbove links change) × (IsAbove links change → IsAboveItself (changed_links m c) change)
+  above_itself-is change =
+      (λ above. (above.0, above.1, above.2, sym (file_below-end_of above.0 above.1) ∙ above.3), λ above. (above.0, above.1, above.2, file_below-end_of above.0 above.1 ∙ above.3))

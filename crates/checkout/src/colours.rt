@@ -1,0 +1,79 @@
+//! The files that ways up came by, and whether each is on a circle of links.
+ghost use Rattle.std.specs.Prelude.{◌≡◌, true, OnOk};
+ghost use Rattle.std.specs.FinMap.{empty, get, insert};
+ghost use Rattle.checkout.specs.Around.{from_file, AreSet};
+
+use eden_base::{FileId, NoMemory};
+use std::alloc::Global;
+use std::collections::BTreeMap;
+use std::marker::Model;
+
+/// A file that no way came by has no colour.
+#[derive(Drop)]
+pub struct Colours {
+    files: BTreeMap<u64, bool>,
+}
+
+impl Model for Colours {
+    ghost use Rattle.std.specs.Prelude.{Bool};
+    ghost use Rattle.std.specs.Ordering.{nat_cmp};
+    ghost use Rattle.std.specs.BTreeMap.{IsOrdered};
+    ghost use Rattle.std.specs.FinMap.{FinMap, from_entries};
+    ghost use Rattle.checkout.specs.Around.{colours_code};
+
+    ghost Value = { FinMap nat_cmp Bool };
+
+    ghost coded = { colours_code };
+
+    ghost view = { λ a. from_entries a.files.entries };
+
+    ghost invariant = { λ a. IsOrdered nat_cmp a.files };
+}
+
+impl Colours {
+    /// Returns no colours.
+    pub fn new(alloc: Global) -> Colours
+        ensures { result ≡ empty }
+    {
+        Colours {
+            files: BTreeMap::new(alloc),
+        }
+    }
+
+    /// Returns whether the file is on a circle, where that is known.
+    pub fn get(&self, file: FileId) -> Option<bool>
+        ensures { result ≡ get self.now file.0 }
+    {
+        self.files.get(&file.0).copied()
+    }
+
+    /// Gives a file a colour.
+    pub fn set(&mut self, file: FileId, on_circle: bool) -> Result<(), NoMemory>
+        ensures { OnOk result (self.new ≡ insert self.old file.0 on_circle) }
+    {
+        self.files.insert(file.0, on_circle)?;
+        Ok(())
+    }
+
+    /// Puts some files on a circle.
+    pub fn close(&mut self, files: &[FileId]) -> Result<(), NoMemory>
+        ensures { OnOk result (AreSet files.now true self.old self.new) }
+    {
+        for file in files {
+            self.set(*file, true)?;
+        }
+        Ok(())
+    }
+}
+
+/// Returns the files from one of them on; none where it isn't among them.
+pub fn from_file(file: FileId, files: &[FileId]) -> &[FileId]
+    ensures { result.now ≡ from_file file files.now }
+{
+    for (place, other) in files.iter().enumerate() {
+        if other.0 == file.0 {
+            return &files[place..];
+        }
+    }
+    &[]
+}
