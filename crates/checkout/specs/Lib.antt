@@ -15,6 +15,7 @@ pub mod ManifestForm
 pub mod ManifestText
 pub mod Names
 pub mod Overlay
+pub mod Rounds
 pub mod Tally
 pub mod Text
 pub mod Tree

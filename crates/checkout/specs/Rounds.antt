@@ -1,0 +1,52 @@
+-- How the second round and the fourth look for a bad change.
+use Rattle.std.specs.Prelude.{◌≡◌, ℕ, ◌+◌, ◌==◌, ◌&&◌, ◌||◌, Bool, true, false, not, nat_lt, List, [], ◌∷◌, Option, Some, None, is_some, if◌then◌else◌}
+use Rattle.std.specs.FinMap.{FinMap, entries}
+use Rattle.std.specs.List.{list_any}
+use Rattle.eden_base.specs.declared.number.FileId.{FileId}
+use Rattle.checkout.specs.declared.changes.LinkChange.{LinkChange}
+use Rattle.checkout.specs.Added.{gives}
+use Rattle.checkout.specs.BadChanges.{file_does}
+use Rattle.checkout.specs.Laying.{base_target}
+use Rattle.checkout.specs.Manifest.{Manifest}
+use Rattle.checkout.specs.Overlay.{is_line, kids_in}
+use Rattle.checkout.specs.Tree.{link_cmp}
+
+-- the place of the first of which a test holds
+abbrev pub first_of : (LinkChange → Bool) → ℕ → List LinkChange → Option ℕ
+first_of test place [] = None
+first_of test place (change ∷ rest) = if test change then Some place else first_of test (place + 1) rest
+
+-- whether several changes gave a file, where one did, after one more
+abbrev pub mark_after : ℕ → Option Bool → Option FileId → Option Bool
+mark_after file mark None = mark
+mark_after file mark (Some target) = if target.0 == file then Some (is_some mark) else mark
+
+-- the same after some more
+abbrev pub marked : ℕ → Option Bool → List LinkChange → Option Bool
+marked file mark [] = mark
+marked file mark (change ∷ rest) = marked file (mark_after file mark change.target) rest
+
+-- several gave it
+abbrev pub is_marked : Option Bool → Bool
+is_marked None = false
+is_marked (Some several) = several
+
+-- a link of the manifest gives the file of a change still, or several changes give it
+abbrev pub is_given_twice : Manifest → (ℕ → Bool) → (ℕ → Option Bool) → LinkChange → Bool
+is_given_twice m gone marks change =
+    file_does (λ file. (is_line m file && not (gone file.0)) || is_marked (marks file.0)) change.target
+
+-- some link is added in a directory
+abbrev pub has_added : FinMap link_cmp FileId → FileId → Bool
+has_added added dir = list_any (λ link. link.0.0 == dir.0) (entries added)
+
+-- links stand in a directory, and none gives it
+abbrev pub is_cut : Manifest → FinMap link_cmp FileId → (ℕ → Bool) → (ℕ → ℕ) → FileId → Bool
+is_cut m added gone lost dir =
+    not (dir.0 == 1) && not (gives added dir || (is_line m dir && not (gone dir.0)))
+    && (has_added added dir || nat_lt (lost dir.0) (kids_in dir.0 m.lines))
+
+-- the directory of a change is cut off so, or the file that the manifest has in its place
+abbrev pub cuts : Manifest → FinMap link_cmp FileId → (ℕ → Bool) → (ℕ → ℕ) → LinkChange → Bool
+cuts m added gone lost change =
+    is_cut m added gone lost change.dir || file_does (is_cut m added gone lost) (base_target m change)

@@ -1,0 +1,87 @@
+//! The first changed link whose file another link gives.
+ghost use Rattle.std.specs.Prelude.{◌≡◌, ℕ, None, IfOk};
+ghost use Rattle.std.specs.BTreeMap.{get as mark_of, IsOrdered};
+ghost use Rattle.std.specs.Ordering.{nat_cmp};
+ghost use Rattle.checkout.specs.Gone.{is_gone};
+ghost use Rattle.checkout.specs.Rounds.{first_of, is_given_twice, is_marked, marked};
+
+use crate::gone::Gone;
+use crate::overlay::is_left;
+use crate::{LinkChange, Manifest};
+use eden_base::NoMemory;
+use std::alloc::Global;
+use std::collections::BTreeMap;
+
+/// Returns the files that changes give, each with whether several do.
+fn marks(alloc: Global, links: &[LinkChange]) -> Result<BTreeMap<u64, bool>, NoMemory>
+    ensures ordered { IfOk result (λ marks. IsOrdered nat_cmp marks) }
+    ensures marks { IfOk result (λ marks. (file : ℕ) → mark_of nat_cmp marks file ≡ marked file None links.now) }
+{
+    let mut marks = BTreeMap::new(alloc);
+    for change in links {
+        if let Some(file) = change.target {
+            let again = marks.contains_key(&file.0);
+            marks.insert(file.0, again)?;
+        }
+    }
+    Ok(marks)
+}
+
+/// Returns whether a file is marked as one that several changes give.
+fn is_marked(marks: &BTreeMap<u64, bool>, file: u64) -> bool
+    requires ordered { IsOrdered nat_cmp marks.now }
+    ensures { result ≡ is_marked (mark_of nat_cmp marks.now file) }
+{
+    match marks.get(&file) {
+        Some(several) => *several,
+        None => false,
+    }
+}
+
+/// Returns whether another link gives the file of a changed one: one of the manifest's, or that of another change.
+fn is_given_twice(
+    manifest: &Manifest,
+    gone: &Gone,
+    marks: &BTreeMap<u64, bool>,
+    change: &LinkChange,
+) -> bool
+    requires ordered { IsOrdered nat_cmp marks.now }
+    ensures { result ≡ is_given_twice manifest.now (is_gone gone.now) (mark_of nat_cmp marks.now) change.now }
+{
+    match change.target {
+        Some(file) => is_left(manifest, gone, file) || is_marked(marks, file.0),
+        None => false,
+    }
+}
+
+/// Returns the index of the first.
+pub fn first_given_twice(
+    alloc: Global,
+    manifest: &Manifest,
+    gone: &Gone,
+    links: &[LinkChange],
+) -> Result<Option<usize>, NoMemory>
+    ensures { IfOk result (λ found. found ≡ first_of
+        (is_given_twice manifest.now (is_gone gone.now) (λ file. marked file None links.now)) 0 links.now) }
+{
+    let marks = marks(alloc, links)?;
+    Ok(first_marked(manifest, gone, &marks, links))
+}
+
+/// Returns the index of the first, by marks.
+fn first_marked(
+    manifest: &Manifest,
+    gone: &Gone,
+    marks: &BTreeMap<u64, bool>,
+    links: &[LinkChange],
+) -> Option<usize>
+    requires ordered { IsOrdered nat_cmp marks.now }
+    ensures { result ≡ first_of (is_given_twice manifest.now (is_gone gone.now) (mark_of nat_cmp marks.now)) 0 links.now }
+{
+    for i in 0..links.len() {
+        if is_given_twice(manifest, gone, marks, &links[i]) {
+            return Some(i);
+        }
+    }
+    None
+}
