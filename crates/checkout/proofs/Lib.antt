@@ -1,5 +1,6 @@
 pub mod AboveItself
 pub mod AboveLaws
+pub mod AmongLinks
 pub mod AroundPaths
 pub mod AroundWays
 pub mod AttrLaws
@@ -47,6 +48,7 @@ pub mod MadeSearch
 pub mod ManifestIsTree
 pub mod ManifestTree
 pub mod MapLemmas
+pub mod MarkLaws
 pub mod MoreLines
 pub mod NameLemmas
 pub mod OneList
@@ -58,6 +60,8 @@ pub mod PartsLaws
 pub mod PathLaws
 pub mod ReadLemmas
 pub mod RemoveLaws
+pub mod RoundFour
+pub mod RoundTwo
 pub mod TakenLaws
 pub mod TakenSteps
 pub mod TextLemmas
