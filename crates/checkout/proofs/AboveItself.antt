@@ -1,13 +1,14 @@
 -- A link that is above itself is one whose target stands on a circle; and it is so by a list of links as by a map.
-use Rattle.std.proofs.Common.{◌≡◌, ℕ, List, [], ◌∷◌, ◌++◌, Some, None, refl, sym, ap, subst, ◌∙◌, inl, inr}
+use Rattle.std.proofs.Common.{◌≡◌, ◌==◌, ◌+◌, ◌<◌, ℕ, true, false, List, [], ◌∷◌, Some, None, refl, sym, ap, subst, ◌∙◌, arith}
+use Rattle.std.proofs.lemmas.Bool.Decides.{nat_tests}
 use Rattle.std.specs.FinMap.{FinMap, get}
+use Rattle.std.specs.List.{slice_get}
 use Rattle.std.specs.Option.{option_and_then}
 use Rattle.eden_base.specs.declared.number.FileId.{FileId}
 use Rattle.checkout.specs.declared.changes.Changes.{Changes}
 use Rattle.checkout.specs.declared.changes.LinkChange.{LinkChange}
-use Rattle.checkout.specs.Around.{end_of, AreApart, GivesTarget, IsAbove, IsUnder, Leads, StandsIn}
-use Rattle.checkout.specs.BadChanges.{Link, changed_links, file_below, file_in, IsAboveItself}
-use Rattle.checkout.specs.Changes.{place_of}
+use Rattle.checkout.specs.Around.{end_of, AreApart, GivesTarget, IsAbove, IsFirstAbove, IsUnder, Leads, StandsIn}
+use Rattle.checkout.specs.BadChanges.{changed_links, file_below, file_in, IsAboveItself}
 use Rattle.checkout.specs.Manifest.{Manifest}
 use Rattle.checkout.specs.Tree.{link_cmp}
 use Rattle.checkout.proofs.AroundPaths.{one_dir}
@@ -45,3 +46,25 @@ module _ (m : Manifest) (c : Changes) (links : FinMap link_cmp FileId) (same : (
   pub above_itself-is : (change : LinkChange) → (IsAboveItself (changed_links m c) change → IsAbove links change) × (IsAbove links change → IsAboveItself (changed_links m c) change)
   above_itself-is change =
       (λ above. (above.0, above.1, above.2, sym (file_below-end_of above.0 above.1) ∙ above.3), λ above. (above.0, above.1, above.2, file_below-end_of above.0 above.1 ∙ above.3))
+
+-- a link without a target isn't above itself
+pub none_above : (links : FinMap link_cmp FileId) (change : LinkChange) → change.target ≡ None → IsAbove links change → ⊥
+none_above links change none above = let some = above.2 in cc (none, some)
+
+-- the first of some links is above itself, where none before it is
+pub first_at : (links : FinMap link_cmp FileId) (changes : List LinkChange) (place : ℕ) (change : LinkChange) → slice_get changes place ≡ Some change → IsAbove links change →
+    ((before : ℕ) (other : LinkChange) → before < place → slice_get changes before ≡ Some other → IsAbove links other → ⊥) → IsFirstAbove links changes (Some place)
+first_at links changes place change here above none = (change, here, above, none)
+
+-- nor is the next
+pub none_so_far : (links : FinMap link_cmp FileId) (changes : List LinkChange) (place : ℕ) (change : LinkChange) → slice_get changes place ≡ Some change → (IsAbove links change → ⊥) →
+    ((before : ℕ) (other : LinkChange) → before < place → slice_get changes before ≡ Some other → IsAbove links other → ⊥) →
+    (before : ℕ) (other : LinkChange) → before < place + 1 → slice_get changes before ≡ Some other → IsAbove links other → ⊥
+none_so_far links changes place change here not_above none before other within there above =
+    elim (before == place) as (λ b. (before == place) ≡ b → ⊥) [
+      | true ↦ λ e.
+          let same : before ≡ place = grind (arith, nat_tests) in
+          let at = ap (slice_get changes) same in
+          not_above (subst (λ (x : LinkChange). IsAbove links x) (let s : other ≡ change = cc in s) above)
+      | false ↦ λ e. none before other (grind (arith, nat_tests)) there above
+    ] refl

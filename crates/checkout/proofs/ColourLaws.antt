@@ -1,11 +1,11 @@
 -- Files stay rightly coloured where those of a way up are coloured.
-use Rattle.std.proofs.Common.{◌≡◌, ◌+◌, ◌<◌, length, drop, get_or, drop-cons, suc, ◌==◌, ◌||◌, ◌⊎◌, ℕ, Bool, true, false, List, [], ◌∷◌, ◌++◌, Option, Some, None, is_some, if◌then◌else◌, refl, sym, ap, subst, ◌∙◌, inl, inr, arith, eq-eqb}
+use Rattle.std.proofs.Common.{◌≡◌, ◌+◌, ◌<◌, length, drop, get_or, drop-cons, suc, ◌==◌, ◌||◌, ◌⊎◌, ℕ, Bool, true, false, List, ◌∷◌, Option, Some, None, is_some, if◌then◌else◌, refl, sym, ap, subst, ◌∙◌, inl, inr, arith, eq-eqb}
 use Rattle.std.proofs.lemmas.Bool.Decides.{nat_tests}
 use Rattle.std.specs.Cmp.{nat_cmp_total}
 use Rattle.std.specs.FinMap.{FinMap, empty, get, get-empty, insert, nat_cmp-IsAntisymmetric}
 use Rattle.std.specs.Ordering.{nat_cmp}
 use Rattle.eden_base.specs.declared.number.FileId.{FileId}
-use Rattle.checkout.specs.Around.{among, from_file, AreApart, AreRight, AreSet, IsClimb, IsDirAbove, IsEnd, IsUnder, IsWay, Leads, StandsIn}
+use Rattle.checkout.specs.Around.{among, from_file, AreApart, AreRight, AreSet, IsClimb, IsEnd, IsUnder, IsWay, StandsIn}
 use Rattle.checkout.specs.Tree.{link_cmp}
 use Rattle.checkout.proofs.AroundPaths.{told_above}
 use Rattle.checkout.proofs.AroundWays.{circle_to_top, dir_of_way, first_among, is_circle, ToTop}

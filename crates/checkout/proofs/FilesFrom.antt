@@ -1,9 +1,9 @@
 -- The files of a list from one of them on.
-use Rattle.std.proofs.Common.{◌≡◌, ◌==◌, ◌||◌, ℕ, Bool, true, false, List, [], ◌∷◌, Option, Some, None, if◌then◌else◌, refl, sym, ap, subst, ◌∙◌, arith}
+use Rattle.std.proofs.Common.{◌≡◌, ◌==◌, ◌||◌, true, false, List, [], ◌∷◌, Option, if◌then◌else◌, refl, ap, arith}
 use Rattle.std.proofs.lemmas.Bool.Decides.{nat_tests}
 use Rattle.std.specs.FinMap.{FinMap}
 use Rattle.eden_base.specs.declared.number.FileId.{FileId}
-use Rattle.checkout.specs.Around.{among, first_or, from_file, IsDirAbove, IsWay}
+use Rattle.checkout.specs.Around.{among, from_file, IsWay}
 use Rattle.checkout.specs.Tree.{link_cmp}
 use Rattle.checkout.proofs.AroundWays.{later_among}
 use Rattle.checkout.proofs.ManifestTree.{same_id}

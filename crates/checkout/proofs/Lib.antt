@@ -17,6 +17,7 @@ pub mod ChangedMaps
 pub mod ChangedUpward
 pub mod ChangesLaws
 pub mod CircleLaws
+pub mod ClimbLaws
 pub mod ColourLaws
 pub mod CreateLaws
 pub mod DirLaws

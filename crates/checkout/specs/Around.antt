@@ -1,6 +1,6 @@
 -- The first of some changed links whose target is its directory or above it, among links by directory and name. And
 -- how files are coloured by whether they stand below themselves.
-use Rattle.std.specs.Prelude.{◌≡◌, ◌<◌, ◌==◌, ℕ, Bool, true, false, List, [], ◌∷◌, slice_get, Option, Some, None, IsSome, is_some, if◌then◌else◌}
+use Rattle.std.specs.Prelude.{◌≡◌, ◌<◌, ◌==◌, ℕ, Bool, true, false, List, [], ◌∷◌, map, slice_get, Option, Some, None, IsSome, is_some, if◌then◌else◌}
 use Rattle.std.specs.Coded.{Coded, coded_ℕ, coded_bool}
 use Rattle.std.specs.FinMap as map
 use Rattle.std.specs.FinMap.{FinMap, get}
@@ -115,6 +115,10 @@ pub record IsClimb (links : FinMap link_cmp FileId) (old new : FinMap nat_cmp Bo
   pub is_way : IsWay links way top
   pub were_new : (file : FileId) → among file way ≡ true → get old file.0 ≡ None
   pub are_set : AreSet way false old new
+
+-- the ids of files
+abbrev pub ids : List FileId → List ℕ
+ids files = map (λ (f : FileId). f.0) files
 
 -- what is above the end of a way up has a colour, if anything is there
 abbrev pub IsEnd : FinMap nat_cmp Bool → Option FileId → Type 0

@@ -1,5 +1,5 @@
 //! The files that ways up came by, and whether each is on a circle of links.
-ghost use Rattle.std.specs.Prelude.{◌≡◌, true, OnOk};
+ghost use Rattle.std.specs.Prelude.{◌≡◌, ◌≤◌, true, OnOk};
 ghost use Rattle.std.specs.FinMap.{empty, get, insert};
 ghost use Rattle.checkout.specs.Around.{from_file, AreSet};
 
@@ -42,7 +42,8 @@ impl Colours {
 
     /// Returns whether the file is on a circle, where that is known.
     pub fn get(&self, file: FileId) -> Option<bool>
-        ensures { result ≡ get self.now file.0 }
+        ensures colour { result ≡ get self.now file.0 }
+        ensures id { file.0 ≤ u64.MAX }
     {
         self.files.get(&file.0).copied()
     }

@@ -3,5 +3,5 @@ use Rattle.std.proofs.Common.{sym, ◌∙◌}
 use Rattle.checkout.proofs.IdMaps.{get-by_id}
 use Rattle.checkout.proofs.colours.Colours.get.Goals as goal
 
-pub returns : goal.returns
-returns c = rw (← c.self.view_is) (c.copied.ensures ∙ c.get.ensures.value ∙ sym (get-by_id _ _))
+pub returns-clause-colour : goal.returns-clause-colour
+returns-clause-colour c = rw (← c.self.view_is) (c.copied.ensures ∙ c.get.ensures.value ∙ sym (get-by_id _ _))
