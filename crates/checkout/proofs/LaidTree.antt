@@ -1,5 +1,5 @@
 -- The tree of a manifest over which changes were laid.
-use Rattle.std.proofs.Common.{◌≡◌, ℕ, ◌+◌, ◌==◌, ◌≤◌, Bool, true, false, cond, List, [], ◌∷◌, length, map, Option, Some, None, IsSome, IfSome, refl, sym, ap, subst, ◌∙◌, arith}
+use Rattle.std.proofs.Common.{◌≡◌, ℕ, ◌+◌, ◌==◌, ◌≤◌, true, false, cond, List, [], ◌∷◌, length, map, Option, Some, None, IsSome, IfSome, refl, sym, ap, ◌∙◌, arith}
 use Rattle.std.proofs.lemmas.Map.Keys.{IsDistinct-from_sorted, IsDistinct-head, IsDistinct-tail}
 use Rattle.std.specs.FinMap.{FinMap, empty, get, get-empty}
 use Rattle.std.specs.List.{AllByRecursion, list_any}
@@ -10,19 +10,18 @@ use Rattle.eden_base.proofs.MemberLemmas.{some-is}
 use Rattle.eden_base.specs.declared.number.FileId.{FileId}
 use Rattle.checkout.specs.declared.changes.Changes.{Changes}
 use Rattle.checkout.specs.declared.changes.LinkChange.{LinkChange}
-use Rattle.checkout.specs.declared.changes.Made.{Made}
 use Rattle.checkout.specs.declared.made.MadeFile.{MadeFile}
 use Rattle.checkout.specs.Added.{gives}
-use Rattle.checkout.specs.BadChanges.{bad_by_other, bad_itself, first_link, gives_same, is_at, manifest_target}
+use Rattle.checkout.specs.BadChanges.{bad_by_other, bad_itself, first_link, gives_same, is_at}
 use Rattle.checkout.specs.Changed.{changed, links_with}
 use Rattle.checkout.specs.Changes.{file_ids, place_of}
 use Rattle.checkout.specs.Gone.{Gone, is_gone}
 use Rattle.checkout.specs.Laying.{AreTaken, CanAdd, StandApart, add, file_kept, taken, with_added, with_made}
 use Rattle.checkout.specs.Manifest.{Manifest, IsManifest}
-use Rattle.checkout.specs.Overlay.{still, tree_over, AreParts}
+use Rattle.checkout.specs.Overlay.{tree_over, AreParts}
 use Rattle.checkout.specs.Tally.{Tally, count_of}
-use Rattle.checkout.specs.Tree.{Tree, files_from, link_cmp, links_from}
-use Rattle.checkout.proofs.ChangedAround.{AreLinksOfFiles, changed_apart}
+use Rattle.checkout.specs.Tree.{files_from, link_cmp, links_from}
+use Rattle.checkout.proofs.ChangedAround.{changed_apart}
 use Rattle.checkout.proofs.ChangedFiles.{found_made, made_is_good, made_under}
 use Rattle.checkout.proofs.ChangedLinks.{lines_links-get}
 use Rattle.checkout.proofs.ChangedMaps.{each_stands}

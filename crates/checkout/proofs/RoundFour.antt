@@ -1,6 +1,6 @@
 -- The fourth round, by the parts of an overlay.
-use Rattle.std.proofs.Common.{◌≡◌, ℕ, ◌==◌, ◌+◌, ◌&&◌, ◌||◌, Bool, not, List, [], ◌∷◌, Option, None, refl, sym, ap, ◌∙◌}
-use Rattle.std.specs.FinMap.{FinMap, get}
+use Rattle.std.proofs.Common.{◌≡◌, ℕ, ◌==◌, ◌+◌, ◌&&◌, ◌||◌, Bool, not, List, [], ◌∷◌, Option, None, sym, ap, ◌∙◌}
+use Rattle.std.specs.FinMap.{FinMap}
 use Rattle.std.specs.List.{AllByRecursion}
 use Rattle.std.specs.Option.{option_map}
 use Rattle.std.specs.Ordering.{nat_cmp}
@@ -8,12 +8,12 @@ use Rattle.eden_base.specs.declared.number.FileId.{FileId}
 use Rattle.checkout.specs.declared.changes.Changes.{Changes}
 use Rattle.checkout.specs.declared.changes.LinkChange.{LinkChange}
 use Rattle.checkout.specs.declared.made.MadeFile.{MadeFile}
-use Rattle.checkout.specs.BadChanges.{bad_by_cut, bad_itself, changed_links, file_does, first_link, is_cut_off, is_given, has_names, manifest_target}
+use Rattle.checkout.specs.BadChanges.{bad_by_cut, bad_itself, changed_links, file_does, first_link, is_cut_off, manifest_target}
 use Rattle.checkout.specs.Changed.{changed}
 use Rattle.checkout.specs.Changes.{place_of}
 use Rattle.checkout.specs.Laying.{base_target}
 use Rattle.checkout.specs.Manifest.{Manifest, IsManifest}
-use Rattle.checkout.specs.Overlay.{is_line, tree_over, AreParts}
+use Rattle.checkout.specs.Overlay.{tree_over, AreParts}
 use Rattle.checkout.specs.Rounds.{cuts, first_of, is_cut}
 use Rattle.checkout.specs.Tree.{Tree, has_links, is_linked, link_cmp}
 use Rattle.checkout.proofs.AmongLinks.{first_of-same, first_where-is, given-linked, names-links}

@@ -1,22 +1,17 @@
 -- One more link of a manifest that goes.
-use Rattle.std.proofs.Common.{◌≡◌, ℕ, ◌+◌, ◌<◌, ◌==◌, ◌||◌, ◌++◌, Bool, true, false, cond, if◌then◌else◌, List, [], ◌∷◌, length, map, Option, Some, None, IfSome, refl, sym, ap, subst, ◌∙◌, inl, inr, arith, nat_le, nat_lt, ◌&&◌}
+use Rattle.std.proofs.Common.{◌≡◌, ℕ, ◌+◌, ◌<◌, ◌==◌, ◌||◌, ◌++◌, true, false, cond, if◌then◌else◌, List, [], ◌∷◌, length, Some, refl, sym, ap, ◌∙◌, inl, inr, arith, nat_le, nat_lt, ◌&&◌}
 use Rattle.std.proofs.lemmas.Bool.Decides.{nat_tests}
-use Rattle.std.proofs.lemmas.Map.Keys.{IsDistinct-head, IsDistinct-tail}
 use Rattle.std.proofs.lemmas.Option.{slice_get_within}
-use Rattle.std.specs.Cmp.{tied_itself}
 use Rattle.std.specs.FinMap.{get}
-use Rattle.std.specs.List.{AllByRecursion}
-use Rattle.std.specs.Ordering.{eq_by_cmp, is_eq}
 use Rattle.eden_base.specs.declared.number.FileId.{FileId}
 use Rattle.checkout.specs.declared.changes.LinkChange.{LinkChange}
 use Rattle.checkout.specs.Changes.{place_of}
 use Rattle.checkout.specs.Gone.{Gone, is_gone}
-use Rattle.checkout.specs.Laying.{AreTaken, IsLeft, StandApart, base_target}
+use Rattle.checkout.specs.Laying.{AreTaken, base_target}
 use Rattle.checkout.specs.Manifest.{Manifest, IsManifest}
 use Rattle.checkout.specs.Overlay.{is_line, lost_in}
 use Rattle.checkout.specs.Tally.{Tally, count_of}
-use Rattle.checkout.specs.Tree.{link_cmp, links_from}
-use Rattle.checkout.proofs.FlatLemmas.{link_cmp_total}
+use Rattle.checkout.specs.Tree.{links_from}
 use Rattle.checkout.proofs.GoneLemmas.{is_gone-added}
 use Rattle.checkout.proofs.LineCounts.{kids-le-length, lost-le-kids, lost-one_more}
 use Rattle.checkout.proofs.ManifestIsTree.{tree_of-IsTree}

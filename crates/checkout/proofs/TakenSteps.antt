@@ -1,11 +1,9 @@
 -- What is left once the link of one change went.
-use Rattle.std.proofs.Common.{◌≡◌, ℕ, ◌+◌, ◌<◌, ◌==◌, ◌||◌, ◌++◌, Bool, true, false, drop, List, [], ◌∷◌, length, map, Option, Some, None, IfSome, get_or, refl, sym, ap, subst, ◌∙◌, arith}
+use Rattle.std.proofs.Common.{◌≡◌, ℕ, ◌==◌, ◌||◌, ◌++◌, true, false, List, [], ◌∷◌, map, Option, Some, None, IfSome, refl, sym, ap, ◌∙◌, arith}
 use Rattle.std.proofs.lemmas.Bool.Decides.{nat_tests}
-use Rattle.std.proofs.lemmas.List.{drop_more}
 use Rattle.std.proofs.lemmas.List.Elements.{filter_map-append}
 use Rattle.std.proofs.lemmas.Map.Keys.{IsDistinct-head, IsDistinct-tail}
 use Rattle.std.specs.Cmp.{tied_itself}
-use Rattle.std.specs.FinMap.{get}
 use Rattle.std.specs.List.{AllByRecursion, cons_option, list_any}
 use Rattle.std.specs.Option.{option_map}
 use Rattle.std.specs.Ordering.{eq_by_cmp, is_eq}
@@ -13,10 +11,9 @@ use Rattle.eden_base.specs.declared.number.FileId.{FileId}
 use Rattle.checkout.specs.declared.changes.LinkChange.{LinkChange}
 use Rattle.checkout.specs.Changes.{place_of}
 use Rattle.checkout.specs.Gone.{Gone, is_gone}
-use Rattle.checkout.specs.Laying.{AreTaken, IsLeft, StandApart, base_target, taken}
+use Rattle.checkout.specs.Laying.{IsLeft, StandApart, base_target, taken}
 use Rattle.checkout.specs.Manifest.{Manifest, IsManifest}
-use Rattle.checkout.specs.Tally.{Tally}
-use Rattle.checkout.specs.Tree.{link_cmp, links_from}
+use Rattle.checkout.specs.Tree.{link_cmp}
 use Rattle.checkout.proofs.FlatLemmas.{link_cmp_total}
 use Rattle.checkout.proofs.GoneLemmas.{is_gone-added}
 use Rattle.checkout.proofs.ListLemmas.{listed_more, nothing_left}

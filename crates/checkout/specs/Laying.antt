@@ -1,7 +1,7 @@
 -- How changes are laid over a manifest, one after another.
 use Rattle.std.specs.Prelude.{◌≡◌, ℕ, ◌+◌, List, [], ◌∷◌, length, map, true, false, Option, Some, None, IfSome}
 use Rattle.std.specs.Ordering.{eq_by_cmp, nat_cmp}
-use Rattle.std.specs.List.{AllByRecursion, IsDistinct, filter_map}
+use Rattle.std.specs.List.{IsDistinct, filter_map}
 use Rattle.std.specs.Option.{option_map}
 use Rattle.std.specs.FinMap.{FinMap, get, insert}
 use Rattle.eden_base.specs.declared.number.FileId.{FileId}

@@ -1,14 +1,17 @@
--- How the second round and the fourth look for a bad change.
-use Rattle.std.specs.Prelude.{◌≡◌, ℕ, ◌+◌, ◌==◌, ◌&&◌, ◌||◌, Bool, true, false, not, nat_lt, List, [], ◌∷◌, Option, Some, None, is_some, if◌then◌else◌}
-use Rattle.std.specs.FinMap.{FinMap, entries}
+-- How the rounds look for a bad change.
+use Rattle.std.specs.Prelude.{◌≡◌, ℕ, ◌+◌, ◌==◌, ◌&&◌, ◌||◌, Bool, false, not, nat_lt, List, [], ◌∷◌, Option, Some, None, is_some, if◌then◌else◌}
+use Rattle.std.specs.FinMap.{FinMap, empty, entries}
 use Rattle.std.specs.List.{list_any}
 use Rattle.eden_base.specs.declared.number.FileId.{FileId}
+use Rattle.checkout.specs.declared.changes.Changes.{Changes}
 use Rattle.checkout.specs.declared.changes.LinkChange.{LinkChange}
 use Rattle.checkout.specs.Added.{gives}
-use Rattle.checkout.specs.BadChanges.{file_does}
-use Rattle.checkout.specs.Laying.{base_target}
-use Rattle.checkout.specs.Manifest.{Manifest}
+use Rattle.checkout.specs.BadChanges.{bad_by_other, bad_itself, file_does}
+use Rattle.checkout.specs.Gone.{Gone}
+use Rattle.checkout.specs.Laying.{AreTaken, base_target, taken, with_added}
+use Rattle.checkout.specs.Manifest.{IsManifest, Manifest}
 use Rattle.checkout.specs.Overlay.{is_line, kids_in}
+use Rattle.checkout.specs.Tally.{Tally}
 use Rattle.checkout.specs.Tree.{link_cmp}
 
 -- the place of the first of which a test holds
@@ -50,3 +53,13 @@ is_cut m added gone lost dir =
 abbrev pub cuts : Manifest → FinMap link_cmp FileId → (ℕ → Bool) → (ℕ → ℕ) → LinkChange → Bool
 cuts m added gone lost change =
     is_cut m added gone lost change.dir || file_does (is_cut m added gone lost) (base_target m change)
+
+-- changes of which neither of two rounds found one bad, laid over a manifest
+pub record AreLaid (m : Manifest) (c : Changes) (added : FinMap link_cmp FileId) (gone : Gone) (lost : Tally) :
+    Type 0 where
+  pub is_manifest : IsManifest m
+  pub itself : bad_itself m c ≡ None
+  pub by_other : bad_by_other m c ≡ None
+  pub went : gone.files ≡ taken m c.links
+  pub so_far : AreTaken m gone lost
+  pub came : added ≡ with_added empty c.links

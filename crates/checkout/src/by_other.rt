@@ -76,7 +76,8 @@ fn first_marked(
     links: &[LinkChange],
 ) -> Option<usize>
     requires ordered { IsOrdered nat_cmp marks.now }
-    ensures { result ≡ first_of (is_given_twice manifest.now (is_gone gone.now) (mark_of nat_cmp marks.now)) 0 links.now }
+    ensures { result ≡ first_of
+        (is_given_twice manifest.now (is_gone gone.now) (mark_of nat_cmp marks.now)) 0 links.now }
 {
     for i in 0..links.len() {
         if is_given_twice(manifest, gone, marks, &links[i]) {

@@ -1,8 +1,7 @@
 -- The manifest's file is new among those that are gone, and both counts have room.
-use Rattle.std.proofs.Common.{◌≡◌, Some, ap, sym, subst, IfSome, ◌∙◌, false}
+use Rattle.std.proofs.Common.{◌≡◌, ap, sym, subst, IfSome, ◌∙◌, false}
 use Rattle.std.specs.FinMap.{get}
 use Rattle.checkout.specs.Gone.{is_gone}
-use Rattle.checkout.specs.Laying.{base_target}
 use Rattle.checkout.specs.Tree.{links_from}
 use Rattle.checkout.proofs.TakenLaws.{has_room, take-AreTaken}
 use Rattle.checkout.proofs.laying.take.Goals as goal
