@@ -63,6 +63,7 @@ pub mod ReadLemmas
 pub mod RemoveLaws
 pub mod RoundFour
 pub mod RoundTwo
+pub mod RoundsAround
 pub mod TakenLaws
 pub mod TakenSteps
 pub mod TextLemmas

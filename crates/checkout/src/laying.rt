@@ -1,6 +1,8 @@
 //! How changes are laid over a manifest: what goes with them, and what comes.
 ghost use Rattle.std.specs.Prelude.{◌≡◌, ◌∷◌, ◌++◌, [], IfOk};
 ghost use Rattle.std.specs.FinMap.{empty};
+ghost use Rattle.std.specs.List.{AllByRecursion};
+ghost use Rattle.eden_base.specs.Name.{IsNameText};
 ghost use Rattle.checkout.specs.Laying.{taken, with_added, with_made, AreTaken, CanAdd, IsLeft, StandApart};
 
 use crate::added::Added;
@@ -21,6 +23,7 @@ pub fn taken(
     requires apart { StandApart links.now }
     ensures files { IfOk result (λ p. p.0.files ≡ taken manifest.now links.now) }
     ensures taken { IfOk result (λ p. AreTaken manifest.now p.0 p.1) }
+    ensures names { IfOk result (λ _. AllByRecursion (λ link. IsNameText link.name) links.now) }
 {
     let room = manifest.lines().len() + 2;
     let mut gone = Gone::with_room(alloc, room)?;
@@ -37,6 +40,7 @@ fn take(manifest: &Manifest, change: &LinkChange, gone: &mut Gone, lost: &mut Ta
     requires so_far { AreTaken manifest.now gone.old lost.old }
     ensures files { gone.new.files ≡ gone.old.files ++ taken manifest.now (change.now ∷ []) }
     ensures now { AreTaken manifest.now gone.new lost.new }
+    ensures name { IsNameText change.now.name }
 {
     if let Some(file) = manifest.child(change.dir, change.name.bytes()) {
         gone.add(file);

@@ -4,6 +4,7 @@
 mod added;
 mod around;
 mod backing;
+mod bad_around;
 mod bad_itself;
 mod by_other;
 mod changes;
