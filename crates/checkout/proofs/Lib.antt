@@ -69,3 +69,4 @@ pub mod TakenSteps
 pub mod TextLemmas
 pub mod UnionLaws
 pub mod UpwardLaws
+pub mod WithChanges

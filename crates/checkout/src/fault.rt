@@ -1,7 +1,9 @@
 //! Why bytes are no manifest, and why no file is made.
-ghost use Rattle.std.specs.Prelude.{Some};
+ghost use Rattle.std.specs.Prelude.{◌≡◌, Some};
+ghost use Rattle.checkout.specs.declared.fault.ChangeFault.TheVariants.{NoMemory as OutOfMemory};
 ghost use Rattle.checkout.specs.Words.{kind_text};
 
+use eden_base::NoMemory;
 use std::fmt;
 use thiserror::Error;
 
@@ -54,6 +56,14 @@ pub enum ChangeFault {
     BadChange(usize),
     #[error("out of memory")]
     NoMemory,
+}
+
+impl From<NoMemory> for ChangeFault {
+    ghost from_gives = { λ _ fault. fault ≡ OutOfMemory };
+
+    fn from(_refused: NoMemory) -> ChangeFault {
+        ChangeFault::NoMemory
+    }
 }
 
 impl fmt::Display for ManifestFaultKind {

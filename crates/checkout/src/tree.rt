@@ -4,17 +4,24 @@ ghost use Rattle.std.specs.FinMap.{entries};
 ghost use Rattle.std.specs.List.{AllByRecursion, list_any};
 ghost use Rattle.eden_base.specs.Name.{IsNameText};
 ghost use Rattle.eden_base.specs.declared.attr.Kind.TheVariants.{Dir};
+ghost use Rattle.checkout.specs.BadChanges.{IsBadChange};
+ghost use Rattle.checkout.specs.Changed.{changed, IsChangeRefusal};
 ghost use Rattle.checkout.specs.Changes.{AreChanges};
 ghost use Rattle.checkout.specs.declared.changes.Changes.{Changes as ChangesState};
 ghost use Rattle.checkout.specs.Create.{IsCreateRefusal};
 ghost use Rattle.checkout.specs.Tree.{Tree as TreeState, IsTree, tree_of, child_of, kind_of, attr_of, file_of, perm_made, next_file, nlink_of, has_links, is_empty_dir, is_full_dir, is_linked, is_unlinked, created, removed};
 
 use crate::added::Added;
+use crate::bad_around::first_bad_around;
+use crate::bad_itself::bad_itself;
+use crate::by_other::first_given_twice;
 use crate::gone::Gone;
 use crate::made::{MadeFile, MadeFiles};
 use crate::order::sort;
 use crate::tally::Tally;
-use crate::{Changes, Content, CreateFault, LinkList, MadeList, Manifest, overlay};
+use crate::{
+    ChangeFault, Changes, Content, CreateFault, LinkList, MadeList, Manifest, laying, overlay,
+};
 use eden_base::{Attr, END_OF_FILES, FileId, Kind, Name, NoMemory, Perm};
 use std::alloc::Global;
 use std::marker::Model;
@@ -70,6 +77,45 @@ impl Tree {
             gone,
             lost,
             next_file: files as u64,
+        })
+    }
+
+    /// Makes the tree of a manifest with changes made. It is refused where a change is bad, and the first that is is
+    /// told; it costs what differs, and the room for losses.
+    pub fn with_changes(
+        alloc: Global,
+        manifest: &Manifest,
+        changes: &Changes,
+    ) -> Result<Tree, ChangeFault>
+        ensures tree { IfOk result (λ tree. tree ≡ changed manifest.now changes.now) }
+        ensures is_tree { IfOk result IsTree }
+        ensures changes { IfOk result (λ tree. AreChanges tree changes.now) }
+        ensures good { OnOk result (IsBadChange manifest.now changes.now None) }
+        ensures refused { IfErr result (IsChangeRefusal manifest.now changes.now) }
+    {
+        if let Some(place) = bad_itself(manifest, changes) {
+            return Err(ChangeFault::BadChange(place));
+        }
+        let links = changes.links.as_slice();
+        let files = changes.made.as_slice();
+        let manifest = manifest.share()?;
+        let (gone, lost) = laying::taken(alloc, &manifest, links)?;
+        if let Some(i) = first_given_twice(alloc, &manifest, &gone, links)? {
+            return Err(ChangeFault::BadChange(files.len() + 1 + i));
+        }
+        let made = laying::made(alloc, files)?;
+        let added = laying::added(alloc, links)?;
+        if let Some(i) = first_bad_around(alloc, &manifest, changes, &added, &gone, &lost)? {
+            return Err(ChangeFault::BadChange(files.len() + 1 + i));
+        }
+        Ok(Tree {
+            alloc,
+            manifest,
+            made,
+            added,
+            gone,
+            lost,
+            next_file: changes.next_file.0,
         })
     }
 
