@@ -1,7 +1,8 @@
 pub mod Field
 pub mod Fit
-pub mod ImageText
 pub mod ImageReading
-pub mod Writing
-pub mod Usage
+pub mod ImageText
+pub mod Raising
 pub mod Taking
+pub mod Usage
+pub mod Writing

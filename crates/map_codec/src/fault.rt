@@ -1,4 +1,4 @@
-//! Why an image could not be written or read.
+//! Why an image could not be written, read or raised.
 use thiserror::Error;
 
 /// Why an image has no text that may be written. The first that holds is told, in this order.
@@ -33,6 +33,26 @@ pub enum ImageFault {
     BadMark,
     #[error("an entry is of no use")]
     ZeroUse,
+    #[error("out of memory")]
+    NoMemory,
+}
+
+/// Why nothing that a daemon could serve is raised from an image. The first that holds is told, in this order.
+#[derive(Clone, Copy, Debug, PartialEq, Eq, Error)]
+pub enum RaiseFault {
+    #[error("the image is of another commit")]
+    OtherCommit,
+    /// Its place: 0 for the next file, and then the files that were made and the links that were changed, from 1.
+    #[error("change {0} is bad")]
+    BadChange(usize),
+    #[error("an entry's directory is not known")]
+    NoParent,
+    #[error("an entry names no file, or marks one that has a name")]
+    NoLink,
+    #[error("two entries name one file")]
+    TwoNumbers,
+    #[error("the next number is not above all entries, or none is left")]
+    NumberTooHigh,
     #[error("out of memory")]
     NoMemory,
 }

@@ -16,7 +16,7 @@ mod served_image;
 mod usage;
 mod writer;
 
-pub use fault::{ImageFault, WriteFault};
+pub use fault::{ImageFault, RaiseFault, WriteFault};
 pub use image::{Entries, Image};
 pub use image_reader::read;
 pub use image_writer::write;
