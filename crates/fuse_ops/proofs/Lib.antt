@@ -5,6 +5,7 @@ pub mod FitsChanged
 pub mod FitsLeft
 pub mod FitsOver
 pub mod ForgettingLaw
+pub mod FromEntries
 pub mod GivingLaw
 pub mod Keeping
 pub mod Known
@@ -12,10 +13,10 @@ pub mod Loaded
 pub mod LoadedLists
 pub mod Making
 pub mod MakingLaw
+pub mod NoEio
 pub mod PlaceNumbers
 pub mod ReadyMaking
 pub mod Remembering
-pub mod NoEio
 pub mod Replays
 pub mod SameManifest
 pub mod Shapes

@@ -14,7 +14,7 @@ use Rattle.fuse_wire.specs.declared.ask.Request.TheVariants.{Lookup, Create, Mkd
 use Rattle.fuse_wire.specs.declared.item.Item.{Item}
 use Rattle.fuse_wire.specs.declared.reply.Answer.{Answer}
 use Rattle.eden_base.specs.declared.errno.Errno.{Errno}
-use Rattle.inode_map.specs.InodeMap.{MapState, IsFileOf, new_map, entry_at, give_fault, given, number_given, forgotten, unlinked}
+use Rattle.inode_map.specs.InodeMap.{MapState, IsFileOf, map_of, new_map, entry_at, give_fault, given, number_given, forgotten, unlinked}
 use Rattle.inode_map.specs.declared.inode_map.Kept.{Kept}
 use Rattle.inode_map.specs.declared.inode_map.GiveFault.{GiveFault}
 use Rattle.inode_map.specs.declared.inode_map.GiveFault.TheVariants.{NoNumber, TooMany, NoMemory}
@@ -39,6 +39,10 @@ plain served = record { entries = served.map.entries; next = served.map.next; tr
 -- a daemon that begins to serve a checkout; its limit of loaded attributes is 1 at least
 abbrev pub new_served : Manifest → ℕ → ServedState
 new_served manifest limit = record { map = new_map (max limit 1); tree = tree_of manifest }
+
+-- a daemon that begins to serve a tree with numbers that were given before
+abbrev pub served_of : List Kept → ℕ → ℕ → Tree → ServedState
+served_of entries next limit tree = record { map = map_of entries next (max limit 1); tree = tree }
 
 -- the file that a number names for this daemon, or none where it names none
 abbrev pub IsLocated : ServedState → ℕ → Option FileId → Type 0

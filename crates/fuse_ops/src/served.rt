@@ -10,7 +10,7 @@ ghost use Rattle.fuse_wire.specs.declared.ask.Request.TheVariants.{Lookup, Getat
 ghost use Rattle.inode_map.specs.InodeMap.{entry_at, number_of_kept, give_fault, forgotten, IsFileOf};
 ghost use Rattle.fuse_ops.specs.Answers.{IsBacked, against_unlink, against_rmdir};
 ghost use Rattle.fuse_ops.specs.Loading.{Backs, FailsAs, Loads, LoadsTold, LoadsNone, loaded_told};
-ghost use Rattle.fuse_ops.specs.Served.{new_served, forgotten_all, IsLocated, Replay};
+ghost use Rattle.fuse_ops.specs.Served.{new_served, served_of, forgotten_all, IsLocated, Replay};
 ghost use Rattle.fuse_ops.specs.Soundness.{IsSound, Names, AreRemembered, AreLoaded};
 ghost use Rattle.fuse_ops.specs.Work.{errno_of, Finds, GivesEntry, IsFree, IsNextRefusal, IsSamePlainly, LooksUp, Makes, NameIsTaken, Shows, Takes};
 
@@ -19,7 +19,7 @@ use eden_base::{
     Attr, END_OF_FILES, END_OF_NUMBERS, Errno, FileId, Kind, Name, NoMemory, Number, Perm,
 };
 use fuse_wire::{Answer, Item, Request};
-use inode_map::{GiveFault, InodeMap};
+use inode_map::{GiveFault, InodeMap, Kept};
 use std::alloc::Global;
 use std::marker::Model;
 
@@ -67,6 +67,23 @@ impl Served {
     {
         let tree = Tree::of(alloc, manifest)?;
         let map = InodeMap::new(alloc, limit.max(1))?;
+        Ok(Served { map, tree })
+    }
+
+    /// Returns a daemon that begins to serve a tree, with numbers that were given before: nothing is loaded of them. So
+    /// many attributes may be loaded at once, and one at least.
+    pub fn of_entries(
+        alloc: Global,
+        entries: &[Kept],
+        next: u64,
+        limit: usize,
+        tree: Tree,
+    ) -> Result<Served, NoMemory>
+        requires tree { IsTree tree }
+        requires sound { IsSound (served_of entries.now next limit tree) }
+        ensures served { IfOk result (λ served. served ≡ served_of entries.now next limit tree) }
+    {
+        let map = InodeMap::of_entries(alloc, entries, next, limit.max(1))?;
         Ok(Served { map, tree })
     }
 
