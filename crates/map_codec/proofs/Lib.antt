@@ -7,8 +7,10 @@ pub mod ListLaws
 pub mod Loop
 pub mod MemberLaws
 pub mod Members
+pub mod NumberSearch
 pub mod Perms
 pub mod RaisedLaws
 pub mod RiseLaws
+pub mod SeenLaws
 pub mod UsageLaws
 pub mod Written

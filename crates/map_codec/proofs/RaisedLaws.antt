@@ -1,6 +1,7 @@
--- What is raised from an image that may be raised fits together.
+-- Entries that may be raised over a tree fit together with it.
 use Rattle.std.proofs.Common.{◌≡◌, ◌<◌, ◌≤◌, ◌+◌, ◌⊎◌, ◌&&◌, ◌↔◌, ℕ, zero, suc, Bool, true, false, cond, List, [], ◌∷◌, length, slice_get, Option, Some, None, IsSome, IsTrue, max, refl, sym, ap, subst, ◌∙◌, inl, inr, arith}
-use Rattle.std.specs.Prelude.{nat_lt, nat_le, ◌==◌, not}
+use Rattle.std.specs.Option.{option_map}
+use Rattle.std.specs.Prelude.{nat_lt, nat_le, ◌==◌, is_some, not}
 use Rattle.std.proofs.lemmas.Bool.Decides.{nat_tests}
 use Rattle.std.specs.List.{AllByRecursion, list_all, list_any}
 use Rattle.eden_base.proofs.MemberLemmas.{some-is, some-same, some-IsSome}
@@ -11,19 +12,19 @@ use Rattle.eden_base.specs.declared.number.Number.{Number}
 use Rattle.eden_base.specs.declared.place.Place.{Place}
 use Rattle.eden_base.specs.declared.place.Place.TheVariants.{Linked, Unlinked}
 use Rattle.checkout.proofs.LinkLaws.{linked_from_child}
-use Rattle.checkout.specs.Manifest.{Manifest}
-use Rattle.checkout.specs.Tree.{Tree, IsTree, child_of, file_of, is_linked, is_unlinked}
+use Rattle.checkout.specs.Manifest.{File}
+use Rattle.checkout.specs.Tree.{Tree, IsTree, child_of, file_of, is_linked, is_unlinked, kind_of}
 use Rattle.inode_map.proofs.EntryLemmas.{entry_of-number, numbers-entry}
 use Rattle.inode_map.proofs.EntryRuns.{each-entry}
 use Rattle.inode_map.proofs.FileLemmas.{IsFileOf-same, linked-child, linked-marked, marked-same}
 use Rattle.inode_map.specs.InodeMap.{AreNumbers, IsFileOf, entry_of, is_of_use}
 use Rattle.inode_map.specs.declared.inode_map.Kept.{Kept}
+use Rattle.fuse_ops.specs.Served.{served_of}
 use Rattle.fuse_ops.specs.Soundness.{IsSound, IsUnlinkedPlace, Names}
-use Rattle.map_codec.specs.Fit.{IsFit, entry_follows, rises}
-use Rattle.map_codec.specs.Raising.{AreOfOneFile, CountsFit, HasFile, HaveFiles, IsRaisable, IsRightMark, is_next, raised, tree_told}
-use Rattle.map_codec.specs.declared.image.Image.{Image}
+use Rattle.map_codec.specs.Fit.{entry_follows, rises}
+use Rattle.map_codec.specs.Raising.{AreOfOneFile, AreRaisable, CountsFit, HasFile, is_next, is_right_mark}
 
-both : (b c : Bool) → (b && c) ≡ true → (b ≡ true) × (c ≡ true)
+pub both : (b c : Bool) → (b && c) ≡ true → (b ≡ true) × (c ≡ true)
 both true true h = (refl, refl)
 both true false h = absurd (cc)
 both false c h = absurd (cc)
@@ -88,27 +89,31 @@ below_or (suc i) (suc j) = elim (below_or i j) [
 
 -- ---- the law
 
-module _ (m : Manifest) (image : Image) (limit : ℕ) (fit : IsFit image) (counts : CountsFit image.entries) (may : IsRaisable m image) (is : IsTree (tree_told m image)) where
-  abbrev es : List Kept
-  es = image.entries
+module _ (tree : Tree) (es : List Kept) (next limit : ℕ) (rise : rises entry_follows None es ≡ true) (of_use : list_all (is_of_use es) es ≡ true) (counts : CountsFit es) (may : AreRaisable tree es next) (is : IsTree tree) where
+  next_is : IsNext next es
+  next_is = next_parts next es may.next_is
 
-  abbrev tree : Tree
-  tree = tree_told m image
-
-  next_is : IsNext image.next_number es
-  next_is = next_parts image.next_number es may.next
-
-  numbers : AreNumbers 2 image.next_number es
-  numbers = next_above image.next_number es next_is.low fit.entries_rise next_is.above
+  numbers : AreNumbers 2 next es
+  numbers = next_above next es next_is.low rise next_is.above
 
   no_root : (n : ℕ) (kept : Kept) → entry_of es n ≡ Some kept → n ≡ 1 → ⊥
-  no_root n kept e one = let r = (numbers-entry es 2 image.next_number n kept numbers e).0 in omega (arith, r, one)
+  no_root n kept e one = let r = (numbers-entry es 2 next n kept numbers e).0 in omega (arith, r, one)
 
   -- an entry's file, by its number
-  has_file : (n : ℕ) (kept : Kept) → entry_of es n ≡ Some kept → ((file : FileId) × IsFileOf tree es n file) × IsRightMark tree kept.place
+  has_file : (n : ℕ) (kept : Kept) → entry_of es n ≡ Some kept → ((file : FileId) × IsFileOf tree es n file) × (is_right_mark tree kept.place ≡ true)
   has_file n kept e =
       let h : HasFile tree es kept = each-entry es (HasFile tree es) n kept may.files e in
       ((h.0.0, subst (λ (k : ℕ). IsFileOf tree es k h.0.0) (entry_of-number es n kept e) h.0.1), h.1)
+
+  -- the file in a mark is one of the tree, and no link gives it
+  right : (n : ℕ) (kept : Kept) (mark : FileId) → entry_of es n ≡ Some kept → kept.place ≡ Unlinked mark → IsSome (file_of tree mark) × IsTrue (is_unlinked tree mark)
+  right n kept mark e k =
+      let p = both (is_some (kind_of tree mark)) (is_unlinked tree mark) (ap (is_right_mark tree) (sym k) ∙ (has_file n kept e).1) in
+      (there (file_of tree mark) p.0, p.1)
+    where
+      there : (o : Option File) → is_some (option_map (λ (f : File). f.kind) o) ≡ true → IsSome o
+      there None h = absurd (cc)
+      there (Some f) h = some-IsSome (Some f) f refl
 
   -- two entries of one file are one
   one_number : (p q : ℕ) (one other : Kept) (file : FileId) → entry_of es p ≡ Some one → entry_of es q ≡ Some other → IsFileOf tree es p file → IsFileOf tree es q file → p ≡ q
@@ -146,8 +151,7 @@ module _ (m : Manifest) (image : Image) (limit : ℕ) (fit : IsFit image) (count
         let a = linked-child tree es n kept dir name file (no_root n kept e) e k at in
         is.links_give_files a.dir_file name file a.child
     in_ (Unlinked mark) k =
-        let right : IsRightMark tree (Unlinked mark) = subst (IsRightMark tree) k (has_file n kept e).1 in
-        subst (λ (f : FileId). IsSome (file_of tree f)) (sym (marked-same tree es n kept file mark (no_root n kept e) e k at)) right.0
+        subst (λ (f : FileId). IsSome (file_of tree f)) (sym (marked-same tree es n kept file mark (no_root n kept e) e k at)) (right n kept mark e k).0
 
   -- an entry has a mark exactly where no link gives its file
   alike : (n : ℕ) (kept : Kept) (file : FileId) → entry_of es n ≡ Some kept → IsFileOf tree es n file → IsUnlinkedPlace kept.place ↔ IsTrue (is_unlinked tree file)
@@ -162,11 +166,10 @@ module _ (m : Manifest) (image : Image) (limit : ℕ) (fit : IsFit image) (count
         let linked = linked_from_child tree a.dir_file name file a.child in
         ((λ u. absurd (subst IsUnlinkedPlace k u)), (λ h. absurd (not_linked (not (file.0 == 1)) linked h)))
     in_ (Unlinked mark) k =
-        let right : IsRightMark tree (Unlinked mark) = subst (IsRightMark tree) k (has_file n kept e).1 in
         let same = marked-same tree es n kept file mark (no_root n kept e) e k at in
-        ((λ u. subst (λ (f : FileId). IsTrue (is_unlinked tree f)) (sym same) right.1), (λ h. subst IsUnlinkedPlace (sym k) tt))
+        ((λ u. subst (λ (f : FileId). IsTrue (is_unlinked tree f)) (sym same) (right n kept mark e k).1), (λ h. subst IsUnlinkedPlace (sym k) tt))
 
-  pub raised_sound : IsSound (raised m image limit)
+  pub raised_sound : IsSound (served_of es next limit tree)
   raised_sound = record {
     numbers = numbers;
     numbers_fit = next_is.fits;
@@ -184,7 +187,7 @@ module _ (m : Manifest) (image : Image) (limit : ℕ) (fit : IsFit image) (count
         let b = some-is (entry_of es q) other in
         one_number p q a.0 b.0 file a.1 b.1 at there;
     unlinked_alike = alike;
-    each_of_use = λ n kept e. each-entry es (λ (k : Kept). IsTrue (is_of_use es k)) n kept (all_true es (is_of_use es) fit.each_of_use) e;
+    each_of_use = λ n kept e. each-entry es (λ (k : Kept). IsTrue (is_of_use es k)) n kept (all_true es (is_of_use es) of_use) e;
     counts_fit = λ n kept e. each-entry es (λ (k : Kept). k.count ≤ Rattle.eden_base.specs.Limits.greatest_count) n kept counts e;
   } where
     all_true : (xs : List Kept) (p : Kept → Bool) → list_all p xs ≡ true → AllByRecursion (λ (k : Kept). IsTrue (p k)) xs

@@ -1,0 +1,97 @@
+//! What stands against the entries of an image, once the tree is there that they are raised over.
+ghost use Rattle.std.specs.Prelude.{◌≡◌, None, IfOk, true};
+ghost use Rattle.inode_map.specs.InodeMap.{is_kept};
+ghost use Rattle.map_codec.specs.Fit.{entry_follows, rises};
+ghost use Rattle.map_codec.specs.Raising.{are_below, are_right_marks, has_parent, have_parents, is_next, is_right_mark, TellsApart};
+
+use checkout::Tree;
+use eden_base::{END_OF_NUMBERS, FileId, NoMemory, Number, Place};
+use inode_map::Kept;
+use std::alloc::Global;
+use std::collections::BTreeMap;
+
+/// Returns whether a number has an entry.
+fn is_kept(entries: &[Kept], number: Number) -> bool
+    requires { rises entry_follows None entries.now ≡ true }
+    ensures { result ≡ is_kept entries.now number.0 }
+{
+    entries
+        .binary_search_by_key(&number.0, |kept| kept.number.0)
+        .is_ok()
+}
+
+/// Returns whether the directory of a place is the root, or has an entry.
+fn has_parent(entries: &[Kept], place: &Place) -> bool
+    requires { rises entry_follows None entries.now ≡ true }
+    ensures { result ≡ has_parent entries.now place.now }
+{
+    match place {
+        Place::Linked { parent, .. } => *parent == Number::ROOT || is_kept(entries, *parent),
+        Place::Unlinked { .. } => true,
+    }
+}
+
+/// Returns whether the directory of each entry is the root, or has an entry.
+pub(crate) fn have_parents(entries: &[Kept]) -> bool
+    requires { rises entry_follows None entries.now ≡ true }
+    ensures { result ≡ have_parents entries.now }
+{
+    for kept in entries {
+        if !has_parent(entries, &kept.place) {
+            return false;
+        }
+    }
+    true
+}
+
+/// Returns whether a mark is of a file of the tree to which no name leads, and not of the root.
+fn is_right_mark(tree: &Tree, place: &Place) -> bool
+    ensures { result ≡ is_right_mark tree.now place.now }
+{
+    match place {
+        Place::Linked { .. } => true,
+        Place::Unlinked { file } => {
+            tree.kind(*file).is_some() && file.0 != 1 && !tree.is_linked(*file)
+        }
+    }
+}
+
+/// Returns whether each mark is of a file of the tree to which no name leads, and not of the root.
+pub(crate) fn are_right_marks(tree: &Tree, entries: &[Kept]) -> bool
+    ensures { result ≡ are_right_marks tree.now entries.now }
+{
+    for kept in entries {
+        if !is_right_mark(tree, &kept.place) {
+            return false;
+        }
+    }
+    true
+}
+
+/// Returns whether no file stands twice among these.
+pub(crate) fn are_apart(alloc: Global, files: &[FileId]) -> Result<bool, NoMemory>
+    ensures { IfOk result (TellsApart files.now) }
+{
+    let mut seen = BTreeMap::new(alloc);
+    for i in 0..files.len() {
+        let file = files[i];
+        if seen.insert(file.0, i)?.is_some() {
+            return Ok(false);
+        }
+    }
+    Ok(true)
+}
+
+/// Returns whether all entries are below a number.
+fn are_below(next: u64, entries: &[Kept]) -> bool
+    ensures { result ≡ are_below next entries.now }
+{
+    entries.iter().all(|kept| kept.number.0 < next)
+}
+
+/// Returns whether a number may come next: it is above all entries, and not above the end of numbers.
+pub(crate) fn is_next(next: u64, entries: &[Kept]) -> bool
+    ensures { result ≡ is_next next entries.now }
+{
+    2 <= next && next <= END_OF_NUMBERS && are_below(next, entries)
+}
