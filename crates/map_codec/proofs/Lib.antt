@@ -12,5 +12,6 @@ pub mod Perms
 pub mod RaisedLaws
 pub mod RiseLaws
 pub mod SeenLaws
+pub mod SoundRaises
 pub mod UsageLaws
 pub mod Written
