@@ -7,8 +7,10 @@ pub mod ListLaws
 pub mod Loop
 pub mod MemberLaws
 pub mod Members
+pub mod NamedLaws
 pub mod NumberSearch
 pub mod Perms
+pub mod PlaceLaws
 pub mod RaisedLaws
 pub mod RiseLaws
 pub mod SeenLaws

@@ -12,6 +12,7 @@ mod list_reader;
 mod measure;
 mod member_reader;
 mod member_writer;
+mod named;
 mod reader;
 mod served_image;
 mod usage;

@@ -1,0 +1,57 @@
+-- Files that are found for entries one by one.
+use Rattle.std.proofs.Common.{◌≡◌, ◌<◌, ℕ, List, length, get_or, Option, Some, None, sym, ap, subst, ◌∙◌, inl, inr, ◌⊎◌, arith}
+use Rattle.std.specs.Prelude.{slice_get}
+use Rattle.std.proofs.Math.ListN.{set, length-set}
+use Rattle.std.proofs.lemmas.List.{get_or-set_same, get_or-set_other}
+use Rattle.std.proofs.lemmas.Option.{slice_get-get_or, slice_get_within, get_or_from_slice_get}
+use Rattle.eden_base.proofs.MemberLemmas.{some-same}
+use Rattle.eden_base.proofs.NumberTests.{eq-or}
+use Rattle.eden_base.specs.declared.number.FileId.{FileId}
+use Rattle.eden_base.specs.declared.number.Number.{Number}
+use Rattle.eden_base.specs.declared.place.Place.TheVariants.{Linked}
+use Rattle.checkout.specs.Tree.{Tree}
+use Rattle.inode_map.specs.EntryPlaces.{StepsUp}
+use Rattle.inode_map.specs.InodeMap.{IsFileOf, entry_of}
+use Rattle.inode_map.specs.declared.inode_map.Kept.{Kept}
+use Rattle.inode_map.proofs.Climbing.{step-read}
+use Rattle.inode_map.proofs.EntryLemmas.{entry_of-number}
+use Rattle.map_codec.specs.Named.{AreFound, IsPlaceOf}
+
+-- what is read at the place of a number is its entry
+pub entry_read : (entries : List Kept) (n i : ℕ) (kept : Kept) → IsPlaceOf entries n i → kept ≡ get_or entries i kept → entry_of entries n ≡ Some kept
+entry_read entries n i kept at is = at.entry ∙ ap Some (sym (get_or_from_slice_get entries i at.kept kept at.stands) ∙ sym is)
+
+-- and so where it is linked, it is a step up to its directory
+pub step_at : (entries : List Kept) (n i : ℕ) (kept : Kept) (dir : Number) (name : List ℕ) → (n ≡ 1 → ⊥) → IsPlaceOf entries n i → kept ≡ get_or entries i kept → (get_or entries i kept).place ≡ Linked dir name → StepsUp entries n dir.0
+step_at entries n i kept dir name other at is linked = step-read entries n kept dir name other (entry_read entries n i kept at is) (ap (λ (k : Kept). k.place) is ∙ linked)
+
+module _ (tree : Tree) (entries : List Kept) (found : List (Option FileId)) (are : AreFound tree entries found) (n i : ℕ) (file : FileId) (at : IsPlaceOf entries n i) where
+  within : i < length found
+  within = omega (arith, slice_get_within entries i at.kept at.stands, are.len)
+
+  -- what was found at the place of a number is its file
+  pub known_file : get_or found i None ≡ Some file → IsFileOf tree entries n file
+  known_file is =
+      let there : slice_get found i ≡ Some (Some file) = slice_get-get_or found i None within ∙ ap Some is in
+      subst (λ (m : ℕ). IsFileOf tree entries m file) (entry_of-number entries n at.kept at.entry) (are.each i at.kept file at.stands there)
+
+  -- the file of a number is written at its place
+  pub one_found : IsFileOf tree entries n file → AreFound tree entries (set found i (Some file))
+  one_found names = record {
+    len = length-set found i (Some file) ∙ are.len;
+    each = λ j kept other stands there. in_ j kept other stands there (eq-or j i);
+  } where
+    in_ : (j : ℕ) (kept : Kept) (other : FileId) → slice_get entries j ≡ Some kept → slice_get (set found i (Some file)) j ≡ Some (Some other) → (j ≡ i) ⊎ (j ≡ i → ⊥) → IsFileOf tree entries kept.number.0 other
+    in_ j kept other stands there (inl same) =
+        let here : slice_get (set found i (Some file)) i ≡ Some (Some file) =
+        slice_get-get_or (set found i (Some file)) i None (omega (arith, within, length-set found i (Some file))) ∙ ap Some (get_or-set_same found i (Some file) None within) in
+        let told : Some file ≡ Some other = some-same (slice_get (set found i (Some file)) i) (Some file) (Some other) here (subst (λ (k : ℕ). slice_get (set found i (Some file)) k ≡ Some (Some other)) same there) in
+        let it : file ≡ other = cc in
+        let entry : at.kept ≡ kept = some-same (slice_get entries i) at.kept kept at.stands (subst (λ (k : ℕ). slice_get entries k ≡ Some kept) same stands) in
+        let number : n ≡ kept.number.0 = sym (entry_of-number entries n at.kept at.entry) ∙ ap (λ (k : Kept). k.number.0) entry in
+        subst (λ (m : ℕ). IsFileOf tree entries m other) number (subst (λ (f : FileId). IsFileOf tree entries n f) it names)
+    in_ j kept other stands there (inr apart) =
+        let read : get_or (set found i (Some file)) j None ≡ Some other = get_or_from_slice_get (set found i (Some file)) j (Some other) None there in
+        let was : get_or found j None ≡ Some other = sym (get_or-set_other found i j (Some file) None apart) ∙ read in
+        let lt : j < length found = omega (arith, slice_get_within entries j kept stands, are.len) in
+        are.each j kept other stands (slice_get-get_or found j None lt ∙ ap Some was)
