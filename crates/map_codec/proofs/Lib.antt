@@ -1,3 +1,4 @@
+pub mod CountLaws
 pub mod EntryLaws
 pub mod FieldLaws
 pub mod ImageLaws
@@ -8,10 +9,10 @@ pub mod Loop
 pub mod MemberLaws
 pub mod Members
 pub mod NamedLaws
-pub mod NumberSearch
 pub mod Perms
 pub mod PlaceLaws
 pub mod RaisedLaws
+pub mod RaisingLaws
 pub mod RiseLaws
 pub mod SeenLaws
 pub mod SoundRaises

@@ -21,8 +21,8 @@ use Rattle.inode_map.specs.InodeMap.{AreNumbers, IsFileOf, entry_of, is_of_use}
 use Rattle.inode_map.specs.declared.inode_map.Kept.{Kept}
 use Rattle.fuse_ops.specs.Served.{served_of}
 use Rattle.fuse_ops.specs.Soundness.{IsSound, IsUnlinkedPlace, Names}
-use Rattle.map_codec.specs.Fit.{entry_follows, rises}
-use Rattle.map_codec.specs.Raising.{AreOfOneFile, AreRaisable, CountsFit, HasFile, is_next, is_right_mark}
+use Rattle.map_codec.specs.Fit.{CountsFit, entry_follows, rises}
+use Rattle.map_codec.specs.Raising.{AreOfOneFile, AreRaisable, HasFile, is_next, is_right_mark}
 
 pub both : (b c : Bool) → (b && c) ≡ true → (b ≡ true) × (c ≡ true)
 both true true h = (refl, refl)

@@ -1,9 +1,10 @@
 -- What an image must be to have a text, how large counts and lists are apart. (This project's own; EdenFS's serialised
 -- inode map has no such order.)
-use Rattle.std.specs.Prelude.{◌≡◌, ℕ, Bool, true, ◌&&◌, ◌||◌, ◌==◌, nat_lt, List, [], ◌∷◌, Option, Some, None}
+use Rattle.std.specs.Prelude.{◌≡◌, ◌≤◌, ℕ, Bool, true, ◌&&◌, ◌||◌, ◌==◌, nat_lt, List, [], ◌∷◌, Option, Some, None}
 use Rattle.std.specs.List.{list_all, AllByRecursion}
 use Rattle.std.specs.Ordering.{nat_cmp, is_lt}
 use Rattle.std.specs.Cmp.Lexicographic.{slice_cmp}
+use Rattle.eden_base.specs.Limits.{greatest_count}
 use Rattle.eden_base.specs.Name.{IsNameText}
 use Rattle.eden_base.specs.declared.place.Place.{Place}
 use Rattle.eden_base.specs.declared.place.Place.TheVariants.{Linked, Unlinked}
@@ -62,3 +63,7 @@ pub record IsFit (image : Image) : Type 0 where
   pub made_rise : rises made_follows None image.changes.made ≡ true
   pub links_rise : rises link_follows None image.changes.links ≡ true
   pub links_have_names : AllByRecursion IsNamedLink image.changes.links
+
+-- each count is one that the kernel may hold
+abbrev pub CountsFit : List Kept → Type 0
+CountsFit entries = AllByRecursion (λ (kept : Kept). kept.count ≤ greatest_count) entries

@@ -2,7 +2,7 @@
 -- EdenFS's daemon takes what it is sent as it is.)
 use Rattle.std.specs.Prelude.{◌≡◌, ◌≢◌, ℕ, ◌<◌, ◌≤◌, ◌⊎◌, ◌&&◌, Bool, true, false, nat_lt, nat_le, List, length, slice_get, Option, Some, None, is_some}
 use Rattle.std.specs.List.{AllByRecursion, list_all}
-use Rattle.eden_base.specs.Limits.{end_of_numbers, greatest_count}
+use Rattle.eden_base.specs.Limits.{end_of_numbers}
 use Rattle.eden_base.specs.declared.number.FileId.{FileId}
 use Rattle.eden_base.specs.declared.place.Place.{Place}
 use Rattle.eden_base.specs.declared.place.Place.TheVariants.{Linked, Unlinked}
@@ -63,10 +63,6 @@ are_below next entries = list_all (λ (kept : Kept). nat_lt kept.number.0 next) 
 abbrev pub is_next : ℕ → List Kept → Bool
 is_next next entries =
     nat_le 2 next && nat_le next end_of_numbers && are_below next entries
-
--- each count is one that the kernel may hold
-abbrev pub CountsFit : List Kept → Type 0
-CountsFit entries = AllByRecursion (λ (kept : Kept). kept.count ≤ greatest_count) entries
 
 -- entries and a next number that may be served over a tree
 pub record AreRaisable (tree : Tree) (entries : List Kept) (next : ℕ) : Type 0 where

@@ -4,6 +4,7 @@ ghost use Rattle.inode_map.specs.InodeMap.{is_kept};
 ghost use Rattle.map_codec.specs.Fit.{entry_follows, rises};
 ghost use Rattle.map_codec.specs.Raising.{are_below, are_right_marks, has_parent, have_parents, is_next, is_right_mark, TellsApart};
 
+use crate::named::place_of;
 use checkout::Tree;
 use eden_base::{END_OF_NUMBERS, FileId, NoMemory, Number, Place};
 use inode_map::Kept;
@@ -15,9 +16,7 @@ fn is_kept(entries: &[Kept], number: Number) -> bool
     requires { rises entry_follows None entries.now ≡ true }
     ensures { result ≡ is_kept entries.now number.0 }
 {
-    entries
-        .binary_search_by_key(&number.0, |kept| kept.number.0)
-        .is_ok()
+    place_of(entries, number).is_some()
 }
 
 /// Returns whether the directory of a place is the root, or has an entry.

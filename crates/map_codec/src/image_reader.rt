@@ -1,6 +1,6 @@
 //! Images read from their bytes.
 ghost use Rattle.std.specs.Prelude.{◌≡◌, ℕ, IfOk, Ok};
-ghost use Rattle.map_codec.specs.Fit.{IsFit};
+ghost use Rattle.map_codec.specs.Fit.{CountsFit, IsFit};
 ghost use Rattle.map_codec.specs.ImageText.{IsImageText};
 ghost use Rattle.map_codec.specs.ImageReading.{Gives, changes_at, fields_at, image_of_bytes};
 ghost use Rattle.map_codec.specs.declared.image.Image.{Image};
@@ -71,6 +71,7 @@ pub fn read(alloc: Global, bytes: &[u8]) -> Result<Image, ImageFault>
     // What is read is spelled so, in a version.
     ensures text { IfOk result (λ image. (version : ℕ) × IsImageText image version bytes.now) }
     ensures fit { IfOk result IsFit }
+    ensures counts { IfOk result (λ image. CountsFit image.entries) }
     // What is spelled so is read, unless memory runs out.
     ensures only { (image : Image) (version : ℕ) → IsImageText image version bytes.now
         → Gives (λ image. image) result (Ok image) }

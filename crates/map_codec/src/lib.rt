@@ -13,6 +13,7 @@ mod measure;
 mod member_reader;
 mod member_writer;
 mod named;
+mod raising;
 mod reader;
 mod served_image;
 mod usage;

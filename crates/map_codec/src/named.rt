@@ -12,7 +12,7 @@ use inode_map::Kept;
 use std::alloc::Global;
 
 /// Returns where the entry of a number stands, if the number has one.
-fn place_of(entries: &[Kept], number: Number) -> Option<usize>
+pub(crate) fn place_of(entries: &[Kept], number: Number) -> Option<usize>
     requires rise { rises entry_follows None entries.now ≡ true }
     ensures bound { IfSome result (λ place. place < length entries.now) }
     ensures place { MatchOption result (entry_of entries.now number.0 ≡ None) (IsPlaceOf entries.now number.0) }

@@ -2,11 +2,12 @@ use Rattle.std.proofs.Common.{ℕ, List, Result, Ok, Err, subst, arith}
 use Rattle.std.specs.Prelude.{IfOk}
 use Rattle.map_codec.specs.declared.fault.ImageFault.{ImageFault}
 use Rattle.map_codec.specs.declared.image.Image.{Image}
-use Rattle.map_codec.specs.Fit.{IsFit}
+use Rattle.map_codec.specs.Fit.{CountsFit, IsFit}
 use Rattle.map_codec.specs.ImageText.{IsImageText}
 use Rattle.map_codec.specs.ImageReading.{Gives, image_of_bytes}
 use Rattle.map_codec.proofs.FieldLaws.{IsBytes}
 use Rattle.map_codec.proofs.ImageLaws.{image_found, image_again}
+use Rattle.map_codec.proofs.CountLaws.{counts_fit}
 use Rattle.map_codec.proofs.image_reader.read.Goals as goal
 
 is_found : (bytes : List ℕ) (r : Result Image ImageFault) → IsBytes bytes → Gives (λ (image : Image). image) r (image_of_bytes bytes) → IfOk r (λ (image : Image). (version : ℕ) × IsImageText image version bytes)
@@ -22,6 +23,13 @@ is_fit bytes (Err fault) are given = tt
 
 pub returns-clause-fit : goal.returns-clause-fit
 returns-clause-fit c = is_fit c.args.bytes.now c.read_image.result (λ i. omega (arith, c.type_inv.bytes i)) c.read_image.ensures
+
+fit_counts : (bytes : List ℕ) (r : Result Image ImageFault) → IsBytes bytes → Gives (λ (image : Image). image) r (image_of_bytes bytes) → IfOk r (λ (image : Image). CountsFit image.entries)
+fit_counts bytes (Ok image) are given = counts_fit image bytes (image_found bytes image are given)
+fit_counts bytes (Err fault) are given = tt
+
+pub returns-clause-counts : goal.returns-clause-counts
+returns-clause-counts c = fit_counts c.args.bytes.now c.read_image.result (λ i. omega (arith, c.type_inv.bytes i)) c.read_image.ensures
 
 pub returns-clause-only : goal.returns-clause-only
 returns-clause-only c = λ image version is. subst (Gives (λ (i : Image). i) c.read_image.result) (image_again image version c.args.bytes.now is) c.read_image.ensures

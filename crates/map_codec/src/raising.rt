@@ -1,0 +1,44 @@
+//! What a daemon serves, raised from an image.
+ghost use Rattle.std.specs.Prelude.{◌≡◌, true, None, IfErr, IfOk, OnOk};
+ghost use Rattle.checkout.specs.Tree.{IsTree};
+ghost use Rattle.fuse_ops.specs.Soundness.{IsSound};
+ghost use Rattle.map_codec.specs.Fit.{entry_follows, rises, CountsFit, IsFit};
+ghost use Rattle.map_codec.specs.Raising.{raised, IsRaisable, IsRaiseRefusal, StandsAgainst};
+
+use crate::entry_checks::{are_apart, are_right_marks, have_parents, is_next};
+use crate::named::named_files;
+use crate::{Image, RaiseFault};
+use checkout::{ChangeFault, Manifest, Tree};
+use eden_base::NoMemory;
+use fuse_ops::Served;
+use inode_map::Kept;
+use std::alloc::Global;
+
+/// Returns what stands against entries and a next number over a tree, if anything does.
+fn entry_fault(
+    alloc: Global,
+    tree: &Tree,
+    entries: &[Kept],
+    next: u64,
+) -> Result<Option<RaiseFault>, NoMemory>
+    requires rise { rises entry_follows None entries.now ≡ true }
+    ensures fault { IfOk result (StandsAgainst tree.now entries.now next) }
+{
+    if !have_parents(entries) {
+        return Ok(Some(RaiseFault::NoParent));
+    }
+    let files = match named_files(alloc, tree, entries)? {
+        Some(files) => files,
+        None => return Ok(Some(RaiseFault::NoLink)),
+    };
+    if !are_right_marks(tree, entries) {
+        return Ok(Some(RaiseFault::NoLink));
+    }
+    if !are_apart(alloc, files.as_slice())? {
+        return Ok(Some(RaiseFault::TwoNumbers));
+    }
+    if !is_next(next, entries) {
+        return Ok(Some(RaiseFault::NumberTooHigh));
+    }
+    Ok(None)
+}
