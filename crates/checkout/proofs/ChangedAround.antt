@@ -46,6 +46,14 @@ pub kind_there : (o : Option File) → is_some (option_map (λ (f : File). f.kin
 kind_there None h = absurd (cc)
 kind_there (Some f) h = refl
 
+-- where a file stays, a directory does
+pub dir_stays : (old new : Tree) (dir : FileId) → ((f : File) → file_of old dir ≡ Some f → file_of new dir ≡ Some f) → kind_of old dir ≡ Some Dir → kind_of new dir ≡ Some Dir
+dir_stays old new dir stays h =
+    elim (file_of old dir) as (λ o. file_of old dir ≡ o → option_map (λ (f : File). f.kind) o ≡ Some Dir → kind_of new dir ≡ Some Dir) [
+      | None ↦ λ _ g. absurd (cc)
+      | Some f ↦ λ e g. ap (option_map (λ (f : File). f.kind)) (stays f e) ∙ g
+    ] refl h
+
 -- a file that was made, as one of the tree
 pub record IsMadeFile (c : Changes) (file : FileId) (f : File) : Type 0 where
   pub made : Made
@@ -97,13 +105,6 @@ module _ (m : Manifest) (c : Changes) (is : IsManifest m) (itself : bad_itself m
       next_after : last_file m < c.next_file.0
       next_after = let n = good.next_after in grind (arith, nat_tests)
 
-  pub dir_stays : (dir : FileId) → kind_of (tree_of m) dir ≡ Some Dir → kind_of tree dir ≡ Some Dir
-  dir_stays dir h =
-      elim (file_of (tree_of m) dir) as (λ o. file_of (tree_of m) dir ≡ o → option_map (λ (f : File). f.kind) o ≡ Some Dir → kind_of tree dir ≡ Some Dir) [
-        | None ↦ λ _ g. absurd (cc)
-        | Some f ↦ λ e g. ap (option_map (λ (f : File). f.kind)) (first_stays dir f e) ∙ g
-      ] refl h
-
   -- what a change gives
   given_is_target : (dir : FileId) (name : List ℕ) (file : FileId) → child_of tree dir name ≡ Some file → StandsAt base c.links (dir.0, name) → (is_some (kind_with m c.made file) ≡ true) × (not (file.0 == 1) ≡ true)
   given_is_target dir name file h r =
@@ -121,7 +122,7 @@ module _ (m : Manifest) (c : Changes) (is : IsManifest m) (itself : bad_itself m
   pub stands_in_dir : (dir : FileId) (name : List ℕ) (file : FileId) → child_of tree dir name ≡ Some file → kind_of tree dir ≡ Some Dir
   stands_in_dir dir name file h =
       elim (stands_or_same base c.links (dir.0, name)) [
-        | inl same ↦ dir_stays dir (first.links_stand_in_dirs dir name file (sym same ∙ h))
+        | inl same ↦ dir_stays (tree_of m) tree dir (first_stays dir) (first.links_stand_in_dirs dir name file (sym same ∙ h))
         | inr r ↦
             let at = same_id r.change.dir dir (ap (λ (k : ℕ × List ℕ). k.0) r.here) in
             changed_kind m c good.made dir.0 ∙ ap (kind_with m c.made) (sym at) ∙ dir_if_so (kind_with m c.made r.change.dir) (change_is_good m c good.links r.change r.listed).dir

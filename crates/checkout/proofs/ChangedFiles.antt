@@ -67,6 +67,11 @@ each_found (x ∷ xs) h = (
     behind [] up found = tt
     behind (y ∷ ys) up found = (ap (λ b. cond b (Some x) (made_under y.file.0 xs)) (unsigned_ties x.file.0 y.file.0 ∙ ap is_eq up.0) ∙ found.0, behind ys up.1 found.1)
 
+pub found_listed : (made : List Made) → IsStrictlySortedBy nat_cmp (file_ids made) → (x : Made) → Contains made x → made_under x.file.0 made ≡ Some x
+found_listed made rise x h =
+    let P : Made → Type 0 = λ y. made_under y.file.0 made ≡ Some y in
+    All-contains P made x (All-from_recursion P made (each_found made rise)) h
+
 abbrev kind_of_option : Option File → Option Kind
 kind_of_option o = option_map (λ (f : File). f.kind) o
 
@@ -121,8 +126,7 @@ module _ (m : Manifest) (c : Changes) (none : first_bad (is_bad_made m c.next_fi
 
   is_made : (x : Made) → Contains c.made x → IsMade tree x
   is_made x h =
-      let P : Made → Type 0 = λ y. made_under y.file.0 c.made ≡ Some y in
-      let found = All-contains P c.made x (All-from_recursion P c.made (each_found c.made (ids_rise m c.next_file 1 c.made none))) h in
+      let found = found_listed c.made (ids_rise m c.next_file 1 c.made none) x h in
       let later = (made_is_good x h).later in
       record {
         later = omega (arith, later);

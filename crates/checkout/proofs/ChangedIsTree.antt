@@ -90,7 +90,7 @@ module _ (m : Manifest) (c : Changes) (is : IsManifest m) (none : IsBadChange m 
   made_tree names =
       let whole = changed_apart m c is good.itself good.by_other in
       record {
-        root_is_dir = dir_stays m c is good.itself root first.root_is_dir;
+        root_is_dir = dir_stays (tree_of m) tree root (first_stays m c is good.itself root) first.root_is_dir;
         ids_below_next = λ file h. (id_within m c is good.itself file h).1;
         next_fits = let fits = alone.next_fits in grind (arith, nat_tests);
         has_manifest_files = first_stays m c is good.itself;

@@ -40,7 +40,7 @@ all_filtered P test (x ∷ xs) h =
     ] refl
 
 -- one that passes, and what holds of all
-passing_one : (P : Link → Type 0) (test : Link → Bool) (xs : List Link) → AllByRecursion P xs → list_any test xs ≡ true → (x : Link) × P x × (test x ≡ true)
+pub passing_one : (P : Link → Type 0) (test : Link → Bool) (xs : List Link) → AllByRecursion P xs → list_any test xs ≡ true → (x : Link) × P x × (test x ≡ true)
 passing_one P test [] all h = absurd (cc)
 passing_one P test (x ∷ xs) all h =
     elim (test x) as (λ b. test x ≡ b → (b || list_any test xs) ≡ true → (y : Link) × P y × (test y ≡ true)) [
@@ -66,6 +66,28 @@ not_so : (b : Bool) → not b ≡ true → b ≡ false
 not_so false h = refl
 not_so true h = absurd (cc)
 
+-- the tree gives what the link gives
+abbrev pub Stands : Tree → Link → Type 0
+Stands t link = get t.links link.0 ≡ Some link.1
+
+-- each of the changed links stands in the tree
+pub each_link : (t : Tree) (c : Changes) → IsManifest t.manifest → AreLinkChanges t c.links → AllByRecursion (Stands t) (changed_links t.manifest c)
+each_link t c is has =
+    all-append (Stands t) (filter keep (lines_links 2 t.manifest.lines)) (filter_map given c.links)
+    (all_filtered (Stands t) keep (lines_links 2 t.manifest.lines) (each_line (λ link. keep link ≡ true → Stands t link) 2 t.manifest.lines kept))
+    (each_given (Stands t) c.links (recursion_from_All Gives c.links (All-weaker (Contains c.links) Gives (λ x h file e. sym ((has.each x).0 h).target ∙ e) c.links (All-contains_itself c.links))))
+  where
+    keep : Link → Bool
+    keep link = not (touched t c has link.0)
+
+    kept : (i : ℕ) (line : Line) → slice_get t.manifest.lines i ≡ Some line → not (touched t c has (line.dir.0, line.name)) ≡ true → get t.links (line.dir.0, line.name) ≡ Some (file_with (2 + i))
+    kept i line here k =
+        let place : ℕ × List ℕ = (line.dir.0, line.name) in
+        sym (untouched t c has place (not_so (touched t c has place) k)) ∙ link_of_line t.manifest.lines 2 i line (apart t.manifest.lines is.lines) here
+
+    Gives : LinkChange → Type 0
+    Gives x = (file : FileId) → x.target ≡ Some file → Stands t (place_of x, file)
+
 module _ (m : Manifest) (c : Changes) (is : IsManifest m) (none : first_bad (is_bad_link m c.made) (first_link c) None c.links ≡ None) where
   abbrev tree : Tree
   tree = changed m c
@@ -79,31 +101,10 @@ module _ (m : Manifest) (c : Changes) (is : IsManifest m) (none : first_bad (is_
   has : AreLinkChanges tree c.links
   has = changed_has_links m c none
 
-  abbrev Stands : Link → Type 0
-  Stands link = get tree.links link.0 ≡ Some link.1
-
-  -- each of the changed links stands in the tree
-  each_link : AllByRecursion Stands links
-  each_link =
-      all-append Stands (filter keep (lines_links 2 m.lines)) (filter_map given c.links)
-      (all_filtered Stands keep (lines_links 2 m.lines) (each_line (λ link. keep link ≡ true → Stands link) 2 m.lines kept))
-      (each_given Stands c.links (recursion_from_All Gives c.links (All-weaker (Contains c.links) Gives (λ x h file e. sym ((has.each x).0 h).target ∙ e) c.links (All-contains_itself c.links))))
-    where
-      keep : Link → Bool
-      keep link = not (touched tree c has link.0)
-
-      kept : (i : ℕ) (line : Line) → slice_get m.lines i ≡ Some line → not (touched tree c has (line.dir.0, line.name)) ≡ true → get tree.links (line.dir.0, line.name) ≡ Some (file_with (2 + i))
-      kept i line here k =
-          let place : ℕ × List ℕ = (line.dir.0, line.name) in
-          sym (untouched tree c has place (not_so (touched tree c has place) k)) ∙ link_of_line m.lines 2 i line (apart m.lines is.lines) here
-
-      Gives : LinkChange → Type 0
-      Gives x = (file : FileId) → x.target ≡ Some file → Stands (place_of x, file)
-
   -- what is given stands somewhere
   stands_somewhere : (dir : FileId) → is_given links dir ≡ true → (above : FileId) × (own : List ℕ) × (child_of tree above own ≡ Some dir)
   stands_somewhere dir h =
-      let w = passing_one Stands (λ (link : Link). link.1.0 == dir.0) links each_link h in
+      let w = passing_one (Stands tree) (λ (link : Link). link.1.0 == dir.0) links (each_link tree c is has) h in
       let passes = w.2 in
       let same : w.0.1.0 ≡ dir.0 = grind (arith, nat_tests) in
       (file_with w.0.0.0, w.0.0.1, w.1 ∙ ap (λ f. Some f) (same_id w.0.1 dir same))

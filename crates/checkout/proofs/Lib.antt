@@ -52,6 +52,7 @@ pub mod MapLemmas
 pub mod MarkLaws
 pub mod MoreLines
 pub mod NameLemmas
+pub mod NoneBadLaws
 pub mod OneList
 pub mod OverlayCreate
 pub mod OverlayLaws
