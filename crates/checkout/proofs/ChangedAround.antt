@@ -32,7 +32,7 @@ holds_of_none test c none x h =
     let P : LinkChange → Type 0 = λ y. test y ≡ false in
     All-contains P c.links x (All-from_recursion P c.links (all_good (λ _ change. test change) P (λ _ y fails. fails) (first_link c) None c.links none)) h
 
-both_true : (a b : Bool) → (a && b) ≡ true → (a ≡ true) × (b ≡ true)
+pub both_true : (a b : Bool) → (a && b) ≡ true → (a ≡ true) × (b ≡ true)
 both_true true true h = (refl, refl)
 both_true true false h = absurd (cc)
 both_true false b h = absurd (cc)

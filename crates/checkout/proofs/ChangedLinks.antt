@@ -1,7 +1,6 @@
 -- The links of a tree, as its changes tell them.
-use Rattle.std.proofs.Common.{◌≡◌, ◌+◌, ◌||◌, ℕ, Bool, true, false, not, cond, List, [], ◌∷◌, ◌++◌, Option, Some, None, refl, sym, ap, ◌∙◌, inl, inr, arith}
+use Rattle.std.proofs.Common.{◌≡◌, ◌+◌, ◌||◌, ℕ, Bool, true, false, not, cond, List, [], ◌∷◌, ◌++◌, Option, Some, None, refl, sym, ap, ◌∙◌, inl, inr}
 use Rattle.std.proofs.Math.Bool.{or-true}
-use Rattle.std.proofs.lemmas.List.Elements.{Contains-append_right}
 use Rattle.std.proofs.lemmas.List.Folds.{list_any_at}
 use Rattle.std.specs.Cmp.{tied_itself}
 use Rattle.std.specs.FinMap.{get, get-empty, get-insert}
@@ -15,6 +14,7 @@ use Rattle.checkout.specs.BadChanges.{Link, changed_links, file_below, file_in, 
 use Rattle.checkout.specs.Changes.{AreLinkChanges, IsLinkChange, place_of}
 use Rattle.checkout.specs.Manifest.{Line}
 use Rattle.checkout.specs.Tree.{Tree, child_of, file_at, link_cmp, links_from}
+use Rattle.checkout.proofs.ChangeLists.{all_of}
 use Rattle.checkout.proofs.ChangesLaws.{same_or_not}
 use Rattle.checkout.proofs.FlatLemmas.{link_cmp_total, link_cmp-same}
 use Rattle.checkout.proofs.MapLemmas.{tied_key}
@@ -143,11 +143,7 @@ module _ (t : Tree) (c : Changes) (has : AreLinkChanges t c.links) where
       or_none (Some f) = refl
 
       all : AllByRecursion (IsLinkChange t) c.links
-      all = each c.links (λ x h. (has.each x).0 h)
-        where
-          each : (xs : List LinkChange) → ((x : LinkChange) → Contains xs x → IsLinkChange t x) → AllByRecursion (IsLinkChange t) xs
-          each [] h = tt
-          each (x ∷ xs) h = (h x (0, omega arith, refl), each xs (λ y there. h y (Contains-append_right (x ∷ []) xs y there)))
+      all = all_of (IsLinkChange t) c.links (λ x h. (has.each x).0 h)
 
   -- so are paths
   pub file_below-is : (dir : FileId) (names : List (List ℕ)) → file_below (changed_links t.manifest c) dir names ≡ file_at t dir names

@@ -1,7 +1,6 @@
 -- Where no change cuts a directory off each directory with a link in it stands in another, or is the root.
 use Rattle.std.proofs.Common.{◌≡◌, ◌+◌, ◌==◌, ◌&&◌, ◌||◌, ℕ, suc, Bool, true, false, not, cond, List, [], ◌∷◌, Some, None, refl, sym, ap, subst, ◌∙◌, inl, inr, arith, eq-eqb}
 use Rattle.std.proofs.lemmas.Bool.Decides.{nat_tests}
-use Rattle.std.proofs.lemmas.List.Elements.{All-contains_itself, All-weaker, recursion_from_All}
 use Rattle.std.specs.FinMap.{FinMap, get}
 use Rattle.std.specs.List.{AllByRecursion, Contains, cons_option, filter, filter_map, list_any, slice_get}
 use Rattle.std.specs.Option.{option_map}
@@ -13,7 +12,7 @@ use Rattle.checkout.specs.Changed.{changed}
 use Rattle.checkout.specs.Changes.{AreLinkChanges, place_of}
 use Rattle.checkout.specs.Manifest.{IsManifest, Line, Manifest}
 use Rattle.checkout.specs.Tree.{Tree, child_of, link_cmp, links_from, tree_of}
-use Rattle.checkout.proofs.ChangeLists.{all-append}
+use Rattle.checkout.proofs.ChangeLists.{all-append, all_of}
 use Rattle.checkout.proofs.ChangedAround.{holds_of_none}
 use Rattle.checkout.proofs.ChangedLinks.{any_link, lines_links-get, touched, untouched}
 use Rattle.checkout.proofs.ChangedMaps.{changed_has_links, changed_links-changed, stands_or_same}
@@ -75,7 +74,7 @@ pub each_link : (t : Tree) (c : Changes) → IsManifest t.manifest → AreLinkCh
 each_link t c is has =
     all-append (Stands t) (filter keep (lines_links 2 t.manifest.lines)) (filter_map given c.links)
     (all_filtered (Stands t) keep (lines_links 2 t.manifest.lines) (each_line (λ link. keep link ≡ true → Stands t link) 2 t.manifest.lines kept))
-    (each_given (Stands t) c.links (recursion_from_All Gives c.links (All-weaker (Contains c.links) Gives (λ x h file e. sym ((has.each x).0 h).target ∙ e) c.links (All-contains_itself c.links))))
+    (each_given (Stands t) c.links (all_of Gives c.links (λ x h file e. sym ((has.each x).0 h).target ∙ e)))
   where
     keep : Link → Bool
     keep link = not (touched t c has link.0)

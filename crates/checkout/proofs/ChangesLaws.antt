@@ -1,10 +1,9 @@
 -- What tells a tree from its manifest's makes it: no two trees of a manifest have the same changes.
-use Rattle.std.proofs.Common.{◌≡◌, ◌≢◌, ◌==◌, ℕ, true, false, List, [], ◌∷◌, Option, Some, None, refl, sym, ap, ◌∙◌, ◌⊎◌, inl, inr, arith, eq-eqb}
+use Rattle.std.proofs.Common.{◌≡◌, ◌≢◌, ◌==◌, ℕ, true, false, List, Option, Some, None, refl, sym, ap, ◌∙◌, ◌⊎◌, inl, inr, arith, eq-eqb}
 use Rattle.std.proofs.lemmas.Bool.Decides.{nat_tests}
-use Rattle.std.proofs.lemmas.List.Elements.{Contains-append_right}
 use Rattle.std.specs.Cmp.{nat_cmp_total}
 use Rattle.std.specs.FinMap.{get, nat_cmp-IsAntisymmetric, same_map}
-use Rattle.std.specs.List.{AllByRecursion, Contains}
+use Rattle.std.specs.List.{AllByRecursion}
 use Rattle.eden_base.specs.Name.{IsNameText}
 use Rattle.eden_base.specs.declared.number.FileId.{FileId}
 use Rattle.checkout.specs.declared.changes.Changes.{Changes}
@@ -13,6 +12,7 @@ use Rattle.checkout.specs.declared.changes.Made.{Made}
 use Rattle.checkout.specs.Changes.{AreChanges, IsLinkChange, place_of}
 use Rattle.checkout.specs.Manifest.{File, Manifest}
 use Rattle.checkout.specs.Tree.{Tree, IsTree, child_of, file_of, links_from, made_file, tree_of}
+use Rattle.checkout.proofs.ChangeLists.{all_of}
 use Rattle.checkout.proofs.FlatLemmas.{link_cmp_total, link_cmp-same}
 use Rattle.checkout.proofs.ManifestTree.{file_with, same_id}
 use Rattle.checkout.proofs.OneList.{one_list}
@@ -101,8 +101,4 @@ changed_name t x tree first change =
     ] refl
 
 pub changed_names : (t : Tree) (c : Changes) → IsTree t → IsTree (tree_of t.manifest) → AreChanges t c → AllByRecursion (λ link. IsNameText link.name) c.links
-changed_names t c tree first has = each c.links (λ x here. changed_name t x tree first ((has.links.each x).0 here))
-  where
-    each : (links : List LinkChange) → ((x : LinkChange) → Contains links x → IsNameText x.name) → AllByRecursion (λ link. IsNameText link.name) links
-    each [] h = tt
-    each (x ∷ xs) h = (h x (0, omega arith, refl), each xs (λ y there. h y (Contains-append_right (x ∷ []) xs y there)))
+changed_names t c tree first has = all_of (λ link. IsNameText link.name) c.links (λ x here. changed_name t x tree first ((has.links.each x).0 here))

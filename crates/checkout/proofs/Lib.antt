@@ -31,6 +31,7 @@ pub mod FormReads
 pub mod GoneLemmas
 pub mod GoneListing
 pub mod GoodChanges
+pub mod GoodRounds
 pub mod HexForms
 pub mod IdMaps
 pub mod KindLemmas
