@@ -1,33 +1,30 @@
 -- What tells a tree from its manifest's has nothing bad in it: the first two rounds, and so all four.
-use Rattle.std.proofs.Common.{◌≡◌, ◌+◌, ◌<◌, ◌==◌, ◌&&◌, ◌||◌, ℕ, zero, suc, Bool, true, false, not, nat_lt, if◌then◌else◌, List, [], ◌∷◌, length, Option, Some, None, is_some, refl, sym, ap, ◌∙◌, inl, inr, arith}
+use Rattle.std.proofs.Common.{◌≡◌, ◌==◌, ◌&&◌, ◌||◌, ℕ, zero, suc, Bool, true, false, not, if◌then◌else◌, List, [], ◌∷◌, Option, Some, None, is_some, refl, sym, ap, ◌∙◌, inr, arith}
 use Rattle.std.proofs.lemmas.Bool.Decides.{nat_tests}
 use Rattle.std.specs.Cmp.{tied_itself}
 use Rattle.std.specs.List.{Contains, list_any, slice_get}
 use Rattle.std.specs.Option.{option_map, option_or}
 use Rattle.std.specs.Ordering.{is_eq}
-use Rattle.eden_base.proofs.MemberLemmas.{some-IsSome, some-is}
-use Rattle.eden_base.specs.Limits.{end_of_files}
+use Rattle.eden_base.proofs.MemberLemmas.{some-is}
 use Rattle.eden_base.specs.declared.attr.Kind.TheVariants.{Dir}
 use Rattle.eden_base.specs.declared.number.FileId.{FileId}
 use Rattle.checkout.specs.declared.changes.Changes.{Changes}
 use Rattle.checkout.specs.declared.changes.LinkChange.{LinkChange}
-use Rattle.checkout.specs.declared.changes.Made.{Made}
-use Rattle.checkout.specs.BadChanges.{Else, IsBadAround, IsBadChange, Link, bad_by_cut, bad_by_other, bad_itself, changed_links, file_does, first_bad, first_link, gives_same, has_other_link, is_at, is_bad_link, is_bad_made, is_bad_next, is_cut_off, is_target, kind_with, last_file, manifest_target}
-use Rattle.checkout.specs.Changed.{changed}
+use Rattle.checkout.specs.BadChanges.{Else, IsBadAround, IsBadChange, Link, bad_by_cut, bad_by_other, bad_itself, changed_links, file_does, first_bad, first_link, gives_same, has_other_link, is_at, is_bad_link, is_bad_made, is_cut_off, is_target, kind_with, manifest_target}
 use Rattle.checkout.specs.Changes.{AreChanges, IsLinkChange, place_of}
 use Rattle.checkout.specs.Manifest.{File, IsManifest, Manifest}
-use Rattle.checkout.specs.Tree.{IsTree, Tree, child_of, file_of, is_dir, kind_of, made_file, root, tree_of}
+use Rattle.checkout.specs.Tree.{IsTree, Tree, child_of, file_of, is_dir, kind_of, tree_of}
 use Rattle.checkout.proofs.ChangeLists.{all_of}
-use Rattle.checkout.proofs.ChangedAround.{both_true, dir_stays, kind_there}
-use Rattle.checkout.proofs.ChangedFiles.{changed_files, changed_kind, file_of_made, found_listed, found_made, made_under}
+use Rattle.checkout.proofs.ChangedAround.{both_true, dir_stays}
 use Rattle.checkout.proofs.ChangedLinks.{lines_links-get}
 use Rattle.checkout.proofs.ChangedUpward.{Stands, each_link, passing_one}
-use Rattle.checkout.proofs.FirstBadLaws.{IsGoodLink, IsGoodMade}
+use Rattle.checkout.proofs.FirstBadLaws.{IsGoodLink}
 use Rattle.checkout.proofs.FlatLemmas.{link_cmp_total}
 use Rattle.checkout.proofs.GoodChanges.{none_cut_off, none_is_above}
 use Rattle.checkout.proofs.ManifestIsTree.{tree_of-IsTree}
-use Rattle.checkout.proofs.ManifestTree.{file_of_line, file_with, line_at, same_id}
-use Rattle.checkout.proofs.NoneBadLaws.{links_not_bad, made_not_bad, none_found}
+use Rattle.checkout.proofs.ManifestTree.{file_with, same_id}
+use Rattle.checkout.proofs.NoneBadLaws.{links_not_bad, none_found}
+use Rattle.checkout.proofs.OwnFiles.{next_not_bad, own_kind, own_made_not_bad}
 
 -- what stands at a place is a member
 member_at : {X : Type 0} (xs : List X) (j : ℕ) (x : X) → slice_get xs j ≡ Some x → Contains xs x
@@ -48,66 +45,6 @@ module _ (t : Tree) (c : Changes) (is : IsTree t) (man : IsManifest t.manifest) 
   first : IsTree (tree_of m)
   first = tree_of-IsTree m man
 
-  next_is : c.next_file.0 ≡ t.next_file
-  next_is = ap (λ (f : FileId). f.0) has.next
-
-  -- the file of the last line is below the next, or the root, where there is no line
-  last_is_below : last_file m < t.next_file
-  last_is_below = by_length (length m.lines) refl
-    where
-      by_length : (n : ℕ) → length m.lines ≡ n → last_file m < t.next_file
-      by_length zero len =
-          let below = is.ids_below_next root (kind_there (file_of t root) (ap is_some is.root_is_dir)) in
-          omega (arith, below, len)
-      by_length (suc n) len =
-          let at = line_at m.lines n (omega (arith, len)) in
-          let there = is.has_manifest_files (file_with (2 + n)) at.0.file (file_of_line 2 n m.lines at.0 at.1) in
-          let below = is.ids_below_next (file_with (2 + n)) (some-IsSome (file_of t (file_with (2 + n))) at.0.file there) in
-          omega (arith, below, len)
-
-  good_made : (x : Made) → Contains c.made x → IsGoodMade m c.next_file x
-  good_made x h =
-      let told = (has.made.each x).0 h in
-      let later = told.later in
-      let below = is.ids_below_next x.file (some-IsSome (file_of t x.file) (file_of_made x) told.file) in
-      let next = next_is in
-      record { later = omega (arith, later); below = omega (arith, below, next) }
-
-  made_none : first_bad (is_bad_made m c.next_file) 1 None c.made ≡ None
-  made_none = made_not_bad m c.next_file 1 c.made has.made.rising (all_of (IsGoodMade m c.next_file) c.made good_made)
-
-  -- a file that isn't the manifest's is the made one
-  files_there : (file : FileId) → file_of (tree_of m) file ≡ None → option_map file_of_made (made_under file.0 c.made) ≡ file_of t file
-  files_there file none =
-      elim (file_of t file) as (λ o. file_of t file ≡ o → option_map file_of_made (made_under file.0 c.made) ≡ o) [
-        | Some f ↦ λ e. elim (is.others_are_later file f e) [
-          | inl g ↦ absurd (cc (none, g))
-          | inr w ↦
-              let made : Made = record { file = file; kind = f.kind; perm = f.perm } in
-              let empty : f ≡ made_file f.kind f.perm = λ i. record { kind = f.kind; perm = f.perm; size = w.1 i } in
-              let there = (has.made.each made).1 (record { later = w.0; file = e ∙ ap (λ x. Some x) empty }) in
-              ap (option_map file_of_made) (found_listed c.made has.made.rising made there) ∙ ap (λ x. Some x) (sym empty)
-        ]
-        | None ↦ λ e. elim (made_under file.0 c.made) as (λ o. made_under file.0 c.made ≡ o → option_map file_of_made o ≡ None) [
-          | None ↦ λ _. refl
-          | Some x ↦ λ g.
-              let r = found_made c.made file.0 x g in
-              let there = ap (file_of t) (sym (same_id x.file file r.1)) ∙ ((has.made.each x).0 r.0).file in
-              absurd (cc (e, there))
-        ] refl
-      ] refl
-
-  files_same : (file : FileId) → file_of (changed m c) file ≡ file_of t file
-  files_same file =
-      changed_files m c made_none file.0
-      ∙ (elim (file_of (tree_of m) file) as (λ o. file_of (tree_of m) file ≡ o → option_or o (option_map file_of_made (made_under file.0 c.made)) ≡ file_of t file) [
-        | Some f ↦ λ e. sym (is.has_manifest_files file f e)
-        | None ↦ λ e. files_there file e
-      ] refl)
-
-  kind_same : (file : FileId) → kind_with m c.made file ≡ kind_of t file
-  kind_same file = sym (changed_kind m c made_none file.0) ∙ ap (option_map (λ (f : File). f.kind)) (files_same file)
-
   -- a link is changed in a directory: one is there, or was
   changed_in_dir : (x : LinkChange) → IsLinkChange t x → kind_of t x.dir ≡ Some Dir
   changed_in_dir x told =
@@ -124,7 +61,7 @@ module _ (t : Tree) (c : Changes) (is : IsTree t) (man : IsManifest t.manifest) 
   target_there x told (Some f) e =
       let link = sym told.target ∙ e in
       let file = some-is (file_of t f) (is.links_give_files x.dir x.name f link) in
-      let kind : is_some (kind_with m c.made f) ≡ true = ap is_some (kind_same f ∙ ap (option_map (λ (g : File). g.kind)) file.1) in
+      let kind : is_some (kind_with m c.made f) ≡ true = ap is_some (own_kind t c is has f ∙ ap (option_map (λ (g : File). g.kind)) file.1) in
       let above = is.root_has_no_link x.dir x.name f link in
       let other : (f.0 == 1) ≡ false = grind (arith, nat_tests) in
       ap (λ b. b && not (f.0 == 1)) kind ∙ ap not other
@@ -133,7 +70,7 @@ module _ (t : Tree) (c : Changes) (is : IsTree t) (man : IsManifest t.manifest) 
   good_change x h =
       let told = (has.links.each x).0 h in
       record {
-        dir = ap is_dir (kind_same x.dir ∙ changed_in_dir x told);
+        dir = ap is_dir (own_kind t c is has x.dir ∙ changed_in_dir x told);
         target = target_there x told x.target refl;
         differs = elim (gives_same x.target (manifest_target m x)) as (λ b. gives_same x.target (manifest_target m x) ≡ b → b ≡ false) [
           | true ↦ λ e. absurd (told.differs (same_if_so x.target (manifest_target m x) e ∙ lines_links-get 2 m.lines (place_of x)))
@@ -143,22 +80,13 @@ module _ (t : Tree) (c : Changes) (is : IsTree t) (man : IsManifest t.manifest) 
 
   -- the first round finds nothing
   none_itself : bad_itself m c ≡ None
-  none_itself = ap (λ b. if b then Some 0 else option_or made links) next_good ∙ ap (λ o. option_or o links) made_none ∙ links_not_bad m c.made (first_link c) c.links has.links.rising (all_of (IsGoodLink m c.made) c.links good_change)
+  none_itself = ap (λ b. if b then Some 0 else option_or made links) (next_not_bad t c is has) ∙ ap (λ o. option_or o links) (own_made_not_bad t c is has) ∙ links_not_bad m c.made (first_link c) c.links has.links.rising (all_of (IsGoodLink m c.made) c.links good_change)
     where
       made : Option ℕ
       made = first_bad (is_bad_made m c.next_file) 1 None c.made
 
       links : Option ℕ
       links = first_bad (is_bad_link m c.made) (first_link c) None c.links
-
-      next_good : is_bad_next m c.next_file ≡ false
-      next_good =
-          let next = next_is in
-          let low = last_is_below in
-          let high = is.next_fits in
-          let after : nat_lt (last_file m) c.next_file.0 ≡ true = grind (arith, nat_tests) in
-          let fits : nat_lt end_of_files c.next_file.0 ≡ false = grind (arith, nat_tests) in
-          ap (λ b. not b || nat_lt end_of_files c.next_file.0) after ∙ fits
 
   -- no other link gives the file of one
   has_no_other : (x : LinkChange) → IsLinkChange t x → (o : Option FileId) → x.target ≡ o → file_does (λ file. list_any (λ (link : Link). link.1.0 == file.0 && not (is_at (place_of x) link.0)) (changed_links m c)) o ≡ false

@@ -59,6 +59,8 @@ pub mod OverlayCreate
 pub mod OverlayLaws
 pub mod OverlayRemove
 pub mod OverlaySteps
+pub mod OwnFiles
+pub mod OwnTree
 pub mod PartsLaws
 pub mod PathLaws
 pub mod ReadLemmas
