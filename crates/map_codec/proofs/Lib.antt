@@ -2,6 +2,7 @@ pub mod CountLaws
 pub mod EntryLaws
 pub mod FieldLaws
 pub mod ImageLaws
+pub mod ImageRaises
 pub mod InOrder
 pub mod Lengths
 pub mod ListLaws
