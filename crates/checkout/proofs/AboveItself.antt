@@ -1,14 +1,15 @@
 -- A link that is above itself is one whose target stands on a circle; and it is so by a list of links as by a map.
-use Rattle.std.proofs.Common.{◌≡◌, ◌==◌, ◌+◌, ◌<◌, ℕ, true, false, List, [], ◌∷◌, Some, None, refl, sym, ap, subst, ◌∙◌, arith}
+use Rattle.std.proofs.Common.{◌≡◌, ◌==◌, ◌+◌, ◌<◌, ℕ, Bool, true, false, List, [], ◌∷◌, Option, Some, None, refl, sym, ap, subst, ◌∙◌, inl, inr, arith}
 use Rattle.std.proofs.lemmas.Bool.Decides.{nat_tests}
 use Rattle.std.specs.FinMap.{FinMap, get}
 use Rattle.std.specs.List.{slice_get}
 use Rattle.std.specs.Option.{option_and_then}
+use Rattle.std.specs.Ordering.{nat_cmp}
 use Rattle.eden_base.specs.declared.number.FileId.{FileId}
 use Rattle.checkout.specs.declared.changes.Changes.{Changes}
 use Rattle.checkout.specs.declared.changes.LinkChange.{LinkChange}
-use Rattle.checkout.specs.Around.{end_of, AreApart, GivesTarget, IsAbove, IsFirstAbove, IsUnder, Leads, StandsIn}
-use Rattle.checkout.specs.BadChanges.{changed_links, file_below, file_in, IsAboveItself}
+use Rattle.checkout.specs.Around.{end_of, AreApart, AreRight, GivesTarget, IsAbove, IsFirstAbove, IsUnder, Leads, StandsIn}
+use Rattle.checkout.specs.BadChanges.{bad_by_cut, changed_links, file_below, file_in, first_link, IsAboveItself, IsBadAround}
 use Rattle.checkout.specs.Manifest.{Manifest}
 use Rattle.checkout.specs.Tree.{link_cmp}
 use Rattle.checkout.proofs.AroundPaths.{one_dir}
@@ -31,6 +32,11 @@ module _ (links : FinMap link_cmp FileId) (change : LinkChange) (file : FileId) 
       let to : Leads links file change.dir = subst (λ (d : FileId). Leads links file d) same on.to_dir in
       (file, to.0, target, to.1)
 
+  -- so the colour of its target tells whether it is
+  pub colour_tells : AreApart links → (colours : FinMap nat_cmp Bool) → AreRight links colours → (colour : Bool) → get colours file.0 ≡ Some colour → (colour ≡ true → IsAbove links change) × (IsAbove links change → colour ≡ true)
+  colour_tells are colours right true e = (λ _. above_from_under are (right.on file e), λ _. refl)
+  colour_tells are colours right false e = (λ no. absurd (cc), λ above. absurd (right.off file e (under_from_above above)))
+
 module _ (m : Manifest) (c : Changes) (links : FinMap link_cmp FileId) (same : (place : ℕ × List ℕ) → file_in (changed_links m c) place ≡ get links place) where
   -- where the links at each place are the same, so are the files at the end of names
   pub file_below-end_of : (dir : FileId) (names : List (List ℕ)) → file_below (changed_links m c) dir names ≡ end_of links dir names
@@ -47,9 +53,14 @@ module _ (m : Manifest) (c : Changes) (links : FinMap link_cmp FileId) (same : (
   above_itself-is change =
       (λ above. (above.0, above.1, above.2, sym (file_below-end_of above.0 above.1) ∙ above.3), λ above. (above.0, above.1, above.2, file_below-end_of above.0 above.1 ∙ above.3))
 
--- a link without a target isn't above itself
-pub none_above : (links : FinMap link_cmp FileId) (change : LinkChange) → change.target ≡ None → IsAbove links change → ⊥
-none_above links change none above = let some = above.2 in cc (none, some)
+  -- the first link above itself is the first bad change around
+  pub above-IsBadAround : (place : ℕ) → IsFirstAbove links c.links (Some place) → IsBadAround m c (Some (first_link c + place))
+  above-IsBadAround place first =
+      inl (place, first.0, refl, first.1, (above_itself-is first.0).1 first.2, λ before other within here above. first.3 before other within here ((above_itself-is other).0 above))
+
+  -- where none is, it is the first that is cut off
+  pub none_above-IsBadAround : (bad : Option ℕ) → IsFirstAbove links c.links None → bad ≡ bad_by_cut m c → IsBadAround m c bad
+  none_above-IsBadAround bad none is = inr (is, λ place change here above. none place change here ((above_itself-is change).0 above))
 
 -- the first of some links is above itself, where none before it is
 pub first_at : (links : FinMap link_cmp FileId) (changes : List LinkChange) (place : ℕ) (change : LinkChange) → slice_get changes place ≡ Some change → IsAbove links change →

@@ -30,6 +30,7 @@ fn dir_above(manifest: &Manifest, added: &Added, gone: &Gone, file: FileId) -> O
 }
 
 /// Colours the files on the way up from a file. It stops at one that has a colour, so that no file is looked at twice.
+/// Where that is a file of this way, those from it on are a circle.
 fn climb(
     alloc: Global,
     manifest: &Manifest,
@@ -54,7 +55,7 @@ fn climb(
         };
         at = dir;
     }
-    colours.close(from_file(at, &way))
+    colours.mark_circle(from_file(at, &way))
 }
 
 /// Returns whether the target of a link is its directory or above it.

@@ -40,7 +40,7 @@ impl Colours {
         }
     }
 
-    /// Returns whether the file is on a circle, where that is known.
+    /// Returns whether the file is on a circle, where that is known. A way up has no more files than there are ids.
     pub fn get(&self, file: FileId) -> Option<bool>
         ensures colour { result ≡ get self.now file.0 }
         ensures id { file.0 ≤ u64.MAX }
@@ -56,8 +56,8 @@ impl Colours {
         Ok(())
     }
 
-    /// Puts some files on a circle.
-    pub fn close(&mut self, files: &[FileId]) -> Result<(), NoMemory>
+    /// Gives files the colour of those on a circle.
+    pub fn mark_circle(&mut self, files: &[FileId]) -> Result<(), NoMemory>
         ensures { OnOk result (AreSet files.now true self.old self.new) }
     {
         for file in files {

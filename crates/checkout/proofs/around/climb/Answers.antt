@@ -59,10 +59,10 @@ returns-clause-right c =
     let l = c.up in
     let end : is_some (get l.colours l.at.0) ≡ true = ap is_some (sym c.get.ensures.colour) ∙ c.is_none.ensures ∙ ap not c.up-test.false in
     let files = c.from_file.ensures ∙ ap (from_file l.at) c.deref.ensures.value in
-    on_ok_weaker c.close.result (λ (set : AreSet c.from_file.result.now true l.colours c.close.new.self). marked-AreRight links c.requires.apart c.args.colours.now l.colours c.close.new.self l.way.items l.at c.requires.right l.invariant.climb end (subst (λ (xs : List FileId). AreSet xs true l.colours c.close.new.self) files set)) c.close.ensures
+    on_ok_weaker c.mark_circle.result (λ (set : AreSet c.from_file.result.now true l.colours c.mark_circle.new.self). marked-AreRight links c.requires.apart c.args.colours.now l.colours c.mark_circle.new.self l.way.items l.at c.requires.right l.invariant.climb end (subst (λ (xs : List FileId). AreSet xs true l.colours c.mark_circle.new.self) files set)) c.mark_circle.ensures
 
 pub returns-clause-coloured : goal.returns-clause-coloured
 returns-clause-coloured c =
     let l = c.up in
     let end : is_some (get l.colours l.at.0) ≡ true = ap is_some (sym c.get.ensures.colour) ∙ c.is_none.ensures ∙ ap not c.up-test.false in
-    on_ok_weaker c.close.result (λ (set : AreSet c.from_file.result.now true l.colours c.close.new.self). set_keeps c.from_file.result.now true l.colours c.close.new.self set c.args.file (elim l.invariant.began [ inl same ↦ ap (λ (f : FileId). is_some (get l.colours f.0)) (sym same) ∙ end | inr had ↦ had ])) c.close.ensures
+    on_ok_weaker c.mark_circle.result (λ (set : AreSet c.from_file.result.now true l.colours c.mark_circle.new.self). set_keeps c.from_file.result.now true l.colours c.mark_circle.new.self set c.args.file (elim l.invariant.began [ inl same ↦ ap (λ (f : FileId). is_some (get l.colours f.0)) (sym same) ∙ end | inr had ↦ had ])) c.mark_circle.ensures

@@ -3,7 +3,7 @@ use Rattle.std.proofs.Common.{◌≡◌, drop, true, Some, if◌then◌else◌}
 use Rattle.std.specs.FinMap.{get}
 use Rattle.eden_base.specs.declared.number.FileId.{FileId}
 use Rattle.checkout.specs.Around.{among}
-use Rattle.checkout.proofs.colours.Colours.close.Given as goal
+use Rattle.checkout.proofs.colours.Colours.mark_circle.Given as goal
 
 abbrev pub invariant-loop-file : goal.invariant-loop-file
 invariant-loop-file l =
