@@ -47,7 +47,7 @@ fn climb(
 {
     let mut way = Vec::new(alloc);
     let mut at = file;
-    'up: while colours.get(at).is_none() {
+    while colours.get(at).is_none() {
         colours.set(at, false)?;
         way.push(at)?;
         let Some(dir) = dir_above(manifest, added, gone, at) else {
