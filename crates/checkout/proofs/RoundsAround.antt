@@ -16,7 +16,7 @@ use Rattle.checkout.specs.Overlay.{AreParts, tree_over}
 use Rattle.checkout.specs.Rounds.{AreLaid, cuts, first_of}
 use Rattle.checkout.specs.Tally.{Tally, count_of}
 use Rattle.checkout.specs.Tree.{link_cmp, links_from}
-use Rattle.checkout.proofs.AboveItself.{above_itself-is}
+use Rattle.checkout.proofs.AboveItself.{above-IsBadAround, none_above-IsBadAround}
 use Rattle.checkout.proofs.ChangeLists.{all_weaker}
 use Rattle.checkout.proofs.ChangedAround.{changed_apart}
 use Rattle.checkout.proofs.ChangedMaps.{changed_links-changed, each_stands}
@@ -65,14 +65,10 @@ module _ (m : Manifest) (c : Changes) (added : FinMap link_cmp FileId) (gone : G
 
   -- a link above itself is the first bad change
   pub around_above : (place : ℕ) → IsFirstAbove links c.links (Some place) → IsBadAround m c (Some (first_link c + place))
-  around_above place first =
-      let change = first.0 in
-      inl (place, change, refl, first.1, (above_itself-is m c links same_links change).1 first.2, λ j other below there above. first.3 j other below there ((above_itself-is m c links same_links other).0 above))
+  around_above place first = above-IsBadAround m c links same_links place first
 
   -- where none is, what the fourth round finds
   pub around_cut : (found : Option ℕ) → IsFirstAbove links c.links None → found ≡ first_of (cuts m added (is_gone gone) (count_of lost)) 0 c.links → IsBadAround m c (option_map (λ i. first_link c + i) found)
   around_cut found none e =
-      inr (
-        cut-found m c laid.is_manifest laid.itself (with_made empty c.made) added (is_gone gone) (count_of lost) parts is_changed found e,
-        λ j other there above. none j other there ((above_itself-is m c links same_links other).0 above),
-      )
+      none_above-IsBadAround m c links same_links (option_map (λ i. first_link c + i) found) none
+      (cut-found m c laid.is_manifest laid.itself (with_made empty c.made) added (is_gone gone) (count_of lost) parts is_changed found e)

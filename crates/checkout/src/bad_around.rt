@@ -13,7 +13,7 @@ use crate::{Changes, Manifest};
 use eden_base::NoMemory;
 use std::alloc::Global;
 
-/// Returns its index, once neither of the first two rounds found a bad change.
+/// Returns the index of the one or the other. Neither of the first two rounds found a bad change.
 pub fn first_bad_around(
     alloc: Global,
     manifest: &Manifest,

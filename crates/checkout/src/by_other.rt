@@ -54,7 +54,7 @@ fn is_given_twice(
     }
 }
 
-/// Returns the index of the first.
+/// Returns the index of the first link whose file another gives.
 pub fn first_given_twice(
     alloc: Global,
     manifest: &Manifest,
@@ -68,7 +68,7 @@ pub fn first_given_twice(
     Ok(first_marked(manifest, gone, &marks, links))
 }
 
-/// Returns the index of the first, by marks.
+/// Returns the same, where the files that changes give are marked.
 fn first_marked(
     manifest: &Manifest,
     gone: &Gone,

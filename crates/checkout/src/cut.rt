@@ -31,7 +31,7 @@ fn cuts(manifest: &Manifest, added: &Added, gone: &Gone, lost: &Tally, change: &
     }
 }
 
-/// Returns the index of the first.
+/// Returns the index of the first link that cuts off a directory.
 pub fn first_cut(
     manifest: &Manifest,
     added: &Added,
