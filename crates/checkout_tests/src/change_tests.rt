@@ -10,7 +10,7 @@ use std::test::Fail;
 type Making = (u64, &'static [u8], Kind, u16, u64);
 
 /// A name: its directory, its bytes, and the file that it gives or gave.
-type Named = (u64, &'static [u8], Option<u64>);
+pub type Named = (u64, &'static [u8], Option<u64>);
 
 /// Makes a file, and compares its id.
 fn makes(rt: &impl Abort, alloc: Global, tree: &mut Tree, making: Making) {
@@ -43,7 +43,7 @@ fn is(link: &LinkChange, name: Named) -> bool {
 }
 
 /// Asserts that these files were made, that these names differ, and which file comes next.
-fn differs(
+pub fn differs(
     rt: &impl Abort,
     tree: &Tree,
     made: &[(u64, Kind, u16)],

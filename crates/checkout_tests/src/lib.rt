@@ -5,3 +5,5 @@
 mod change_tests;
 #[cfg(test)]
 mod tests;
+#[cfg(test)]
+mod with_changes_tests;

@@ -376,7 +376,7 @@ fn is_small(rt: &impl Abort, manifest: &Manifest) {
 }
 
 /// Reads a text, once more where it was refused: a text that is read was refused for memory alone.
-fn read_again(alloc: Global, text: &[u8]) -> Result<Manifest, ManifestFault> {
+pub fn read_again(alloc: Global, text: &[u8]) -> Result<Manifest, ManifestFault> {
     match Manifest::read(alloc, text) {
         Ok(manifest) => Ok(manifest),
         Err(_) => Manifest::read(alloc, text),
@@ -403,7 +403,7 @@ pub fn tree_of(alloc: Global, text: &[u8]) -> Result<Tree, Fail> {
 }
 
 /// Returns a name, which it makes once more where memory was refused.
-fn parsed(alloc: Global, name: &[u8]) -> Option<Name> {
+pub fn parsed(alloc: Global, name: &[u8]) -> Option<Name> {
     match Name::parse(alloc, name) {
         Ok(name) => Some(name),
         Err(_) => Name::parse(alloc, name).ok(),
