@@ -80,8 +80,8 @@ impl Tree {
         })
     }
 
-    /// Makes the tree of a manifest with changes made. It is refused where a change is bad, and the first that is is
-    /// told; it costs what differs, and the room for losses.
+    /// Makes the tree of a manifest with changes made, or tells the first of them that no tree has. It costs what
+    /// differs and what lies above that, and the room for losses.
     pub fn with_changes(
         alloc: Global,
         manifest: &Manifest,
