@@ -23,4 +23,5 @@ pub use fault::{ImageFault, RaiseFault, WriteFault};
 pub use image::{Entries, Image};
 pub use image_reader::read;
 pub use image_writer::write;
+pub use raising::raise;
 pub use served_image::image_of;

@@ -42,3 +42,38 @@ fn entry_fault(
     }
     Ok(None)
 }
+
+/// Raises what a daemon serves from an image, over the manifest that the daemon was handed. So many attributes may be
+/// loaded at once, and one at least; none is at first.
+pub fn raise(
+    alloc: Global,
+    image: Image,
+    manifest: &Manifest,
+    limit: usize,
+) -> Result<Served, RaiseFault>
+    requires fit { IsFit image }
+    requires counts { CountsFit image.entries }
+    ensures raised { IfOk result (λ served. served ≡ raised manifest.now image limit) }
+    ensures sound { IfOk result IsSound }
+    ensures accepted { OnOk result (IsRaisable manifest.now image) }
+    ensures refused { IfErr result (IsRaiseRefusal manifest.now image) }
+{
+    if image.commit != manifest.commit() {
+        return Err(RaiseFault::OtherCommit);
+    }
+    let tree = match Tree::with_changes(alloc, manifest, &image.changes) {
+        Ok(tree) => tree,
+        Err(ChangeFault::BadChange(place)) => return Err(RaiseFault::BadChange(place)),
+        Err(ChangeFault::NoMemory) => return Err(RaiseFault::NoMemory),
+    };
+    let entries = image.entries.as_slice();
+    match entry_fault(alloc, &tree, entries, image.next_number) {
+        Ok(None) => {}
+        Ok(Some(fault)) => return Err(fault),
+        Err(NoMemory) => return Err(RaiseFault::NoMemory),
+    }
+    match Served::of_entries(alloc, entries, image.next_number, limit, tree) {
+        Ok(served) => Ok(served),
+        Err(NoMemory) => Err(RaiseFault::NoMemory),
+    }
+}
