@@ -2,6 +2,8 @@
 #![tactic(auto)]
 
 #[cfg(test)]
+mod raise_tests;
+#[cfg(test)]
 mod tests;
 #[cfg(test)]
 mod vectors;

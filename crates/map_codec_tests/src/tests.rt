@@ -1,7 +1,7 @@
 //! Images from outside, each of their cuts and changes, and limits. Where one allocation is refused, the calls that take
 //! memory tell so, and succeed when they are made once more, as under `rt try --test --fail-alloc N`.
 ghost use Rattle.std.specs.Prelude.{◌≡◌, IfOk};
-ghost use Rattle.map_codec.specs.Fit.{IsFit};
+ghost use Rattle.map_codec.specs.Fit.{CountsFit, IsFit};
 
 use crate::vectors::{CHANGED, LOOKED_UP, MOVED};
 use checkout::{Manifest, ManifestBacking, ManifestFault};
@@ -13,8 +13,9 @@ use std::alloc::{AllocError, Global};
 use std::test::Fail;
 
 /// Calls `read`, and once more where memory was refused.
-fn image_of_bytes(alloc: Global, bytes: &[u8]) -> Result<Image, ImageFault>
+pub fn image_of_bytes(alloc: Global, bytes: &[u8]) -> Result<Image, ImageFault>
     ensures fit { IfOk result IsFit }
+    ensures counts { IfOk result (λ image. CountsFit image.entries) }
 {
     match read(alloc, bytes) {
         Ok(image) => Ok(image),
@@ -104,7 +105,7 @@ fn joined(alloc: Global, parts: &[&[u8]]) -> Result<Vec<u8>, AllocError> {
 }
 
 /// Joins bytes, and once more where memory was refused.
-fn all(alloc: Global, parts: &[&[u8]]) -> Result<Vec<u8>, AllocError> {
+pub fn all(alloc: Global, parts: &[&[u8]]) -> Result<Vec<u8>, AllocError> {
     match joined(alloc, parts) {
         Ok(bytes) => Ok(bytes),
         Err(_refused) => joined(alloc, parts),
@@ -175,7 +176,7 @@ fn writes_65000_bytes_at_most(rt: HostRuntime) -> Result<(), Fail> {
 }
 
 /// A checkout with a directory and three files.
-const CHECKOUT: &[u8] = b"commit 0123456789abcdef0123456789abcdef01234567
+pub const CHECKOUT: &[u8] = b"commit 0123456789abcdef0123456789abcdef01234567
 dir src
 file 0644 12 src/a
 file 0755 0 src/b
@@ -183,7 +184,7 @@ file 0644 7 README
 ";
 
 /// Reads a manifest, and once more where memory was refused.
-fn manifest_of(alloc: Global, text: &[u8]) -> Result<Manifest, ManifestFault> {
+pub fn manifest_of(alloc: Global, text: &[u8]) -> Result<Manifest, ManifestFault> {
     match Manifest::read(alloc, text) {
         Ok(manifest) => Ok(manifest),
         Err(_refused) => Manifest::read(alloc, text),
@@ -211,7 +212,7 @@ fn image_taken(alloc: Global, served: &Served) -> Result<Image, NoMemory>
 }
 
 /// Parses a name, and once more where memory was refused.
-fn name_of(alloc: Global, bytes: &[u8]) -> Result<Name, NameFault> {
+pub fn name_of(alloc: Global, bytes: &[u8]) -> Result<Name, NameFault> {
     match Name::parse(alloc, bytes) {
         Ok(name) => Ok(name),
         Err(_refused) => Name::parse(alloc, bytes),
@@ -219,7 +220,7 @@ fn name_of(alloc: Global, bytes: &[u8]) -> Result<Name, NameFault> {
 }
 
 /// Makes a lookup in the root.
-fn lookup_of(alloc: Global, name: &[u8]) -> Result<Request, NameFault> {
+pub fn lookup_of(alloc: Global, name: &[u8]) -> Result<Request, NameFault> {
     Ok(Request::Lookup {
         dir: Number::ROOT,
         name: name_of(alloc, name)?,
@@ -227,7 +228,7 @@ fn lookup_of(alloc: Global, name: &[u8]) -> Result<Request, NameFault> {
 }
 
 /// Makes a CREATE in the root.
-fn create_of(alloc: Global, name: &[u8], perm: Perm) -> Result<Request, NameFault> {
+pub fn create_of(alloc: Global, name: &[u8], perm: Perm) -> Result<Request, NameFault> {
     Ok(Request::Create {
         dir: Number::ROOT,
         name: name_of(alloc, name)?,
@@ -255,7 +256,7 @@ fn does(alloc: Global, served: &mut Served, manifest: &Manifest, request: &Reque
 }
 
 /// Returns whether the image of what a daemon serves is spelled so.
-fn is_spelled(alloc: Global, served: &Served, bytes: &[u8]) -> Result<bool, Fail> {
+pub fn is_spelled(alloc: Global, served: &Served, bytes: &[u8]) -> Result<bool, Fail> {
     let image = image_taken(alloc, served)?;
     let text = text_of(alloc, &image, 1)?;
     Ok(text.as_slice() == bytes)

@@ -1,0 +1,153 @@
+//! What is raised from images, and the first that stands against others.
+ghost use Rattle.std.specs.Prelude.{◌≡◌, IfOk, IfSome};
+
+use crate::tests::{CHECKOUT, all, create_of, image_of_bytes, is_spelled, lookup_of, manifest_of};
+use crate::vectors::{CHANGED, LOOKED_UP, MOVED};
+use checkout::{Manifest, ManifestBacking};
+use eden_base::{Errno, Perm};
+use fuse_ops::Served;
+use fuse_wire::{Answer, Request};
+use map_codec::{RaiseFault, raise};
+use std::alloc::Global;
+use std::test::Fail;
+
+/// Raises an image of these bytes; nothing where they are none.
+fn raised_once(
+    alloc: Global,
+    manifest: &Manifest,
+    bytes: &[u8],
+) -> Option<Result<Served, RaiseFault>>
+    ensures manifest { IfSome result (λ raised. IfOk raised (λ served. served.tree.manifest ≡ manifest.now)) }
+{
+    match image_of_bytes(alloc, bytes) {
+        Ok(image) => Some(raise(alloc, image, manifest, 8)),
+        Err(_) => None,
+    }
+}
+
+/// Raises an image of these bytes, and once more where memory was refused; nothing where they are none.
+fn raised(alloc: Global, manifest: &Manifest, bytes: &[u8]) -> Option<Result<Served, RaiseFault>>
+    ensures manifest { IfSome result (λ raised. IfOk raised (λ served. served.tree.manifest ≡ manifest.now)) }
+{
+    match raised_once(alloc, manifest, bytes) {
+        Some(Err(RaiseFault::NoMemory)) => raised_once(alloc, manifest, bytes),
+        other => other,
+    }
+}
+
+/// Returns whether bytes are an image that is refused so, or raised where there is no fault.
+fn comes_to(alloc: Global, manifest: &Manifest, bytes: &[u8], fault: Option<RaiseFault>) -> bool {
+    match raised(alloc, manifest, bytes) {
+        Some(Ok(_)) => fault.is_none(),
+        Some(Err(found)) => fault == Some(found),
+        None => false,
+    }
+}
+
+/// Returns whether the changed image with one byte set is refused so.
+fn is_refused_with(
+    alloc: Global,
+    manifest: &Manifest,
+    at: usize,
+    byte: u8,
+    fault: RaiseFault,
+) -> bool {
+    let mut bytes = CHANGED;
+    if let Some(place) = bytes.get_mut(at) {
+        *place = byte;
+    }
+    comes_to(alloc, manifest, bytes.as_slice(), Some(fault))
+}
+
+/// The commit; the file that was made; the directory of the first entry, which is none or itself, and the end of its
+/// name; the file in the mark of the third; the next number, twice too low and once too high.
+const FAULTS: [(usize, u8, RaiseFault); 9] = [
+    (6, 2, RaiseFault::OtherCommit),
+    (139, 5, RaiseFault::BadChange(1)),
+    (74, 9, RaiseFault::NoParent),
+    (74, 2, RaiseFault::NoLink),
+    (78, b'd', RaiseFault::NoLink),
+    (127, 5, RaiseFault::NoLink),
+    (41, 4, RaiseFault::NumberTooHigh),
+    (41, 1, RaiseFault::NumberTooHigh),
+    (34, 0x80, RaiseFault::NumberTooHigh),
+];
+
+#[test]
+fn tells_the_first_that_stands_against_an_image(rt: HostRuntime) -> Result<(), Fail> {
+    let manifest = manifest_of(rt.alloc(), CHECKOUT)?;
+    for (at, byte, fault) in FAULTS {
+        assert!(rt; is_refused_with(rt.alloc(), &manifest, at, byte, fault));
+    }
+    Ok(())
+}
+
+#[test]
+fn refuses_two_numbers_of_one_file(rt: HostRuntime) -> Result<(), Fail> {
+    let alloc = rt.alloc();
+    let manifest = manifest_of(alloc, CHECKOUT)?;
+    // The second entry gets the name of the first.
+    let (front, rest) = CHANGED.split_at(100);
+    let (_, rest) = rest.split_at(7);
+    let twice = all(alloc, &[front, b"\x03src".as_slice(), rest])?;
+    assert!(rt;
+        comes_to(
+            alloc,
+            &manifest,
+            twice.as_slice(),
+            Some(RaiseFault::TwoNumbers)
+        )
+    );
+    Ok(())
+}
+
+#[test]
+fn has_the_image_that_it_was_raised_from(rt: HostRuntime) -> Result<(), Fail> {
+    let alloc = rt.alloc();
+    let manifest = manifest_of(alloc, CHECKOUT)?;
+    for bytes in [LOOKED_UP.as_slice(), CHANGED.as_slice(), MOVED.as_slice()] {
+        match raised(alloc, &manifest, bytes) {
+            Some(Ok(served)) => assert!(rt; is_spelled(alloc, &served, bytes)?),
+            _ => panic!(rt; "the image is of this checkout"),
+        }
+    }
+    Ok(())
+}
+
+/// Raises the changed image with some of its bytes replaced, asks once, and once more where memory was refused.
+fn answer_after(
+    alloc: Global,
+    manifest: &Manifest,
+    at: usize,
+    bytes: &[u8],
+    request: &Request,
+) -> Option<Answer> {
+    let (front, rest) = CHANGED.split_at(at);
+    let (_, rest) = rest.split_at(8);
+    let changed = all(alloc, &[front, bytes, rest]).ok()?;
+    let mut served = raised(alloc, manifest, changed.as_slice())?.ok()?;
+    let mut backing = ManifestBacking::of(manifest);
+    match served.apply(alloc, &mut backing, request) {
+        Some(Answer::Error(Errno::ENOMEM)) => served.apply(alloc, &mut backing, request),
+        answer => answer,
+    }
+}
+
+/// The count of the second entry as high as it may be, and the upper half of its directory.
+const HELD_MOST: &[u8] = b"\xff\xff\xff\xff\0\0\0\0";
+
+/// The end of numbers.
+const NO_NUMBER_LEFT: &[u8] = b"\x7f\xff\xff\xff\xff\xff\xff\xff";
+
+#[test]
+fn counts_and_numbers_end_where_they_may(rt: HostRuntime) -> Result<(), Fail> {
+    let alloc = rt.alloc();
+    let manifest = manifest_of(alloc, CHECKOUT)?;
+    let held = lookup_of(alloc, b"README")?;
+    let answer = answer_after(alloc, &manifest, 88, HELD_MOST, &held);
+    assert!(rt; answer == Some(Answer::Error(Errno::EOVERFLOW)));
+    let create = create_of(alloc, b"x", Perm { bits: 0o644 })?;
+    let answer = answer_after(alloc, &manifest, 34, NO_NUMBER_LEFT, &create);
+    assert!(rt; answer == Some(Answer::Error(Errno::ENOSPC)));
+    Ok(())
+}
