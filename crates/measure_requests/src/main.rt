@@ -5,10 +5,10 @@
 
 use anyhow::Result;
 use checkout::{Manifest, ManifestBacking};
-use eden_base::{Kind, Name, Number, Perm};
+use eden_base::{Kind, Name, NoMemory, Number, Perm};
 use fuse_ops::Served;
 use fuse_wire::{Answer, Batch, Item, Request};
-use std::alloc::{AllocError, Global};
+use std::alloc::Global;
 use std::env;
 use std::marker::Model;
 
@@ -44,7 +44,7 @@ impl Model for Hosted {
 
 impl Hosted {
     /// Begins to serve a manifest.
-    fn of(alloc: Global, manifest: Manifest) -> Result<Hosted> {
+    fn of(alloc: Global, manifest: Manifest) -> Result<Hosted, NoMemory> {
         let served = Served::new(alloc, &manifest, LOADED_LIMIT)?;
         Ok(Hosted { served, manifest })
     }
@@ -56,31 +56,50 @@ impl Hosted {
     }
 }
 
+/// Writes a line of the manifest.
+fn line_of(alloc: Global, i: u64) -> Result<String, NoMemory> {
+    let dir = i / EACH;
+    if i % EACH == 0 {
+        Ok(format!(in alloc; "dir directory{dir}\n")?)
+    } else {
+        Ok(format!(in alloc; "file 0644 {i} directory{dir}/file{i}.txt\n")?)
+    }
+}
+
 /// Makes the text of a manifest of this many lines.
-fn manifest_text(alloc: Global, lines: u64) -> Result<Vec<u8>, AllocError> {
+fn manifest_text(alloc: Global, lines: u64) -> Result<Vec<u8>, NoMemory> {
     let mut text = Vec::new(alloc);
     text.extend_from_slice(b"commit 0123456789abcdef0123456789abcdef01234567\n")?;
     for i in 0..lines {
-        let dir = i / EACH;
-        let line = if i % EACH == 0 {
-            format!(in alloc; "dir directory{dir}\n")?
-        } else {
-            format!(in alloc; "file 0644 {i} directory{dir}/file{i}.txt\n")?
-        };
-        text.extend_from_slice(line.as_bytes())?;
+        text.extend_from_slice(line_of(alloc, i)?.as_bytes())?;
     }
     Ok(text)
 }
 
+/// Begins to serve a manifest of this many lines.
+fn begin(alloc: Global, lines: u64) -> Result<Hosted> {
+    let text = manifest_text(alloc, lines)?;
+    let manifest = Manifest::read(alloc, text.as_slice())?;
+    Ok(Hosted::of(alloc, manifest)?)
+}
+
+/// Makes a name of a text that is one.
+fn named(alloc: Global, text: String) -> Result<Name, NoMemory> {
+    match Name::parse(alloc, text.as_bytes()) {
+        Ok(name) => Ok(name),
+        Err(_fault) => Err(NoMemory),
+    }
+}
+
 /// Returns the name of a line of the manifest.
-fn name_of(alloc: Global, i: u64) -> Result<Name> {
+fn name_of(alloc: Global, i: u64) -> Result<Name, NoMemory> {
     let dir = i / EACH;
     let text = if i % EACH == 0 {
         format!(in alloc; "directory{dir}")?
     } else {
         format!(in alloc; "file{i}.txt")?
     };
-    Ok(Name::parse(alloc, text.as_bytes())?)
+    named(alloc, text)
 }
 
 /// Returns the number of an entry, and the root's where there is none.
@@ -91,69 +110,77 @@ fn number_told(answer: Option<Answer>) -> Number {
     }
 }
 
+/// Looks a name up, and returns its number.
+fn look_up(alloc: Global, served: &mut Hosted, dir: Number, name: Name) -> Number {
+    let request = Request::Lookup { dir, name };
+    number_told(served.apply(alloc, &request))
+}
+
 /// Looks every second file up, and every directory. Lists the requests for each of the others, as far as they are
 /// wanted.
-fn look_half_up(alloc: Global, served: &mut Hosted, lines: u64) -> Result<Vec<Request>> {
+fn look_half_up(alloc: Global, served: &mut Hosted, lines: u64) -> Result<Vec<Request>, NoMemory> {
     let mut others = Vec::new(alloc);
     let every = (lines / ASKED).max(2);
     let mut dir = Number::ROOT;
     for i in 0..lines {
         let name = name_of(alloc, i)?;
         if i % EACH == 0 {
-            let request = Request::Lookup {
-                dir: Number::ROOT,
-                name,
-            };
-            dir = number_told(served.apply(alloc, &request));
+            dir = look_up(alloc, served, Number::ROOT, name);
         } else if i % every == 1 {
             others.push(Request::Lookup { dir, name })?;
         } else {
-            served.apply(alloc, &Request::Lookup { dir, name });
+            look_up(alloc, served, dir, name);
         }
     }
     Ok(others)
 }
 
+/// Makes a directory in a directory, and returns its number.
+fn make_dir(alloc: Global, served: &mut Hosted, dir: Number, name: Name) -> Number {
+    let perm = Perm::DIRECTORY;
+    let request = Request::Mkdir { dir, name, perm };
+    number_told(served.apply(alloc, &request))
+}
+
 /// Makes a directory in a directory, so many times, and returns the number of the last.
-fn make_deep(alloc: Global, served: &mut Hosted, depth: u64) -> Result<Number> {
+fn make_deep(alloc: Global, served: &mut Hosted, depth: u64) -> Result<Number, NoMemory> {
     let mut dir = Number::ROOT;
     for _ in 0..depth {
-        let name = Name::parse(alloc, b"deeper")?;
-        let perm = Perm::DIRECTORY;
-        let request = Request::Mkdir { dir, name, perm };
-        dir = number_told(served.apply(alloc, &request));
+        let name = named(alloc, format!(in alloc; "deeper")?)?;
+        dir = make_dir(alloc, served, dir, name);
     }
     Ok(dir)
 }
 
-/// The requests on files that are made in one directory.
-#[derive(Drop)]
-struct Asked {
-    creates: Vec<Request>,
-    lookups: Vec<Request>,
-    unlinks: Vec<Request>,
+/// What is asked of a file that is made, beside what needs its number.
+#[derive(Clone, Copy)]
+enum Step {
+    Create,
+    Lookup,
+    Unlink,
 }
 
-/// Lists the requests on files that are made in a directory.
-fn list_asked(alloc: Global, dir: Number) -> Result<Asked> {
-    let mut creates = Vec::new(alloc);
-    let mut lookups = Vec::new(alloc);
-    let mut unlinks = Vec::new(alloc);
-    for j in 0..ASKED {
-        let text = format!(in alloc; "made{j}.txt")?;
-        let perm = Perm::DIRECTORY;
-        let name = Name::parse(alloc, text.as_bytes())?;
-        creates.push(Request::Create { dir, name, perm })?;
-        let name = Name::parse(alloc, text.as_bytes())?;
-        lookups.push(Request::Lookup { dir, name })?;
-        let name = Name::parse(alloc, text.as_bytes())?;
-        unlinks.push(Request::Unlink { dir, name })?;
+/// Returns the request of a step on a name in a directory.
+fn request_of(step: Step, dir: Number, name: Name) -> Request {
+    match step {
+        Step::Create => Request::Create {
+            dir,
+            name,
+            perm: Perm::DIRECTORY,
+        },
+        Step::Lookup => Request::Lookup { dir, name },
+        Step::Unlink => Request::Unlink { dir, name },
     }
-    Ok(Asked {
-        creates,
-        lookups,
-        unlinks,
-    })
+}
+
+/// Lists the requests of a step on all files that are made in a directory.
+fn list_asked(alloc: Global, dir: Number, step: Step) -> Result<Vec<Request>, NoMemory> {
+    let mut list = Vec::new(alloc);
+    for j in 0..ASKED {
+        let name = named(alloc, format!(in alloc; "made{j}.txt")?)?;
+        list.push(request_of(step, dir, name))?;
+    }
+    Ok(list)
 }
 
 #[inline(never)]
@@ -217,45 +244,73 @@ fn forget_batch(alloc: Global, served: &mut Hosted, request: &Request) -> u64 {
     }
 }
 
-/// Asks for names that were never looked up, and counts those that are there.
-fn ask_fresh(alloc: Global, served: &mut Hosted, others: &[Request]) -> u64 {
+/// Looks half of the names up, asks for others, and counts those that are there.
+fn ask_fresh(alloc: Global, served: &mut Hosted, lines: u64) -> Result<u64, NoMemory> {
+    let others = look_half_up(alloc, served, lines)?;
     let mut found = 0u64;
-    for request in others {
+    for request in others.as_slice() {
         if look_up_fresh(alloc, served, request).is_some() {
             found = found.wrapping_add(1);
         }
     }
-    found
+    Ok(found)
 }
 
-/// Makes files, looks each up once more, asks for its attributes, forgets it once, unlinks it and forgets it again.
-fn ask_made(alloc: Global, served: &mut Hosted, asked: &Asked) -> u64 {
+/// Looks a file that was made up once more, asks for its attributes, forgets it once, unlinks it and forgets it again.
+/// Tells whether all was answered as it should be.
+fn ask_one(
+    alloc: Global,
+    served: &mut Hosted,
+    number: Number,
+    lookup: &Request,
+    unlinking: &Request,
+) -> bool {
+    let same = look_up_held(alloc, served, lookup, number);
+    let shown = get_attr(alloc, served, &Request::Getattr { node: number }).is_some();
+    let item = Item { node: number, k: 1 };
+    let lowered = forget_one(alloc, served, &Request::Forget(item));
+    let gone = unlink(alloc, served, unlinking);
+    let dropped = forget_last(alloc, served, &Request::Forget(item)) == 2;
+    same && shown && lowered && gone && dropped
+}
+
+/// Makes files and asks each of them. Counts those that answered as they should.
+fn ask_listed(
+    alloc: Global,
+    served: &mut Hosted,
+    creates: &[Request],
+    lookups: &[Request],
+    unlinks: &[Request],
+) -> u64 {
     let mut done = 0u64;
-    for j in 0..asked.creates.len() {
-        let Some(number) = create(alloc, served, &asked.creates[j]) else {
+    for j in 0..creates.len() {
+        let Some(number) = create(alloc, served, &creates[j]) else {
             continue;
         };
-        let same = match asked.lookups.get(j) {
-            Some(request) => look_up_held(alloc, served, request, number),
-            None => false,
+        let Some(lookup) = lookups.get(j) else {
+            continue;
         };
-        let shown = get_attr(alloc, served, &Request::Getattr { node: number }).is_some();
-        let item = Item { node: number, k: 1 };
-        let lowered = forget_one(alloc, served, &Request::Forget(item));
-        let gone = match asked.unlinks.get(j) {
-            Some(request) => unlink(alloc, served, request),
-            None => false,
+        let Some(unlinking) = unlinks.get(j) else {
+            continue;
         };
-        let dropped = forget_last(alloc, served, &Request::Forget(item)) == 2;
-        if same && shown && lowered && gone && dropped {
+        if ask_one(alloc, served, number, lookup, unlinking) {
             done = done.wrapping_add(1);
         }
     }
     done
 }
 
+/// Makes files in a directory so deep, and asks each of them.
+fn ask_made(alloc: Global, served: &mut Hosted, depth: u64) -> Result<u64, NoMemory> {
+    let dir = make_deep(alloc, served, depth)?;
+    let creates = list_asked(alloc, dir, Step::Create)?;
+    let lookups = list_asked(alloc, dir, Step::Lookup)?;
+    let unlinks = list_asked(alloc, dir, Step::Unlink)?;
+    Ok(ask_listed(alloc, served, &creates, &lookups, &unlinks))
+}
+
 /// Returns a batch that forgets numbers once each, from this one on.
-fn batch_from(alloc: Global, first: u64) -> Result<Batch> {
+fn batch_from(alloc: Global, first: u64) -> Result<Batch, NoMemory> {
     let mut items = [Item {
         node: Number::ROOT,
         k: 1,
@@ -265,11 +320,11 @@ fn batch_from(alloc: Global, first: u64) -> Result<Batch> {
         item.node = Number(next);
         next = next.wrapping_add(1);
     }
-    Ok(Batch::of(alloc, &items)?)
+    Batch::of(alloc, &items)
 }
 
 /// Forgets the first numbers once, in batches.
-fn ask_batches(alloc: Global, served: &mut Hosted) -> Result<u64> {
+fn ask_batches(alloc: Global, served: &mut Hosted) -> Result<u64, NoMemory> {
     let mut batches = 0u64;
     for first in [2, 258, 514, 770] {
         let request = Request::BatchForget(batch_from(alloc, first)?);
@@ -278,33 +333,63 @@ fn ask_batches(alloc: Global, served: &mut Hosted) -> Result<u64> {
     Ok(batches)
 }
 
-fn measure(rt: &HostRuntime, lines: u64, depth: u64) -> Result<()> {
-    let alloc = rt.alloc();
-    let text = manifest_text(alloc, lines)?;
-    let manifest = Manifest::read(alloc, text.as_slice())?;
-    let mut served = Hosted::of(alloc, manifest)?;
-    let others = look_half_up(alloc, &mut served, lines)?;
-    let found = ask_fresh(alloc, &mut served, others.as_slice());
-    let dir = make_deep(alloc, &mut served, depth)?;
-    let asked = list_asked(alloc, dir)?;
-    let done = ask_made(alloc, &mut served, &asked);
-    let batches = ask_batches(alloc, &mut served)?;
-    let next = served.served.map().next();
-    println!(rt;
-        "{lines} lines, depth {depth}: {found} found, {done} made, {batches} batches, next {next}"
-    )?;
+/// Makes all requests, and counts the names found, the files made and the batches forgotten.
+fn ask_all(
+    alloc: Global,
+    served: &mut Hosted,
+    lines: u64,
+    depth: u64,
+) -> Result<(u64, u64, u64), NoMemory> {
+    let found = ask_fresh(alloc, served, lines)?;
+    let done = ask_made(alloc, served, depth)?;
+    let batches = ask_batches(alloc, served)?;
+    Ok((found, done, batches))
+}
+
+/// Prints words and a number behind them.
+fn print_count(rt: &HostRuntime, before: &str, count: u64) -> Result<()> {
+    print!(rt; "{before}{count}")?;
     Ok(())
+}
+
+/// Prints what was asked, and what came of it.
+fn print_told(
+    rt: &HostRuntime,
+    lines: u64,
+    depth: u64,
+    told: (u64, u64, u64),
+    next: u64,
+) -> Result<()> {
+    let (found, done, batches) = told;
+    print_count(rt, "", lines)?;
+    print_count(rt, " lines, depth ", depth)?;
+    print_count(rt, ": ", found)?;
+    print_count(rt, " found, ", done)?;
+    print_count(rt, " made, ", batches)?;
+    print_count(rt, " batches, next ", next)?;
+    println!(rt)?;
+    Ok(())
+}
+
+fn measure(rt: &HostRuntime, lines: u64, depth: u64) -> Result<()> {
+    let mut served = begin(rt.alloc(), lines)?;
+    let told = ask_all(rt.alloc(), &mut served, lines, depth)?;
+    print_told(rt, lines, depth, told, served.served.map().next())
+}
+
+/// Returns a word's number, or another where there is no word or no number.
+fn number_or(word: Option<String>, other: u64) -> u64 {
+    match word {
+        Some(word) => word.as_str().parse::<u64>().unwrap_or(other),
+        None => other,
+    }
 }
 
 fn main(rt: HostRuntime) -> Result<()> {
     let mut words = env::args(&rt)?.skip(1);
     if let Some(word) = words.next() {
-        let lines = word.as_str().parse::<u64>().unwrap_or(1000);
-        let depth = match words.next() {
-            Some(word) => word.as_str().parse::<u64>().unwrap_or(1),
-            None => 1,
-        };
-        return measure(&rt, lines, depth);
+        let lines = number_or(Some(word), 1000);
+        return measure(&rt, lines, number_or(words.next(), 1));
     }
     for (lines, depth) in [(1000, 1), (8000, 16), (40000, 700)] {
         measure(&rt, lines, depth)?;
