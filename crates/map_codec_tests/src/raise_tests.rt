@@ -1,12 +1,10 @@
 //! What is raised from images, and the first that stands against others.
 ghost use Rattle.std.specs.Prelude.{◌≡◌, IfOk, IfSome};
 
-use crate::tests::{CHECKOUT, all, create_of, image_of_bytes, is_spelled, lookup_of, manifest_of};
+use crate::tests::{CHECKOUT, all, image_of_bytes, is_spelled, manifest_of};
 use crate::vectors::{CHANGED, LOOKED_UP, MOVED};
-use checkout::{Manifest, ManifestBacking};
-use eden_base::{Errno, Perm};
+use checkout::Manifest;
 use fuse_ops::Served;
-use fuse_wire::{Answer, Request};
 use map_codec::{RaiseFault, raise};
 use std::alloc::Global;
 use std::test::Fail;
@@ -111,43 +109,5 @@ fn has_the_image_that_it_was_raised_from(rt: HostRuntime) -> Result<(), Fail> {
             _ => panic!(rt; "the image is of this checkout"),
         }
     }
-    Ok(())
-}
-
-/// Raises the changed image with some of its bytes replaced, asks once, and once more where memory was refused.
-fn answer_after(
-    alloc: Global,
-    manifest: &Manifest,
-    at: usize,
-    bytes: &[u8],
-    request: &Request,
-) -> Option<Answer> {
-    let (front, rest) = CHANGED.split_at(at);
-    let (_, rest) = rest.split_at(8);
-    let changed = all(alloc, &[front, bytes, rest]).ok()?;
-    let mut served = raised(alloc, manifest, changed.as_slice())?.ok()?;
-    let mut backing = ManifestBacking::of(manifest);
-    match served.apply(alloc, &mut backing, request) {
-        Some(Answer::Error(Errno::ENOMEM)) => served.apply(alloc, &mut backing, request),
-        answer => answer,
-    }
-}
-
-/// The count of the second entry as high as it may be, and the upper half of its directory.
-const HELD_MOST: &[u8] = b"\xff\xff\xff\xff\0\0\0\0";
-
-/// The end of numbers.
-const NO_NUMBER_LEFT: &[u8] = b"\x7f\xff\xff\xff\xff\xff\xff\xff";
-
-#[test]
-fn counts_and_numbers_end_where_they_may(rt: HostRuntime) -> Result<(), Fail> {
-    let alloc = rt.alloc();
-    let manifest = manifest_of(alloc, CHECKOUT)?;
-    let held = lookup_of(alloc, b"README")?;
-    let answer = answer_after(alloc, &manifest, 88, HELD_MOST, &held);
-    assert!(rt; answer == Some(Answer::Error(Errno::EOVERFLOW)));
-    let create = create_of(alloc, b"x", Perm { bits: 0o644 })?;
-    let answer = answer_after(alloc, &manifest, 34, NO_NUMBER_LEFT, &create);
-    assert!(rt; answer == Some(Answer::Error(Errno::ENOSPC)));
     Ok(())
 }
