@@ -36,7 +36,7 @@ pub accepted-ask : (broker : BrokerState) (request : Request) → issue_fault br
 accepted-ask broker request h ask =
     let fault : ask_fault broker request ≡ None = asked (is_ask request) ask (passed (is_none broker.seat) NotMounted _ h).1 in
     let asked_of = passed (not (list_all (may_be_asked broker) (nodes request))) NotHeld _ fault in
-    let full = passed (nat_lt last_unique broker.next_unique) Full None asked_of.1 in
+    let full = passed (nat_lt last_unique broker.next_unique) Full _ asked_of.1 in
     (held (list_all (may_be_asked broker) (nodes request)) asked_of.0, grind (arith, nat_tests, full.0)) where
       asked : (b : Bool) → b ≡ true → cond b (ask_fault broker request) (forget_fault broker (item_of request)) ≡ None → ask_fault broker request ≡ None
       asked b e g = rw e at g
@@ -44,6 +44,26 @@ accepted-ask broker request h ask =
       held : (b : Bool) → not b ≡ false → b ≡ true
       held true e = refl
       held false e = absurd (let none : ⊥ = cc in none)
+
+-- an item that is accepted
+pub record IsGoodItem (broker : BrokerState) (item : Item) : Type 0 where
+  pub not_root : item.node.0 ≢ 1
+  pub some : 1 ≤ item.k
+  pub held : item.k ≤ held_count broker.held item.node.0
+
+pub good-item : (broker : BrokerState) (item : Item) → forget_fault broker (Some item) ≡ None → IsGoodItem broker item
+good-item broker item none = record {
+  not_root = λ root. grind (arith, nat_tests, good.0);
+  some = grind (arith, nat_tests, good.1);
+  held = grind (arith, nat_tests, good.2);
+} where
+  parts : (a b c : Bool) → (a || b || c) ≡ false → (a ≡ false) × (b ≡ false) × (c ≡ false)
+  parts true b c e = absurd (let none : ⊥ = cc in none)
+  parts false true c e = absurd (let none : ⊥ = cc in none)
+  parts false false c e = (refl, refl, e)
+
+  good : ((item.node.0 == 1) ≡ false) × ((item.k == 0) ≡ false) × (nat_lt (held_count broker.held item.node.0) item.k ≡ false)
+  good = parts (item.node.0 == 1) (item.k == 0) (nat_lt (held_count broker.held item.node.0) item.k) (passed (is_bad_forget broker item) BadForget _ none).0
 
 -- the item of a forget that is accepted
 pub record IsAcceptedItem (broker : BrokerState) (request : Request) (item : Item) : Type 0 where
@@ -57,20 +77,8 @@ accepted-forget broker request h ask = of_item (item_of request) refl (forgot (i
   forgot : (b : Bool) → b ≡ false → cond b (ask_fault broker request) (forget_fault broker (item_of request)) ≡ None → forget_fault broker (item_of request) ≡ None
   forgot b e g = rw e at g
 
-  parts : (a b c : Bool) → (a || b || c) ≡ false → (a ≡ false) × (b ≡ false) × (c ≡ false)
-  parts true b c e = absurd (let none : ⊥ = cc in none)
-  parts false true c e = absurd (let none : ⊥ = cc in none)
-  parts false false c e = (refl, refl, e)
-
   of_item : (o : Option Item) → item_of request ≡ o → forget_fault broker o ≡ None → (item : Item) × IsAcceptedItem broker request item
   of_item None is g = absurd (let none : ⊥ = cc in none)
   of_item (Some item) is g =
-      let good = parts (item.node.0 == 1) (item.k == 0) (nat_lt (held_count broker.held item.node.0) item.k) (passed (is_bad_forget broker item) BadForget None g).0 in (
-        item,
-        record {
-          is = is;
-          not_root = λ root. grind (arith, nat_tests, good.0);
-          some = grind (arith, nat_tests, good.1);
-          held = grind (arith, nat_tests, good.2);
-        },
-      )
+      let good = good-item broker item g in
+      (item, record { is = is; not_root = good.not_root; some = good.some; held = good.held })

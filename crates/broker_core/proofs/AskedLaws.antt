@@ -43,7 +43,8 @@ stands-last (e ∷ es) k f all = behind (nat_cmp k e.0) (let low : e.0 < k = All
   behind : (o : Ordering) → o ≡ Greater → insert_entry nat_cmp es k f ≡ es ++ (k, f) ∷ [] → match_ordering o ((k, f) ∷ e ∷ es) ((e.0, f) ∷ es) (e ∷ insert_entry nat_cmp es k f) ≡ e ∷ es ++ (k, f) ∷ []
   behind o is rest = rw is (ap (λ xs. e ∷ xs) rest)
 
-one_test : (k n : ℕ) → is_at (nat_cmp k) n ≡ (k == n)
+-- the order's test is that of numbers
+pub one_test : (k n : ℕ) → is_at (nat_cmp k) n ≡ (k == n)
 one_test k n = grind (arith, nat_tests)
 
 -- a look-up finds the form of the first ask of a unique

@@ -1,11 +1,9 @@
 pub mod Accepted
 mod AskedLaws
-mod Changes
+mod Consistency
 pub mod HeldLaws
 pub mod LaterLaws
 mod Moves
-mod Places
 mod Queues
-mod Rising
-mod Searching
 pub mod SeatLaws
+mod TreeLaws

@@ -1,7 +1,7 @@
 -- What the kernel holds, and who serves it: the requests and the lookup counts of libfuse's `fuse_lowlevel.h`, seen
 -- from the kernel's side, and the seat, which is this project's own and stands in for a file descriptor that is handed
 -- over.
-use Rattle.std.specs.Prelude.{◌≡◌, ℕ, ◌+◌, ◌-◌, ◌^◌, ◌≤◌, Bool, true, ◌||◌, ◌==◌, not, nat_le, nat_lt, max, Option, Some, None, IsSome, is_none, is_some, if◌then◌else◌, refl}
+use Rattle.std.specs.Prelude.{◌≡◌, ℕ, ◌+◌, ◌-◌, ◌^◌, Bool, ◌||◌, ◌&&◌, ◌==◌, not, nat_le, nat_lt, Option, Some, None, is_none, is_some, if◌then◌else◌, refl}
 use Rattle.std.specs.List.{list_all}
 use Rattle.std.specs.Option.{option_map_or}
 use Rattle.std.specs.Coded.{Coded, code_by, coded×, coded_option, coded_ℕ}
@@ -9,33 +9,42 @@ use Rattle.eden_base.specs.declared.number.Number.{Number}
 use Rattle.eden_base.specs.declared.number.DaemonId.{DaemonId}
 use Rattle.fuse_wire.specs.declared.ask.Request.{Request}
 use Rattle.fuse_wire.specs.declared.item.Item.{Item}
-use Rattle.fuse_wire.specs.declared.reply.Answer.{Answer}
+use Rattle.fuse_wire.specs.declared.reply.Reply.{Reply}
 use Rattle.fuse_wire.specs.Ask.{is_ask, nodes, item_of}
 use Rattle.fuse_wire.specs.Given.{given_out}
 use Rattle.broker_core.specs.Held.{HeldMap, held_map_code, held_count, none_held, raised, lowered}
+use Rattle.broker_core.specs.Traffic.{TrafficState, traffic_state_code, no_traffic, front, ask_refusal, item_refusal, ask_issued, item_issued, next_taken, left_by_take, is_asked, reply_posted, reply_delivered}
 use Rattle.broker_core.specs.declared.seat.Seat.{Seat}
 use Rattle.broker_core.specs.contracts.seat.Seat.{the_row}
 use Rattle.broker_core.specs.declared.broker.MountFault.{MountFault}
 use Rattle.broker_core.specs.declared.broker.MountFault.TheVariants.{Seated, LastGeneration}
 use Rattle.broker_core.specs.declared.broker.IssueFault.{IssueFault}
 use Rattle.broker_core.specs.declared.broker.IssueFault.TheVariants.{NotMounted, NotHeld, BadForget, Full, NoMemory}
+use Rattle.broker_core.specs.declared.fault.NotSeated.{NotSeated}
+use Rattle.broker_core.specs.declared.fault.NotSeated.TheVariants as unseated
+use Rattle.broker_core.specs.declared.fault.TakeFault.{TakeFault}
+use Rattle.broker_core.specs.declared.fault.TakeFault.TheVariants as take
+use Rattle.broker_core.specs.declared.fault.PostFault.{PostFault}
+use Rattle.broker_core.specs.declared.fault.PostFault.TheVariants as post
+use Rattle.broker_core.specs.declared.fault.DeliverFault.{DeliverFault}
+use Rattle.broker_core.specs.declared.fault.DeliverFault.TheVariants as deliver
 
 -- who serves, at which generation, if anyone; the greatest generation so far; what the kernel holds; the unique of the
--- next ask; and for how many more numbers there is room
+-- next ask; and what is under way
 pub record BrokerState : Type 0 where
   pub seat : Option Seat
   pub last : ℕ
   pub held : HeldMap
   pub next_unique : ℕ
-  pub spare : ℕ
+  pub traffic : TrafficState
 
 -- a state as a tuple, for a type that is seen as one
 abbrev pub broker_state_code : Coded BrokerState
 broker_state_code =
-    code_by (Option Seat × (ℕ × (HeldMap × (ℕ × ℕ))))
-    (coded× (coded_option the_row.coded) (coded× coded_ℕ (coded× held_map_code (coded× coded_ℕ coded_ℕ))))
-    (λ b. (b.seat, (b.last, (b.held, (b.next_unique, b.spare)))))
-    (λ p. record { seat = p.0; last = p.1.0; held = p.1.1.0; next_unique = p.1.1.1.0; spare = p.1.1.1.1 })
+    code_by (Option Seat × (ℕ × (HeldMap × (ℕ × TrafficState))))
+    (coded× (coded_option the_row.coded) (coded× coded_ℕ (coded× held_map_code (coded× coded_ℕ traffic_state_code))))
+    (λ b. (b.seat, (b.last, (b.held, (b.next_unique, b.traffic)))))
+    (λ p. record { seat = p.0; last = p.1.0; held = p.1.1.0; next_unique = p.1.1.1.0; traffic = p.1.1.1.1 })
     (λ _. refl)
 
 -- the greatest generation
@@ -46,9 +55,9 @@ last_generation = 2 ^ 63 - 1
 abbrev pub last_unique : ℕ
 last_unique = 2 ^ 63 - 1
 
--- nothing is held, nobody serves, and the first ask gets unique 1
+-- nothing is held or under way, nobody serves, and the first ask gets unique 1
 abbrev pub new_broker : BrokerState
-new_broker = record { seat = None; last = 0; held = none_held; next_unique = 1; spare = 0 }
+new_broker = record { seat = None; last = 0; held = none_held; next_unique = 1; traffic = no_traffic }
 
 -- why a daemon cannot mount, if it cannot
 abbrev pub mount_fault : BrokerState → Option MountFault
@@ -70,17 +79,20 @@ may_be_asked broker number = number.0 == 1 || nat_lt 0 (held_count broker.held n
 abbrev pub is_bad_forget : BrokerState → Item → Bool
 is_bad_forget broker item = item.node.0 == 1 || item.k == 0 || nat_lt (held_count broker.held item.node.0) item.k
 
+-- ---- issue
+
 -- why an ask is refused, if it is, out of memory apart
 abbrev pub ask_fault : BrokerState → Request → Option IssueFault
 ask_fault broker request =
     if not (list_all (may_be_asked broker) (nodes request)) then Some NotHeld
     else if nat_lt last_unique broker.next_unique then Some Full
-    else None
+    else ask_refusal broker.traffic
 
 -- why a forget is refused, if it is: a batch is, since the kernel's side hands single items in
 abbrev pub forget_fault : BrokerState → Option Item → Option IssueFault
 forget_fault broker None = Some BadForget
-forget_fault broker (Some item) = if is_bad_forget broker item then Some BadForget else None
+forget_fault broker (Some item) =
+    if is_bad_forget broker item then Some BadForget else item_refusal broker.traffic
 
 -- why the kernel's request is refused, if it is, out of memory apart
 abbrev pub issue_fault : BrokerState → Request → Option IssueFault
@@ -89,36 +101,95 @@ issue_fault broker request =
     else if is_ask request then ask_fault broker request
     else forget_fault broker (item_of request)
 
--- a refused request has the first fault; out of memory comes to an ask alone, and where no other fault does
+-- a refused request has the first fault; out of memory comes where no other fault does
 abbrev pub IsIssueRefusal : BrokerState → Request → IssueFault → Type 0
-IsIssueRefusal broker request NoMemory = (issue_fault broker request ≡ None) × (is_ask request ≡ true)
+IsIssueRefusal broker request NoMemory = issue_fault broker request ≡ None
 IsIssueRefusal broker request fault = issue_fault broker request ≡ Some fault
 
--- the next unique is taken, and there is room for one more number
-abbrev pub asked : BrokerState → BrokerState
-asked broker = record broker { next_unique = broker.next_unique + 1; spare = max broker.spare 1 }
+-- the next unique is the ask's, which waits
+abbrev pub asked : BrokerState → Request → BrokerState
+asked broker request = record broker {
+  next_unique = broker.next_unique + 1;
+  traffic = ask_issued broker.traffic broker.next_unique request;
+}
 
--- an item's number is held so many times less
+-- an item's number is held so many times less at once, and the item waits
 abbrev pub forgot : BrokerState → Item → BrokerState
-forgot broker item = record broker { held = lowered broker.held item.node.0 item.k }
+forgot broker item = record broker {
+  held = lowered broker.held item.node.0 item.k;
+  traffic = item_issued broker.traffic item;
+}
 
 -- after an accepted request
 abbrev pub issued : BrokerState → Request → BrokerState
 issued broker request =
-    if is_ask request then asked broker else option_map_or (forgot broker) (item_of request) broker
+    if is_ask request then asked broker request else option_map_or (forgot broker) (item_of request) broker
 
 -- the unique that an ask gets; a forget gets none
 abbrev pub unique_of : BrokerState → Request → Option ℕ
 unique_of broker request = if is_ask request then Some broker.next_unique else None
 
--- a number that is given out is held once more, and takes a room
-abbrev pub entered : BrokerState → Number → BrokerState
-entered broker number = record broker { held = raised broker.held number.0; spare = broker.spare - 1 }
+-- ---- take and post, which are for the daemon of the seat
 
--- after a reply that reaches the kernel
-abbrev pub settled : BrokerState → Answer → BrokerState
-settled broker answer = option_map_or (entered broker) (given_out answer) broker
+-- why a daemon does not serve at a generation, if it does not
+abbrev pub seat_fault : Option Seat → DaemonId → ℕ → Option NotSeated
+seat_fault None daemon generation = Some unseated.Ended
+seat_fault (Some seat) daemon generation =
+    if seat.daemon.0 == daemon.0 && seat.generation == generation then None
+    else Some (unseated.Stale seat.generation)
 
--- a number that is given out needs room
-abbrev pub HasRoomFor : BrokerState → Answer → Type 0
-HasRoomFor broker answer = IsSome (given_out answer) → 1 ≤ broker.spare
+-- why nothing is taken, by the seat and then by what waits
+abbrev pub take_fault_by : TrafficState → Option NotSeated → Option TakeFault
+take_fault_by traffic (Some unseated.Ended) = Some take.Ended
+take_fault_by traffic (Some (unseated.Stale now)) = Some (take.Stale now)
+take_fault_by traffic None = if is_none (next_taken traffic) then Some take.Empty else None
+
+-- why a daemon takes nothing at a generation, if it does not
+abbrev pub take_fault : BrokerState → DaemonId → ℕ → Option TakeFault
+take_fault broker daemon generation = take_fault_by broker.traffic (seat_fault broker.seat daemon generation)
+
+-- what waits first left
+abbrev pub taken : BrokerState → BrokerState
+taken broker = record broker { traffic = left_by_take broker.traffic }
+
+-- why a reply is not taken, by the seat and then by what was asked
+abbrev pub post_fault_by : TrafficState → Reply → Option NotSeated → Option PostFault
+post_fault_by traffic reply (Some unseated.Ended) = Some post.Ended
+post_fault_by traffic reply (Some (unseated.Stale now)) = Some (post.Stale now)
+post_fault_by traffic reply None = if is_asked traffic reply then None else Some post.NotAsked
+
+-- why a daemon's reply at a generation is not taken, if it is not
+abbrev pub post_fault : BrokerState → DaemonId → ℕ → Reply → Option PostFault
+post_fault broker daemon generation reply =
+    post_fault_by broker.traffic reply (seat_fault broker.seat daemon generation)
+
+-- the reply waits for the kernel
+abbrev pub posted : BrokerState → Reply → BrokerState
+posted broker reply = record broker { traffic = reply_posted broker.traffic reply }
+
+-- ---- delivery
+
+-- a number that a reply gives out is held once more
+abbrev pub held_with : HeldMap → Option Reply → HeldMap
+held_with held None = held
+held_with held (Some reply) = option_map_or (λ (number : Number). raised held number.0) (given_out reply.answer) held
+
+-- the first posted reply reached the kernel
+abbrev pub delivered : BrokerState → BrokerState
+delivered broker = record broker {
+  held = held_with broker.held (front broker.traffic.posted);
+  traffic = reply_delivered broker.traffic;
+}
+
+-- a number that a reply gives out and that is not held, which takes memory
+pub record IsNewNumber (broker : BrokerState) : Type 0 where
+  pub reply : Reply
+  pub number : Number
+  pub first : front broker.traffic.posted ≡ Some reply
+  pub gives : given_out reply.answer ≡ Some number
+  pub unheld : held_count broker.held number.0 ≡ 0
+
+-- no reply is delivered where none waits; out of memory comes to a number alone that was not held
+abbrev pub IsDeliverRefusal : BrokerState → DeliverFault → Type 0
+IsDeliverRefusal broker deliver.Empty = front broker.traffic.posted ≡ None
+IsDeliverRefusal broker deliver.NoMemory = IsNewNumber broker

@@ -1,5 +1,5 @@
 -- The numbers that the kernel holds: the lookup counts of libfuse's `fuse_lowlevel.h`, seen from the kernel's side.
-use Rattle.std.specs.Prelude.{◌≡◌, ℕ, ◌+◌, ◌-◌, ◌<◌, nat_le, Option, Some, None, if◌then◌else◌}
+use Rattle.std.specs.Prelude.{◌≡◌, ℕ, ◌+◌, ◌-◌, ◌<◌, nat_le, List, Option, Some, None, if◌then◌else◌}
 use Rattle.std.specs.Option.{unwrap_or}
 use Rattle.std.specs.Ordering.{nat_cmp}
 use Rattle.std.specs.Coded.{Coded, coded_ℕ}
@@ -13,6 +13,10 @@ HeldMap = map.FinMap nat_cmp ℕ
 -- a map as a list, for a type that is seen as one
 abbrev pub held_map_code : Coded HeldMap
 held_map_code = map.code coded_ℕ coded_ℕ
+
+-- the map of a list of numbers with their counts
+abbrev pub map_of : List (ℕ × ℕ) → HeldMap
+map_of = map.from_entries
 
 -- how often the kernel holds a number
 abbrev pub held_count : HeldMap → ℕ → ℕ

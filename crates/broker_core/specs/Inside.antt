@@ -2,10 +2,12 @@
 use Rattle.std.specs.Prelude.{ℕ, ◌+◌, ◌<◌, ◌≤◌}
 use Rattle.broker_core.specs.Broker.{last_generation, last_unique}
 use Rattle.broker_core.specs.Held.{held_count}
+use Rattle.broker_core.specs.Traffic.{IsLater, asks_under_way, forgets_on}
 use Rattle.broker_core.specs.declared.broker.Broker.TheInside.{Inside}
 
--- each time that a number is held took a unique, and so did each number that there is room for
+-- each time that a number is held or taken back by a waiting item took a unique, and so did each ask under way
 pub record IsConsistent (b : Inside) : Type 0 where
   pub generation : b.last ≤ last_generation
   pub uniques : b.next_unique ≤ last_unique + 1
-  pub asked_for : (n : ℕ) → held_count b.held.counts n + b.held.spare < b.next_unique
+  pub later : IsLater b.traffic b.next_unique
+  pub asked_for : (n : ℕ) → held_count b.held n + forgets_on b.traffic n + asks_under_way b.traffic < b.next_unique

@@ -1,9 +1,9 @@
--- What the held numbers keep of their list, whatever becomes of them.
-use Rattle.std.specs.Prelude.{◌+◌, ◌≤◌, All, vec_len, vec_capacity}
-use Rattle.broker_core.specs.Holdings.{IsRising}
+-- What the held numbers keep of their tree, whatever becomes of them.
+use Rattle.std.specs.Prelude.{◌≢◌, ℕ, Some}
+use Rattle.std.specs.BTreeMap.{get}
+use Rattle.std.specs.Ordering.{nat_cmp}
 use Rattle.broker_core.specs.declared.held.Held.TheInside.{Inside}
 
-pub record IsKept (held : Inside) : Type 0 where
-  pub rising : IsRising held.holdings.items
-  pub some : All (λ holding. 1 ≤ holding.count) held.holdings.items
-  pub room : vec_len held.holdings + held.spare ≤ vec_capacity held.holdings
+-- no number stands in it that is held 0 times
+abbrev pub IsKept : Inside → Type 0
+IsKept held = (n : ℕ) → get nat_cmp held.counts n ≢ Some 0

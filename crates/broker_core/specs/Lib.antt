@@ -1,7 +1,6 @@
 pub mod Broker
 pub mod Form
 pub mod Held
-pub mod Holdings
 pub mod Inside
 pub mod Kept
 pub mod Roomy

@@ -1,6 +1,6 @@
 -- What is under way at the kernel's side: the queues of a FUSE connection (linux/fuse.h), each first in first out. That
 -- forgets have a queue of their own, and when they go first, is this project's own.
-use Rattle.std.specs.Prelude.{◌≡◌, ℕ, ◌+◌, ◌<◌, Bool, true, false, ◌||◌, ◌&&◌, ◌==◌, nat_le, nat_lt, List, [], ◌∷◌, ◌++◌, length, take, drop, map, All, sum_by, count_by, Option, Some, None, if◌then◌else◌, refl}
+use Rattle.std.specs.Prelude.{ℕ, ◌+◌, ◌<◌, Bool, true, false, ◌||◌, ◌&&◌, ◌==◌, nat_le, nat_lt, List, [], ◌∷◌, ◌++◌, length, take, drop, map, All, sum_by, count_by, Option, Some, None, if◌then◌else◌, refl}
 use Rattle.std.specs.Option.{option_map, option_map_or}
 use Rattle.std.specs.Coded.{Coded, code_by, coded×, coded_list, coded_ℕ}
 use Rattle.eden_base.specs.First.{first_where, without_where}
@@ -18,7 +18,7 @@ use Rattle.broker_core.specs.Form.{form_of, belongs}
 use Rattle.broker_core.specs.declared.form.Form.{Form}
 use Rattle.broker_core.specs.contracts.form.Form.{the_row as form_row}
 use Rattle.broker_core.specs.declared.broker.IssueFault.{IssueFault}
-use Rattle.broker_core.specs.declared.broker.IssueFault.TheVariants.{Full, NoMemory}
+use Rattle.broker_core.specs.declared.broker.IssueFault.TheVariants.{Full}
 
 -- the asks that no daemon took yet; of each that was taken and has no reply, its unique and the form that answers it;
 -- the items that no daemon took yet; the replies that the kernel didn't get yet
@@ -58,11 +58,6 @@ ask_refusal traffic = if nat_le 1024 (asks_under_way traffic) then Some Full els
 -- why an item is refused, if it is, out of memory apart
 abbrev pub item_refusal : TrafficState → Option IssueFault
 item_refusal traffic = if nat_le 4096 (length traffic.items) then Some Full else None
-
--- out of memory comes where no other fault does
-abbrev pub IsRefusal : Option IssueFault → IssueFault → Type 0
-IsRefusal fault NoMemory = fault ≡ None
-IsRefusal fault refusal = fault ≡ Some refusal
 
 -- a unique is above those of all asks without a reply
 pub record IsLater (traffic : TrafficState) (unique : ℕ) : Type 0 where

@@ -1,14 +1,17 @@
 //! The kernel's side of a mount.
-ghost use Rattle.std.specs.Prelude.{◌≡◌, ◌+◌, ◌≤◌, ◌≢◌, Bool, true, false, not, nat_lt, if◌then◌else◌, IsOk, IfOk, IfErr, OnOk, OnErr};
+ghost use Rattle.std.specs.Prelude.{◌≡◌, ◌+◌, ◌≤◌, Bool, true, Some, None, IfOk, IfErr, OnOk, OnErr};
 ghost use Rattle.std.specs.List.{list_all};
 ghost use Rattle.fuse_wire.specs.Ask.{is_ask};
 ghost use Rattle.broker_core.specs.Held.{held_count, IsLeastHeldAfter};
-ghost use Rattle.broker_core.specs.Broker.{mount_fault, issue_fault, ask_fault, forget_fault, may_be_asked, mounted, issued, unique_of, settled, new_broker, IsIssueRefusal, HasRoomFor};
+ghost use Rattle.broker_core.specs.Traffic.{front, next_taken, forgets_on, entries_of};
+ghost use Rattle.broker_core.specs.Broker.{mount_fault, issue_fault, ask_fault, forget_fault, may_be_asked, seat_fault, take_fault, post_fault, mounted, asked, forgot, issued, unique_of, taken, posted, delivered, new_broker, IsIssueRefusal, IsDeliverRefusal};
 
 use crate::Seat;
+use crate::fault::{DeliverFault, NotSeated, PostFault, TakeFault};
 use crate::held::Held;
+use crate::traffic::Traffic;
 use eden_base::{DaemonId, NoMemory, Number};
-use fuse_wire::{Item, Reply, Request};
+use fuse_wire::{Ask, Item, Reply, Request};
 use std::alloc::Global;
 use std::marker::Model;
 use thiserror::Error;
@@ -33,21 +36,21 @@ pub enum IssueFault {
     /// Also each batch: the kernel's side hands single items in.
     #[error("a forget of the root, of nothing, or of more than the kernel holds")]
     BadForget,
-    /// Of an ask: the last unique was given.
-    #[error("no unique is left")]
+    /// Of an ask: the last unique was given, or 1,024 asks are under way. Of a forget: 4,096 items wait.
+    #[error("no more can be under way")]
     Full,
-    /// Of an ask: there is no room for one more number.
     #[error("out of memory")]
     NoMemory,
 }
 
-/// What the kernel holds, and who serves it. Clauses see it as a `BrokerState`.
+/// What the kernel holds, who serves it, and what is under way between them. Clauses see it as a `BrokerState`.
 #[derive(Drop)]
 pub struct Broker {
     seat: Option<Seat>,
     last: u64,
     held: Held,
     next_unique: u64,
+    traffic: Traffic,
 }
 
 impl Model for Broker {
@@ -60,9 +63,9 @@ impl Model for Broker {
     ghost view = { λ b. record {
       seat = b.seat;
       last = b.last;
-      held = b.held.counts;
+      held = b.held;
       next_unique = b.next_unique;
-      spare = b.held.spare;
+      traffic = b.traffic;
     } };
 
     ghost use Rattle.broker_core.specs.Inside.{IsConsistent};
@@ -86,6 +89,7 @@ impl Broker {
             last: 0,
             held: Held::new(alloc),
             next_unique: 1,
+            traffic: Traffic::new(alloc),
         })
     }
 
@@ -150,7 +154,7 @@ impl Broker {
         if self.next_unique > Broker::LAST_UNIQUE {
             return Some(IssueFault::Full);
         }
-        None
+        self.traffic.ask_refusal()
     }
 
     fn may_all_be_asked(&self, numbers: &[Number]) -> bool
@@ -173,61 +177,132 @@ impl Broker {
                 if item.node == Number::ROOT || item.k == 0 || item.k > self.held.count(item.node) {
                     return Some(IssueFault::BadForget);
                 }
-                None
+                self.traffic.item_refusal()
             }
             None => Some(IssueFault::BadForget),
         }
     }
 
-    /// Takes a request of the kernel. An ask gets the next unique, from 1, and leaves room for at
-    /// least one more number. A forget lowers at once what the kernel holds.
-    pub fn issue(&mut self, request: &Request) -> Result<Option<u64>, NoMemory>
-        requires accepted { issue_fault self.old request.now ≡ None }
-        ensures unique { IfOk result (λ unique. unique ≡ unique_of self.old request.now) }
-        ensures issued { OnOk result (self.new ≡ issued self.old request.now) }
-        ensures unchanged { OnErr result (self.new ≡ self.old) }
-
-        // A forget takes no memory, nor does an ask where there is room.
-        ensures forget_succeeds { is_ask request.now ≡ false → IsOk result }
-        ensures room_suffices { 1 ≤ self.old.spare → IsOk result }
-    {
-        if request.is_ask() {
-            self.held.make_room()?;
-            let unique = self.next_unique;
-            self.next_unique += 1;
-            return Ok(Some(unique));
-        }
-        match request.item() {
-            Some(item) => self.held.lower(item.node, item.k),
-            None => unreachable!(),
-        }
-        Ok(None)
-    }
-
-    /// Takes a request of the kernel as `issue` does, or returns why it does not.
-    pub fn try_issue(&mut self, request: &Request) -> Result<Option<u64>, IssueFault>
+    /// Takes a request of the kernel, with the memory that it needs until it is posted or taken. An ask gets the next
+    /// unique, from 1. A forget lowers at once what the kernel holds.
+    pub fn issue(&mut self, request: &Request) -> Result<Option<u64>, IssueFault>
         ensures unique { IfOk result (λ unique. unique ≡ unique_of self.old request.now) }
         ensures issued { OnOk result (self.new ≡ issued self.old request.now) }
         ensures accepted { OnOk result (issue_fault self.old request.now ≡ None) }
         ensures refused { IfErr result (IsIssueRefusal self.old request.now) }
         ensures unchanged { OnErr result (self.new ≡ self.old) }
-        ensures room_suffices { 1 ≤ self.old.spare → result ≢ Err IssueFault.NoMemory }
     {
         if let Some(fault) = self.refusal(request) {
             return Err(fault);
         }
-        self.issue(request).map_err(|_| IssueFault::NoMemory)
+        if request.is_ask() {
+            let unique = self.issue_ask(request).map_err(|_| IssueFault::NoMemory)?;
+            return Ok(Some(unique));
+        }
+        match request.item() {
+            Some(item) => self.issue_item(item).map_err(|_| IssueFault::NoMemory)?,
+            None => unreachable!(),
+        }
+        Ok(None)
     }
 
-    /// Hands a reply to the kernel, which then holds the number of an entry once more. That takes
-    /// no memory: an ask made the room. Which ask it answers is the caller's part.
-    pub fn settle(&mut self, reply: &Reply)
-        requires room { HasRoomFor self.old reply.now.answer }
-        ensures settled { self.new ≡ settled self.old reply.now.answer }
+    /// Queues an ask under the next unique.
+    fn issue_ask(&mut self, request: &Request) -> Result<u64, NoMemory>
+        requires accepted { issue_fault self.old request.now ≡ None }
+        requires asks { is_ask request.now ≡ true }
+        ensures unique { IfOk result (λ unique. unique ≡ self.old.next_unique) }
+        ensures asked { OnOk result (self.new ≡ asked self.old request.now) }
+        ensures unchanged { OnErr result (self.new ≡ self.old) }
     {
-        if let Some(number) = reply.answer.given_out() {
-            self.held.raise(number);
+        let unique = self.next_unique;
+        self.traffic.push_ask(unique, request)?;
+        self.next_unique += 1;
+        Ok(unique)
+    }
+
+    /// Queues an item, which is held less from now on.
+    fn issue_item(&mut self, item: Item) -> Result<(), NoMemory>
+        requires accepted { forget_fault self.old (Some item) ≡ None }
+        ensures forgot { OnOk result (self.new ≡ forgot self.old item) }
+        ensures unchanged { OnErr result (self.new ≡ self.old) }
+    {
+        self.traffic.push_item(item)?;
+        self.held.lower(item.node, item.k);
+        Ok(())
+    }
+
+    /// Returns why a daemon does not serve at a generation.
+    fn seat_refusal(&self, daemon: DaemonId, generation: u64) -> Option<NotSeated>
+        ensures { result ≡ seat_fault self.now.seat daemon generation }
+    {
+        match self.seat {
+            None => Some(NotSeated::Ended),
+            Some(seat) => {
+                if seat.daemon == daemon && seat.generation == generation {
+                    return None;
+                }
+                Some(NotSeated::Stale(seat.generation))
+            }
         }
+    }
+
+    /// Hands what waits first to the daemon that serves at a generation. It takes no memory.
+    pub fn take(&mut self, daemon: DaemonId, generation: u64) -> Result<Ask, TakeFault>
+        ensures first { IfOk result (λ ask. next_taken self.old.traffic ≡ Some ask) }
+        ensures left { OnOk result (self.new ≡ taken self.old) }
+        ensures accepted { OnOk result (take_fault self.old daemon generation ≡ None) }
+        ensures refused { IfErr result (λ fault. take_fault self.old daemon generation ≡ Some fault) }
+        ensures unchanged { OnErr result (self.new ≡ self.old) }
+    {
+        match self.seat_refusal(daemon, generation) {
+            Some(NotSeated::Ended) => Err(TakeFault::Ended),
+            Some(NotSeated::Stale(now)) => Err(TakeFault::Stale(now)),
+            None => self.traffic.take().ok_or(TakeFault::Empty),
+        }
+    }
+
+    /// Returns why nothing is taken by a daemon at a generation.
+    pub fn take_refusal(&self, daemon: DaemonId, generation: u64) -> Option<TakeFault>
+        ensures fault { result ≡ take_fault self.now daemon generation }
+    {
+        match self.seat_refusal(daemon, generation) {
+            Some(NotSeated::Ended) => Some(TakeFault::Ended),
+            Some(NotSeated::Stale(now)) => Some(TakeFault::Stale(now)),
+            None if self.traffic.is_nothing_waiting() => Some(TakeFault::Empty),
+            None => None,
+        }
+    }
+
+    /// Takes a reply of the daemon that serves at a generation, for the kernel. It takes no memory.
+    pub fn post(&mut self, daemon: DaemonId, generation: u64, reply: Reply) -> Result<(), PostFault>
+        ensures posted { OnOk result (self.new ≡ posted self.old reply) }
+        ensures accepted { OnOk result (post_fault self.old daemon generation reply ≡ None) }
+        ensures refused { IfErr result (λ fault. post_fault self.old daemon generation reply ≡ Some fault) }
+        ensures unchanged { OnErr result (self.new ≡ self.old) }
+    {
+        match self.seat_refusal(daemon, generation) {
+            Some(NotSeated::Ended) => Err(PostFault::Ended),
+            Some(NotSeated::Stale(now)) => Err(PostFault::Stale(now)),
+            None => self.traffic.post(reply).map_err(|_| PostFault::NotAsked),
+        }
+    }
+
+    /// Hands the first posted reply to the kernel, which then holds the number of an entry once more. Only a number
+    /// that was not held takes memory, and where that is refused the reply stays.
+    pub fn deliver(&mut self) -> Result<Reply, DeliverFault>
+        ensures first { IfOk result (λ reply. front self.old.traffic.posted ≡ Some reply) }
+        ensures delivered { OnOk result (self.new ≡ delivered self.old) }
+        ensures refused { IfErr result (IsDeliverRefusal self.old) }
+        ensures unchanged { OnErr result (self.new ≡ self.old) }
+    {
+        let Some(reply) = self.traffic.next_reply() else {
+            return Err(DeliverFault::Empty);
+        };
+        if let Some(number) = reply.answer.given_out() {
+            self.held.raise(number).map_err(|_| DeliverFault::NoMemory)?;
+        }
+        let _delivered = self.traffic.deliver();
+        Ok(reply)
     }
 
     /// Returns how often the kernel holds a number: as often as entries gave it and no forget took
@@ -243,6 +318,20 @@ impl Broker {
         ensures least { IsLeastHeldAfter self.now.held number.0 result }
     {
         self.held.least_after(number)
+    }
+
+    /// Returns how often the items that wait take a number back.
+    pub fn forgets_waiting(&self, number: Number) -> u64
+        ensures sum { result ≡ forgets_on self.now.traffic number.0 }
+    {
+        self.traffic.forgets_waiting(number)
+    }
+
+    /// Returns how many posted replies give a number out.
+    pub fn entries_posted(&self, number: Number) -> u64
+        ensures count { result ≡ entries_of self.now.traffic number.0 }
+    {
+        self.traffic.entries_posted(number)
     }
 
     /// Returns who serves, if anyone.

@@ -86,13 +86,6 @@ impl Forgets {
         let (first, second) = self.items.as_slices();
         taken_back(first, number) + taken_back(second, number)
     }
-
-    /// Lets all items go.
-    pub(crate) fn clear(&mut self)
-        ensures none { self.new ≡ [] }
-    {
-        self.items.clear();
-    }
 }
 
 /// Takes the first items, as many as a batch has.

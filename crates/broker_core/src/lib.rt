@@ -1,7 +1,8 @@
-//! The broker: the kernel's side of a mount, which keeps what the kernel holds and who serves it.
+//! The broker: the kernel's side of a mount, which keeps what the kernel holds, what is under way, and who serves it.
 #![tactic(auto)]
 
 mod broker;
+mod fault;
 mod forgets;
 mod form;
 mod held;
@@ -9,6 +10,6 @@ mod seat;
 mod traffic;
 
 pub use broker::{Broker, IssueFault, MountFault};
+pub use fault::{DeliverFault, PostFault, TakeFault};
 pub use form::Form;
 pub use seat::Seat;
-pub use traffic::{NotAsked, Traffic};

@@ -1,8 +1,7 @@
 //! What is under way at the kernel's side of a mount.
-ghost use Rattle.std.specs.Prelude.{◌≡◌, ◌≤◌, true, length, count_by, is_ok, IfErr, OnOk, OnErr};
-ghost use Rattle.fuse_wire.specs.Ask.{is_ask};
+ghost use Rattle.std.specs.Prelude.{◌≡◌, ◌≤◌, length, count_by, is_ok, is_none, OnOk, OnErr};
 ghost use Rattle.broker_core.specs.Roomy.{is_not_before};
-ghost use Rattle.broker_core.specs.Traffic.{no_traffic, front, asks_under_way, ask_refusal, item_refusal, IsRefusal, IsLater, ask_issued, item_issued, next_taken, left_by_take, form_asked, is_asked, may_be_given, reply_posted, reply_delivered, forgets_on, gives, entries_of};
+ghost use Rattle.broker_core.specs.Traffic.{no_traffic, front, asks_under_way, ask_refusal, item_refusal, IsLater, ask_issued, item_issued, next_taken, left_by_take, form_asked, is_asked, may_be_given, reply_posted, reply_delivered, forgets_on, gives, entries_of};
 
 use crate::broker::IssueFault;
 use crate::forgets::Forgets;
@@ -12,18 +11,15 @@ use fuse_wire::{Answer, Ask, Item, Items, Reply, Request};
 use std::alloc::Global;
 use std::collections::{BTreeMap, VecDeque};
 use std::marker::Model;
-use thiserror::Error;
 
-/// Why a reply is not taken: no taken ask without a reply has its unique, the answer does not belong to that ask, or
-/// it gives number 0 or the root out.
-#[derive(Clone, Copy, Debug, PartialEq, Eq, Error)]
-#[error("the reply answers nothing that was asked")]
-pub struct NotAsked;
+/// The reply answers nothing that was asked.
+#[derive(Clone, Copy)]
+pub(crate) struct NotAsked;
 
 /// Asks from issue to delivery, and forget items until they are taken. Clauses see it as a `TrafficState`. Only an
 /// issue takes memory.
 #[derive(Drop)]
-pub struct Traffic {
+pub(crate) struct Traffic {
     untaken: VecDeque<Ask>,
     /// The form that answers each ask without a reply. The untaken asks are the last.
     unanswered: BTreeMap<u64, Form>,
@@ -53,13 +49,13 @@ impl Model for Traffic {
 
 impl Traffic {
     /// How many asks may be under way, from issue to delivery.
-    pub const MOST_ASKS: usize = 1024;
+    pub(crate) const MOST_ASKS: usize = 1024;
 
     /// How many forget items may wait.
-    pub const MOST_ITEMS: usize = 4096;
+    pub(crate) const MOST_ITEMS: usize = 4096;
 
     /// Returns queues in which nothing is.
-    pub fn new(alloc: Global) -> Traffic
+    pub(crate) fn new(alloc: Global) -> Traffic
         ensures none { result ≡ no_traffic }
     {
         Traffic {
@@ -72,7 +68,7 @@ impl Traffic {
     }
 
     /// Returns why no further ask is taken.
-    pub fn ask_refusal(&self) -> Option<IssueFault>
+    pub(crate) fn ask_refusal(&self) -> Option<IssueFault>
         ensures fault { result ≡ ask_refusal self.now }
     {
         if self.unanswered.len() + self.posted.len() >= Traffic::MOST_ASKS {
@@ -82,7 +78,7 @@ impl Traffic {
     }
 
     /// Returns why no further forget item is taken.
-    pub fn item_refusal(&self) -> Option<IssueFault>
+    pub(crate) fn item_refusal(&self) -> Option<IssueFault>
         ensures fault { result ≡ item_refusal self.now }
     {
         if self.forgets.len() >= Traffic::MOST_ITEMS {
@@ -91,24 +87,9 @@ impl Traffic {
         None
     }
 
-    /// Takes an ask of the kernel, with all the memory that it needs until its reply is delivered. Its unique is above
+    /// Queues an ask of the kernel, with all the memory that it needs until its reply is posted. Its unique is above
     /// those of all asks without a reply.
-    pub fn issue_ask(&mut self, unique: u64, request: &Request) -> Result<(), IssueFault>
-        requires ask { is_ask request.now ≡ true }
-        requires later { IsLater self.old unique }
-        ensures issued { OnOk result (self.new ≡ ask_issued self.old unique request.now) }
-        ensures accepted { OnOk result (ask_refusal self.old ≡ None) }
-        ensures refused { IfErr result (IsRefusal (ask_refusal self.old)) }
-        ensures unchanged { OnErr result (self.new ≡ self.old) }
-    {
-        if let Some(fault) = self.ask_refusal() {
-            return Err(fault);
-        }
-        self.queue_ask(unique, request)
-            .map_err(|_| IssueFault::NoMemory)
-    }
-
-    fn queue_ask(&mut self, unique: u64, request: &Request) -> Result<(), NoMemory>
+    pub(crate) fn push_ask(&mut self, unique: u64, request: &Request) -> Result<(), NoMemory>
         requires later { IsLater self.old unique }
         ensures issued { OnOk result (self.new ≡ ask_issued self.old unique request.now) }
         ensures unchanged { OnErr result (self.new ≡ self.old) }
@@ -121,22 +102,24 @@ impl Traffic {
         Ok(())
     }
 
-    /// Takes a forget item of the kernel, with the memory that it needs until it is taken.
-    pub fn issue_item(&mut self, item: Item) -> Result<(), IssueFault>
+    /// Queues a forget item of the kernel, with the memory that it needs until it is taken.
+    pub(crate) fn push_item(&mut self, item: Item) -> Result<(), NoMemory>
         ensures issued { OnOk result (self.new ≡ item_issued self.old item) }
-        ensures accepted { OnOk result (item_refusal self.old ≡ None) }
-        ensures refused { IfErr result (IsRefusal (item_refusal self.old)) }
         ensures unchanged { OnErr result (self.new ≡ self.old) }
     {
-        if let Some(fault) = self.item_refusal() {
-            return Err(fault);
-        }
-        self.forgets.push(item).map_err(|_| IssueFault::NoMemory)
+        self.forgets.push(item)
+    }
+
+    /// Returns whether neither an ask nor an item waits.
+    pub(crate) fn is_nothing_waiting(&self) -> bool
+        ensures waiting { result ≡ is_none (next_taken self.now) }
+    {
+        self.untaken.is_empty() && self.forgets.len() == 0
     }
 
     /// Hands the first untaken ask out, or the first items as one request where no ask waits or 256 items do; nothing
     /// exactly where nothing waits. It takes no memory.
-    pub fn take(&mut self) -> Option<Ask>
+    pub(crate) fn take(&mut self) -> Option<Ask>
         ensures first { result ≡ next_taken self.old }
         ensures left { self.new ≡ left_by_take self.old }
     {
@@ -148,7 +131,7 @@ impl Traffic {
     }
 
     /// Returns whether the reply answers a taken ask that has none.
-    pub fn is_asked(&self, reply: &Reply) -> bool
+    pub(crate) fn is_asked(&self, reply: &Reply) -> bool
         ensures asked { result ≡ is_asked self.now reply.now }
     {
         match self.form_asked(reply.unique) {
@@ -168,7 +151,7 @@ impl Traffic {
     }
 
     /// Queues a daemon's reply for the kernel. It takes no memory: its ask made the room.
-    pub fn post(&mut self, reply: Reply) -> Result<(), NotAsked>
+    pub(crate) fn post(&mut self, reply: Reply) -> Result<(), NotAsked>
         ensures posted { OnOk result (self.new ≡ reply_posted self.old reply) }
         ensures asked { is_ok result ≡ is_asked self.old reply }
         ensures unchanged { OnErr result (self.new ≡ self.old) }
@@ -182,29 +165,22 @@ impl Traffic {
     }
 
     /// Returns the reply that reaches the kernel next.
-    pub fn next_reply(&self) -> Option<Reply>
+    pub(crate) fn next_reply(&self) -> Option<Reply>
         ensures first { result ≡ front self.now.posted }
     {
         self.posted.front().copied()
     }
 
     /// Hands the first posted reply to the kernel.
-    pub fn deliver(&mut self) -> Option<Reply>
+    pub(crate) fn deliver(&mut self) -> Option<Reply>
         ensures first { result ≡ front self.old.posted }
         ensures left { self.new ≡ reply_delivered self.old }
     {
         self.posted.pop_front()
     }
 
-    /// Returns how many taken asks have no reply.
-    pub fn unanswered(&self) -> usize
-        ensures taken { result ≡ length self.now.taken }
-    {
-        self.unanswered.len() - self.untaken.len()
-    }
-
     /// Returns how often the waiting items take a number back.
-    pub fn forgets_waiting(&self, number: Number) -> u64
+    pub(crate) fn forgets_waiting(&self, number: Number) -> u64
         requires fits { forgets_on self.now number.0 ≤ u64.MAX }
         ensures sum { result ≡ forgets_on self.now number.0 }
     {
@@ -212,21 +188,11 @@ impl Traffic {
     }
 
     /// Returns how many posted replies give a number out.
-    pub fn entries_posted(&self, number: Number) -> u64
+    pub(crate) fn entries_posted(&self, number: Number) -> u64
         ensures count { result ≡ entries_of self.now number.0 }
     {
         let (first, second) = self.posted.as_slices();
         entries_of(first, number) + entries_of(second, number)
-    }
-
-    /// Lets all that is under way go.
-    pub fn clear(&mut self)
-        ensures none { self.new ≡ no_traffic }
-    {
-        self.untaken.clear();
-        self.unanswered.clear();
-        self.posted.clear();
-        self.forgets.clear();
     }
 }
 

@@ -1,14 +1,9 @@
-use Rattle.std.proofs.Common.{sym}
-use Rattle.broker_core.specs.Holdings.{IsPlaceOf, IsGapFor}
-use Rattle.broker_core.proofs.Changes.{count-here, count-gap}
+use Rattle.std.proofs.Common.{Some, None, sym}
+use Rattle.broker_core.proofs.TreeLaws.{held_count-found}
 use Rattle.broker_core.proofs.held.Held.count.Goals as goal
 
-pub returns-in-Ok : goal.returns-in-Ok
-returns-in-Ok c =
-    let place : IsPlaceOf c.self.inside.holdings.items c.args.number.0 c.in-Ok.place = rw (← c.deref.ensures.value) c.in-Ok.ensures.found in
-    record { count = rw (← c.self.view_is) (sym (count-here c.self.inside.holdings.items c.self.invariant.rising _ _ place c.index.result.now c.index.ensures)) }
+pub returns-in-Some : goal.returns-in-Some
+returns-in-Some c = record { count = rw (← c.self.view_is) (sym (held_count-found c.self.inside.counts.entries c.args.number.0 (Some c.in-Some.count.now) (sym c.in-Some.ensures.value))) }
 
-pub returns-in-Err : goal.returns-in-Err
-returns-in-Err c =
-    let gap : IsGapFor c.self.inside.holdings.items c.args.number.0 c.in-Err.field-0 = rw (← c.deref.ensures.value) c.in-Err.ensures.missing in
-    record { count = rw (← c.self.view_is) (sym (count-gap c.self.inside.holdings.items _ _ gap)) }
+pub returns-in-None : goal.returns-in-None
+returns-in-None c = record { count = rw (← c.self.view_is) (sym (held_count-found c.self.inside.counts.entries c.args.number.0 None (sym c.in-None.ensures.value))) }

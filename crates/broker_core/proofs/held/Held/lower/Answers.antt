@@ -1,27 +1,46 @@
-use Rattle.std.proofs.Common.{ap, subst, ◌<◌}
-use Rattle.broker_core.specs.Held.{HeldMap}
-use Rattle.broker_core.specs.Holdings.{HeldState, IsPlaceOf, IsGapFor}
-use Rattle.broker_core.specs.declared.held.Holding.{Holding}
-use Rattle.broker_core.proofs.Changes.{lowered-here, lowered-whole, lowered-gap, one_holding}
+use Rattle.std.proofs.Common.{◌-◌, ◌<◌, ◌≤◌, Some, None, sym, arith}
+use Rattle.broker_core.specs.Held.{map_of, held_count}
+use Rattle.broker_core.proofs.TreeLaws.{held_count-found, sets-written, kept-some, lowered-all, lowered-some}
 use Rattle.broker_core.proofs.held.Held.lower.Goals as goal
 
-pub returns-then-index-k : goal.returns-then-index-k
-returns-then-index-k c =
-    let place : IsPlaceOf c.self.inside.holdings.items c.args.number.0 c.in-Ok.place = rw (← c.deref.ensures.value) c.in-Ok.ensures.found in
-    let state : HeldMap → HeldState = λ m. record { counts = m; spare = c.self.inside.spare } in
-    record { lowered = rw (← c.self.view_is, c.remove.ensures.items) (ap state (lowered-whole c.self.inside.holdings.items c.self.invariant.rising _ _ place c.index.result.now c.index.ensures c.args.k c.if-index-k.true)) }
+pub unreachable-requires : goal.unreachable-requires
+unreachable-requires c =
+    let count = rw (← c.self.view_is) at c.count.ensures.count in
+    let none = held_count-found c.self.inside.counts.entries c.args.number.0 None (sym c.in_default.ensures.value) in
+    omega (arith, count, none, c.if-count-k.false)
 
-pub returns-else-index-k : goal.returns-else-index-k
-returns-else-index-k c =
-    let items = c.self.inside.holdings.items in
-    let place : IsPlaceOf items c.args.number.0 c.in-Ok.place = rw (← c.deref.ensures.value) c.in-Ok.ensures.found in
-    let state : HeldMap → HeldState = λ m. record { counts = m; spare = c.self.inside.spare } in
-    let same = one_holding items _ _ place c.index.result.now c.index_mut-holding.result.now c.index.ensures c.index_mut-holding.ensures.value in
-    let more = subst (λ (x : Holding). c.args.k < x.count) same c.if-index-k.false in
-    record { lowered = rw (← c.self.view_is) (ap state (lowered-here items c.self.invariant.rising _ _ place c.index_mut-holding.result.now c.index_mut-holding.ensures.value c.args.k more)) }
+pub overflow_sub-count : goal.overflow_sub-count
+overflow_sub-count c =
+    let count = rw (← c.self.view_is) at c.count.ensures.count in
+    let found = held_count-found c.self.inside.counts.entries c.args.number.0 (Some c.in-Some.count.now) (sym c.in-Some.ensures.value) in
+    omega (arith, count, found, c.if-count-k.false)
 
-pub returns-in_default : goal.returns-in_default
-returns-in_default c =
-    let gap : IsGapFor c.self.inside.holdings.items c.args.number.0 c.in_default.field-0 = rw (← c.deref.ensures.value) c.in_default.ensures.missing in
-    let state : HeldMap → HeldState = λ m. record { counts = m; spare = c.self.inside.spare } in
-    record { lowered = rw (← c.self.view_is) (ap state (lowered-gap c.self.inside.holdings.items _ _ gap c.args.k)) }
+pub invariant_of-self-2 : goal.invariant_of-self-2
+invariant_of-self-2 c =
+    let old = c.self.inside.counts in
+    let n = c.args.number.0 in
+    let now = c.in-Some.count.now - c.args.k in
+    let there = sym c.in-Some.ensures.value in
+    let set = sets-written old (c.get_mut.follows.lender now) n c.in-Some.count.now now there (c.get_mut.follows.holds now) in
+    let count = rw (← c.self.view_is) at c.count.ensures.count in
+    let found = held_count-found old.entries n (Some c.in-Some.count.now) there in
+    kept-some old.entries (c.get_mut.follows.lender now).entries n c.self.invariant now (omega (arith, count, found, c.if-count-k.false)) set
+
+pub returns-then-count-k : goal.returns-then-count-k
+returns-then-count-k c =
+    let old = c.self.inside.counts.entries in
+    let count = rw (← c.self.view_is) at c.count.ensures.count in
+    let few : held_count (map_of old) c.args.number.0 ≤ c.args.k = omega (arith, count, c.if-count-k.true) in
+    record { lowered = rw (← c.self.view_is) (lowered-all old c.remove-count.new.self.entries c.args.number.0 c.args.k few c.remove-count.ensures.updates.0) }
+
+pub returns : goal.returns
+returns c =
+    let old = c.self.inside.counts in
+    let n = c.args.number.0 in
+    let now = c.in-Some.count.now - c.args.k in
+    let there = sym c.in-Some.ensures.value in
+    let set = sets-written old (c.get_mut.follows.lender now) n c.in-Some.count.now now there (c.get_mut.follows.holds now) in
+    let count = rw (← c.self.view_is) at c.count.ensures.count in
+    let found = held_count-found old.entries n (Some c.in-Some.count.now) there in
+    let more : c.args.k < held_count (map_of old.entries) n = omega (arith, count, c.if-count-k.false) in
+    record { lowered = rw (← c.self.view_is) (lowered-some old.entries (c.get_mut.follows.lender now).entries n c.args.k more (rw found set)) }

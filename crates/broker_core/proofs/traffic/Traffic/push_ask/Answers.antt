@@ -7,7 +7,7 @@ use Rattle.broker_core.specs.Traffic.{TrafficState, IsLater}
 use Rattle.broker_core.specs.Roomy.{taken_among}
 use Rattle.broker_core.proofs.AskedLaws.{taken-before}
 use Rattle.broker_core.proofs.Moves.{asked-last, one-state, parted}
-use Rattle.broker_core.proofs.traffic.Traffic.queue_ask.Goals as goal
+use Rattle.broker_core.proofs.traffic.Traffic.push_ask.Goals as goal
 
 pub invariant_of-self-2 : goal.invariant_of-self-2
 invariant_of-self-2 c =
