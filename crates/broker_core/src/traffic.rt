@@ -239,6 +239,3 @@ fn gives(reply: &Reply, number: Number) -> bool
         None => false,
     }
 }
-
-#[cfg(test)]
-mod tests;
