@@ -7,14 +7,16 @@ use Rattle.std.proofs.lemmas.Bool.Decides.{nat_tests}
 use Rattle.std.proofs.lemmas.List.{append-nil}
 use Rattle.checkout.specs.Changes.{AreChanges}
 use Rattle.eden_base.specs.First.{first_where}
+use Rattle.eden_base.specs.Limits.{greatest_count}
 use Rattle.eden_base.specs.declared.number.Number.{Number}
 use Rattle.eden_base.specs.declared.place.Place.{Place}
 use Rattle.inode_map.specs.InodeMap.{AreNumbers, is_above, has_number, entry_of, number_after, number_of_kept, place_of_kept, count_of, is_of_use}
 use Rattle.inode_map.specs.declared.inode_map.Kept.{Kept}
+use Rattle.fuse_ops.proofs.FromEntries.{all-entries}
 use Rattle.fuse_ops.specs.Served.{ServedState}
 use Rattle.fuse_ops.specs.Soundness.{IsSound}
 use Rattle.map_codec.specs.declared.image.Image.{Image}
-use Rattle.map_codec.specs.Fit.{rises, is_next_number, entry_follows, HasName, IsNamedLink, IsFit}
+use Rattle.map_codec.specs.Fit.{rises, is_next_number, entry_follows, CountsFit, HasName, IsNamedLink, IsFit}
 use Rattle.map_codec.proofs.InOrder.{made_files_rise, changed_links_rise}
 
 -- none passes a test
@@ -190,3 +192,8 @@ fit_taken image served same changes link_names named sound =
       links_rise = changed_links_rise served.tree image.changes.links changes.links;
       links_have_names = link_names;
     }
+
+-- and its counts are ones that the kernel may hold
+pub counts_taken : (served : ServedState) → IsSound served → CountsFit served.map.entries
+counts_taken served sound =
+    all-entries (λ (kept : Kept). kept.count ≤ greatest_count) 2 served.map.next [] served.map.entries sound.numbers sound.counts_fit

@@ -4,7 +4,7 @@ ghost use Rattle.std.specs.List.{AllByRecursion};
 ghost use Rattle.std.specs.Option.{option_map};
 ghost use Rattle.inode_map.specs.InodeMap.{entry_of, count_of, place_of_kept};
 ghost use Rattle.inode_map.specs.declared.inode_map.Kept.{Kept};
-ghost use Rattle.map_codec.specs.Fit.{HasName, IsFit};
+ghost use Rattle.map_codec.specs.Fit.{CountsFit, HasName, IsFit};
 ghost use Rattle.map_codec.specs.Taking.{IsImageOf};
 
 use crate::{Entries, Image};
@@ -71,6 +71,7 @@ fn entries_of(alloc: Global, map: &InodeMap) -> Result<Vec<Kept>, NoMemory>
 pub fn image_of(alloc: Global, served: &Served, generation: u64) -> Result<Image, NoMemory>
     ensures image { IfOk result (IsImageOf served.now generation) }
     ensures fit { IfOk result IsFit }
+    ensures counts { IfOk result (λ image. CountsFit image.entries) }
 {
     let map = served.map();
     let tree = served.tree();
