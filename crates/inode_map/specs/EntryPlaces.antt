@@ -1,5 +1,6 @@
 -- What the code says of entries and of ways beside the definitions of the inode map.
 use Rattle.std.specs.Prelude.{◌≡◌, ℕ, ◌⊎◌, true, List, [], ◌∷◌, Option, Some, None}
+use Rattle.eden_base.specs.Name.{IsNameText}
 use Rattle.eden_base.specs.declared.number.FileId.{FileId}
 use Rattle.eden_base.specs.declared.number.Number.{Number}
 use Rattle.eden_base.specs.declared.place.Place.{Place}
@@ -12,6 +13,14 @@ use Rattle.inode_map.specs.declared.inode_map.Kept.{Kept}
 abbrev pub AreOfUseBut : Option ℕ → List Kept → Type 0
 AreOfUseBut but entries =
     (n : ℕ) (kept : Kept) → entry_of entries n ≡ Some kept → (is_of_use entries kept ≡ true) ⊎ (but ≡ Some n)
+
+-- a place under a name has a name
+abbrev pub HasName : Place → Type 0
+HasName (Linked dir name) = IsNameText name
+HasName (Unlinked file) = Unit {0}
+
+abbrev pub IsNamedEntry : Kept → Type 0
+IsNamedEntry kept = HasName kept.place
 
 -- the directory of a place
 abbrev pub dir_of : Place → Option ℕ

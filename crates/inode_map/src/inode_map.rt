@@ -1,13 +1,13 @@
 //! What a daemon remembers for the kernel.
 ghost use Rattle.std.specs.Prelude.{◌≡◌, ℕ, ◌+◌, ◌<◌, ◌≤◌, ◌^◌, None, Some, IsSome, false, true, nat_lt, length, MatchOption, IfOk, IfErr, OnOk, OnErr};
-ghost use Rattle.std.specs.List.{filter, list_any};
+ghost use Rattle.std.specs.List.{AllByRecursion, filter, list_any};
 ghost use Rattle.std.specs.Option.{option_map, option_copied};
 ghost use Rattle.eden_base.specs.Limits.{end_of_numbers};
 ghost use Rattle.eden_base.specs.declared.number.FileId.{FileId};
 ghost use Rattle.eden_base.specs.declared.number.Number.{Number};
 ghost use Rattle.inode_map.specs.declared.loaded.LoadedAttr.{LoadedAttr};
 ghost use Rattle.inode_map.specs.Words.{forgot_name};
-ghost use Rattle.inode_map.specs.EntryPlaces.{AreOfUseBut};
+ghost use Rattle.inode_map.specs.EntryPlaces.{AreOfUseBut, IsNamedEntry};
 ghost use Rattle.inode_map.specs.InodeMap.{new_map, map_of, entry_of, entry_at, count_of, number_after, number_of_kept, place_of_kept, is_known, give_fault, number_given, given, IsGiveRefusal, forgot, forgotten, unlinked, is_kid_of, is_useless, is_bad_item, lowered, IsLinked, IsFileOf, AreNumbers, AreEntries, attr_of, used, load, without_oldest, loaded_number, left_of_use, file_remembered, remembered};
 ghost use Rattle.inode_map.specs.Table.{AreOfKept, of_kept, pruned, file_number};
 
@@ -174,6 +174,14 @@ impl InodeMap {
         ensures numbers { AreNumbers 2 self.now.next self.now.entries }
     {
         self.table.after(number)
+    }
+
+    /// Returns the entries by rising number, in memory of their own. It goes over them once.
+    pub fn to_entries(&self, alloc: Global) -> Result<Vec<Kept>, NoMemory>
+        ensures entries { IfOk result (λ kept. kept.items ≡ self.now.entries) }
+        ensures named { IfOk result (λ kept. AllByRecursion IsNamedEntry kept.items) }
+    {
+        self.table.to_entries(alloc)
     }
 
     /// Returns the number that a name in a directory has.

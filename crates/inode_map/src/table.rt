@@ -1,12 +1,13 @@
 //! The entries of an inode map by number, and the index of their places.
 ghost use Rattle.std.specs.Prelude.{◌≡◌, ℕ, ◌+◌, ◌<◌, ◌≤◌, List, [], ◌∷◌, ◌++◌, Option, Some, None, IsSome, MatchOption, IfOk, OnOk, OnErr, ◌-◌, true, false, vec_len, vec_capacity, length};
 ghost use Rattle.std.specs.Option.{option_map, option_copied, option_and_then, IfNone, IfSome, OnSome};
-ghost use Rattle.std.specs.List.{list_any, filter};
+ghost use Rattle.std.specs.List.{AllByRecursion, list_any, filter};
 ghost use Rattle.checkout.specs.Tree.{Tree};
 ghost use Rattle.eden_base.specs.First.{changed_where, without_where};
 ghost use Rattle.eden_base.specs.Limits.{end_of_numbers};
 ghost use Rattle.eden_base.specs.declared.number.FileId.{FileId};
 ghost use Rattle.eden_base.specs.declared.number.Number.{Number};
+ghost use Rattle.inode_map.specs.EntryPlaces.{HasName, IsNamedEntry};
 ghost use Rattle.inode_map.specs.InodeMap.{has_number, entry_of, entry_at, is_kid_of, number_of_kept, place_of_kept, number_after, new_entry, marked, IsLinked, IsFileOf, file_remembered, remembered, AreNumbers, AreEntries, count_of, is_bad_item, lowered};
 ghost use Rattle.inode_map.specs.Table.{IsIn, held_of, slots_of, kept_of, kept_from, held_in, IsSlots, counted, without_entry, AreOfKept, file_number};
 
@@ -19,6 +20,23 @@ use std::alloc::Global;
 use std::collections::BTreeMap;
 use std::marker::Model;
 use std::ops::Bound;
+
+/// Returns the same place, in memory of its own.
+fn copy_of(alloc: Global, place: &Place) -> Result<Place, NoMemory>
+    ensures copy { IfOk result (λ copy. copy ≡ place.now) }
+    ensures named { IfOk result HasName }
+{
+    match place {
+        Place::Linked { parent, name } => {
+            let name = Name::of(alloc, name.bytes())?;
+            Ok(Place::Linked {
+                parent: *parent,
+                name,
+            })
+        }
+        Place::Unlinked { file } => Ok(Place::Unlinked { file: *file }),
+    }
+}
 
 /// What an entry has beside its number.
 #[derive(Drop)]
@@ -34,17 +52,24 @@ impl Held {
     fn of(alloc: Global, kept: &Kept) -> Result<Held, NoMemory>
         ensures { IfOk result (λ held. held ≡ held_of kept.now) }
     {
-        let place = match &kept.place {
-            Place::Linked { parent, name } => Place::Linked {
-                parent: *parent,
-                name: name.copy(alloc)?,
-            },
-            Place::Unlinked { file } => Place::Unlinked { file: *file },
-        };
+        let place = copy_of(alloc, &kept.place)?;
         Ok(Held {
             place,
             count: kept.count,
             file: None,
+        })
+    }
+
+    /// Returns the entry of a number with this beside it, in memory of its own.
+    fn kept(&self, alloc: Global, number: Number) -> Result<Kept, NoMemory>
+        ensures entry { IfOk result (λ kept. kept ≡ kept_of number.0 self.now) }
+        ensures named { IfOk result IsNamedEntry }
+    {
+        let place = copy_of(alloc, &self.place)?;
+        Ok(Kept {
+            number,
+            place,
+            count: self.count,
         })
     }
 }
@@ -143,6 +168,14 @@ impl Table {
             }
             None => None,
         }
+    }
+
+    /// Returns the entries, by rising number, in memory of their own.
+    pub fn to_entries(&self, alloc: Global) -> Result<Vec<Kept>, NoMemory>
+        ensures entries { IfOk result (λ kept. kept.items ≡ self.now.entries) }
+        ensures named { IfOk result (λ kept. AllByRecursion IsNamedEntry kept.items) }
+    {
+        entries_of(alloc, &self.slots)
     }
 
     /// Returns the number that stands under a name in a directory.
@@ -327,6 +360,22 @@ fn slots_of(alloc: Global, entries: &[Kept]) -> Result<BTreeMap<u64, Option<Held
         slots.insert(kept.number.0, Some(held))?;
     }
     Ok(slots)
+}
+
+/// Returns the entries that stand under their numbers, in memory of their own.
+fn entries_of(alloc: Global, slots: &BTreeMap<u64, Option<Held>>) -> Result<Vec<Kept>, NoMemory>
+    ensures entries { IfOk result (λ kept. kept.items ≡ kept_from slots.now.entries) }
+    ensures named { IfOk result (λ kept. AllByRecursion IsNamedEntry kept.items) }
+{
+    let mut entries = Vec::with_capacity(alloc, slots.len())?;
+    for (number, slot) in slots {
+        let Some(held) = slot else {
+            continue;
+        };
+        let kept = held.kept(alloc, Number(*number))?;
+        entries.push(kept)?;
+    }
+    Ok(entries)
 }
 
 /// Returns what an entry has beside its number.
