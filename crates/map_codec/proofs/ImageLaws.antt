@@ -16,7 +16,8 @@ use Rattle.map_codec.specs.declared.fault.ImageFault.TheVariants.{BadMagic, Rest
 use Rattle.map_codec.specs.declared.header.Header.{Header}
 use Rattle.map_codec.specs.declared.image.Image.{Image}
 use Rattle.map_codec.specs.Field.{number_bytes}
-use Rattle.map_codec.specs.Fit.{entry_follows, made_follows, link_follows, HasName, IsFit}
+use Rattle.inode_map.specs.EntryPlaces.{HasName}
+use Rattle.map_codec.specs.Fit.{entry_follows, made_follows, link_follows, IsFit}
 use Rattle.map_codec.specs.ImageText.{Form, first_form, form_of, magic, entry_text, made_text, link_text, list_text, image_text, FitsEntry, FitsMade, FitsLink, FitsNumbers, FitsMembers, IsImageText}
 use Rattle.map_codec.specs.ImageReading.{◌>>=◌, bytes_at, number_at, entry_at, made_at, link_at, list_at, magic_at, known, form_at, header_at, changes_at, image_with, fields_at, are_of_use, seen_whole, image_of_bytes}
 use Rattle.map_codec.proofs.FieldLaws.{IsBytes, bind_ok, guard_ok, test_ok, ok_is, Found, found_as, both, itself, HasLength, bytes_found, bytes_again, wide16, wide64, IsBelow, number_found, number_again}

@@ -23,7 +23,7 @@ use Rattle.fuse_ops.specs.Soundness.{IsSound, IsUnlinkedPlace}
 use Rattle.map_codec.specs.Raising.{AreOfOneFile, AreRaisable, HasFile, are_below, has_parent, have_parents, is_next, is_right_mark}
 
 -- a test holds of all where it holds of each
-all_pass : (p : Kept → Bool) (es : List Kept) → AllByRecursion (λ (kept : Kept). p kept ≡ true) es → list_all p es ≡ true
+pub all_pass : (p : Kept → Bool) (es : List Kept) → AllByRecursion (λ (kept : Kept). p kept ≡ true) es → list_all p es ≡ true
 all_pass p [] each = refl
 all_pass p (x ∷ es) each = ap (λ (b : Bool). b && list_all p es) each.0 ∙ all_pass p es each.1
 

@@ -6,11 +6,10 @@ use Rattle.std.specs.Ordering.{nat_cmp, is_lt}
 use Rattle.std.specs.Cmp.Lexicographic.{slice_cmp}
 use Rattle.eden_base.specs.Limits.{greatest_count}
 use Rattle.eden_base.specs.Name.{IsNameText}
-use Rattle.eden_base.specs.declared.place.Place.{Place}
-use Rattle.eden_base.specs.declared.place.Place.TheVariants.{Linked, Unlinked}
 use Rattle.checkout.specs.declared.changes.Made.{Made}
 use Rattle.checkout.specs.declared.changes.LinkChange.{LinkChange}
 use Rattle.inode_map.specs.declared.inode_map.Kept.{Kept}
+use Rattle.inode_map.specs.EntryPlaces.{IsNamedEntry}
 use Rattle.inode_map.specs.InodeMap.{is_of_use}
 use Rattle.map_codec.specs.declared.image.Image.{Image}
 
@@ -43,14 +42,6 @@ made_follows last made = is_next_file last made.file.0
 
 abbrev pub link_follows : Option LinkChange → LinkChange → Bool
 link_follows last link = is_next_place last link.dir.0 link.name
-
--- a place under a name has a name
-abbrev pub HasName : Place → Type 0
-HasName (Linked parent name) = IsNameText name
-HasName (Unlinked file) = Unit {0}
-
-abbrev pub IsNamedEntry : Kept → Type 0
-IsNamedEntry kept = HasName kept.place
 
 abbrev pub IsNamedLink : LinkChange → Type 0
 IsNamedLink link = IsNameText link.name

@@ -2,7 +2,8 @@
 ghost use Rattle.std.specs.Prelude.{All, ◌≡◌, ◌↔◌, ◌<◌, IsTrue, None, length};
 ghost use Rattle.std.specs.List.{list_any};
 ghost use Rattle.inode_map.specs.InodeMap.{is_in, is_kid_of, is_of_use};
-ghost use Rattle.map_codec.specs.Fit.{rises, entry_follows, made_follows, link_follows, HasName, IsFit, IsNamedEntry, IsNamedLink};
+ghost use Rattle.inode_map.specs.EntryPlaces.{HasName, IsNamedEntry};
+ghost use Rattle.map_codec.specs.Fit.{rises, entry_follows, made_follows, link_follows, IsFit, IsNamedLink};
 ghost use Rattle.map_codec.specs.ImageReading.{are_of_use, last_of};
 
 use crate::Image;
