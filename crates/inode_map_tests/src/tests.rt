@@ -157,6 +157,8 @@ enum Deed {
     Foresee(u64, u64, Forgot),
     After(u64, u64),
     Count(u64, u64),
+    /// The numbers of all entries with their directories and counts; for none stands 0.
+    Entries(&'static [(u64, u64, u64)]),
     /// The directory of a number.
     Parent(u64, u64),
     /// Tells whether a number is known.
@@ -220,13 +222,49 @@ fn size_loaded(map: &mut InodeMap, number: u64) -> u64 {
     }
 }
 
+/// Returns the number of the directory of a place, or 0.
+fn dir_or_0(place: &Place) -> u64 {
+    match place {
+        Place::Linked { parent, .. } => parent.0,
+        Place::Unlinked { .. } => 0,
+    }
+}
+
 /// Returns the number of the directory in which a number stands, or 0.
 fn parent_of(map: &InodeMap, number: u64) -> u64 {
     match map.entry(Number(number)) {
-        Some(Place::Linked { parent, .. }) => parent.0,
-        Some(Place::Unlinked { .. }) => 0,
+        Some(place) => dir_or_0(place),
         None => 0,
     }
+}
+
+/// Returns the entries, and asks for them again where memory was short.
+fn entries_of(alloc: Global, map: &InodeMap) -> Result<Vec<Kept>, NoMemory> {
+    match map.to_entries(alloc) {
+        Err(_refused) => map.to_entries(alloc),
+        told => told,
+    }
+}
+
+/// Returns whether an entry has this number, directory and count.
+fn is_entry(kept: &Kept, told: (u64, u64, u64)) -> bool {
+    kept.number.0 == told.0 && dir_or_0(&kept.place) == told.1 && kept.count == told.2
+}
+
+/// Returns whether these are the entries, in order.
+fn has_entries(alloc: Global, map: &InodeMap, told: &[(u64, u64, u64)]) -> bool {
+    let Ok(entries) = entries_of(alloc, map) else {
+        return false;
+    };
+    if entries.len() != told.len() {
+        return false;
+    }
+    for i in 0..entries.len().min(told.len()) {
+        if !is_entry(&entries[i], told[i]) {
+            return false;
+        }
+    }
+    true
 }
 
 /// Makes a call, and returns whether it answers what it says.
@@ -242,6 +280,7 @@ fn goes_so(alloc: Global, map: &mut InodeMap, deed: Deed) -> bool {
         Deed::Foresee(number, k, forgot) => map.forgot(Number(number), k) == forgot,
         Deed::After(number, next) => number_or_0(map.after(Number(number))) == next,
         Deed::Count(number, count) => map.count(Number(number)) == count,
+        Deed::Entries(told) => has_entries(alloc, map, told),
         Deed::Parent(number, parent) => parent_of(map, number) == parent,
         Deed::Know(number, known) => map.known(Number(number)) == known,
         Deed::At(next, bad) => map.next() == next && map.bad_items() == bad,
@@ -287,6 +326,7 @@ fn gives_numbers_in_room_that_was_made_before(rt: HostRuntime) -> Result<(), Fai
         Deed::At(4, 0),
         Deed::Count(2, 1),
         Deed::Count(3, 2),
+        Deed::Entries(&[(2, 1, 1), (3, 2, 2)]),
         Deed::Know(1, true),
         Deed::Know(3, true),
         Deed::Know(4, false),
@@ -309,6 +349,7 @@ fn goes_over_its_numbers_and_forgets_upwards(rt: HostRuntime) -> Result<(), Fail
         Deed::Find(4, b"a", 0),
         Deed::Parent(4, 3),
         Deed::Forget(2, 1, Forgot::Lowered),
+        Deed::Entries(&[(2, 1, 0), (3, 2, 1), (4, 3, 1)]),
         Deed::Foresee(4, 1, Forgot::Dropped),
         Deed::Count(4, 1),
         Deed::Forget(4, 1, Forgot::Dropped),
@@ -401,6 +442,7 @@ fn names_the_file_of_a_mark_until_it_is_forgotten(rt: HostRuntime) -> Result<(),
     assert!(rt; map.locate(&tree, Number(5)) == Some(FileId(7)));
     let deeds = [
         Deed::After(1, 5),
+        Deed::Entries(&[(5, 0, 2)]),
         Deed::At(6, 0),
         Deed::Forget(5, 1, Forgot::Lowered),
         Deed::Forget(5, 1, Forgot::Dropped),
