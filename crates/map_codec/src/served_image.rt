@@ -1,5 +1,7 @@
 //! The image of what a daemon serves.
 ghost use Rattle.std.specs.Prelude.{◌≡◌, IfOk};
+ghost use Rattle.std.specs.List.{AllByRecursion};
+ghost use Rattle.inode_map.specs.EntryPlaces.{IsNamedEntry};
 ghost use Rattle.map_codec.specs.Fit.{CountsFit, IsFit};
 ghost use Rattle.map_codec.specs.Taking.{IsImageOf};
 
@@ -7,6 +9,15 @@ use crate::{Entries, Image};
 use eden_base::NoMemory;
 use fuse_ops::Served;
 use std::alloc::Global;
+
+/// Returns the entries of what is served.
+fn entries_of(alloc: Global, served: &Served) -> Result<Entries, NoMemory>
+    ensures entries { IfOk result (λ entries. entries ≡ served.now.map.entries) }
+    ensures named { IfOk result (AllByRecursion IsNamedEntry) }
+{
+    let kept = served.map().to_entries(alloc)?;
+    Ok(Entries::of(kept))
+}
 
 /// Makes the image of what a daemon serves at a generation: every number that it keeps, whether it is loaded or not.
 /// Of the checkout it has what differs from its manifest.
@@ -17,7 +28,7 @@ pub fn image_of(alloc: Global, served: &Served, generation: u64) -> Result<Image
 {
     let map = served.map();
     let tree = served.tree();
-    let entries = map.to_entries(alloc)?;
+    let entries = entries_of(alloc, served)?;
     let commit = tree.commit();
     let next_number = map.next();
     let changes = tree.changes()?;
@@ -25,7 +36,7 @@ pub fn image_of(alloc: Global, served: &Served, generation: u64) -> Result<Image
         commit,
         generation,
         next_number,
-        entries: Entries::of(entries),
+        entries,
         changes,
     })
 }
