@@ -1,117 +1,235 @@
--- What the world's methods did is a step.
-use Rattle.std.proofs.Common.{◌≡◌, ℕ, ◌+◌, ◌-◌, Bool, true, false, if◌then◌else◌, List, [], ◌∷◌, ◌++◌, Option, Some, None, set, refl, sym, ap, ◌∙◌, subst, inl}
-use Rattle.std.specs.Prelude.{slice_get}
-use Rattle.std.specs.Option.{option_map, option_and_then}
+-- What the world's calls did is one event, and events one after another.
+use Rattle.std.proofs.Common.{◌≡◌, ℕ, ◌-◌, ◌+◌, ◌<◌, Bool, true, false, if◌then◌else◌, List, [], ◌∷◌, ◌++◌, length, Option, Some, None, get_or, set, refl, sym, ap, ◌∙◌, subst, inl, inr, ◌⊎◌}
+use Rattle.std.proofs.lemmas.Option.{slice_get_read}
+use Rattle.std.specs.Prelude.{slice_get, is_none}
+use Rattle.std.specs.Option.{option_map}
 use Rattle.eden_base.specs.declared.number.DaemonId.{DaemonId}
-use Rattle.fuse_wire.specs.Ask.{is_ask, item_of}
-use Rattle.fuse_wire.specs.declared.ask.Request.{Request}
-use Rattle.fuse_wire.proofs.ItemLaws.{items-one}
-use Rattle.fuse_wire.specs.declared.item.Item.{Item}
-use Rattle.fuse_wire.specs.declared.reply.Answer.{Answer}
-use Rattle.broker_core.specs.Broker.{BrokerState, mount_fault, issue_fault, mounted, issued, unique_of, settled}
-use Rattle.broker_core.specs.declared.seat.Seat.{Seat}
-use Rattle.inode_map.specs.declared.inode_map.Forgot.{Forgot}
-use Rattle.broker_core.specs.declared.broker.MountFault.{MountFault}
-use Rattle.broker_core.specs.declared.broker.IssueFault.{IssueFault}
-use Rattle.checkout.specs.Manifest.{Manifest}
-use Rattle.fuse_ops.proofs.SameManifest.{replay-manifest}
+use Rattle.fuse_wire.specs.declared.ask.Ask.{Ask}
+use Rattle.fuse_wire.specs.declared.reply.Reply.{Reply}
+use Rattle.broker_core.specs.Broker.{BrokerState, mount_fault, mounted, take_fault, post_fault}
+use Rattle.broker_core.specs.declared.fault.TakeFault.{TakeFault}
+use Rattle.broker_core.specs.declared.fault.PostFault.{PostFault}
 use Rattle.fuse_ops.specs.Served.{ServedState, new_served}
+use Rattle.world.specs.Server.{ServerState, new_server, at_place}
+use Rattle.world.specs.Serving.{is_waiting, beginning, IsIndex, ChangesAt, Stays, Keeps, TakesBy, WorksBy, PostsBy, PostsReply, DaemonTakes, DaemonWorks, DaemonPosts}
+use Rattle.world.specs.State.{State, daemon_of, with_daemon, fault, mount_refusal, refusal_of_mount, take_refusal, work_refusal, post_refusal, reply_refusal, refusal_of_take, refusal_of_post}
+use Rattle.world.specs.Step.{Refuses, Makes, TakesMemory, Once, OnceBy, Carries, is_made, Step, Steps, Takes, Works, Posts}
 use Rattle.world.specs.declared.daemon.Daemon.{Daemon}
 use Rattle.world.specs.declared.daemon.Daemon.TheVariants.{Waiting, Serving}
 use Rattle.world.specs.declared.event.Event.{Event}
-use Rattle.world.specs.declared.event.Event.TheVariants.{Mount, Do}
+use Rattle.world.specs.declared.event.Event.TheVariants.{Mount, Take, Work, Post}
 use Rattle.world.specs.declared.outcome.Happened.{Happened}
 use Rattle.world.specs.declared.outcome.Happened.TheVariants as happened
-use Rattle.world.specs.State.{State, daemon_of, with_daemon, served_in, mount_refusal, refusal_of_mount, refusal_of_issue}
-use Rattle.world.specs.Step.{told_of, told, done, Does, Mounts, Step, StepBy, Steps}
-use Rattle.world.specs.DaemonWork.{ServesAt, ServesOver, AppliesAt, TellsAt, HolderServes}
-use Rattle.world.specs.Holder.{place_of_daemon, HolderIsAt}
-use Rattle.world.proofs.DaemonWrites.{place-is, daemon_of-place, HolderServes-set}
+use Rattle.world.specs.declared.outcome.Refusal.{Refusal}
+use Rattle.world.specs.declared.outcome.Refusal.TheVariants.{NoSuch, NoMemory}
+use Rattle.world.proofs.DaemonWrites.{set-there, at-index}
 
--- the seated daemon after it went on
-with_holder : (old : State) (broker : BrokerState) (d : DaemonId) (place : ℕ) (daemons : List Daemon) (later : Daemon) → place_of_daemon d ≡ Some place →
-    daemons ≡ set old.daemons place later → (let new : State = record old { broker = broker; daemons = daemons } in new ≡ with_daemon (record old { broker = broker }) d later)
-with_holder old broker d place daemons later at e =
-    let is = place-is d place at in
-    let same : d.0 - 1 ≡ place = is.1 in
-    ap (λ (ds : List Daemon). record old { broker = broker; daemons = ds }) (e ∙ ap (λ i. set old.daemons i later) (sym same))
+-- ---- one event by its first fault
 
--- a request that the broker took and the seated daemon answered or applied
-pub Step-does : (old : State) (request : Request) (place : ℕ) (answer : Option Answer) (daemons : List Daemon) (broker : BrokerState) (outcome : List Happened) →
-    issue_fault old.broker request ≡ None → HolderIsAt old place → (applies : AppliesAt old.daemons place request answer daemons) →
-    broker ≡ done old.broker request answer → outcome ≡ told old.broker applies.served request answer → Step old (Do request) outcome (record old { broker = broker; daemons = daemons })
-Step-does old request place answer daemons broker outcome fine at applies broke tells =
-    let later : BrokerState = done old.broker request answer in
-    let made : Does old request outcome (record old { broker = broker; daemons = daemons }) = record {
-      seat = at.seat;
-      served = applies.served;
-      later = applies.later;
-      answer = answer;
-      seated = record { has_seat = at.has_seat; serves = ap (λ (o : Option Daemon). option_and_then served_in o) (daemon_of-place old at.seat.daemon place at.is_there ∙ applies.was) };
-      replay = applies.replay;
-      tells = tells;
-      makes = ap (λ (b : BrokerState). record old { broker = b; daemons = daemons }) broke ∙ with_holder old later at.seat.daemon place daemons (Serving applies.later) at.is_there applies.makes;
-    } in
-    subst (λ (o : Option IssueFault). StepBy old (Do request) (option_map refusal_of_issue o) outcome (record old { broker = broker; daemons = daemons })) (sym fine) (inl made)
+-- a cause stands against it
+pub Once-refused : (old : State) (event : Event) (refusal : Refusal) (told : Happened) → fault old event ≡ Some refusal → told ≡ happened.Refused refusal →
+    Once old event told old
+Once-refused old event refusal told against tells = subst (λ (o : Option Refusal). OnceBy old event o told old) (sym against) (tells, refl)
+
+-- memory was wanting
+pub Once-lacks : (old : State) (event : Event) (told : Happened) → TakesMemory event → fault old event ≡ None → told ≡ happened.Refused NoMemory →
+    Once old event told old
+Once-lacks old event told takes fine tells = subst (λ (o : Option Refusal). OnceBy old event o told old) (sym fine) (inr (takes, (tells, refl)))
+
+-- it was made
+pub Once-makes : (old : State) (event : Event) (told : Happened) (new : State) → fault old event ≡ None → Makes old event told new → Once old event told new
+Once-makes old event told new fine made = subst (λ (o : Option Refusal). OnceBy old event o told new) (sym fine) (inl made)
 
 -- what is never there is missing
 pub none-unless : {X : Type 0} (o : Option X) → ((x : X) → o ≡ Some x → ⊥) → o ≡ None
 none-unless None never = refl
 none-unless (Some x) never = absurd (never x refl)
 
--- whoever has the seat serves still
-pub serves-still : (manifest : Manifest) (broker new : BrokerState) (daemons later : List Daemon) (place : ℕ) (request : Request) (answer : Option Answer) → AppliesAt daemons place request answer later → new.seat ≡ broker.seat →
-    ((seat : Seat) → broker.seat ≡ Some seat → HolderServes manifest daemons seat) → (seat : Seat) → new.seat ≡ Some seat → HolderServes manifest later seat
-serves-still manifest broker new daemons later place request answer applies same serves seat e =
-    subst (λ (ds : List Daemon). HolderServes manifest ds seat) (sym applies.makes)
-    (HolderServes-set manifest daemons place applies.served applies.later seat applies.was (replay-manifest applies.served request answer applies.later applies.replay) (serves seat (sym same ∙ e)))
+-- ---- one daemon changed
 
--- the seated daemon serves at its place
-pub ServesAt-holder : (state : State) (place : ℕ) → HolderIsAt state place → ServesAt state.daemons place
-ServesAt-holder state place at = record { served = at.served; is_there = at.serves }
+-- a daemon that was written back as it was, and the broker as it was
+refuses : (old : State) (index : ℕ) (was later : Daemon) (left : BrokerState) (daemons : List Daemon) (refusal : Refusal) (told : Happened) →
+    slice_get old.daemons index ≡ Some was → daemons ≡ set old.daemons index later → told ≡ happened.Refused refusal → later ≡ was → left ≡ old.broker →
+    Refuses old refusal told (record old { broker = left; daemons = daemons })
+refuses old index was later left daemons refusal told there makes tells same broker =
+    let back : daemons ≡ old.daemons = makes ∙ ap (λ (d : Daemon). set old.daemons index d) same ∙ set-there old.daemons index was there in
+    let all : record old { broker = left; daemons = daemons } ≡ old =
+        ap (λ (b : BrokerState). record old { broker = b; daemons = daemons }) broker ∙ ap (λ (ds : List Daemon). record old { daemons = ds }) back in
+    (tells, all)
 
-pub ServesOver-holder : (state : State) (place : ℕ) → HolderIsAt state place → ServesOver state.manifest state.daemons place
-ServesOver-holder state place at = record { serves = record { served = at.served; is_there = at.serves }; of_manifest = at.of_manifest }
+-- a daemon that changed, by its number
+changes : (old : State) (d : DaemonId) (index : ℕ) (left now : BrokerState) (daemons : List Daemon) (later is : Daemon) →
+    IsIndex (length old.daemons) d.0 index → daemons ≡ set old.daemons index later → later ≡ is → left ≡ now →
+    record old { broker = left; daemons = daemons } ≡ with_daemon (record old { broker = now }) d is
+changes old d index left now daemons later is at makes same broker =
+    let written : daemons ≡ set old.daemons (d.0 - 1) is =
+        makes ∙ ap (λ (x : Daemon). set old.daemons index x) same ∙ ap (λ (i : ℕ). set old.daemons i is) at.is in
+    ap (λ (b : BrokerState). record old { broker = b; daemons = daemons }) broker ∙ ap (λ (ds : List Daemon). record old { broker = now; daemons = ds }) written
 
--- an ask that was answered under its unique
-pub Step-asks : (old : State) (request : Request) (place unique : ℕ) (given : Option ℕ) (answer : Answer) (daemons : List Daemon) (issued_to broker : BrokerState) (outcome : List Happened) →
-    issue_fault old.broker request ≡ None → is_ask request ≡ true → HolderIsAt old place → AppliesAt old.daemons place request (Some answer) daemons →
-    given ≡ unique_of old.broker request → given ≡ Some unique → issued_to ≡ issued old.broker request → broker ≡ settled issued_to answer →
-    outcome ≡ happened.Answered (record { unique = unique; answer = answer }) ∷ [] → Step old (Do request) outcome (record old { broker = broker; daemons = daemons })
-Step-asks old request place unique given answer daemons issued_to broker outcome fine ask at applies told_is is issues settles tells =
-    let same : Some unique ≡ Some old.broker.next_unique = sym is ∙ told_is ∙ ap (λ (b : Bool). if b then Some old.broker.next_unique else None) ask in
-    let u : unique ≡ old.broker.next_unique = cc in
-    Step-does old request place (Some answer) daemons broker outcome fine at applies (settles ∙ ap (λ (b : BrokerState). settled b answer) issues)
-    (tells ∙ ap (λ (n : ℕ). happened.Answered (record { unique = n; answer = answer }) ∷ []) u)
+-- the daemon of a number stands at its index
+daemon-there : (old : State) (d : DaemonId) (index : ℕ) (was : Daemon) → IsIndex (length old.daemons) d.0 index → slice_get old.daemons index ≡ Some was →
+    daemon_of old d ≡ Some was
+daemon-there old d index was at there = at-index old.daemons d.0 index at ∙ there
 
--- a forget that was applied
-pub Step-forgets : (old : State) (request : Request) (item : Item) (place : ℕ) (answer : Option Answer) (became : Forgot) (daemons : List Daemon) (broker : BrokerState) (outcome : List Happened) →
-    issue_fault old.broker request ≡ None → is_ask request ≡ false → item_of request ≡ Some item → HolderIsAt old place → AppliesAt old.daemons place request answer daemons → TellsAt old.daemons place item became →
-    broker ≡ issued old.broker request → outcome ≡ happened.Forgot item became ∷ [] → Step old (Do request) outcome (record old { broker = broker; daemons = daemons })
-Step-forgets old request item place (Some answer) became daemons broker outcome fine ask is at applies tells issues told_is = absurd (let t : is_ask request ≡ true = (applies.replay).0 in let none : true ≡ false = sym t ∙ ask in let x : ⊥ = cc in x)
-Step-forgets old request item place None became daemons broker outcome fine ask is at applies tells issues told_is =
-    let one : Some (Serving tells.served) ≡ Some (Serving applies.served) = sym tells.is_there ∙ applies.was in
-    let same : tells.served ≡ applies.served = cc in
-    Step-does old request place None daemons broker outcome fine at applies issues
-    (told_is ∙ ap (λ (f : Forgot). happened.Forgot item f ∷ []) (tells.tells ∙ ap (λ (s : ServedState). became_of s) same) ∙ sym (ap (told_of applies.served) (items-one request item is))) where
-      became_of : ServedState → Forgot
-      became_of s = Rattle.inode_map.specs.InodeMap.forgot s.map item.node.0 item.k
+-- ---- a take
 
--- a mount by a daemon that waited
-pub Step-mounts : (old : State) (d : DaemonId) (place : ℕ) (served : ServedState) (broker : BrokerState) (outcome : List Happened) → mount_fault old.broker ≡ None →
-    place_of_daemon d ≡ Some place → slice_get old.daemons place ≡ Some Waiting → served ≡ new_served old.manifest old.limit → broker ≡ mounted old.broker d →
-    outcome ≡ happened.Mounted (old.broker.last + 1) ∷ [] →
-    Step old (Mount d) outcome (record old { broker = broker; daemons = set old.daemons place (Serving served) })
-Step-mounts old d place served broker outcome fine at waits is broke tells =
-    let new : State = record old { broker = broker; daemons = set old.daemons place (Serving served) } in
-    let made : Mounts old d outcome new = (
-      tells,
-      ap (λ (b : BrokerState). record old { broker = b; daemons = set old.daemons place (Serving served) }) broke
-          ∙ with_holder old (mounted old.broker d) d place (set old.daemons place (Serving served)) (Serving (new_served old.manifest old.limit)) at (ap (λ (s : ServedState). set old.daemons place (Serving s)) is),
-    ) in
-    let waiting : daemon_of old d ≡ Some Waiting = daemon_of-place old d place at ∙ waits in
-    subst (λ (o : Option Daemon). StepBy old (Mount d) (mount_refusal old o) outcome new) (sym waiting)
-    (subst (λ (o : Option MountFault). StepBy old (Mount d) (option_map refusal_of_mount o) outcome new) (sym fine) (inl made))
+takes-by : (old : State) (d : DaemonId) (index : ℕ) (s n : ServerState) (told : Happened) (left : BrokerState) (daemons : List Daemon) (f : Option TakeFault) →
+    IsIndex (length old.daemons) d.0 index → slice_get old.daemons index ≡ Some (Serving s) → daemons ≡ set old.daemons index (Serving n) →
+    TakesBy f s old.broker told n left → OnceBy old (Take d) (option_map refusal_of_take f) told (record old { broker = left; daemons = daemons })
+takes-by old d index s n told left daemons (Some f) at there makes h =
+    refuses old index (Serving s) (Serving n) left daemons (refusal_of_take f) told there makes h.tells (ap Serving h.same) h.same_broker
+takes-by old d index s n told left daemons None at there makes (inl h) = inl (record {
+  server = s;
+  ask = h.ask;
+  serves = daemon-there old d index (Serving s) at there;
+  first = h.first;
+  tells = h.tells;
+  makes = changes old d index left _ daemons (Serving n) _ at makes (ap Serving h.makes) h.leaves;
+})
+takes-by old d index s n told left daemons None at there makes (inr h) =
+    inr (tt, refuses old index (Serving s) (Serving n) left daemons NoMemory told there makes h.tells (ap Serving h.same) h.same_broker)
+
+takes-at : (old : State) (d : DaemonId) (index : ℕ) (was later : Daemon) (told : Happened) (left : BrokerState) (daemons : List Daemon) →
+    IsIndex (length old.daemons) d.0 index → slice_get old.daemons index ≡ Some was → daemons ≡ set old.daemons index later →
+    DaemonTakes old.broker d told left was later → OnceBy old (Take d) (take_refusal old d (Some was)) told (record old { broker = left; daemons = daemons })
+takes-at old d index (Serving s) (Serving n) told left daemons at there makes h =
+    takes-by old d index s n told left daemons (take_fault old.broker d s.generation) at there makes h
+takes-at old d index (Serving s) Waiting told left daemons at there makes h = absurd h
+takes-at old d index Waiting later told left daemons at there makes h =
+    refuses old index Waiting later left daemons _ told there makes h.tells h.same h.same_broker
+
+-- a daemon took
+pub Once-takes : (old : State) (d : DaemonId) (index : ℕ) (told : Happened) (left : BrokerState) (daemons : List Daemon) →
+    IsIndex (length old.daemons) d.0 index → ChangesAt (DaemonTakes old.broker d told left) old.daemons index daemons →
+    Once old (Take d) told (record old { broker = left; daemons = daemons })
+Once-takes old d index told left daemons at c =
+    subst (λ (o : Option Daemon). OnceBy old (Take d) (take_refusal old d o) told (record old { broker = left; daemons = daemons }))
+    (sym (daemon-there old d index c.was at c.is_there)) (takes-at old d index c.was c.later told left daemons at c.is_there c.makes c.does_so)
+
+-- ---- a work
+
+works-by : (old : State) (d : DaemonId) (place : ℕ) (fails : Bool) (index : ℕ) (s n : ServerState) (told : Happened) (daemons : List Daemon) (t : Option Ask) →
+    at_place s.hand place ≡ t → IsIndex (length old.daemons) d.0 index → slice_get old.daemons index ≡ Some (Serving s) → daemons ≡ set old.daemons index (Serving n) →
+    WorksBy t s place fails told n → OnceBy old (Work d place fails) (if is_none t then Some NoSuch else None) told (record old { daemons = daemons })
+works-by old d place fails index s n told daemons None e at there makes h =
+    refuses old index (Serving s) (Serving n) old.broker daemons _ told there makes h.tells (ap Serving h.same) refl
+works-by old d place fails index s n told daemons (Some task) e at there makes (inl h) = inl (record {
+  server = s;
+  task = task;
+  later = h.later;
+  answer = h.answer;
+  serves = daemon-there old d index (Serving s) at there;
+  at = e;
+  replay = h.replay;
+  fails_so = h.fails_so;
+  tells = h.tells;
+  makes = changes old d index old.broker old.broker daemons (Serving n) _ at makes (ap Serving h.makes) refl;
+})
+works-by old d place fails index s n told daemons (Some task) e at there makes (inr h) =
+    inr (tt, refuses old index (Serving s) (Serving n) old.broker daemons NoMemory told there makes h.tells (ap Serving h.same) refl)
+
+works-at : (old : State) (d : DaemonId) (place : ℕ) (fails : Bool) (index : ℕ) (was later : Daemon) (told : Happened) (daemons : List Daemon) →
+    IsIndex (length old.daemons) d.0 index → slice_get old.daemons index ≡ Some was → daemons ≡ set old.daemons index later →
+    DaemonWorks place fails told was later → OnceBy old (Work d place fails) (work_refusal place (Some was)) told (record old { daemons = daemons })
+works-at old d place fails index (Serving s) (Serving n) told daemons at there makes h =
+    works-by old d place fails index s n told daemons (at_place s.hand place) refl at there makes h
+works-at old d place fails index (Serving s) Waiting told daemons at there makes h = absurd h
+works-at old d place fails index Waiting later told daemons at there makes h =
+    refuses old index Waiting later old.broker daemons _ told there makes h.tells h.same refl
+
+-- a daemon worked
+pub Once-works : (old : State) (d : DaemonId) (place : ℕ) (fails : Bool) (index : ℕ) (told : Happened) (daemons : List Daemon) →
+    IsIndex (length old.daemons) d.0 index → ChangesAt (DaemonWorks place fails told) old.daemons index daemons →
+    Once old (Work d place fails) told (record old { daemons = daemons })
+Once-works old d place fails index told daemons at c =
+    subst (λ (o : Option Daemon). OnceBy old (Work d place fails) (work_refusal place o) told (record old { daemons = daemons }))
+    (sym (daemon-there old d index c.was at c.is_there)) (works-at old d place fails index c.was c.later told daemons at c.is_there c.makes c.does_so)
+
+-- ---- a post
+
+posts-reply : (old : State) (d : DaemonId) (place : ℕ) (index : ℕ) (s n : ServerState) (told : Happened) (left : BrokerState) (daemons : List Daemon) (reply : Reply) (f : Option PostFault) →
+    at_place s.unposted place ≡ Some reply → IsIndex (length old.daemons) d.0 index → slice_get old.daemons index ≡ Some (Serving s) → daemons ≡ set old.daemons index (Serving n) →
+    PostsReply f s old.broker place reply told n left → OnceBy old (Post d place) (option_map refusal_of_post f) told (record old { broker = left; daemons = daemons })
+posts-reply old d place index s n told left daemons reply (Some f) e at there makes h =
+    refuses old index (Serving s) (Serving n) left daemons (refusal_of_post f) told there makes h.tells (ap Serving h.same) h.same_broker
+posts-reply old d place index s n told left daemons reply None e at there makes h = inl (record {
+  server = s;
+  reply = reply;
+  serves = daemon-there old d index (Serving s) at there;
+  at = e;
+  tells = h.tells;
+  makes = changes old d index left _ daemons (Serving n) _ at makes (ap Serving h.makes) h.leaves;
+})
+
+posts-by : (old : State) (d : DaemonId) (place : ℕ) (index : ℕ) (s n : ServerState) (told : Happened) (left : BrokerState) (daemons : List Daemon) (r : Option Reply) →
+    at_place s.unposted place ≡ r → IsIndex (length old.daemons) d.0 index → slice_get old.daemons index ≡ Some (Serving s) → daemons ≡ set old.daemons index (Serving n) →
+    PostsBy r s old.broker d place told n left → OnceBy old (Post d place) (reply_refusal old d s r) told (record old { broker = left; daemons = daemons })
+posts-by old d place index s n told left daemons None e at there makes h =
+    refuses old index (Serving s) (Serving n) left daemons _ told there makes h.tells (ap Serving h.same) h.same_broker
+posts-by old d place index s n told left daemons (Some reply) e at there makes h =
+    posts-reply old d place index s n told left daemons reply (post_fault old.broker d s.generation reply) e at there makes h
+
+posts-at : (old : State) (d : DaemonId) (place : ℕ) (index : ℕ) (was later : Daemon) (told : Happened) (left : BrokerState) (daemons : List Daemon) →
+    IsIndex (length old.daemons) d.0 index → slice_get old.daemons index ≡ Some was → daemons ≡ set old.daemons index later →
+    DaemonPosts old.broker d place told left was later → OnceBy old (Post d place) (post_refusal old d place (Some was)) told (record old { broker = left; daemons = daemons })
+posts-at old d place index (Serving s) (Serving n) told left daemons at there makes h =
+    posts-by old d place index s n told left daemons (at_place s.unposted place) refl at there makes h
+posts-at old d place index (Serving s) Waiting told left daemons at there makes h = absurd h
+posts-at old d place index Waiting later told left daemons at there makes h =
+    refuses old index Waiting later left daemons _ told there makes h.tells h.same h.same_broker
+
+-- a daemon posted
+pub Once-posts : (old : State) (d : DaemonId) (place : ℕ) (index : ℕ) (told : Happened) (left : BrokerState) (daemons : List Daemon) →
+    IsIndex (length old.daemons) d.0 index → ChangesAt (DaemonPosts old.broker d place told left) old.daemons index daemons →
+    Once old (Post d place) told (record old { broker = left; daemons = daemons })
+Once-posts old d place index told left daemons at c =
+    subst (λ (o : Option Daemon). OnceBy old (Post d place) (post_refusal old d place o) told (record old { broker = left; daemons = daemons }))
+    (sym (daemon-there old d index c.was at c.is_there)) (posts-at old d place index c.was c.later told left daemons at c.is_there c.makes c.does_so)
+
+-- ---- a mount
+
+-- who is read at an index and waits
+waiting : (x : Daemon) → true ≡ is_waiting x → x ≡ Waiting
+waiting Waiting e = refl
+waiting (Serving server) e = absurd (let none : ⊥ = cc in none)
+
+pub waits-read : (xs : List Daemon) (index : ℕ) (x : Daemon) → index < length xs → true ≡ is_waiting x → x ≡ get_or xs index x → slice_get xs index ≡ Some Waiting
+waits-read xs index x within waits read = slice_get_read xs (length xs) index x refl within read ∙ ap (λ (y : Daemon). Some y) (waiting x waits)
+
+-- a daemon that waited mounted
+pub Once-mounts : (old : State) (d : DaemonId) (index : ℕ) (server : ServerState) (broker : BrokerState) (generation : ℕ) (served : ServedState) →
+    IsIndex (length old.daemons) d.0 index → slice_get old.daemons index ≡ Some Waiting → mount_fault old.broker ≡ None →
+    server ≡ beginning generation served → served ≡ new_served old.manifest old.limit → generation ≡ old.broker.last + 1 → broker ≡ mounted old.broker d →
+    Once old (Mount d) (happened.Mounted generation) (record old { broker = broker; daemons = set old.daemons index (Serving server) })
+Once-mounts old d index server broker generation served at there fine begins new next broke =
+    let told : happened.Mounted generation ≡ happened.Mounted (old.broker.last + 1) = ap happened.Mounted next in
+    let is : Serving server ≡ Serving (new_server old.manifest old.limit (old.broker.last + 1)) =
+        ap Serving (begins ∙ ap (λ (g : ℕ). beginning g served) next ∙ ap (beginning (old.broker.last + 1)) new) in
+    let waits : mount_refusal old (daemon_of old d) ≡ None =
+        ap (mount_refusal old) (daemon-there old d index Waiting at there) ∙ ap (option_map refusal_of_mount) fine in
+    Once-makes old (Mount d) (happened.Mounted generation) _ waits
+    (told, changes old d index broker (mounted old.broker d) (set old.daemons index (Serving server)) (Serving server) _ at refl is broke)
+
+-- ---- one after another
+
+-- the first is refused
+pub Carries-stop : (old : State) (event : Event) (events : List Event) (told : Happened) (new : State) → Once old event told new → is_made told ≡ false →
+    Carries old (event ∷ events) (told ∷ []) new
+Carries-stop old event events told new once refused =
+    (new, once, subst (λ (b : Bool). if b then Carries new events [] new else (([] ≡ []) × (new ≡ new))) (sym refused) (refl, refl))
+
+-- the first is made
+pub Carries-go : (old : State) (event : Event) (events : List Event) (told : Happened) (between : State) (rest : List Happened) (new : State) →
+    Once old event told between → is_made told ≡ true → Carries between events rest new → Carries old (event ∷ events) (told ∷ rest) new
+Carries-go old event events told between rest new once made later =
+    (between, once, subst (λ (b : Bool). if b then Carries between events rest new else ((rest ≡ []) × (new ≡ between))) (sym made) later)
+
+-- one event alone
+pub Carries-one : (old : State) (event : Event) (told : Happened) (new : State) → Once old event told new → Carries old (event ∷ []) (told ∷ []) new
+Carries-one old event told new once = by_made (is_made told) refl where
+  by_made : (b : Bool) → is_made told ≡ b → Carries old (event ∷ []) (told ∷ []) new
+  by_made true made = Carries-go old event [] told new [] new once made (refl, refl)
+  by_made false refused = Carries-stop old event [] told new once refused
 
 -- one more event
 pub Steps-more : (first : State) (events : List Event) (outcomes : List (List Happened)) (between : State) (event : Event) (outcome : List Happened) (last : State) →

@@ -1,42 +1,55 @@
 -- Which moves an event makes in the world, what a served state knows of a world, and how the state matches the world
 -- after them.
-use Rattle.std.specs.Prelude.{◌≡◌, ◌≢◌, ℕ, ◌<◌, ◌≤◌, ◌↔◌, List, [], ◌∷◌, ◌++◌, Contains, Option, Some, None, IsSome}
+use Rattle.std.specs.Prelude.{◌≡◌, ◌≢◌, ℕ, ◌+◌, ◌<◌, ◌≤◌, ◌↔◌, Bool, true, false, ◌||◌, ◌==◌, List, [], ◌∷◌, ◌++◌, sum_by, count_by, Contains, Option, Some, None, IsSome, if◌then◌else◌}
 use Rattle.std.specs.Option.{option_map_or}
-use Rattle.std.specs.List.{AllByRecursion}
+use Rattle.std.specs.List.{AllByRecursion, list_any}
 use Rattle.eden_base.specs.declared.number.DaemonId.{DaemonId}
 use Rattle.eden_base.specs.declared.number.FileId.{FileId}
 use Rattle.checkout.specs.Manifest.{Manifest}
 use Rattle.checkout.specs.Tree.{Tree, IsTree, tree_of}
+use Rattle.fuse_wire.specs.Ask.{is_ask, item_of, items_of}
+use Rattle.fuse_wire.specs.declared.ask.Ask.{Ask}
+use Rattle.fuse_wire.specs.declared.item.Item.{Item}
+use Rattle.fuse_wire.specs.declared.reply.Reply.{Reply}
 use Rattle.broker_core.specs.Broker.{BrokerState}
 use Rattle.broker_core.specs.Held.{held_count}
+use Rattle.broker_core.specs.Traffic.{TrafficState, no_traffic}
 use Rattle.broker_core.specs.declared.seat.Seat.{Seat}
 use Rattle.inode_map.specs.InodeMap.{IsFileOf, count_of}
 use Rattle.fuse_ops.specs.Served.{ServedState}
 use Rattle.fuse_ops.specs.Soundness.{IsSound}
 use Rattle.inode_map.specs.declared.inode_map.Forgot.TheVariants.{Bad, Root}
-use Rattle.world.specs.State.{State, IsSeated}
-use Rattle.world.specs.Step.{Steps}
-use Rattle.world.specs.World.{World, Move, issue, issue_item, work, work_item, accept, deliver, mount, first_world, file_named, times, owed, IsRun, after_all}
+use Rattle.world.specs.Server.{ServerState, is_single}
+use Rattle.world.specs.State.{State, IsSeated, server_of}
+use Rattle.world.specs.Step.{Steps, parts_of}
+use Rattle.world.specs.World.{World, Move, issue, issue_item, work, work_item, accept, deliver, mount, first_world, file_named, times, owed, is_asked, is_replied, IsRun, after_all}
 use Rattle.world.specs.declared.event.Event.{Event}
-use Rattle.world.specs.declared.event.Event.TheVariants.{Mount, Do}
+use Rattle.world.specs.declared.event.Event.TheVariants.{Mount, Issue, Work, Post, Deliver}
 use Rattle.world.specs.declared.outcome.Happened.{Happened}
 use Rattle.world.specs.declared.outcome.Happened.TheVariants as happened
 
 -- ---- moves of events
 
--- the daemon that has the seat
-abbrev pub holder_of : World → DaemonId
-holder_of world = option_map_or (λ (seat : Seat). seat.daemon) world.seat (record { 0 = 0 })
+-- The moves that an event made, by what is told of it. A take only hands on what is under way, and what was refused
+-- made none.
+abbrev pub move_of : Event → Happened → List Move
+move_of (Mount daemon) (happened.Mounted generation) = mount daemon ∷ []
+move_of (Issue request) (happened.Asked (Some unique)) = issue (record { unique = unique; what = request }) ∷ []
+move_of (Issue request) (happened.Asked None) = option_map_or (λ (item : Item). issue_item item ∷ []) (item_of request) []
+move_of (Work daemon place fails) (happened.Made reply) = work reply.unique reply.answer ∷ []
+move_of (Work daemon place fails) (happened.Forgot item forgot) = work_item item ∷ []
+move_of (Post daemon place) (happened.Posted unique) = accept unique daemon ∷ []
+move_of Deliver (happened.Answered reply) = deliver reply.unique ∷ []
+move_of event told = []
 
--- The moves that an event made. A request that was done is issued, worked, and where it is an ask its reply is
--- accepted from the holder and delivered. What was refused, and all else, made none.
+-- the moves of events one after another, none of which is a `do`
+abbrev pub moves_in_turn : List Event → List Happened → List Move
+moves_in_turn (event ∷ events) (told ∷ rest) = move_of event told ++ moves_in_turn events rest
+moves_in_turn events outcome = []
+
+-- the moves of an event; a `do` counts as the events that it made
 abbrev pub moves_of : World → Event → List Happened → List Move
-moves_of world (Mount daemon) (happened.Mounted generation ∷ []) = mount daemon ∷ []
-moves_of world (Do request) (happened.Answered reply ∷ []) =
-    issue (record { unique = reply.unique; what = request }) ∷ work reply.unique reply.answer
-    ∷ accept reply.unique (holder_of world) ∷ deliver reply.unique ∷ []
-moves_of world (Do request) (happened.Forgot item forgot ∷ []) = issue_item item ∷ work_item item ∷ []
-moves_of world event outcome = []
+moves_of world event outcome = moves_in_turn (parts_of world.seat event) outcome
 
 -- the moves of events one after another
 abbrev pub all_moves : World → List Event → List (List Happened) → List Move
@@ -48,6 +61,54 @@ all_moves world events outcomes = []
 abbrev pub world_after : Manifest → List Event → List (List Happened) → World
 world_after manifest events outcomes =
     after_all (first_world manifest) (all_moves (first_world manifest) events outcomes)
+
+-- ---- what is under way
+
+-- two lists are one bag: whatever is measured of their members comes to the same sum
+abbrev pub IsSameBag : {X : Type 0} → List X → List X → Type 0
+IsSameBag {X} xs ys = (measure : X → ℕ) → sum_by measure xs ≡ sum_by measure ys
+
+-- the asks in hand
+abbrev pub asks_in : List Ask → List Ask
+asks_in [] = []
+asks_in (task ∷ hand) = if is_ask task.what then task ∷ asks_in hand else asks_in hand
+
+-- the items in hand
+abbrev pub items_in : List Ask → List Item
+items_in [] = []
+items_in (task ∷ hand) = items_of task.what ++ items_in hand
+
+-- The world's asks and items are the holder's hand, in which each item stands by itself, and what waits at the broker;
+-- its replies are those that the holder did not post and those that wait at the broker.
+pub record IsUnderWay (world : World) (traffic : TrafficState) (server : ServerState) : Type 0 where
+  pub singles : AllByRecursion (λ (task : Ask). is_single task ≡ true) server.hand
+  pub asks : world.asks ≡ asks_in server.hand ++ traffic.untaken
+  pub items : IsSameBag world.items (items_in server.hand ++ traffic.items)
+  pub replies : IsSameBag world.replies (server.unposted ++ traffic.posted)
+
+-- nothing is under way
+pub record IsQuiet (world : World) : Type 0 where
+  pub asks : world.asks ≡ []
+  pub items : world.items ≡ []
+  pub replies : world.replies ≡ []
+
+-- nothing is under way where nobody has the seat
+abbrev pub QuietWithoutSeat : World → BrokerState → Type 0
+QuietWithoutSeat world broker = broker.seat ≡ None → IsQuiet world × (broker.traffic ≡ no_traffic)
+
+-- a daemon has nothing in hand, and everything posted
+pub record IsIdle (server : ServerState) : Type 0 where
+  pub hand : server.hand ≡ []
+  pub unposted : server.unposted ≡ []
+
+-- the daemon has the seat
+abbrev pub IsHolder : State → DaemonId → Type 0
+IsHolder state daemon = (seat : Seat) × (state.broker.seat ≡ Some seat) × (seat.daemon ≡ daemon)
+
+-- nobody else has anything in hand or unposted
+abbrev pub OthersAreIdle : State → Type 0
+OthersAreIdle state = (daemon : DaemonId) (server : ServerState) → server_of state daemon ≡ Some server →
+    (IsHolder state daemon → ⊥) → IsIdle server
 
 -- ---- the promises
 
@@ -64,7 +125,8 @@ pub record Knows (tree : Tree) (names : List (ℕ × FileId)) (owes : ℕ → �
 -- whoever has the seat serves what is known of the world
 abbrev pub HolderKnows : World → State → Type 0
 HolderKnows world state = (seat : Seat) → state.broker.seat ≡ Some seat →
-    (served : ServedState) × IsSeated state seat served × Knows world.tree world.names (owed world) served
+    (server : ServerState) × IsSeated state seat server × Knows world.tree world.names (owed world) server.served
+    × IsUnderWay world state.broker.traffic server
 
 -- the broker's books are the world's
 pub record Books (world : World) (broker : BrokerState) : Type 0 where
@@ -73,26 +135,23 @@ pub record Books (world : World) (broker : BrokerState) : Type 0 where
   pub held : (n : ℕ) → times n world.held ≡ held_count broker.held n
   pub uniques : (unique : ℕ) → Contains world.uniques unique → unique < broker.next_unique
 
--- nothing is under way
-pub record IsQuiet (world : World) : Type 0 where
-  pub asks : world.asks ≡ []
-  pub items : world.items ≡ []
-  pub replies : world.replies ≡ []
-
 -- The broker's books, what is under way, and the holder's tree are the world's.
 pub record Agrees (world : World) (state : State) : Type 0 where
   pub manifest : world.manifest ≡ state.manifest
   pub books : Books world state.broker
-  pub quiet : IsQuiet world
+  pub quiet : QuietWithoutSeat world state.broker
   pub holder_serves : (seat : Seat) → state.broker.seat ≡ Some seat →
-      (served : ServedState) × IsSeated state seat served
-  pub tree : (seat : Seat) (served : ServedState) → IsSeated state seat served → served.tree ≡ world.tree
+      (server : ServerState) × IsSeated state seat server
+  pub under_way : (seat : Seat) (server : ServerState) → IsSeated state seat server →
+      IsUnderWay world state.broker.traffic server
+  pub others_idle : OthersAreIdle state
+  pub tree : (seat : Seat) (server : ServerState) → IsSeated state seat server → server.served.tree ≡ world.tree
 
 -- for the seated daemon, each count is what is owed
 abbrev pub CountsAreOwed : World → State → Type 0
 CountsAreOwed world state =
-    (seat : Seat) (served : ServedState) → IsSeated state seat served → (n : ℕ) → n ≢ 1 →
-    count_of served.map.entries n ≡ owed world n
+    (seat : Seat) (server : ServerState) → IsSeated state seat server → (n : ℕ) → n ≢ 1 →
+    count_of server.served.map.entries n ≡ owed world n
 
 -- what a daemon's numbers name is what they were first given out for
 pub record NamesAreFirst (world : World) (served : ServedState) : Type 0 where
@@ -104,7 +163,7 @@ pub record NamesAreFirst (world : World) (served : ServedState) : Type 0 where
 -- for the seated daemon, its numbers name what they were first given out for
 abbrev pub NumbersNameTheirFirstFile : World → State → Type 0
 NumbersNameTheirFirstFile world state =
-    (seat : Seat) (served : ServedState) → IsSeated state seat served → NamesAreFirst world served
+    (seat : Seat) (server : ServerState) → IsSeated state seat server → NamesAreFirst world server.served
 
 -- all replies that were accepted at one generation came from one daemon
 abbrev pub OneDaemonForEachGeneration : World → Type 0
@@ -118,10 +177,14 @@ IsGoodForget (happened.Forgot item Bad) = ⊥
 IsGoodForget (happened.Forgot item Root) = ⊥
 IsGoodForget other = Unit {0}
 
--- the seat from which an event's reply was posted
+-- a reply was posted
+abbrev pub is_posted : Happened → Bool
+is_posted (happened.Posted unique) = true
+is_posted told = false
+
+-- the seat from which an event posted a reply, if it did
 abbrev pub posted_from : State → List Happened → Option Seat
-posted_from old (happened.Answered reply ∷ []) = old.broker.seat
-posted_from old outcome = None
+posted_from old outcome = if list_any is_posted outcome then old.broker.seat else None
 
 -- the seats from which the replies of events were posted, in the states through which they went
 abbrev pub posters : (old : State) (events : List Event) (outcomes : List (List Happened)) (end : State) →
@@ -156,6 +219,20 @@ pub record SeatIsLast (world : World) : Type 0 where
   pub is_last : (seat : Seat) → world.seat ≡ Some seat → seat.generation ≡ world.last
   pub empty : world.seat ≡ None → world.held ≡ []
 
+-- an item of the root, or of nothing
+abbrev pub is_bad : Item → Bool
+is_bad item = item.node.0 == 1 || item.k == 0
+
+-- What is to be answered is an ask; each unique is one ask's or one reply's, and was used; no item under way is of the
+-- root, or takes nothing back.
+pub record IsOrderly (world : World) (next_unique : ℕ) : Type 0 where
+  pub asked : AllByRecursion (λ (ask : Ask). is_ask ask.what ≡ true) world.asks
+  pub once : (unique : ℕ) →
+      count_by (is_asked unique) world.asks + count_by (is_replied unique) world.replies ≤ 1
+  pub used : (unique : ℕ) → next_unique ≤ unique →
+      count_by (is_asked unique) world.asks + count_by (is_replied unique) world.replies ≡ 0
+  pub good : count_by is_bad world.items ≡ 0
+
 -- the state matches the world
 pub record Matches (world : World) (state : State) : Type 0 where
   pub manifest : world.manifest ≡ state.manifest
@@ -164,9 +241,11 @@ pub record Matches (world : World) (state : State) : Type 0 where
   pub of_manifest : world.tree.manifest ≡ world.manifest
   pub books : Books world state.broker
   pub seat_is_last : SeatIsLast world
-  pub quiet : IsQuiet world
+  pub quiet : QuietWithoutSeat world state.broker
+  pub orderly : IsOrderly world state.broker.next_unique
   pub answered : AnsweredBefore world
   pub knows : HolderKnows world state
+  pub others_idle : OthersAreIdle state
 
 -- the events' moves are a run from before anything happened, and the world after it agrees with the state at the end
 pub record IsRunOfMoves (manifest : Manifest) (events : List Event) (outcomes : List (List Happened))

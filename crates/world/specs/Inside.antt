@@ -1,10 +1,10 @@
--- What the world keeps of its fields, whatever happens.
-use Rattle.std.specs.Prelude.{◌≡◌, ◌≤◌, vec_len, Some}
-use Rattle.broker_core.specs.declared.seat.Seat.{Seat}
-use Rattle.world.specs.DaemonWork.{HolderServes}
-use Rattle.world.specs.declared.world.World.TheInside.{Inside}
+-- What a daemon keeps of its fields, whatever it is asked.
+use Rattle.std.specs.Prelude.{◌≡◌, true}
+use Rattle.std.specs.List.{AllByRecursion}
+use Rattle.world.specs.Server.{is_single}
+use Rattle.world.specs.declared.server.Server.TheInside.{Inside}
 
--- whoever has the seat serves a tree of the manifest, and there are no more daemons than may be
-pub record IsConsistent (w : Inside) : Type 0 where
-  pub holder_serves : (seat : Seat) → w.broker.seat ≡ Some seat → HolderServes w.manifest w.daemons.items seat
-  pub few : vec_len w.daemons ≤ 1024
+-- it serves a tree of its own manifest, and has asks and single items in hand
+pub record IsConsistent (server : Inside) : Type 0 where
+  pub of_manifest : server.served.tree.manifest ≡ server.manifest
+  pub single : AllByRecursion (λ task. is_single task ≡ true) server.hand.items

@@ -1,8 +1,8 @@
+pub mod Server
 pub mod State
 pub mod Step
+pub mod Serving
+pub mod Inside
 pub mod World
 pub mod Agreement
-pub mod DaemonWork
-pub mod Inside
-pub mod Holder
 pub mod Words

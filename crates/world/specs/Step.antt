@@ -1,89 +1,153 @@
--- One event: it is refused for the first cause that holds, or made; and a list of them.
-use Rattle.std.specs.Prelude.{◌≡◌, ◌+◌, ◌⊎◌, true, List, [], ◌∷◌, ◌++◌, length, Option, Some, None}
-use Rattle.std.specs.Option.{option_map_or}
+-- One event: it is refused for the first cause that holds, or made; a `do` as the list of its events, until one is
+-- refused; and a list of events.
+use Rattle.std.specs.Prelude.{◌≡◌, ◌≢◌, ℕ, ◌+◌, ◌⊎◌, Bool, true, false, List, [], ◌∷◌, ◌++◌, length, Option, Some, None, if◌then◌else◌}
+use Rattle.eden_base.specs.declared.errno.Errno.TheVariants.{EIO}
 use Rattle.eden_base.specs.declared.number.DaemonId.{DaemonId}
-use Rattle.broker_core.specs.Broker.{BrokerState, mounted, issued, settled}
+use Rattle.broker_core.specs.Broker.{mounted, issued, unique_of, taken, posted, delivered}
+use Rattle.broker_core.specs.Traffic.{front, next_taken}
 use Rattle.broker_core.specs.declared.seat.Seat.{Seat}
-use Rattle.fuse_wire.specs.Ask.{is_ask, items_of}
+use Rattle.fuse_wire.specs.Ask.{is_ask}
+use Rattle.fuse_wire.specs.declared.ask.Ask.{Ask}
 use Rattle.fuse_wire.specs.declared.ask.Request.{Request}
-use Rattle.fuse_wire.specs.declared.item.Item.{Item}
 use Rattle.fuse_wire.specs.declared.reply.Answer.{Answer}
-use Rattle.inode_map.specs.InodeMap.{forgot}
-use Rattle.fuse_ops.specs.Served.{ServedState, new_served, Replay}
-use Rattle.world.specs.State.{State, IsSeated, with_daemon, fault}
+use Rattle.fuse_wire.specs.declared.reply.Answer.TheVariants.{Error}
+use Rattle.fuse_wire.specs.declared.reply.Reply.{Reply}
+use Rattle.fuse_ops.specs.Served.{ServedState, Replay}
+use Rattle.world.specs.Server.{ServerState, new_server, at_place, told_taken, with_taken, told_worked, with_worked, with_posted}
+use Rattle.world.specs.State.{State, daemon_of, with_daemon, fault}
 use Rattle.world.specs.declared.daemon.Daemon.TheVariants.{Waiting, Serving}
 use Rattle.world.specs.declared.event.Event.{Event}
-use Rattle.world.specs.declared.event.Event.TheVariants.{Start, Mount, Do, Show}
+use Rattle.world.specs.declared.event.Event.TheVariants.{Start, Mount, Issue, Take, Work, Post, Deliver, Do, Show}
 use Rattle.world.specs.declared.outcome.Happened.{Happened}
 use Rattle.world.specs.declared.outcome.Happened.TheVariants as happened
 use Rattle.world.specs.declared.outcome.Refusal.{Refusal}
 use Rattle.world.specs.declared.outcome.Refusal.TheVariants.{NoMemory}
 
--- an event has its outcome, and nothing changes
-abbrev pub Refuses : State → Refusal → List Happened → State → Type 0
-Refuses old refusal outcome new = (outcome ≡ happened.Refused refusal ∷ []) × (new ≡ old)
+-- ---- one event that is no `do`
+
+-- the event is refused, and nothing changes
+abbrev pub Refuses : State → Refusal → Happened → State → Type 0
+Refuses old refusal told new = (told ≡ happened.Refused refusal) × (new ≡ old)
 
 -- a new daemon waits behind the others
-abbrev pub Starts : State → List Happened → State → Type 0
-Starts old outcome new =
-    (outcome ≡ happened.Started (record { 0 = length old.daemons + 1 }) ∷ [])
+abbrev pub Starts : State → Happened → State → Type 0
+Starts old told new =
+    (told ≡ happened.Started (record { 0 = length old.daemons + 1 }))
     × (new ≡ record old { daemons = old.daemons ++ Waiting ∷ [] })
 
 -- a daemon has the seat, and serves the manifest's tree
-abbrev pub Mounts : State → DaemonId → List Happened → State → Type 0
-Mounts old daemon outcome new =
-    (outcome ≡ happened.Mounted (old.broker.last + 1) ∷ [])
+abbrev pub Mounts : State → DaemonId → Happened → State → Type 0
+Mounts old daemon told new =
+    (told ≡ happened.Mounted (old.broker.last + 1))
     × (new ≡ with_daemon (record old { broker = mounted old.broker daemon })
-    daemon (Serving (new_served old.manifest old.limit)))
+    daemon (Serving (new_server old.manifest old.limit (old.broker.last + 1))))
 
--- what became of each item
-abbrev pub told_of : ServedState → List Item → List Happened
-told_of served [] = []
-told_of served (item ∷ items) = happened.Forgot item (forgot served.map item.node.0 item.k) ∷ told_of served items
+-- the kernel asks or forgets
+abbrev pub Issues : State → Request → Happened → State → Type 0
+Issues old request told new =
+    (told ≡ happened.Asked (unique_of old.broker request)) × (new ≡ record old { broker = issued old.broker request })
 
--- an ask's answer reached the kernel under its unique; of a forget it is told what became of its items
-abbrev pub told : BrokerState → ServedState → Request → Option Answer → List Happened
-told broker served request (Some answer) =
-    happened.Answered (record { unique = broker.next_unique; answer = answer }) ∷ []
-told broker served request None = told_of served (items_of request)
+-- what waits first joins the end of a daemon's hand
+pub record Takes (old : State) (daemon : DaemonId) (told : Happened) (new : State) : Type 0 where
+  pub server : ServerState
+  pub ask : Ask
+  pub serves : daemon_of old daemon ≡ Some (Serving server)
+  pub first : next_taken old.broker.traffic ≡ Some ask
+  pub tells : told ≡ told_taken ask
+  pub makes : new ≡ with_daemon (record old { broker = taken old.broker }) daemon (Serving (with_taken server ask))
 
--- the broker after a request was issued and its answer, if it has one, reached the kernel
-abbrev pub done : BrokerState → Request → Option Answer → BrokerState
-done broker request answer = option_map_or (settled (issued broker request)) answer (issued broker request)
-
--- the kernel's request is issued, and the seated daemon answers or applies it
-pub record Does (old : State) (request : Request) (outcome : List Happened) (new : State) : Type 0 where
-  pub seat : Seat
-  pub served : ServedState
+-- A daemon answers the ask, or applies the item, at a place of its hand. An error of its backing comes only where the
+-- event says that it fails.
+pub record Works (old : State) (daemon : DaemonId) (place : ℕ) (fails : Bool) (told : Happened) (new : State) : Type 0 where
+  pub server : ServerState
+  pub task : Ask
   pub later : ServedState
   pub answer : Option Answer
-  pub seated : IsSeated old seat served
-  pub replay : Replay served request answer later
-  pub tells : outcome ≡ told old.broker served request answer
-  pub makes : new ≡ with_daemon (record old { broker = done old.broker request answer }) seat.daemon (Serving later)
+  pub serves : daemon_of old daemon ≡ Some (Serving server)
+  pub at : at_place server.hand place ≡ Some task
+  pub replay : Replay server.served task.what answer later
+  pub fails_so : fails ≡ false → answer ≢ Some (Error EIO)
+  pub tells : told ≡ told_worked server.served task answer
+  pub makes : new ≡ with_daemon old daemon (Serving (with_worked server place task answer later))
+
+-- the reply at a place of a daemon's replies waits for the kernel
+pub record Posts (old : State) (daemon : DaemonId) (place : ℕ) (told : Happened) (new : State) : Type 0 where
+  pub server : ServerState
+  pub reply : Reply
+  pub serves : daemon_of old daemon ≡ Some (Serving server)
+  pub at : at_place server.unposted place ≡ Some reply
+  pub tells : told ≡ happened.Posted reply.unique
+  pub makes : new ≡ with_daemon (record old { broker = posted old.broker reply }) daemon (Serving (with_posted server place))
+
+-- the first posted reply reaches the kernel
+pub record Delivers (old : State) (told : Happened) (new : State) : Type 0 where
+  pub reply : Reply
+  pub first : front old.broker.traffic.posted ≡ Some reply
+  pub tells : told ≡ happened.Answered reply
+  pub makes : new ≡ record old { broker = delivered old.broker }
 
 -- what an event that no cause stands against makes
-abbrev pub Makes : State → Event → List Happened → State → Type 0
-Makes old Start outcome new = Starts old outcome new
-Makes old (Mount daemon) outcome new = Mounts old daemon outcome new
-Makes old (Do request) outcome new = Does old request outcome new
-Makes old Show outcome new = (outcome ≡ []) × (new ≡ old)
+abbrev pub Makes : State → Event → Happened → State → Type 0
+Makes old Start told new = Starts old told new
+Makes old (Mount daemon) told new = Mounts old daemon told new
+Makes old (Issue request) told new = Issues old request told new
+Makes old (Take daemon) told new = Takes old daemon told new
+Makes old (Work daemon place fails) told new = Works old daemon place fails told new
+Makes old (Post daemon place) told new = Posts old daemon place told new
+Makes old Deliver told new = Delivers old told new
+Makes old event told new = ⊥
 
--- a forget and a look at the world take no memory
+-- a post takes no memory
 abbrev pub TakesMemory : Event → Type 0
-TakesMemory (Do request) = is_ask request ≡ true
-TakesMemory Show = ⊥
+TakesMemory (Post daemon place) = ⊥
 TakesMemory event = Unit {0}
 
 -- by the first cause against it, if there is one; else it is made, or memory was wanting
-abbrev pub StepBy : State → Event → Option Refusal → List Happened → State → Type 0
-StepBy old event (Some refusal) outcome new = Refuses old refusal outcome new
-StepBy old event None outcome new =
-    Makes old event outcome new ⊎ (TakesMemory event × Refuses old NoMemory outcome new)
+abbrev pub OnceBy : State → Event → Option Refusal → Happened → State → Type 0
+OnceBy old event (Some refusal) told new = Refuses old refusal told new
+OnceBy old event None told new = Makes old event told new ⊎ (TakesMemory event × Refuses old NoMemory told new)
+
+-- one event that is no `do` and no look, with what is told of it
+abbrev pub Once : State → Event → Happened → State → Type 0
+Once old event told new = OnceBy old event (fault old event) told new
+
+-- ---- every event
+
+-- an event was made
+abbrev pub is_made : Happened → Bool
+is_made (happened.Refused refusal) = false
+is_made told = true
+
+-- what holds where an event was made, and what where it was refused
+abbrev pub IfMade : Bool → Type 0 → Type 0 → Type 0
+IfMade true goes_on ends = goes_on
+IfMade false goes_on ends = ends
+
+-- events one after another, until one is refused
+abbrev pub Carries : State → List Event → List Happened → State → Type 0
+Carries old [] outcome new = (outcome ≡ []) × (new ≡ old)
+Carries old (event ∷ events) [] new = ⊥
+Carries old (event ∷ events) (told ∷ rest) new =
+    (between : State) × Once old event told between
+    × IfMade (is_made told) (Carries between events rest new) ((rest ≡ []) × (new ≡ between))
+
+-- A `do` is issued; taken, and the first of the hand worked, by the daemon of the seat; and of an ask the first of its
+-- replies is posted, and what was posted first delivered.
+abbrev pub events_of_do : Option Seat → Request → List Event
+events_of_do None request = Issue request ∷ []
+events_of_do (Some seat) request =
+    Issue request ∷ Take seat.daemon ∷ Work seat.daemon 1 false
+    ∷ (if is_ask request then Post seat.daemon 1 ∷ Deliver ∷ [] else [])
+
+-- an event as a list of those that are no `do`; a look is none
+abbrev pub parts_of : Option Seat → Event → List Event
+parts_of seat (Do request) = events_of_do seat request
+parts_of seat Show = []
+parts_of seat event = event ∷ []
 
 -- one event, with its outcome
 abbrev pub Step : State → Event → List Happened → State → Type 0
-Step old event outcome new = StepBy old event (fault old event) outcome new
+Step old event outcome new = Carries old (parts_of old.broker.seat event) outcome new
 
 -- one event after another, each with its outcome
 abbrev pub Steps : State → List Event → List (List Happened) → State → Type 0

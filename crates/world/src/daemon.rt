@@ -1,27 +1,25 @@
 //! One daemon of the world.
-ghost use Rattle.std.specs.Prelude.{◌≡◌, vec_len};
 ghost use Rattle.std.specs.Option.{option_copied};
-ghost use Rattle.inode_map.specs.InodeMap.{forgot};
-ghost use Rattle.world.specs.State.{served_in};
-ghost use Rattle.world.specs.DaemonWork.{is_waiting, IsServingOver, DaemonApplies, ServesAt, ServesOver, AppliesAt, TellsAt};
+ghost use Rattle.std.specs.Prelude.{◌≡◌, ◌<◌, vec_len};
+ghost use Rattle.world.specs.State.{server_in};
+ghost use Rattle.world.specs.Serving.{is_waiting, ChangesAt, DaemonTakes, DaemonWorks, DaemonPosts};
 
-use checkout::{Manifest, ManifestBacking};
-use fuse_ops::Served;
-use fuse_wire::{Answer, Item, Request};
-use inode_map::Forgot;
-use std::alloc::Global;
+use crate::outcome::{Happened, Refusal};
+use crate::server::Server;
+use broker_core::Broker;
+use eden_base::DaemonId;
 
 /// A daemon: started, and then serving what it mounted.
 #[derive(Drop)]
 pub(crate) enum Daemon {
     Waiting,
-    Serving(Served),
+    Serving(Server),
 }
 
 impl Daemon {
     /// Returns whether it has started and not yet mounted.
     pub(crate) fn is_waiting(&self) -> bool
-        ensures { result ≡ is_waiting self.now }
+        ensures waiting { result ≡ is_waiting self.now }
     {
         match self {
             Daemon::Waiting => true,
@@ -29,55 +27,100 @@ impl Daemon {
         }
     }
 
-    /// Returns what it serves, if it does.
-    pub(crate) fn served(&self) -> Option<&Served>
-        ensures { option_copied result ≡ served_in self.now }
+    /// Returns what it serves and has in hand, if it does.
+    pub(crate) fn server(&self) -> Option<&Server>
+        ensures server { option_copied result ≡ server_in self.now }
     {
         match self {
             Daemon::Waiting => None,
-            Daemon::Serving(served) => Some(served),
+            Daemon::Serving(server) => Some(server),
         }
     }
 
-    /// Answers an ask, or applies a forget, from what it serves. Its backing is the manifest.
-    fn apply(&mut self, alloc: Global, manifest: &Manifest, request: &Request) -> Option<Answer>
-        requires serves { IsServingOver manifest.now self.old }
-        ensures applied { DaemonApplies self.old request.now result self.new }
+    /// Takes what waits first at the broker.
+    fn take(&mut self, broker: &mut Broker, daemon: DaemonId) -> Happened
+        ensures takes { DaemonTakes broker.old daemon result broker.new self.old self.new }
     {
         match self {
-            Daemon::Waiting => unreachable!(),
-            Daemon::Serving(served) => {
-                let mut backing = ManifestBacking::of(manifest);
-                served.apply(alloc, &mut backing, request)
-            }
+            Daemon::Waiting => Happened::Refused(Refusal::WrongPhase),
+            Daemon::Serving(server) => server.take(broker, daemon),
+        }
+    }
+
+    /// Works what stands at a place of its hand.
+    fn work(&mut self, place: u64, fails: bool) -> Happened
+        ensures works { DaemonWorks place fails result self.old self.new }
+    {
+        match self {
+            Daemon::Waiting => Happened::Refused(Refusal::NoSuch),
+            Daemon::Serving(server) => server.work(place, fails),
+        }
+    }
+
+    /// Posts the reply at a place of those that it did not post yet.
+    fn post(&mut self, broker: &mut Broker, daemon: DaemonId, place: u64) -> Happened
+        ensures posts { DaemonPosts broker.old daemon place result broker.new self.old self.new }
+    {
+        match self {
+            Daemon::Waiting => Happened::Refused(Refusal::NoSuch),
+            Daemon::Serving(server) => server.post(broker, daemon, place),
+        }
+    }
+
+    /// Makes room for what a take, a work and a post may bring, and returns whether there is some.
+    fn make_room(&mut self) -> bool
+        ensures same { self.new ≡ self.old }
+    {
+        match self {
+            Daemon::Waiting => true,
+            Daemon::Serving(server) => server.make_room().is_ok(),
         }
     }
 }
 
-/// Lets the daemon at a place answer an ask, or apply a forget.
-pub(crate) fn apply_at(
+/// Lets the daemon at an index take what waits first.
+pub(crate) fn take_at(
     daemons: &mut Vec<Daemon>,
-    place: usize,
-    alloc: Global,
-    manifest: &Manifest,
-    request: &Request,
-) -> Option<Answer>
-    requires serves { ServesOver manifest.now daemons.old.items place }
-    ensures applied { AppliesAt daemons.old.items place request.now result daemons.new.items }
-    ensures len { vec_len daemons.new ≡ vec_len daemons.old }
+    index: usize,
+    broker: &mut Broker,
+    daemon: DaemonId,
+) -> Happened
+    requires within { index < vec_len daemons.old }
+    ensures takes { ChangesAt (DaemonTakes broker.old daemon result broker.new) daemons.old.items index daemons.new.items }
 {
-    let daemon = &mut daemons[place];
-    daemon.apply(alloc, manifest, request)
+    let taker = &mut daemons[index];
+    taker.take(broker, daemon)
 }
 
-/// Returns what would become of an item at the daemon at a place.
-pub(crate) fn forgot_at(daemons: &[Daemon], place: usize, item: Item) -> Forgot
-    requires serves { ServesAt daemons.now place }
-    ensures tells { TellsAt daemons.now place item result }
+/// Lets the daemon at an index work what stands at a place of its hand.
+pub(crate) fn work_at(daemons: &mut Vec<Daemon>, index: usize, place: u64, fails: bool) -> Happened
+    requires within { index < vec_len daemons.old }
+    ensures works { ChangesAt (DaemonWorks place fails result) daemons.old.items index daemons.new.items }
 {
-    let daemon = &daemons[place];
-    match daemon.served() {
-        Some(served) => served.map().forgot(item.node, item.k),
-        None => unreachable!(),
-    }
+    let worker = &mut daemons[index];
+    worker.work(place, fails)
+}
+
+/// Lets the daemon at an index post the reply at a place of those that it did not post yet.
+pub(crate) fn post_at(
+    daemons: &mut Vec<Daemon>,
+    index: usize,
+    broker: &mut Broker,
+    daemon: DaemonId,
+    place: u64,
+) -> Happened
+    requires within { index < vec_len daemons.old }
+    ensures posts { ChangesAt (DaemonPosts broker.old daemon place result broker.new) daemons.old.items index daemons.new.items }
+{
+    let poster = &mut daemons[index];
+    poster.post(broker, daemon, place)
+}
+
+/// Makes room in the daemon at an index, and returns whether there is some.
+pub(crate) fn make_room_at(daemons: &mut Vec<Daemon>, index: usize) -> bool
+    requires within { index < vec_len daemons.old }
+    ensures same { daemons.new.items ≡ daemons.old.items }
+{
+    let daemon = &mut daemons[index];
+    daemon.make_room()
 }

@@ -1,10 +1,13 @@
 //! All daemons and the kernel's side as one list of events, and the theorem that holds after each of them.
 #![tactic(auto)]
 
+mod backing;
 mod daemon;
 mod event;
 mod history;
 mod outcome;
+mod place;
+mod server;
 mod world;
 
 pub use event::Event;

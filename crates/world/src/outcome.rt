@@ -1,10 +1,11 @@
 //! What came of an event.
-ghost use Rattle.std.specs.Prelude.{◌≡◌, [], ◌∷◌};
+ghost use Rattle.std.specs.Prelude.{◌≡◌, ◌<◌, ◌++◌, [], ◌∷◌, length};
 ghost use Rattle.world.specs.Words.{refusal_name};
-ghost use Rattle.world.specs.State.{refusal_of_mount, refusal_of_issue};
+ghost use Rattle.world.specs.State.{refusal_of_mount, refusal_of_issue, refusal_of_take, refusal_of_post};
+ghost use Rattle.world.specs.Step.{is_made};
 
 use arrayvec::ArrayVec;
-use broker_core::{IssueFault, MountFault};
+use broker_core::{IssueFault, MountFault, PostFault, TakeFault};
 use eden_base::DaemonId;
 use fuse_wire::{Item, Reply};
 use inode_map::Forgot;
@@ -15,12 +16,19 @@ use std::marker::Model;
 pub enum Refusal {
     NoDaemon,
     WrongPhase,
+    /// There is no such place in the list.
+    NoSuch,
     Seated,
     LastGeneration,
     NotMounted,
     NotHeld,
     BadForget,
     Full,
+    Ended,
+    /// The seat is at this generation.
+    Stale(u64),
+    Empty,
+    NotAsked,
     NoMemory,
 }
 
@@ -32,12 +40,17 @@ impl Refusal {
         match self {
             Refusal::NoDaemon => "NoDaemon",
             Refusal::WrongPhase => "WrongPhase",
+            Refusal::NoSuch => "NoSuch",
             Refusal::Seated => "Seated",
             Refusal::LastGeneration => "LastGeneration",
             Refusal::NotMounted => "NotMounted",
             Refusal::NotHeld => "NotHeld",
             Refusal::BadForget => "BadForget",
             Refusal::Full => "Full",
+            Refusal::Ended => "Ended",
+            Refusal::Stale(_) => "Stale",
+            Refusal::Empty => "Empty",
+            Refusal::NotAsked => "NotAsked",
             Refusal::NoMemory => "NoMemory",
         }
     }
@@ -49,10 +62,30 @@ pub enum Happened {
     Started(DaemonId),
     /// At this generation.
     Mounted(u64),
+    /// The kernel's ask waits under this unique, or its forget waits without one.
+    Asked(Option<u64>),
+    /// The ask of this unique is in the daemon's hand.
+    Took(u64),
+    /// So many items are in the daemon's hand.
+    TookForgets(usize),
+    /// The daemon answered.
+    Made(Reply),
+    /// The daemon applied the item.
+    Forgot { item: Item, forgot: Forgot },
+    /// The reply of this unique waits for the kernel.
+    Posted(u64),
     /// The reply reached the kernel.
     Answered(Reply),
-    Forgot { item: Item, forgot: Forgot },
     Refused(Refusal),
+}
+
+impl Happened {
+    /// Returns whether the event was made.
+    pub fn is_made(&self) -> bool
+        ensures made { result ≡ is_made self.now }
+    {
+        !matches!(self, Happened::Refused(_))
+    }
 }
 
 impl From<MountFault> for Refusal {
@@ -76,6 +109,30 @@ impl From<IssueFault> for Refusal {
             IssueFault::BadForget => Refusal::BadForget,
             IssueFault::Full => Refusal::Full,
             IssueFault::NoMemory => Refusal::NoMemory,
+        }
+    }
+}
+
+impl From<TakeFault> for Refusal {
+    ghost from_gives = { λ fault refusal. refusal ≡ refusal_of_take fault };
+
+    fn from(fault: TakeFault) -> Refusal {
+        match fault {
+            TakeFault::Ended => Refusal::Ended,
+            TakeFault::Stale(now) => Refusal::Stale(now),
+            TakeFault::Empty => Refusal::Empty,
+        }
+    }
+}
+
+impl From<PostFault> for Refusal {
+    ghost from_gives = { λ fault refusal. refusal ≡ refusal_of_post fault };
+
+    fn from(fault: PostFault) -> Refusal {
+        match fault {
+            PostFault::Ended => Refusal::Ended,
+            PostFault::Stale(now) => Refusal::Stale(now),
+            PostFault::NotAsked => Refusal::NotAsked,
         }
     }
 }
@@ -121,11 +178,15 @@ impl Outcome {
         Outcome { happened: all }
     }
 
-    /// Returns that the event was refused.
-    pub fn refused(refusal: Refusal) -> Outcome
-        ensures refused { result ≡ Happened.Refused refusal ∷ [] }
+    /// Adds what happened then, and returns whether it was made.
+    pub(crate) fn add(&mut self, happened: Happened) -> bool
+        requires room { length self.old < 5 }
+        ensures added { self.new ≡ self.old ++ happened ∷ [] }
+        ensures made { result ≡ is_made happened }
     {
-        Outcome::of(Happened::Refused(refusal))
+        let is_made = happened.is_made();
+        self.happened.push(happened);
+        is_made
     }
 
     /// Returns what happened, in its order.

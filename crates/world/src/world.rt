@@ -1,22 +1,21 @@
 //! All daemons and the kernel's side of their mount.
-ghost use Rattle.std.specs.Prelude.{◌≡◌, true, false, None, IfOk, MatchOption};
+ghost use Rattle.std.specs.Prelude.{◌≡◌, IfOk, IfSome};
 ghost use Rattle.std.specs.Option.{option_copied};
-ghost use Rattle.broker_core.specs.Broker.{issue_fault};
-ghost use Rattle.fuse_wire.specs.Ask.{is_ask};
-ghost use Rattle.world.specs.State.{started, served_of};
-ghost use Rattle.world.specs.Step.{Step};
+ghost use Rattle.world.specs.State.{started, server_of, served_of, hand_of, unposted_of};
+ghost use Rattle.world.specs.Step.{Once, Step};
 ghost use Rattle.world.specs.World.{first_world, World as Ideal};
 ghost use Rattle.world.specs.Agreement.{Matches, MovesOn};
-ghost use Rattle.world.specs.Holder.{place_of_daemon, HolderIsAt};
 
-use crate::daemon::{Daemon, apply_at, forgot_at};
+use crate::daemon::{Daemon, make_room_at, post_at, take_at, work_at};
 use crate::event::Event;
 use crate::outcome::{Happened, Outcome, Refusal};
-use broker_core::Broker;
+use crate::place::index_of;
+use crate::server::Server;
+use broker_core::{Broker, DeliverFault};
 use checkout::Manifest;
 use eden_base::{DaemonId, NoMemory};
 use fuse_ops::Served;
-use fuse_wire::{Reply, Request};
+use fuse_wire::{Ask, Reply, Request};
 use std::alloc::Global;
 use std::marker::Model;
 
@@ -47,9 +46,6 @@ impl Model for World {
       daemons = w.daemons.items;
     } };
 
-    ghost use Rattle.world.specs.Inside.{IsConsistent};
-
-    ghost invariant = { IsConsistent };
 }
 
 impl World {
@@ -83,8 +79,27 @@ impl World {
     pub fn served(&self, daemon: DaemonId) -> Option<&Served>
         ensures served { option_copied result ≡ served_of self.now daemon }
     {
-        let place = place_of(daemon)?;
-        self.daemons.as_slice().get(place)?.served()
+        Some(self.server(daemon)?.served())
+    }
+
+    /// Returns the asks and single items that a daemon took and did not work yet: none where there is no such daemon.
+    pub fn hand(&self, daemon: DaemonId) -> &[Ask]
+        ensures hand { result.now ≡ hand_of self.now daemon }
+    {
+        match self.server(daemon) {
+            Some(server) => server.hand(),
+            None => &[],
+        }
+    }
+
+    /// Returns the replies that a daemon did not post yet: none where there is no such daemon.
+    pub fn unposted(&self, daemon: DaemonId) -> &[Reply]
+        ensures unposted { result.now ≡ unposted_of self.now daemon }
+    {
+        match self.server(daemon) {
+            Some(server) => server.unposted(),
+            None => &[],
+        }
     }
 
     /// Lets one event happen, or refuses it for the first cause that holds. A refusal changes nothing.
@@ -98,138 +113,169 @@ impl World {
         self.decide(event)
     }
 
-    /// Lets each event happen by its own call.
+    /// Lets the events that an event consists of happen, until one is refused.
     fn decide(&mut self, event: &Event) -> Outcome
         ensures { Step self.old event.now result self.new }
     {
         match event {
-            Event::Start => self.start(),
-            Event::Mount(daemon) => self.mount(*daemon),
+            Event::Start => Outcome::of(self.start()),
+            Event::Mount(daemon) => Outcome::of(self.mount(*daemon)),
+            Event::Issue(request) => Outcome::of(self.issue(request)),
+            Event::Take(daemon) => Outcome::of(self.take(*daemon)),
+            Event::Work {
+                daemon,
+                place,
+                fails,
+            } => Outcome::of(self.work(*daemon, *place, *fails)),
+            Event::Post { daemon, place } => Outcome::of(self.post(*daemon, *place)),
+            Event::Deliver => Outcome::of(self.deliver()),
             Event::Do(request) => self.carry_out(request),
             Event::Show => Outcome::nothing(),
         }
     }
 
     /// Starts a daemon, unless there are as many as there may be.
-    fn start(&mut self) -> Outcome
-        ensures step { Step self.old Event.Start result self.new }
+    fn start(&mut self) -> Happened
+        ensures once { Once self.old Event.Start result self.new }
     {
         if self.daemons.len() >= World::MOST_DAEMONS {
-            return Outcome::refused(Refusal::Full);
+            return Happened::Refused(Refusal::Full);
         }
         let daemon = DaemonId(self.daemons.len() as u64 + 1);
         match self.daemons.push(Daemon::Waiting) {
-            Ok(()) => {}
-            Err(_refused) => return Outcome::refused(Refusal::NoMemory),
+            Ok(()) => Happened::Started(daemon),
+            Err(_refused) => Happened::Refused(Refusal::NoMemory),
         }
-        Outcome::of(Happened::Started(daemon))
     }
 
     /// Gives a waiting daemon the seat. Its refusals are looked for before what it serves is made.
-    fn mount(&mut self, daemon: DaemonId) -> Outcome
-        ensures step { Step self.old (Event.Mount daemon) result self.new }
+    fn mount(&mut self, daemon: DaemonId) -> Happened
+        ensures once { Once self.old (Event.Mount daemon) result self.new }
     {
-        let Some(place) = place_of(daemon) else {
-            return Outcome::refused(Refusal::NoDaemon);
+        let Some(index) = index_of(daemon.0, self.daemons.len()) else {
+            return Happened::Refused(Refusal::NoDaemon);
         };
-        if place >= self.daemons.len() {
-            return Outcome::refused(Refusal::NoDaemon);
-        }
-        if !self.daemons[place].is_waiting() {
-            return Outcome::refused(Refusal::WrongPhase);
+        if !self.daemons[index].is_waiting() {
+            return Happened::Refused(Refusal::WrongPhase);
         }
         if let Some(fault) = self.broker.mount_refusal() {
-            return Outcome::refused(Refusal::from(fault));
+            return Happened::Refused(Refusal::from(fault));
         }
         let Ok(served) = Served::new(self.alloc, &self.manifest, self.limit) else {
-            return Outcome::refused(Refusal::NoMemory);
+            return Happened::Refused(Refusal::NoMemory);
+        };
+        let Ok(manifest) = self.manifest.share() else {
+            return Happened::Refused(Refusal::NoMemory);
         };
         let generation = self.broker.mount(daemon);
-        self.daemons[place] = Daemon::Serving(served);
-        Outcome::of(Happened::Mounted(generation))
+        self.daemons[index] = Daemon::Serving(Server::new(self.alloc, generation, manifest, served));
+        Happened::Mounted(generation)
     }
 
-    /// Issues the kernel's request, and lets the seated daemon work it off.
+    /// Takes the kernel's ask or forget.
+    fn issue(&mut self, request: &Request) -> Happened
+        ensures once { Once self.old (Event.Issue request.now) result self.new }
+    {
+        match self.broker.issue(request) {
+            Ok(unique) => Happened::Asked(unique),
+            Err(fault) => Happened::Refused(Refusal::from(fault)),
+        }
+    }
+
+    /// Lets a daemon take what waits first.
+    fn take(&mut self, daemon: DaemonId) -> Happened
+        ensures once { Once self.old (Event.Take daemon) result self.new }
+    {
+        let Some(index) = index_of(daemon.0, self.daemons.len()) else {
+            return Happened::Refused(Refusal::NoDaemon);
+        };
+        take_at(&mut self.daemons, index, &mut self.broker, daemon)
+    }
+
+    /// Lets a daemon work what stands at a place of its hand.
+    fn work(&mut self, daemon: DaemonId, place: u64, fails: bool) -> Happened
+        ensures once { Once self.old (Event.Work daemon place fails) result self.new }
+    {
+        let Some(index) = index_of(daemon.0, self.daemons.len()) else {
+            return Happened::Refused(Refusal::NoDaemon);
+        };
+        work_at(&mut self.daemons, index, place, fails)
+    }
+
+    /// Lets a daemon post the reply at a place. It takes no memory.
+    fn post(&mut self, daemon: DaemonId, place: u64) -> Happened
+        ensures once { Once self.old (Event.Post daemon place) result self.new }
+    {
+        let Some(index) = index_of(daemon.0, self.daemons.len()) else {
+            return Happened::Refused(Refusal::NoDaemon);
+        };
+        post_at(&mut self.daemons, index, &mut self.broker, daemon, place)
+    }
+
+    /// Lets the reply that was posted first reach the kernel.
+    fn deliver(&mut self) -> Happened
+        ensures once { Once self.old Event.Deliver result self.new }
+    {
+        match self.broker.deliver() {
+            Ok(reply) => Happened::Answered(reply),
+            Err(DeliverFault::Empty) => Happened::Refused(Refusal::Empty),
+            Err(DeliverFault::NoMemory) => Happened::Refused(Refusal::NoMemory),
+        }
+    }
+
+    /// Lets the events of a `do` happen. The room that they need in the daemon comes first.
     fn carry_out(&mut self, request: &Request) -> Outcome
         ensures step { Step self.old (Event.Do request.now) result self.new }
     {
-        if let Some(fault) = self.broker.refusal(request) {
-            return Outcome::refused(Refusal::from(fault));
+        if let Some(refusal) = self.want_of_room(request) {
+            return Outcome::of(Happened::Refused(refusal));
         }
-        let Some(place) = self.holder() else {
-            unreachable!()
+        let mut outcome = Outcome::nothing();
+        let seat = self.broker.seat();
+        if !outcome.add(self.issue(request)) {
+            return outcome;
+        }
+        let Some(seat) = seat else {
+            return outcome;
         };
-        if request.is_ask() {
-            self.ask(place, request)
-        } else {
-            self.forget(place, request)
+        if !outcome.add(self.take(seat.daemon)) {
+            return outcome;
         }
+        if !outcome.add(self.work(seat.daemon, 1, false)) {
+            return outcome;
+        }
+        if !request.is_ask() {
+            return outcome;
+        }
+        if !outcome.add(self.post(seat.daemon, 1)) {
+            return outcome;
+        }
+        let _is_made = outcome.add(self.deliver());
+        outcome
     }
 
-    /// Lets the daemon at a place answer an ask. The room for a number comes first: what is refused there changes nothing.
-    fn ask(&mut self, place: usize, request: &Request) -> Outcome
-        requires accepted { issue_fault self.old.broker request.now ≡ None }
-        requires asks { is_ask request.now ≡ true }
-        requires holder { HolderIsAt self.old place }
-        ensures step { Step self.old (Event.Do request.now) result self.new }
+    /// Returns the daemon of a number, where it serves.
+    fn server(&self, daemon: DaemonId) -> Option<&Server>
+        ensures server { option_copied result ≡ server_of self.now daemon }
     {
-        let Ok(unique) = self.broker.issue(request) else {
-            return Outcome::refused(Refusal::NoMemory);
-        };
-        let answer = apply_at(
-            &mut self.daemons,
-            place,
-            self.alloc,
-            &self.manifest,
-            request,
-        );
-        let Some(unique) = unique else { unreachable!() };
-        let Some(answer) = answer else { unreachable!() };
-        let reply = Reply { unique, answer };
-        self.broker.settle(&reply);
-        Outcome::of(Happened::Answered(reply))
+        let index = index_of(daemon.0, self.daemons.len())?;
+        self.daemons[index].server()
     }
 
-    /// Lets the daemon at a place apply a forget. It takes no memory.
-    fn forget(&mut self, place: usize, request: &Request) -> Outcome
-        requires accepted { issue_fault self.old.broker request.now ≡ None }
-        requires forgets { is_ask request.now ≡ false }
-        requires holder { HolderIsAt self.old place }
-        ensures step { Step self.old (Event.Do request.now) result self.new }
-    {
-        let Some(item) = request.item() else {
-            unreachable!()
-        };
-        let forgot = forgot_at(self.daemons.as_slice(), place, item);
-        match self.broker.issue(request) {
-            Ok(_unique) => {}
-            Err(_no_memory) => unreachable!(),
-        }
-        let _answer = apply_at(
-            &mut self.daemons,
-            place,
-            self.alloc,
-            &self.manifest,
-            request,
-        );
-        Outcome::of(Happened::Forgot { item, forgot })
-    }
-
-    /// Returns the place of the daemon that has the seat, which serves.
-    fn holder(&self) -> Option<usize>
-        ensures holder { MatchOption result (self.now.broker.seat ≡ None) (HolderIsAt self.now) }
+    /// Makes room in the daemon of the seat for what a `do` brings, or returns why the request is refused.
+    fn want_of_room(&mut self, request: &Request) -> Option<Refusal>
+        ensures same { self.new ≡ self.old }
+        ensures refused { IfSome result (λ refusal.
+            Once self.old (Event.Issue request.now) (Happened.Refused refusal) self.old) }
     {
         let seat = self.broker.seat()?;
-        place_of(seat.daemon)
+        let index = index_of(seat.daemon.0, self.daemons.len())?;
+        if make_room_at(&mut self.daemons, index) {
+            return None;
+        }
+        match self.broker.refusal(request) {
+            Some(fault) => Some(Refusal::from(fault)),
+            None => Some(Refusal::NoMemory),
+        }
     }
-}
-
-/// Returns where a daemon stands in the list of all, if the list is as long.
-fn place_of(daemon: DaemonId) -> Option<usize>
-    ensures { result ≡ place_of_daemon daemon }
-{
-    if daemon.0 == 0 {
-        return None;
-    }
-    Some((daemon.0 - 1) as usize)
 }

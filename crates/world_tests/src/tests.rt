@@ -8,6 +8,8 @@ use std::alloc::Global;
 use std::test::Fail;
 use world::{Event, Happened, Outcome, Refusal, World, run};
 
+mod orders;
+
 const TEXT: &[u8] =
     b"commit 0123456789abcdef0123456789abcdef01234567\ndir src\nfile 0644 12 src/a\nfile 0755 0 src/b\nfile 0644 7 README\n";
 
@@ -25,11 +27,9 @@ const FILE: Attr = Attr {
     nlink: 1,
 };
 
-/// An event of a test as data, so that a test is a table. A batch takes number 2 back twice.
+/// A request of the kernel as data. A batch takes number 2 back twice.
 #[derive(Clone, Copy)]
-enum Deed {
-    Start,
-    Mount(u64),
+enum Wish {
     LookUp(u64, &'static [u8]),
     Create(u64, &'static [u8]),
     Unlink(u64, &'static [u8]),
@@ -37,8 +37,25 @@ enum Deed {
     Open(u64),
     Forget(u64, u64),
     ForgetBatch,
+}
+
+/// An event of a test as data, so that a test is a table.
+#[derive(Clone, Copy)]
+enum Deed {
+    Start,
+    Mount(u64),
+    Issue(Wish),
+    Take(u64),
+    Work(u64, u64),
+    WorkFails(u64, u64),
+    Post(u64, u64),
+    Deliver,
+    Do(Wish),
     Show,
 }
+
+/// What an event made happen, in its order.
+type Told = [Option<Happened>; 5];
 
 /// Makes a name, and once more where memory was refused.
 fn name(alloc: Global, bytes: &[u8]) -> Result<Name, Fail> {
@@ -70,42 +87,55 @@ fn batch(alloc: Global) -> Result<Batch, Fail> {
     }
 }
 
-/// Makes the request of a deed; nothing where it asks for none.
-fn request(alloc: Global, deed: Deed) -> Result<Option<Request>, Fail> {
-    let request = match deed {
-        Deed::LookUp(dir, bytes) => Request::Lookup {
+/// Makes the request of a wish.
+fn request(alloc: Global, wish: Wish) -> Result<Request, Fail> {
+    match wish {
+        Wish::LookUp(dir, bytes) => Ok(Request::Lookup {
             dir: Number(dir),
             name: name(alloc, bytes)?,
-        },
-        Deed::Create(dir, bytes) => Request::Create {
+        }),
+        Wish::Create(dir, bytes) => Ok(Request::Create {
             dir: Number(dir),
             name: name(alloc, bytes)?,
             perm: FILE.perm,
-        },
-        Deed::Unlink(dir, bytes) => Request::Unlink {
+        }),
+        Wish::Unlink(dir, bytes) => Ok(Request::Unlink {
             dir: Number(dir),
             name: name(alloc, bytes)?,
-        },
-        Deed::Getattr(node) => Request::Getattr { node: Number(node) },
-        Deed::Open(node) => Request::Other {
+        }),
+        Wish::Getattr(node) => Ok(Request::Getattr { node: Number(node) }),
+        Wish::Open(node) => Ok(Request::Other {
             opcode: 14,
             node: Number(node),
-        },
-        Deed::Forget(node, k) => Request::Forget(item(node, k)),
-        Deed::ForgetBatch => Request::BatchForget(batch(alloc)?),
-        Deed::Start | Deed::Mount(_) | Deed::Show => return Ok(None),
-    };
-    Ok(Some(request))
+        }),
+        Wish::Forget(node, k) => Ok(Request::Forget(item(node, k))),
+        Wish::ForgetBatch => Ok(Request::BatchForget(batch(alloc)?)),
+    }
+}
+
+fn work(daemon: u64, place: u64, fails: bool) -> Event {
+    Event::Work {
+        daemon: DaemonId(daemon),
+        place,
+        fails,
+    }
 }
 
 fn event(alloc: Global, deed: Deed) -> Result<Event, Fail> {
     match deed {
         Deed::Start => Ok(Event::Start),
         Deed::Mount(daemon) => Ok(Event::Mount(DaemonId(daemon))),
-        deed => match request(alloc, deed)? {
-            Some(request) => Ok(Event::Do(request)),
-            None => Ok(Event::Show),
-        },
+        Deed::Issue(wish) => Ok(Event::Issue(request(alloc, wish)?)),
+        Deed::Take(daemon) => Ok(Event::Take(DaemonId(daemon))),
+        Deed::Work(daemon, place) => Ok(work(daemon, place, false)),
+        Deed::WorkFails(daemon, place) => Ok(work(daemon, place, true)),
+        Deed::Post(daemon, place) => Ok(Event::Post {
+            daemon: DaemonId(daemon),
+            place,
+        }),
+        Deed::Deliver => Ok(Event::Deliver),
+        Deed::Do(wish) => Ok(Event::Do(request(alloc, wish)?)),
+        Deed::Show => Ok(Event::Show),
     }
 }
 
@@ -117,68 +147,110 @@ fn room(alloc: Global, deeds: usize) -> Result<Vec<Event>, Fail> {
 }
 
 /// Makes the events of deeds.
-fn events(alloc: Global, deeds: &[(Deed, Option<Happened>)]) -> Result<Vec<Event>, Fail> {
+fn events(alloc: Global, deeds: &[(Deed, Told)]) -> Result<Vec<Event>, Fail> {
     let mut events = room(alloc, deeds.len())?;
-    for (deed, _expected) in deeds {
+    for (deed, _told) in deeds {
         let event = event(alloc, *deed)?;
         events.push(event)?;
     }
     Ok(events)
 }
 
-fn forgot(node: u64, k: u64, forgot: Forgot) -> Option<Happened> {
-    Some(Happened::Forgot {
-        item: item(node, k),
-        forgot,
-    })
+const NOTHING: Told = [None; 5];
+
+fn one(happened: Happened) -> Told {
+    [Some(happened), None, None, None, None]
 }
 
-fn answered(unique: u64, answer: Answer) -> Option<Happened> {
-    Some(Happened::Answered(Reply { unique, answer }))
+fn refused(refusal: Refusal) -> Told {
+    one(Happened::Refused(refusal))
 }
 
-fn entry(unique: u64, number: u64, attr: Attr) -> Option<Happened> {
+fn started(daemon: u64) -> Told {
+    one(Happened::Started(DaemonId(daemon)))
+}
+
+fn mounted(generation: u64) -> Told {
+    one(Happened::Mounted(generation))
+}
+
+fn asked(unique: u64) -> Told {
+    one(Happened::Asked(Some(unique)))
+}
+
+/// Tells of a forget of one item that was carried out.
+fn forgot(node: u64, k: u64, forgot: Forgot) -> Told {
+    [
+        Some(Happened::Asked(None)),
+        Some(Happened::TookForgets(1)),
+        Some(Happened::Forgot {
+            item: item(node, k),
+            forgot,
+        }),
+        None,
+        None,
+    ]
+}
+
+/// Tells of an ask that was carried out.
+fn answered(unique: u64, answer: Answer) -> Told {
+    let reply = Reply { unique, answer };
+    [
+        Some(Happened::Asked(Some(unique))),
+        Some(Happened::Took(unique)),
+        Some(Happened::Made(reply)),
+        Some(Happened::Posted(unique)),
+        Some(Happened::Answered(reply)),
+    ]
+}
+
+fn src(number: u64) -> Answer {
+    Answer::Entry {
+        number: Number(number),
+        attr: DIRECTORY,
+    }
+}
+
+fn entry(unique: u64, number: u64, attr: Attr) -> Told {
     let number = Number(number);
     answered(unique, Answer::Entry { number, attr })
 }
 
-fn opened(unique: u64, number: u64, attr: Attr) -> Option<Happened> {
+fn opened(unique: u64, number: u64, attr: Attr) -> Told {
     let number = Number(number);
     answered(unique, Answer::Opened { number, attr })
 }
 
-fn attrs(unique: u64, number: u64, attr: Attr) -> Option<Happened> {
+fn attrs(unique: u64, number: u64, attr: Attr) -> Told {
     let number = Number(number);
     answered(unique, Answer::Attrs { number, attr })
 }
 
-fn done(unique: u64) -> Option<Happened> {
-    answered(unique, Answer::Done)
-}
-
-fn error(unique: u64, errno: Errno) -> Option<Happened> {
+fn error(unique: u64, errno: Errno) -> Told {
     answered(unique, Answer::Error(errno))
 }
 
-fn started(daemon: u64) -> Option<Happened> {
-    Some(Happened::Started(DaemonId(daemon)))
+fn made(unique: u64, answer: Answer) -> Told {
+    one(Happened::Made(Reply { unique, answer }))
 }
 
-fn refused(refusal: Refusal) -> Option<Happened> {
-    Some(Happened::Refused(refusal))
+fn delivered(unique: u64, answer: Answer) -> Told {
+    one(Happened::Answered(Reply { unique, answer }))
 }
 
-fn first_of(outcome: &Outcome) -> Option<Happened> {
-    outcome.happened().first().copied()
+/// Returns whether an event made just this happen.
+fn is_told(outcome: &Outcome, told: &Told) -> bool {
+    let happened = outcome.happened();
+    (0..5).all(|at| happened.get(at).copied() == told.get(at).copied().flatten())
 }
 
-/// Returns whether each event had its outcome: one thing that happened, or nothing.
-fn are(outcomes: &[Outcome], deeds: &[(Deed, Option<Happened>)]) -> bool {
+/// Returns whether each event had its outcome.
+fn are(outcomes: &[Outcome], deeds: &[(Deed, Told)]) -> bool {
     if outcomes.len() != deeds.len() {
         return false;
     }
-    for (outcome, (_deed, expected)) in outcomes.iter().zip(deeds.iter()) {
-        if outcome.happened().len() > 1 || first_of(outcome) != *expected {
+    for (outcome, (_deed, told)) in outcomes.iter().zip(deeds.iter()) {
+        if !is_told(outcome, told) {
             return false;
         }
     }
@@ -187,7 +259,7 @@ fn are(outcomes: &[Outcome], deeds: &[(Deed, Option<Happened>)]) -> bool {
 
 /// Returns the world after deeds that had these outcomes, in the first run or, as where memory was refused, in the
 /// second.
-fn after(alloc: Global, deeds: &[(Deed, Option<Happened>)]) -> Result<World, Fail> {
+fn after(alloc: Global, deeds: &[(Deed, Told)]) -> Result<World, Fail> {
     let manifest = manifest(alloc)?;
     let events = events(alloc, deeds)?;
     if let Ok((world, outcomes)) = run(alloc, &manifest, 8, &events) {
@@ -227,25 +299,59 @@ fn keeps_alone(world: &World, number: u64, next: u64) -> bool {
     keeps_src_alone(served.map(), number, next) && world.broker().held(number) == 1
 }
 
-/// Returns what an event did, or, where memory ran out, what it did when it came again.
-fn made(world: &mut World, event: &Event) -> Option<Happened> {
-    let happened = first_of(&world.step(event));
-    if happened == refused(Refusal::NoMemory) || happened == error(1, Errno::ENOMEM) {
-        return first_of(&world.step(event));
+/// Makes a world, and once more where memory was refused.
+fn new_world(alloc: Global) -> Result<World, Fail> {
+    let manifest = manifest(alloc)?;
+    match World::new(alloc, &manifest, 8) {
+        Ok(world) => Ok(world),
+        Err(NoMemory) => Ok(World::new(alloc, &manifest, 8)?),
     }
-    happened
 }
+
+/// What is said of number 2: what daemon 1 counts, what the kernel holds, how many replies that wait for the kernel
+/// give it out, and how often the items that wait for a daemon take it back.
+type Counts = [u64; 4];
+
+fn counts(world: &World) -> Counts {
+    let number = Number(2);
+    let broker = world.broker();
+    let count = match world.served(DaemonId(1)) {
+        Some(served) => served.map().count(number),
+        None => 0,
+    };
+    [
+        count,
+        broker.held(number),
+        broker.entries_posted(number),
+        broker.forgets_waiting(number),
+    ]
+}
+
+/// Returns whether each deed has its outcome and leaves these counts, from a new world.
+fn goes(alloc: Global, deeds: &[(Deed, Told, Counts)]) -> Result<bool, Fail> {
+    let mut world = new_world(alloc)?;
+    for (deed, told, expected) in deeds {
+        let event = event(alloc, *deed)?;
+        let outcome = world.step(&event);
+        if !is_told(&outcome, told) || counts(&world) != *expected {
+            return Ok(false);
+        }
+    }
+    Ok(true)
+}
+
+const LOOK_UP_SRC: Wish = Wish::LookUp(1, b"src");
 
 #[test]
 fn gives_a_new_number_once_the_kernel_forgot_the_old_one(rt: HostRuntime) -> Result<(), Fail> {
     let deeds = [
         (Deed::Start, started(1)),
-        (Deed::Mount(1), Some(Happened::Mounted(1))),
-        (Deed::LookUp(1, b"src"), entry(1, 2, DIRECTORY)),
-        (Deed::LookUp(1, b"src"), entry(2, 2, DIRECTORY)),
-        (Deed::Show, None),
-        (Deed::Forget(2, 2), forgot(2, 2, Forgot::Dropped)),
-        (Deed::LookUp(1, b"src"), entry(3, 3, DIRECTORY)),
+        (Deed::Mount(1), mounted(1)),
+        (Deed::Do(LOOK_UP_SRC), entry(1, 2, DIRECTORY)),
+        (Deed::Do(LOOK_UP_SRC), entry(2, 2, DIRECTORY)),
+        (Deed::Show, NOTHING),
+        (Deed::Do(Wish::Forget(2, 2)), forgot(2, 2, Forgot::Dropped)),
+        (Deed::Do(LOOK_UP_SRC), entry(3, 3, DIRECTORY)),
     ];
     let world = after(rt.alloc(), &deeds)?;
     assert!(rt; keeps_alone(&world, 3, 4));
@@ -261,14 +367,17 @@ fn gives_a_new_number_once_the_kernel_forgot_the_old_one(rt: HostRuntime) -> Res
 fn keeps_a_directory_until_what_it_holds_is_forgotten(rt: HostRuntime) -> Result<(), Fail> {
     let deeds = [
         (Deed::Start, started(1)),
-        (Deed::Mount(1), Some(Happened::Mounted(1))),
-        (Deed::LookUp(1, b"src"), entry(1, 2, DIRECTORY)),
-        (Deed::LookUp(2, b"a"), entry(2, 3, FILE)),
-        (Deed::Forget(2, 1), forgot(2, 1, Forgot::Lowered)),
-        (Deed::LookUp(3, b"x"), error(3, Errno::ENOTDIR)),
-        (Deed::LookUp(1, b"missing"), error(4, Errno::ENOENT)),
-        (Deed::Forget(3, 1), forgot(3, 1, Forgot::Dropped)),
-        (Deed::LookUp(1, b"src"), entry(5, 4, DIRECTORY)),
+        (Deed::Mount(1), mounted(1)),
+        (Deed::Do(LOOK_UP_SRC), entry(1, 2, DIRECTORY)),
+        (Deed::Do(Wish::LookUp(2, b"a")), entry(2, 3, FILE)),
+        (Deed::Do(Wish::Forget(2, 1)), forgot(2, 1, Forgot::Lowered)),
+        (Deed::Do(Wish::LookUp(3, b"x")), error(3, Errno::ENOTDIR)),
+        (
+            Deed::Do(Wish::LookUp(1, b"missing")),
+            error(4, Errno::ENOENT),
+        ),
+        (Deed::Do(Wish::Forget(3, 1)), forgot(3, 1, Forgot::Dropped)),
+        (Deed::Do(LOOK_UP_SRC), entry(5, 4, DIRECTORY)),
     ];
     let world = after(rt.alloc(), &deeds)?;
     assert!(rt; keeps_alone(&world, 4, 5));
@@ -277,18 +386,19 @@ fn keeps_a_directory_until_what_it_holds_is_forgotten(rt: HostRuntime) -> Result
 
 #[test]
 fn keeps_an_unlinked_file_that_the_kernel_holds(rt: HostRuntime) -> Result<(), Fail> {
-    let made = Attr { size: 0, ..FILE };
+    let file = Attr { size: 0, ..FILE };
+    let unlinked = Attr { nlink: 0, ..file };
     let deeds = [
         (Deed::Start, started(1)),
-        (Deed::Mount(1), Some(Happened::Mounted(1))),
-        (Deed::Create(1, b"a"), opened(1, 2, made)),
-        (Deed::Unlink(1, b"a"), done(2)),
-        (Deed::LookUp(1, b"a"), error(3, Errno::ENOENT)),
-        (Deed::Create(1, b"a"), opened(4, 3, made)),
-        (Deed::Getattr(2), attrs(5, 2, Attr { nlink: 0, ..made })),
-        (Deed::Forget(2, 1), forgot(2, 1, Forgot::Dropped)),
-        (Deed::Forget(3, 1), forgot(3, 1, Forgot::Dropped)),
-        (Deed::LookUp(1, b"src"), entry(6, 4, DIRECTORY)),
+        (Deed::Mount(1), mounted(1)),
+        (Deed::Do(Wish::Create(1, b"a")), opened(1, 2, file)),
+        (Deed::Do(Wish::Unlink(1, b"a")), answered(2, Answer::Done)),
+        (Deed::Do(Wish::LookUp(1, b"a")), error(3, Errno::ENOENT)),
+        (Deed::Do(Wish::Create(1, b"a")), opened(4, 3, file)),
+        (Deed::Do(Wish::Getattr(2)), attrs(5, 2, unlinked)),
+        (Deed::Do(Wish::Forget(2, 1)), forgot(2, 1, Forgot::Dropped)),
+        (Deed::Do(Wish::Forget(3, 1)), forgot(3, 1, Forgot::Dropped)),
+        (Deed::Do(LOOK_UP_SRC), entry(6, 4, DIRECTORY)),
     ];
     let world = after(rt.alloc(), &deeds)?;
     assert!(rt; keeps_alone(&world, 4, 5));
@@ -300,19 +410,54 @@ fn refuses_events_for_the_first_cause(rt: HostRuntime) -> Result<(), Fail> {
     let deeds = [
         (Deed::Mount(1), refused(Refusal::NoDaemon)),
         (Deed::Mount(0), refused(Refusal::NoDaemon)),
-        (Deed::LookUp(1, b"src"), refused(Refusal::NotMounted)),
-        (Deed::Forget(1, 0), refused(Refusal::NotMounted)),
+        (Deed::Do(LOOK_UP_SRC), refused(Refusal::NotMounted)),
+        (Deed::Do(Wish::Forget(1, 0)), refused(Refusal::NotMounted)),
         (Deed::Start, started(1)),
         (Deed::Start, started(2)),
-        (Deed::Mount(2), Some(Happened::Mounted(1))),
+        (Deed::Mount(2), mounted(1)),
         (Deed::Mount(1), refused(Refusal::Seated)),
         (Deed::Mount(2), refused(Refusal::WrongPhase)),
-        (Deed::LookUp(2, b"a"), refused(Refusal::NotHeld)),
-        (Deed::Forget(1, 1), refused(Refusal::BadForget)),
-        (Deed::Forget(2, 1), refused(Refusal::BadForget)),
+        (
+            Deed::Do(Wish::LookUp(2, b"a")),
+            refused(Refusal::NotHeld),
+        ),
+        (Deed::Do(Wish::Forget(1, 1)), refused(Refusal::BadForget)),
+        (Deed::Do(Wish::Forget(2, 1)), refused(Refusal::BadForget)),
     ];
     let world = after(rt.alloc(), &deeds)?;
     assert!(rt; world.served(DaemonId(1)).is_none() && world.served(DaemonId(3)).is_none());
+    Ok(())
+}
+
+/// NotAsked is told of no list of events: a daemon posts only what it answered, and it answered what it took. Nor are
+/// Ended and Stale, while nobody loses the seat.
+#[test]
+fn refuses_to_hand_on_what_is_not_there(rt: HostRuntime) -> Result<(), Fail> {
+    let deeds = [
+        (Deed::Take(1), refused(Refusal::NoDaemon)),
+        (Deed::Work(0, 1), refused(Refusal::NoDaemon)),
+        (Deed::Post(1, 1), refused(Refusal::NoDaemon)),
+        (Deed::Deliver, refused(Refusal::Empty)),
+        (Deed::Start, started(1)),
+        (Deed::Start, started(2)),
+        (Deed::Mount(1), mounted(1)),
+        (Deed::Take(2), refused(Refusal::WrongPhase)),
+        (Deed::Work(2, 1), refused(Refusal::NoSuch)),
+        (Deed::Post(2, 1), refused(Refusal::NoSuch)),
+        (Deed::Take(1), refused(Refusal::Empty)),
+        (Deed::Issue(LOOK_UP_SRC), asked(1)),
+        (Deed::Take(1), one(Happened::Took(1))),
+        (Deed::Work(1, 0), refused(Refusal::NoSuch)),
+        (Deed::Work(1, 2), refused(Refusal::NoSuch)),
+        (Deed::Work(1, 1), made(1, src(2))),
+        (Deed::Work(1, 1), refused(Refusal::NoSuch)),
+        (Deed::Post(1, 0), refused(Refusal::NoSuch)),
+        (Deed::Post(1, 2), refused(Refusal::NoSuch)),
+        (Deed::Post(1, 1), one(Happened::Posted(1))),
+        (Deed::Deliver, delivered(1, src(2))),
+    ];
+    let world = after(rt.alloc(), &deeds)?;
+    assert!(rt; keeps_alone(&world, 2, 3));
     Ok(())
 }
 
@@ -320,17 +465,138 @@ fn refuses_events_for_the_first_cause(rt: HostRuntime) -> Result<(), Fail> {
 fn shows_attributes_and_takes_no_batch(rt: HostRuntime) -> Result<(), Fail> {
     let deeds = [
         (Deed::Start, started(1)),
-        (Deed::Mount(1), Some(Happened::Mounted(1))),
-        (Deed::LookUp(1, b"src"), entry(1, 2, DIRECTORY)),
-        (Deed::ForgetBatch, refused(Refusal::BadForget)),
-        (Deed::Getattr(2), attrs(2, 2, DIRECTORY)),
-        (Deed::Open(1), error(3, Errno::ENOSYS)),
-        (Deed::Getattr(3), refused(Refusal::NotHeld)),
-        (Deed::LookUp(1, b"missing"), error(4, Errno::ENOENT)),
+        (Deed::Mount(1), mounted(1)),
+        (Deed::Do(LOOK_UP_SRC), entry(1, 2, DIRECTORY)),
+        (Deed::Do(Wish::ForgetBatch), refused(Refusal::BadForget)),
+        (Deed::Do(Wish::Getattr(2)), attrs(2, 2, DIRECTORY)),
+        (Deed::Do(Wish::Open(1)), error(3, Errno::ENOSYS)),
+        (Deed::Do(Wish::Getattr(3)), refused(Refusal::NotHeld)),
+        (
+            Deed::Do(Wish::LookUp(1, b"missing")),
+            error(4, Errno::ENOENT),
+        ),
     ];
     let world = after(rt.alloc(), &deeds)?;
     assert!(rt; keeps_alone(&world, 2, 3));
     Ok(())
+}
+
+/// The forget is worked before the reply of the second lookup reaches the kernel: the daemon counts the number twice
+/// while the kernel does not hold it, and in the end both have it once.
+#[test]
+fn counts_a_number_that_is_forgotten_before_the_reply(rt: HostRuntime) -> Result<(), Fail> {
+    let lowered = Happened::Forgot {
+        item: item(2, 1),
+        forgot: Forgot::Lowered,
+    };
+    let deeds = [
+        (Deed::Start, started(1), [0, 0, 0, 0]),
+        (Deed::Mount(1), mounted(1), [0, 0, 0, 0]),
+        (Deed::Do(LOOK_UP_SRC), entry(1, 2, DIRECTORY), [1, 1, 0, 0]),
+        (Deed::Issue(LOOK_UP_SRC), asked(2), [1, 1, 0, 0]),
+        (Deed::Take(1), one(Happened::Took(2)), [1, 1, 0, 0]),
+        (Deed::Work(1, 1), made(2, src(2)), [2, 1, 0, 0]),
+        (
+            Deed::Issue(Wish::Forget(2, 1)),
+            one(Happened::Asked(None)),
+            [2, 0, 0, 1],
+        ),
+        (Deed::Take(1), one(Happened::TookForgets(1)), [2, 0, 0, 0]),
+        (Deed::Work(1, 1), one(lowered), [1, 0, 0, 0]),
+        (Deed::Post(1, 1), one(Happened::Posted(2)), [1, 0, 1, 0]),
+        (Deed::Deliver, delivered(2, src(2)), [1, 1, 0, 0]),
+    ];
+    assert!(rt; goes(rt.alloc(), &deeds)?);
+    Ok(())
+}
+
+#[test]
+fn answers_eio_where_its_backing_fails(rt: HostRuntime) -> Result<(), Fail> {
+    let readme = Wish::LookUp(1, b"README");
+    let failed = Answer::Error(Errno::EIO);
+    let attr = Attr { size: 7, ..FILE };
+    let deeds = [
+        (Deed::Start, started(1)),
+        (Deed::Mount(1), mounted(1)),
+        (Deed::Issue(readme), asked(1)),
+        (Deed::Take(1), one(Happened::Took(1))),
+        (Deed::WorkFails(1, 1), made(1, failed)),
+        (Deed::Post(1, 1), one(Happened::Posted(1))),
+        (Deed::Deliver, delivered(1, failed)),
+        (Deed::Do(readme), entry(2, 2, attr)),
+        (Deed::Do(Wish::Forget(2, 1)), forgot(2, 1, Forgot::Dropped)),
+        (Deed::Do(LOOK_UP_SRC), entry(3, 3, DIRECTORY)),
+    ];
+    let world = after(rt.alloc(), &deeds)?;
+    assert!(rt; keeps_alone(&world, 3, 4));
+    Ok(())
+}
+
+/// An older ask waits: the `do` takes it first, and answers it; its own ask waits then, and the next `do` takes that.
+#[test]
+fn does_what_waits_first(rt: HostRuntime) -> Result<(), Fail> {
+    let mut older = answered(1, src(2));
+    older[0] = Some(Happened::Asked(Some(2)));
+    let forgets = [
+        Some(Happened::Asked(None)),
+        Some(Happened::Took(2)),
+        Some(Happened::Made(Reply {
+            unique: 2,
+            answer: Answer::Error(Errno::ENOENT),
+        })),
+        None,
+        None,
+    ];
+    let deeds = [
+        (Deed::Start, started(1)),
+        (Deed::Mount(1), mounted(1)),
+        (Deed::Issue(LOOK_UP_SRC), asked(1)),
+        (Deed::Do(Wish::LookUp(1, b"missing")), older),
+        (Deed::Do(Wish::Forget(2, 1)), forgets),
+        (Deed::Take(1), one(Happened::TookForgets(1))),
+        (Deed::Deliver, refused(Refusal::Empty)),
+        (Deed::Post(1, 1), one(Happened::Posted(2))),
+        (
+            Deed::Deliver,
+            delivered(2, Answer::Error(Errno::ENOENT)),
+        ),
+        (Deed::Do(LOOK_UP_SRC), stopped()),
+    ];
+    let world = after(rt.alloc(), &deeds)?;
+    assert!(rt; world.hand(DaemonId(1)).len() == 1 && world.unposted(DaemonId(1)).is_empty());
+    Ok(())
+}
+
+/// Tells of a lookup by `do` that worked a forget in hand, had no reply to post, and ended there.
+fn stopped() -> Told {
+    [
+        Some(Happened::Asked(Some(3))),
+        Some(Happened::Took(3)),
+        Some(Happened::Forgot {
+            item: item(2, 1),
+            forgot: Forgot::Dropped,
+        }),
+        Some(Happened::Refused(Refusal::NoSuch)),
+        None,
+    ]
+}
+
+/// Returns what an event told last.
+fn last_of(outcome: &Outcome) -> Option<Happened> {
+    outcome.happened().last().copied()
+}
+
+fn refused_for_memory() -> Option<Happened> {
+    Some(Happened::Refused(Refusal::NoMemory))
+}
+
+/// Returns the last that an event told, or, where memory ran out, the last that it told when it came again.
+fn last_told(world: &mut World, event: &Event) -> Option<Happened> {
+    let told = last_of(&world.step(event));
+    if told == refused_for_memory() {
+        return last_of(&world.step(event));
+    }
+    told
 }
 
 /// Passes also where one allocation is refused: a refused event changes nothing and is made when it comes again; a
@@ -338,17 +604,22 @@ fn shows_attributes_and_takes_no_batch(rt: HostRuntime) -> Result<(), Fail> {
 #[test]
 fn goes_on_after_memory_was_refused(rt: HostRuntime) -> Result<(), Fail> {
     let alloc = rt.alloc();
-    let manifest = manifest(alloc)?;
-    let mut world = match World::new(alloc, &manifest, 8) {
-        Ok(world) => world,
-        Err(NoMemory) => World::new(alloc, &manifest, 8)?,
-    };
-    let ask = event(alloc, Deed::LookUp(1, b"src"))?;
-    assert_eq!(rt; made(&mut world, &Event::Start), started(1));
-    let mounted = made(&mut world, &Event::Mount(DaemonId(1)));
+    let mut world = new_world(alloc)?;
+    let ask = event(alloc, Deed::Issue(LOOK_UP_SRC))?;
+    let _started = last_told(&mut world, &Event::Start);
+    let mounted = last_told(&mut world, &Event::Mount(DaemonId(1)));
     assert_eq!(rt; mounted, Some(Happened::Mounted(1)));
-    let asked = made(&mut world, &ask);
-    assert!(rt; asked == entry(1, 2, DIRECTORY) || asked == entry(2, 2, DIRECTORY));
-    assert!(rt; keeps_alone(&world, 2, 3));
+    let asked = last_told(&mut world, &ask);
+    assert_eq!(rt; asked, Some(Happened::Asked(Some(1))));
+    let took = last_told(&mut world, &Event::Take(DaemonId(1)));
+    assert_eq!(rt; took, Some(Happened::Took(1)));
+    let _made = last_told(&mut world, &work(1, 1, false));
+    let post = Event::Post {
+        daemon: DaemonId(1),
+        place: 1,
+    };
+    assert_eq!(rt; last_told(&mut world, &post), Some(Happened::Posted(1)));
+    let _answered = last_told(&mut world, &Event::Deliver);
+    assert_eq!(rt; counts(&world)[0], counts(&world)[1]);
     Ok(())
 }

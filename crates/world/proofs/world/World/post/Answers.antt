@@ -1,0 +1,21 @@
+-- Who posted.
+use Rattle.std.proofs.Common.{◌≡◌, ◌<◌, length, set, sym, subst, arith}
+use Rattle.world.specs.Serving.{IsIndex}
+use Rattle.world.specs.State.{State}
+use Rattle.world.specs.Step.{Once}
+use Rattle.world.specs.declared.event.Event.TheVariants.{Post}
+use Rattle.world.proofs.StepLemmas.{Once-posts}
+use Rattle.world.proofs.world.World.post.Goals as goal
+
+pub returns : goal.returns
+returns c =
+    let old : State = record { manifest = c.self.inside.manifest; limit = c.self.inside.limit; broker = c.self.inside.broker; daemons = c.self.inside.daemons.items } in
+    let at : IsIndex (length old.daemons) c.args.daemon.0 c.in-Some.index = record {
+      counted = c.in-Some.ensures.index.counted;
+      is = c.in-Some.ensures.index.is;
+      within = omega (arith, c.in-Some.ensures.index.within, c.len.ensures, c.self.inside.daemons.ok.0);
+    } in
+    record {
+      once = subst (λ (s : State). Once s (Post c.args.daemon c.args.place) c.post_at.result (record old { broker = c.post_at.new.broker; daemons = c.post_at.new.daemons.items })) c.self.view_is
+          (Once-posts old c.args.daemon c.args.place c.in-Some.index c.post_at.result c.post_at.new.broker c.post_at.new.daemons.items at c.post_at.ensures.posts);
+    }

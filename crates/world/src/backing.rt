@@ -1,0 +1,61 @@
+//! The backing of a daemon: the manifest, which fails where an event says so.
+ghost use Rattle.std.specs.Prelude.{◌≡◌, ◌≢◌, false, Some, if◌then◌else◌};
+ghost use Rattle.eden_base.specs.declared.errno.Errno.TheVariants.{EIO};
+ghost use Rattle.checkout.specs.Tree.{file_of, tree_of};
+ghost use Rattle.fuse_wire.specs.declared.reply.Answer.TheVariants.{Error};
+ghost use Rattle.fuse_ops.specs.Served.{Replay};
+
+use checkout::{Backing, BackingFault, Content, Manifest, ManifestBacking};
+use eden_base::FileId;
+use fuse_ops::Served;
+use fuse_wire::{Answer, Request};
+use std::alloc::Global;
+
+/// The manifest as a backing that fails the first time it is asked.
+#[derive(Drop)]
+struct FailingBacking<'a> {
+    manifest: ManifestBacking<'a>,
+    has_failed: bool,
+}
+
+impl Backing for FailingBacking<'_> {
+    ghost content = { λ backing file. file_of (tree_of backing.manifest) file };
+
+    ghost failed = { λ backing. if backing.has_failed then 1 else 0 };
+
+    fn attr(&mut self, file: FileId) -> Result<Content, BackingFault> {
+        if !self.has_failed {
+            self.has_failed = true;
+            return Err(BackingFault);
+        }
+        self.manifest.attr(file)
+    }
+
+    fn failures(&self) -> u64 {
+        if self.has_failed { 1 } else { 0 }
+    }
+}
+
+/// Answers an ask, or applies the items of a forget, over a manifest that may fail.
+pub(crate) fn apply(
+    served: &mut Served,
+    alloc: Global,
+    manifest: &Manifest,
+    fails: bool,
+    request: &Request,
+) -> Option<Answer>
+    requires over { served.old.tree.manifest ≡ manifest.now }
+    ensures replay { Replay served.old request.now result served.new }
+    ensures fails_so { fails ≡ false → result ≢ Some (Error EIO) }
+    ensures same_manifest { served.new.tree.manifest ≡ served.old.tree.manifest }
+{
+    if fails {
+        let mut backing = FailingBacking {
+            manifest: ManifestBacking::of(manifest),
+            has_failed: false,
+        };
+        return served.apply(alloc, &mut backing, request);
+    }
+    let mut backing = ManifestBacking::of(manifest);
+    served.apply(alloc, &mut backing, request)
+}
