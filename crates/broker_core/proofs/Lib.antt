@@ -7,3 +7,5 @@ mod Moves
 mod Queues
 pub mod SeatLaws
 mod TreeLaws
+pub mod TakeLaws
+pub mod SeatFaults

@@ -1,95 +1,205 @@
--- What the daemons of a state serve after one of them started, mounted or worked.
-use Rattle.std.proofs.Common.{◌≡◌, ℕ, suc, zero, ◌-◌, Bool, true, false, List, [], ◌∷◌, ◌++◌, Option, Some, None, refl, sym, ap, ◌∙◌, subst}
+-- What the daemons of a state serve and have in hand after one of them started, mounted, took, worked or posted.
+use Rattle.std.proofs.Common.{◌≡◌, ℕ, suc, zero, ◌-◌, Bool, true, false, List, [], ◌∷◌, ◌++◌, Option, Some, None, refl, sym, ap, ◌∙◌, subst, inl, inr, ◌⊎◌, arith}
 use Rattle.std.specs.Prelude.{slice_get, slice_set, ◌==◌, if◌then◌else◌}
 use Rattle.std.specs.Option.{option_and_then, option_map}
+use Rattle.eden_base.proofs.NumberTests.{eq-or, false-ne}
 use Rattle.eden_base.specs.declared.number.DaemonId.{DaemonId}
 use Rattle.checkout.specs.Tree.{IsTree}
 use Rattle.broker_core.specs.Broker.{BrokerState, mount_fault}
 use Rattle.broker_core.proofs.Accepted.{free_to_mount}
 use Rattle.broker_core.specs.declared.broker.MountFault.{MountFault}
 use Rattle.broker_core.specs.declared.seat.Seat.{Seat}
-use Rattle.fuse_ops.specs.Served.{ServedState}
 use Rattle.world.specs.declared.daemon.Daemon.{Daemon}
 use Rattle.world.specs.declared.daemon.Daemon.TheVariants.{Waiting, Serving}
+use Rattle.world.specs.Server.{ServerState, at_place}
 use Rattle.world.specs.World.{World, owed}
-use Rattle.world.specs.Agreement.{Knows, HolderKnows, Books, SeatIsLast, IsQuiet, AnsweredBefore, Matches}
-use Rattle.world.specs.State.{State, mount_refusal, refusal_of_mount, daemon_of, with_daemon, served_in, served_of, IsSeated}
+use Rattle.world.specs.Agreement.{Knows, HolderKnows, Books, SeatIsLast, IsUnderWay, IsIdle, IsHolder, OthersAreIdle, IsOrderly, AnsweredBefore, Matches}
+use Rattle.world.specs.State.{State, mount_refusal, refusal_of_mount, daemon_of, with_daemon, server_in, server_of, IsSeated}
+
+-- ---- one of many
 
 -- one that waits serves nothing, as if it were not there
-more_in : (ds : List Daemon) (i : ℕ) → option_and_then served_in (slice_get (ds ++ Waiting ∷ []) i) ≡ option_and_then served_in (slice_get ds i)
+more_in : (ds : List Daemon) (i : ℕ) → option_and_then server_in (slice_get (ds ++ Waiting ∷ []) i) ≡ option_and_then server_in (slice_get ds i)
 more_in [] zero = refl
 more_in [] (suc i) = refl
 more_in (d ∷ ds) zero = refl
 more_in (d ∷ ds) (suc i) = more_in ds i
 
-pub served_of-more : (old : State) (daemon : DaemonId) → served_of (record old { daemons = old.daemons ++ Waiting ∷ [] }) daemon ≡ served_of old daemon
-served_of-more old daemon = in_ (daemon.0 == 0) where
-  in_ : (b : Bool) → option_and_then served_in (if b then None else slice_get (old.daemons ++ Waiting ∷ []) (daemon.0 - 1)) ≡ option_and_then served_in (if b then None else slice_get old.daemons (daemon.0 - 1))
+pub server_of-more : (old : State) (daemon : DaemonId) → server_of (record old { daemons = old.daemons ++ Waiting ∷ [] }) daemon ≡ server_of old daemon
+server_of-more old daemon = in_ (daemon.0 == 0) where
+  in_ : (b : Bool) → option_and_then server_in (if b then None else slice_get (old.daemons ++ Waiting ∷ []) (daemon.0 - 1)) ≡ option_and_then server_in (if b then None else slice_get old.daemons (daemon.0 - 1))
   in_ true = refl
   in_ false = more_in old.daemons (daemon.0 - 1)
 
--- what was written at a daemon's place is there
+-- what was written at a daemon's place is there, and nowhere else
 set_in : (ds : List Daemon) (i : ℕ) (d later : Daemon) → slice_get ds i ≡ Some d → slice_get (slice_set ds i later) i ≡ Some later
 set_in [] i d later h = absurd (let none : ⊥ = cc in none)
 set_in (x ∷ ds) zero d later h = refl
 set_in (x ∷ ds) (suc i) d later h = set_in ds i d later h
 
-pub served_of-with : (old : State) (broker : BrokerState) (daemon : DaemonId) (d : Daemon) (later : ServedState) → daemon_of old daemon ≡ Some d →
-    served_of (with_daemon (record old { broker = broker }) daemon (Serving later)) daemon ≡ Some later
-served_of-with old broker daemon d later h = in_ (daemon.0 == 0) h where
-  in_ : (b : Bool) → (if b then None else slice_get old.daemons (daemon.0 - 1)) ≡ Some d →
-      option_and_then served_in (if b then None else slice_get (slice_set old.daemons (daemon.0 - 1) (Serving later)) (daemon.0 - 1)) ≡ Some later
-  in_ true e = absurd (let none : ⊥ = cc in none)
-  in_ false e = ap (option_and_then served_in) (set_in old.daemons (daemon.0 - 1) d (Serving later) e)
+other_in : (ds : List Daemon) (i j : ℕ) (later : Daemon) → (i ≡ j → ⊥) → slice_get (slice_set ds i later) j ≡ slice_get ds j
+other_in [] i j later apart = refl
+other_in (x ∷ ds) zero zero later apart = absurd (apart refl)
+other_in (x ∷ ds) zero (suc j) later apart = refl
+other_in (x ∷ ds) (suc i) zero later apart = refl
+other_in (x ∷ ds) (suc i) (suc j) later apart = other_in ds i j later (λ e. apart (ap suc e))
+
+-- a daemon that is there has a number above 0
+daemon-some : (old : State) (daemon : DaemonId) (d : Daemon) → daemon_of old daemon ≡ Some d → ((daemon.0 == 0) ≡ false) × (slice_get old.daemons (daemon.0 - 1) ≡ Some d)
+daemon-some old daemon d h = in_ (daemon.0 == 0) refl h where
+  in_ : (b : Bool) → (daemon.0 == 0) ≡ b → (if b then None else slice_get old.daemons (daemon.0 - 1)) ≡ Some d → ((daemon.0 == 0) ≡ false) × (slice_get old.daemons (daemon.0 - 1) ≡ Some d)
+  in_ true e s = absurd (let none : ⊥ = cc in none)
+  in_ false e s = (e, s)
+
+pub server_of-with : (old : State) (broker : BrokerState) (daemon : DaemonId) (d : Daemon) (later : ServerState) → daemon_of old daemon ≡ Some d →
+    server_of (with_daemon (record old { broker = broker }) daemon (Serving later)) daemon ≡ Some later
+server_of-with old broker daemon d later h =
+    let r = daemon-some old daemon d h in
+    let other : (daemon.0 == 0) ≡ false = r.0 in
+    rw other (ap (option_and_then server_in) (set_in old.daemons (daemon.0 - 1) d (Serving later) r.1))
+
+pub server_of-other : (old : State) (broker : BrokerState) (daemon other : DaemonId) (d : Daemon) (later : ServerState) → daemon_of old daemon ≡ Some d → (daemon ≡ other → ⊥) →
+    server_of (with_daemon (record old { broker = broker }) daemon (Serving later)) other ≡ server_of old other
+server_of-other old broker daemon other d later h apart = in_ (other.0 == 0) refl where
+  first : (daemon.0 == 0) ≡ false
+  first = (daemon-some old daemon d h).0
+
+  in_ : (b : Bool) → (other.0 == 0) ≡ b → option_and_then server_in (if b then None else slice_get (slice_set old.daemons (daemon.0 - 1) (Serving later)) (other.0 - 1)) ≡ option_and_then server_in (if b then None else slice_get old.daemons (other.0 - 1))
+  in_ true e = refl
+  in_ false e = ap (option_and_then server_in) (other_in old.daemons (daemon.0 - 1) (other.0 - 1) (Serving later) (λ s.
+      let low : daemon.0 ≡ 0 → ⊥ = false-ne daemon.0 0 first in
+      let more : other.0 ≡ 0 → ⊥ = false-ne other.0 0 e in
+      let same : daemon.0 ≡ other.0 = omega (arith, s, low, more) in
+      apart (λ i. record { 0 = same i })))
 
 -- who serves is there
-pub serving-is : (old : State) (daemon : DaemonId) (served : ServedState) → served_of old daemon ≡ Some served → daemon_of old daemon ≡ Some (Serving served)
-serving-is old daemon served h = in_ (daemon_of old daemon) h where
-  daemon_in : (d : Daemon) → served_in d ≡ Some served → Some d ≡ Some (Serving served)
+pub serving-is : (old : State) (daemon : DaemonId) (server : ServerState) → server_of old daemon ≡ Some server → daemon_of old daemon ≡ Some (Serving server)
+serving-is old daemon server h = in_ (daemon_of old daemon) h where
+  daemon_in : (d : Daemon) → server_in d ≡ Some server → Some d ≡ Some (Serving server)
   daemon_in Waiting e = absurd (let none : ⊥ = cc in none)
-  daemon_in (Serving s) e = let same : s ≡ served = cc in ap (λ (x : ServedState). Some (Serving x)) same
+  daemon_in (Serving s) e = let same : s ≡ server = cc in ap (λ (x : ServerState). Some (Serving x)) same
 
-  in_ : (o : Option Daemon) → option_and_then served_in o ≡ Some served → o ≡ Some (Serving served)
+  in_ : (o : Option Daemon) → option_and_then server_in o ≡ Some server → o ≡ Some (Serving server)
   in_ None e = absurd (let none : ⊥ = cc in none)
   in_ (Some d) e = daemon_in d e
 
+-- ---- the holder
+
 -- the seat has one holder, and it serves one thing
-pub seated-same : (state : State) (seat other : Seat) (served more : ServedState) → IsSeated state seat served → IsSeated state other more → (seat ≡ other) × (served ≡ more)
-seated-same state seat other served more one two =
+pub seated-same : (state : State) (seat other : Seat) (server more : ServerState) → IsSeated state seat server → IsSeated state other more → (seat ≡ other) × (server ≡ more)
+seated-same state seat other server more one two =
     let s : Some seat ≡ Some other = sym one.has_seat ∙ two.has_seat in
     let same : seat ≡ other = cc in
-    let m : Some served ≡ Some more = sym one.serves ∙ ap (λ (x : Seat). served_of state x.daemon) same ∙ two.serves in
-    (same, (let is : served ≡ more = cc in is))
+    let m : Some server ≡ Some more = sym one.serves ∙ ap (λ (x : Seat). server_of state x.daemon) same ∙ two.serves in
+    (same, (let is : server ≡ more = cc in is))
 
--- what the seat's daemon knows, whoever asks
-pub knows-seated : (w : World) (state : State) (seat : Seat) (served : ServedState) → IsSeated state seat served → Knows w.tree w.names (owed w) served → HolderKnows w state
-knows-seated w state seat served at k other has = (served, subst (λ (s : Seat). IsSeated state s served) (let s : Some seat ≡ Some other = sym at.has_seat ∙ has in let same : seat ≡ other = cc in same) at, k)
+-- what is known of the seat's daemon, whoever asks
+pub record HolderIs (w : World) (state : State) (server : ServerState) : Type 0 where
+  pub knows : Knows w.tree w.names (owed w) server.served
+  pub under : IsUnderWay w state.broker.traffic server
 
--- and the other way round
-pub seated-knows : (w : World) (state : State) (seat : Seat) (served : ServedState) → HolderKnows w state → IsSeated state seat served → Knows w.tree w.names (owed w) served
-seated-knows w state seat served knows at = let k = knows seat at.has_seat in
-    subst (λ (s : ServedState). Knows w.tree w.names (owed w) s) (seated-same state seat seat k.0 served k.1 at).1 k.2
+pub holder-is : (w : World) (state : State) (seat : Seat) (server : ServerState) → HolderKnows w state → IsSeated state seat server → HolderIs w state server
+holder-is w state seat server knows at =
+    let k = knows seat at.has_seat in
+    subst (λ (s : ServerState). HolderIs w state s) (seated-same state seat seat k.0 server k.1 at).1 (record { knows = k.2; under = k.3 })
+
+-- a daemon has the seat, or hasn't
+pub holder-or : (state : State) (daemon : DaemonId) → IsHolder state daemon ⊎ (IsHolder state daemon → ⊥)
+holder-or state daemon = in_ state.broker.seat refl where
+  in_ : (o : Option Seat) → state.broker.seat ≡ o → IsHolder state daemon ⊎ (IsHolder state daemon → ⊥)
+  in_ None e = inr (λ h. let n : None ≡ Some h.0 = sym e ∙ h.1 in let none : ⊥ = cc in none)
+  in_ (Some seat) e = of_seat (eq-or seat.daemon.0 daemon.0) where
+    of_seat : (seat.daemon.0 ≡ daemon.0) ⊎ (seat.daemon.0 ≡ daemon.0 → ⊥) → IsHolder state daemon ⊎ (IsHolder state daemon → ⊥)
+    of_seat (inl same) = inl (seat, e, λ i. record { 0 = same i })
+    of_seat (inr apart) = inr (λ h. let s : Some seat ≡ Some h.0 = sym e ∙ h.1 in let is : seat ≡ h.0 = cc in apart (ap (λ (x : Seat). x.daemon.0) is ∙ ap (λ (d : DaemonId). d.0) h.2))
+
+none-at : {X : Type 0} (place : ℕ) (x : X) → at_place [] place ≡ Some x → ⊥
+none-at {X = X} place x h = in_ (place == 0) h where
+  in_ : (b : Bool) → (if b then None else slice_get [] (place - 1)) ≡ Some x → ⊥
+  in_ true e = let none : ⊥ = cc in none
+  in_ false e = let none : ⊥ = cc in none
+
+-- a member at a place, by the place less 1
+pub at-is : {X : Type 0} (xs : List X) (place : ℕ) (x : X) → at_place xs place ≡ Some x → slice_get xs (place - 1) ≡ Some x
+at-is {X = X} xs place x h = in_ (place == 0) h where
+  in_ : (b : Bool) → (if b then None else slice_get xs (place - 1)) ≡ Some x → slice_get xs (place - 1) ≡ Some x
+  in_ true e = absurd (let none : ⊥ = cc in none)
+  in_ false e = e
+
+-- who has something in hand, or unposted, has the seat
+pub hand-seated : (state : State) (daemon : DaemonId) (server : ServerState) {X : Type 0} (of : ServerState → List X) (place : ℕ) (x : X) → OthersAreIdle state → ((s : ServerState) → IsIdle s → of s ≡ []) → daemon_of state daemon ≡ Some (Serving server) →
+    at_place (of server) place ≡ Some x → (seat : Seat) × (seat.daemon ≡ daemon) × IsSeated state seat server
+hand-seated state daemon server of place x idle empty there at = in_ (holder-or state daemon) where
+  serves : server_of state daemon ≡ Some server
+  serves = ap (option_and_then server_in) there
+
+  in_ : IsHolder state daemon ⊎ (IsHolder state daemon → ⊥) → (seat : Seat) × (seat.daemon ≡ daemon) × IsSeated state seat server
+  in_ (inl h) = (h.0, h.2, record { has_seat = h.1; serves = ap (server_of state) h.2 ∙ serves })
+  in_ (inr other) = absurd (none-at place x (subst (λ xs. at_place xs place ≡ Some x) (empty server (idle daemon server serves other)) at))
+
+-- ---- after a call
 
 -- the state matches once the seat's daemon went on: what a call of the broker and one of the daemon keep
-pub goes-on : (w new : World) (old : State) (broker : BrokerState) (seat : Seat) (d : Daemon) (later : ServedState) → Matches w old → new.manifest ≡ w.manifest → IsTree new.tree → new.tree.manifest ≡ new.manifest → Books new broker →
-    SeatIsLast new → IsQuiet new → AnsweredBefore new → broker.seat ≡ Some seat → daemon_of old seat.daemon ≡ Some d → Knows new.tree new.names (owed new) later →
-    Matches new (with_daemon (record old { broker = broker }) seat.daemon (Serving later))
-goes-on w new old broker seat d later m manifest is of_manifest books last quiet answered at there knows = record {
+pub goes-on : (w new : World) (old : State) (broker : BrokerState) (seat : Seat) (d : Daemon) (later : ServerState) → Matches w old → new.manifest ≡ w.manifest → IsTree new.tree → new.tree.manifest ≡ new.manifest → Books new broker →
+    SeatIsLast new → IsOrderly new broker.next_unique → AnsweredBefore new → broker.seat ≡ Some seat → ((other : DaemonId) → IsHolder old other → seat.daemon ≡ other) → daemon_of old seat.daemon ≡ Some d →
+    Knows new.tree new.names (owed new) later.served → IsUnderWay new broker.traffic later → Matches new (with_daemon (record old { broker = broker }) seat.daemon (Serving later))
+goes-on w new old broker seat d later m manifest is of_manifest books last orderly answered at holder there knows under = record {
   manifest = manifest ∙ m.manifest;
   is_tree = m.is_tree;
   tree_is_tree = is;
   of_manifest = of_manifest;
   books = books;
   seat_is_last = last;
-  quiet = quiet;
+  quiet = λ e. absurd (let n : Some seat ≡ None = sym at ∙ e in let none : ⊥ = cc in none);
+  orderly = orderly;
   answered = answered;
-  knows = knows-seated new _ seat later (record { has_seat = at; serves = served_of-with old broker seat.daemon d later there }) knows;
+  knows = λ other has.
+      let s : Some seat ≡ Some other = sym at ∙ has in
+      let same : seat ≡ other = cc in (
+        later,
+        subst (λ (x : Seat). IsSeated state x later) same (record { has_seat = at; serves = server_of-with old broker seat.daemon d later there }),
+        knows,
+        under,
+      );
+  others_idle = λ other server serves no_holder.
+      let apart : seat.daemon ≡ other → ⊥ = λ e. no_holder (seat, at, e) in
+      m.others_idle other server (sym (server_of-other old broker seat.daemon other d later there apart) ∙ serves) (λ h. apart (holder other h));
+} where
+  state : State
+  state = with_daemon (record old { broker = broker }) seat.daemon (Serving later)
+
+-- the seat's daemon is the only holder
+pub only-holder : (old : State) (seat : Seat) → old.broker.seat ≡ Some seat → (other : DaemonId) → IsHolder old other → seat.daemon ≡ other
+only-holder old seat at other h = let s : Some seat ≡ Some h.0 = sym at ∙ h.1 in let is : seat ≡ h.0 = cc in ap (λ (x : Seat). x.daemon) is ∙ h.2
+
+-- the state matches after a call of the broker alone
+pub broker-goes-on : (w new : World) (old : State) (broker : BrokerState) (seat : Seat) (server : ServerState) → Matches w old → new.manifest ≡ w.manifest → new.tree ≡ w.tree → Books new broker → SeatIsLast new → IsOrderly new broker.next_unique →
+    AnsweredBefore new → broker.seat ≡ old.broker.seat → IsSeated old seat server → Knows new.tree new.names (owed new) server.served → IsUnderWay new broker.traffic server → Matches new (record old { broker = broker })
+broker-goes-on w new old broker seat server m manifest tree books last orderly answered same at knows under = record {
+  manifest = manifest ∙ m.manifest;
+  is_tree = m.is_tree;
+  tree_is_tree = subst IsTree (sym tree) m.tree_is_tree;
+  of_manifest = ap (λ (t : Rattle.checkout.specs.Tree.Tree). t.manifest) tree ∙ m.of_manifest ∙ sym manifest;
+  books = books;
+  seat_is_last = last;
+  quiet = λ e. absurd (let n : Some seat ≡ None = sym at.has_seat ∙ sym same ∙ e in let none : ⊥ = cc in none);
+  orderly = orderly;
+  answered = answered;
+  knows = λ other has.
+      let s : Some seat ≡ Some other = sym at.has_seat ∙ sym same ∙ has in
+      let is : seat ≡ other = cc in (
+        server,
+        subst (λ (x : Seat). IsSeated (record old { broker = broker }) x server) is (record { has_seat = same ∙ at.has_seat; serves = at.serves }),
+        knows,
+        under,
+      );
+  others_idle = λ other more serves no_holder. m.others_idle other more serves (λ h. no_holder (h.0, same ∙ h.1, h.2));
 }
 
 -- who may mount waits, and nobody has the seat
 pub may_mount : (old : State) (o : Option Daemon) → mount_refusal old o ≡ None → (o ≡ Some Waiting) × (old.broker.seat ≡ None)
 may_mount old None h = absurd (let none : ⊥ = cc in none)
-may_mount old (Some (Serving served)) h = absurd (let none : ⊥ = cc in none)
+may_mount old (Some (Serving server)) h = absurd (let none : ⊥ = cc in none)
 may_mount old (Some Waiting) h = (refl, (free_to_mount old.broker (fault_in (mount_fault old.broker) h)).0) where
   fault_in : (f : Option MountFault) → option_map refusal_of_mount f ≡ None → f ≡ None
   fault_in None e = refl

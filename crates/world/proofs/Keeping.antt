@@ -1,5 +1,5 @@
 -- Each part of a match, kept by a call of the broker: its books, who answered, and the seat.
-use Rattle.std.proofs.Common.{◌≡◌, ℕ, suc, zero, ◌+◌, ◌-◌, ◌<◌, ◌≤◌, Bool, true, false, ◌&&◌, ◌||◌, List, [], ◌∷◌, Option, Some, None, refl, sym, ap, ◌∙◌, inl, inr, ◌⊎◌, arith}
+use Rattle.std.proofs.Common.{◌≡◌, ℕ, suc, zero, ◌+◌, ◌-◌, ◌<◌, ◌≤◌, Bool, true, false, ◌&&◌, ◌||◌, List, [], ◌∷◌, Option, Some, None, refl, sym, ap, ◌∙◌, subst, inl, inr, ◌⊎◌, arith}
 use Rattle.std.specs.Prelude.{◌==◌, Contains, nat_lt, if◌then◌else◌}
 use Rattle.std.specs.Option.{option_map_or}
 use Rattle.std.specs.List.{AllByRecursion, list_all}
@@ -12,13 +12,16 @@ use Rattle.fuse_wire.specs.declared.ask.Ask.{Ask}
 use Rattle.fuse_wire.specs.declared.ask.Request.{Request}
 use Rattle.fuse_wire.specs.declared.item.Item.{Item}
 use Rattle.fuse_wire.specs.declared.reply.Answer.{Answer}
-use Rattle.broker_core.specs.Broker.{BrokerState, may_be_asked, mounted, asked, forgot, entered, settled}
-use Rattle.broker_core.specs.Held.{held_count, raised}
+use Rattle.fuse_wire.specs.declared.reply.Reply.{Reply}
+use Rattle.broker_core.specs.Broker.{BrokerState, may_be_asked, mounted, asked, forgot, held_with, delivered as broker_delivered}
+use Rattle.broker_core.specs.Held.{HeldMap, held_count, raised}
+use Rattle.broker_core.specs.Traffic.{TrafficState, front}
 use Rattle.broker_core.specs.declared.seat.Seat.{Seat}
 use Rattle.broker_core.proofs.HeldLaws.{held_count-raised, held_count-lowered}
-use Rattle.world.specs.World.{World, mount, MayGoTo, times, after}
+use Rattle.world.specs.World.{World, mount, MayGoTo, times, without_times, held_after, carries, gives, answered_by, after}
 use Rattle.world.specs.Agreement.{Books, AnsweredBefore, SeatIsLast}
-use Rattle.world.proofs.Quiet.{asked_world, forgot_world, times-without}
+use Rattle.world.proofs.Bags.{mark}
+use Rattle.world.proofs.Times.{times-without}
 
 -- what stands first, or behind
 pub contains_cons : {X : Type 0} (x y : X) (xs : List X) → Contains (x ∷ xs) y → (x ≡ y) ⊎ Contains xs y
@@ -35,33 +38,22 @@ books-mounted w b daemon books = record {
   uniques = books.uniques;
 }
 
--- an answer that gives a number out has it held once more, on both sides
-pub books-asked : (w : World) (b : BrokerState) (seat : Seat) (request : Request) (answer : Answer) → Books w b → b.seat ≡ Some seat →
-    Books (asked_world w seat (record { unique = b.next_unique; what = request }) answer) (settled (asked b) answer)
-books-asked w b seat request answer books at = in_ (given_out answer) where
-  Settled : Option Number → BrokerState
-  Settled o = option_map_or (entered (asked b)) o (asked b)
+-- an ask uses the next unique
+pub books-asked : (w : World) (b : BrokerState) (request : Request) (asks : List Ask) → Books w b → Books (record w { asks = asks; uniques = b.next_unique ∷ w.uniques }) (asked b request)
+books-asked w b request asks books = record {
+  seat = books.seat;
+  last = books.last;
+  held = books.held;
+  uniques = λ u c. used u (contains_cons b.next_unique u w.uniques c);
+} where
+  used : (u : ℕ) → (b.next_unique ≡ u) ⊎ Contains w.uniques u → u < b.next_unique + 1
+  used u (inl e) = omega arith
+  used u (inr c) = let low : u < b.next_unique = books.uniques u c in omega arith
 
-  unique_in : (u : ℕ) → (b.next_unique ≡ u) ⊎ Contains w.uniques u → u < b.next_unique + 1
-  unique_in u (inl e) = omega arith
-  unique_in u (inr c) = let low : u < b.next_unique = books.uniques u c in omega arith
-
-  used : (u : ℕ) → Contains (b.next_unique ∷ w.uniques) u → u < b.next_unique + 1
-  used u c = unique_in u (contains_cons b.next_unique u w.uniques c)
-
-  in_ : (o : Option Number) → Books (record (asked_world w seat (record { unique = b.next_unique; what = request }) answer) { held = option_map_or (λ (x : Number). x.0 ∷ w.held) o w.held }) (option_map_or (entered (asked b)) o (asked b))
-  in_ None = record { seat = sym at; last = books.last; held = books.held; uniques = used }
-  in_ (Some x) = record {
-    seat = sym at;
-    last = books.last;
-    held = λ n. let h : times n w.held ≡ held_count b.held n = books.held n in
-        let r : held_count (raised b.held x.0) n ≡ held_count b.held n + (if x.0 == n then 1 else 0) = held_count-raised b.held x.0 n in omega arith;
-    uniques = used;
-  }
-
-pub books-forgot : (w : World) (b : BrokerState) (seat : Seat) (item : Item) → Books w b → b.seat ≡ Some seat → Books (forgot_world w seat item) (forgot b item)
-books-forgot w b seat item books at = record {
-  seat = sym at;
+-- an item is held so many times less
+pub books-forgot : (w : World) (b : BrokerState) (item : Item) (items : List Item) → Books w b → Books (record w { held = without_times item.k item.node.0 w.held; items = items }) (forgot b item)
+books-forgot w b item items books = record {
+  seat = books.seat;
   last = books.last;
   held = λ n. times-without w.held item.node.0 item.k n ∙ less_in n (item.node.0 == n) ∙ sym (held_count-lowered b.held item.node.0 item.k n);
   uniques = books.uniques;
@@ -69,6 +61,48 @@ books-forgot w b seat item books at = record {
   less_in : (n : ℕ) (c : Bool) → (if c then times n w.held - item.k else times n w.held) ≡ held_count b.held n - (if c then item.k else 0)
   less_in n true = ap (λ i. i - item.k) (books.held n)
   less_in n false = let h : times n w.held ≡ held_count b.held n = books.held n in omega arith
+
+-- what a queue holds is no part of them
+pub books-queued : (w : World) (b : BrokerState) (traffic : TrafficState) → Books w b → Books w (record b { traffic = traffic })
+books-queued w b traffic books = record { seat = books.seat; last = books.last; held = books.held; uniques = books.uniques }
+
+-- how often a number is held more once an answer was delivered
+pub times-held : (n : ℕ) (held : List ℕ) (answer : Answer) → times n (held_after held answer) ≡ times n held + mark (gives n answer)
+times-held n held answer = in_ (given_out answer) where
+  one_in : (c : Bool) → (if c then 1 else 0) + times n held ≡ times n held + mark c
+  one_in true = omega arith
+  one_in false = omega arith
+
+  in_ : (o : Option Number) → times n (option_map_or (λ (number : Number). number.0 ∷ held) o held) ≡ times n held + mark (option_map_or (λ (number : Number). number.0 == n) o false)
+  in_ None = let z : mark false ≡ 0 = refl in omega arith
+  in_ (Some number) = one_in (number.0 == n)
+
+-- the same for the broker
+count-held : (n : ℕ) (held : HeldMap) (reply : Reply) → held_count (held_with held (Some reply)) n ≡ held_count held n + mark (carries n reply)
+count-held n held reply = in_ (given_out reply.answer) where
+  one_in : (c : Bool) (x y : ℕ) → x ≡ y + (if c then 1 else 0) → x ≡ y + mark c
+  one_in true x y e = e
+  one_in false x y e = e
+
+  in_ : (o : Option Number) → held_count (option_map_or (λ (number : Number). raised held number.0) o held) n ≡ held_count held n + mark (option_map_or (λ (number : Number). number.0 == n) o false)
+  in_ None = let z : mark false ≡ 0 = refl in omega arith
+  in_ (Some number) = one_in (number.0 == n) (held_count (raised held number.0) n) (held_count held n) (held_count-raised held number.0 n)
+
+-- a reply that reaches the kernel has its number held once more, on both sides
+pub books-delivered : (w : World) (b : BrokerState) (reply found : Reply) (replies : List Reply) → front b.traffic.posted ≡ Some reply → ((f : Reply → ℕ) → f found ≡ f reply) → Books w b →
+    Books (record w { held = held_after w.held found.answer; replies = replies }) (broker_delivered b)
+books-delivered w b reply found replies first same books = record {
+  seat = books.seat;
+  last = books.last;
+  held = λ n.
+      let t : times n (held_after w.held found.answer) ≡ times n w.held + mark (carries n found) = times-held n w.held found.answer in
+      let c : held_count (held_with b.held (Some reply)) n ≡ held_count b.held n + mark (carries n reply) = count-held n b.held reply in
+      let m : mark (carries n found) ≡ mark (carries n reply) = same (λ (r : Reply). mark (carries n r)) in
+      let h : times n w.held ≡ held_count b.held n = books.held n in
+      let f : held_count (held_with b.held (front b.traffic.posted)) n ≡ held_count (held_with b.held (Some reply)) n = ap (λ (o : Option Reply). held_count (held_with b.held o) n) first in
+      omega arith;
+  uniques = books.uniques;
+}
 
 -- ---- who answered
 
@@ -80,12 +114,22 @@ answered-mounted w daemon a = record {
       let g : w.last + 1 ≡ seat.generation = ap (λ (s : Seat). s.generation) is in let l : other.generation ≤ w.last = a.at_most other c in omega arith);
 }
 
+-- what is under way, held or named is no part of it
+pub answered-still : (w new : World) → new.seat ≡ w.seat → new.last ≡ w.last → new.answered ≡ w.answered → AnsweredBefore w → AnsweredBefore new
+answered-still w new seat last answered a = record {
+  one_daemon = λ one other c d e. a.one_daemon one other (was one c) (was other d) e;
+  at_most = λ s c. subst (λ (n : ℕ). s.generation ≤ n) (sym last) (a.at_most s (was s c));
+  holder = λ s other e c same. a.holder s other (sym seat ∙ e) (was other c) same;
+} where
+  was : (s : Seat) → Contains new.answered s → Contains w.answered s
+  was s c = subst (λ (all : List Seat). Contains all s) answered c
+
 -- the seat's daemon answered
-pub answered-asked : (w : World) (seat : Seat) (ask : Ask) (answer : Answer) → AnsweredBefore w → SeatIsLast w → w.seat ≡ Some seat → AnsweredBefore (asked_world w seat ask answer)
-answered-asked w seat ask answer a last at = record {
+pub answered-posted : (w : World) (seat : Seat) → AnsweredBefore w → SeatIsLast w → w.seat ≡ Some seat → AnsweredBefore (record w { answered = seat ∷ w.answered })
+answered-posted w seat a last at = record {
   one_daemon = λ one other c d e. one_in one other (contains_cons seat one w.answered c) (contains_cons seat other w.answered d) e;
   at_most = λ s c. most_in s (contains_cons seat s w.answered c);
-  holder = λ s other e c same. let is : seat ≡ s = cc in holder_in s is other (contains_cons seat other w.answered c) same;
+  holder = λ s other e c same. let both : Some seat ≡ Some s = sym at ∙ e in let is : seat ≡ s = cc in holder_in s is other (contains_cons seat other w.answered c) same;
 } where
   is_last : seat.generation ≡ w.last
   is_last = last.is_last seat at

@@ -1,3 +1,25 @@
 pub mod StepLemmas
 pub mod ServingLemmas
 pub mod DaemonWrites
+mod Bags
+mod Hands
+mod UnderWay
+mod Orderly
+mod Times
+mod Keeping
+mod Knowing
+mod Worked
+mod Entering
+mod Placed
+mod Answering
+mod Forgetting
+mod Daemons
+mod Runs
+mod Moving
+mod Issuing
+mod Taking
+mod Working
+mod Events
+pub mod Carrying
+pub mod WholeRun
+pub mod LawProofs

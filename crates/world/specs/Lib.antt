@@ -5,4 +5,5 @@ pub mod Serving
 pub mod Inside
 pub mod World
 pub mod Agreement
+pub mod Laws
 pub mod Words

@@ -5,6 +5,7 @@ mod backing;
 mod daemon;
 mod event;
 mod history;
+pub mod laws;
 mod outcome;
 mod place;
 mod server;

@@ -1,0 +1,43 @@
+-- Who takes or posts has the seat.
+use Rattle.std.proofs.Common.{◌≡◌, ℕ, Bool, true, false, ◌&&◌, Option, Some, None, is_none, refl, sym, ap, ◌∙◌, if◌then◌else◌}
+use Rattle.std.specs.Prelude.{◌==◌}
+use Rattle.eden_base.proofs.NumberTests.{true-eq}
+use Rattle.eden_base.specs.declared.number.DaemonId.{DaemonId}
+use Rattle.fuse_wire.specs.declared.ask.Ask.{Ask}
+use Rattle.fuse_wire.specs.declared.reply.Reply.{Reply}
+use Rattle.broker_core.specs.Traffic.{TrafficState, next_taken}
+use Rattle.broker_core.specs.Broker.{BrokerState, seat_fault, take_fault, take_fault_by, post_fault, post_fault_by}
+use Rattle.broker_core.specs.declared.fault.NotSeated.{NotSeated}
+use Rattle.broker_core.specs.declared.fault.NotSeated.TheVariants as unseated
+use Rattle.broker_core.specs.declared.seat.Seat.{Seat}
+
+both : (c d : Bool) → (c && d) ≡ true → (c ≡ true) × (d ≡ true)
+both true true e = (refl, refl)
+both true false e = absurd (let none : ⊥ = cc in none)
+both false d e = absurd (let none : ⊥ = cc in none)
+
+-- where nothing stands against it, the seat is the daemon's at that generation
+seated : (seat : Option Seat) (daemon : DaemonId) (generation : ℕ) → seat_fault seat daemon generation ≡ None → seat ≡ Some (record { generation = generation; daemon = daemon })
+seated None daemon generation h = absurd (let none : ⊥ = cc in none)
+seated (Some seat) daemon generation h = in_ (seat.daemon.0 == daemon.0 && seat.generation == generation) refl h where
+  in_ : (b : Bool) → (seat.daemon.0 == daemon.0 && seat.generation == generation) ≡ b → (if b then None else Some (unseated.Stale seat.generation)) ≡ None → Some seat ≡ Some (record { generation = generation; daemon = daemon })
+  in_ false e f = absurd (let none : ⊥ = cc in none)
+  in_ true e f =
+      let r = both (seat.daemon.0 == daemon.0) (seat.generation == generation) e in
+      let d : seat.daemon.0 ≡ daemon.0 = true-eq seat.daemon.0 daemon.0 r.0 in
+      let g : seat.generation ≡ generation = true-eq seat.generation generation r.1 in
+      λ i. Some (record { generation = g i; daemon = record { 0 = d i } })
+
+pub taken-seated : (broker : BrokerState) (daemon : DaemonId) (generation : ℕ) → take_fault broker daemon generation ≡ None → broker.seat ≡ Some (record { generation = generation; daemon = daemon })
+taken-seated broker daemon generation h = seated broker.seat daemon generation (clear (seat_fault broker.seat daemon generation) h) where
+  clear : (f : Option NotSeated) → take_fault_by broker.traffic f ≡ None → f ≡ None
+  clear None e = refl
+  clear (Some unseated.Ended) e = absurd (let none : ⊥ = cc in none)
+  clear (Some (unseated.Stale now)) e = absurd (let none : ⊥ = cc in none)
+
+pub posted-seated : (broker : BrokerState) (daemon : DaemonId) (generation : ℕ) (reply : Reply) → post_fault broker daemon generation reply ≡ None → broker.seat ≡ Some (record { generation = generation; daemon = daemon })
+posted-seated broker daemon generation reply h = seated broker.seat daemon generation (clear (seat_fault broker.seat daemon generation) h) where
+  clear : (f : Option NotSeated) → post_fault_by broker.traffic reply f ≡ None → f ≡ None
+  clear None e = refl
+  clear (Some unseated.Ended) e = absurd (let none : ⊥ = cc in none)
+  clear (Some (unseated.Stale now)) e = absurd (let none : ⊥ = cc in none)

@@ -1,0 +1,5 @@
+use Rattle.world.proofs.LawProofs.{answer-is-move, item-is-move}
+use Rattle.world.proofs.laws.step_is_move.Goals as goal
+
+pub returns : goal.returns
+returns c = record { answers = answer-is-move; items = item-is-move }
