@@ -1,160 +1,88 @@
--- Events one after another until one is refused, and so each event of a list, are moves that may happen.
-use Rattle.std.proofs.Common.{◌≡◌, ℕ, Bool, true, false, ◌||◌, List, [], ◌∷◌, ◌++◌, Option, Some, None, refl, sym, ap, ◌∙◌, subst, inl, inr, ◌⊎◌}
+-- Events one after another, until one is refused.
+use Rattle.std.proofs.Common.{◌≡◌, Bool, true, false, List, [], ◌∷◌, ◌++◌, Option, Some, None, refl, sym, ap, ◌∙◌, subst}
+use Rattle.std.proofs.lemmas.List.{append-nil}
+use Rattle.std.proofs.Common.{append_assoc}
 use Rattle.std.specs.Prelude.{if◌then◌else◌}
-use Rattle.std.specs.Option.{option_map_or}
-use Rattle.std.specs.List.{AllByRecursion, list_any}
-use Rattle.eden_base.specs.declared.number.Number.{Number}
-use Rattle.fuse_wire.specs.Ask.{is_ask, item_of}
-use Rattle.fuse_wire.specs.Given.{given_out}
-use Rattle.fuse_wire.specs.declared.ask.Request.{Request}
-use Rattle.fuse_wire.specs.declared.item.Item.{Item}
-use Rattle.fuse_wire.specs.declared.reply.Reply.{Reply}
-use Rattle.broker_core.specs.Broker.{BrokerState, asked, forgot}
 use Rattle.broker_core.specs.declared.seat.Seat.{Seat}
-use Rattle.world.specs.World.{World, Move, IsRun, after_all}
-use Rattle.world.specs.Agreement.{is_posted, posted_from, IsGoodForget, IsAnswered, Matches, MovesOn, move_of, moves_in_turn, moves_of}
-use Rattle.world.specs.State.{State, fault}
-use Rattle.world.specs.Step.{Makes, Refuses, TakesMemory, OnceBy, Once, is_made, IfMade, Carries, events_of_do, parts_of, Step}
+use Rattle.fuse_wire.specs.Ask.{is_ask}
+use Rattle.fuse_wire.specs.declared.ask.Request.{Request}
+use Rattle.world.specs.State.{State}
+use Rattle.world.specs.Step.{Once, Carries, IfMade, is_made, Step, parts_of, events_of_do}
 use Rattle.world.specs.declared.event.Event.{Event}
-use Rattle.world.specs.declared.event.Event.TheVariants.{Start, Mount, Issue, Take, Work, Post, Deliver, Do, Show}
+use Rattle.world.specs.declared.event.Event.TheVariants.{Issue, Take, Work, Post, Deliver, Do}
 use Rattle.world.specs.declared.outcome.Happened.{Happened}
-use Rattle.world.specs.declared.outcome.Happened.TheVariants as happened
-use Rattle.world.specs.declared.outcome.Refusal.{Refusal}
-use Rattle.world.specs.declared.outcome.Refusal.TheVariants as refusal
-use Rattle.world.proofs.Events.{once-moved}
-use Rattle.world.proofs.Moving.{MovesBy}
-use Rattle.world.proofs.Runs.{run-append, after_all-append, answered-after_all}
 
--- ---- the seat
+-- the first is refused
+Carries-stop : (old : State) (event : Event) (events : List Event) (told : Happened) (new : State) → Once old event told new → false ≡ is_made told →
+    Carries old (event ∷ events) (told ∷ []) new
+Carries-stop old event events told new once refused =
+    (new, once, subst (λ (b : Bool). IfMade b (Carries new events [] new) ((◌≡◌ {A = List Happened} [] []) × (new ≡ new))) refused (refl, refl))
 
--- all events but a mount leave the seat
-abbrev pub KeepsSeat : Event → Type 0
-KeepsSeat (Mount daemon) = ⊥
-KeepsSeat event = Unit {0}
+-- the first is made
+Carries-go : (old : State) (event : Event) (events : List Event) (told : Happened) (between : State) (rest : List Happened) (new : State) →
+    Once old event told between → true ≡ is_made told → Carries between events rest new → Carries old (event ∷ events) (told ∷ rest) new
+Carries-go old event events told between rest new once made later =
+    (between, once, subst (λ (b : Bool). IfMade b (Carries between events rest new) ((rest ≡ []) × (new ≡ between))) made later)
 
-issued-seat : (broker : BrokerState) (request : Request) (b : Bool) (o : Option Item) → (if b then asked broker request else option_map_or (forgot broker) o broker).seat ≡ broker.seat
-issued-seat broker request true o = refl
-issued-seat broker request false None = refl
-issued-seat broker request false (Some item) = refl
+-- one event alone
+Carries-one : (old : State) (event : Event) (told : Happened) (new : State) → Once old event told new → Carries old (event ∷ []) (told ∷ []) new
+Carries-one old event told new once = by_made (is_made told) refl where
+  by_made : (b : Bool) → is_made told ≡ b → Carries old (event ∷ []) (told ∷ []) new
+  by_made true made = Carries-go old event [] told new [] new once (sym made) (refl, refl)
+  by_made false refused = Carries-stop old event [] told new once (sym refused)
 
-made-seat : (old : State) (event : Event) (told : Happened) (new : State) → KeepsSeat event → Makes old event told new → new.broker.seat ≡ old.broker.seat
-made-seat old Start told new keeps made = ap (λ (s : State). s.broker.seat) made.1
-made-seat old (Mount daemon) told new keeps made = absurd keeps
-made-seat old (Issue request) told new keeps made = ap (λ (s : State). s.broker.seat) made.1 ∙ issued-seat old.broker request (is_ask request) (item_of request)
-made-seat old (Take daemon) told new keeps made = ap (λ (s : State). s.broker.seat) made.makes
-made-seat old (Work daemon place fails) told new keeps made = ap (λ (s : State). s.broker.seat) made.makes
-made-seat old (Post daemon place) told new keeps made = ap (λ (s : State). s.broker.seat) made.makes
-made-seat old Deliver told new keeps made = ap (λ (s : State). s.broker.seat) made.makes
-made-seat old event told new keeps made = absurd made
+-- an event that is no `do`
+pub Step-alone : (old : State) (event : Event) (told : Happened) (outcome : List Happened) (new : State) → parts_of old.broker.seat event ≡ event ∷ [] →
+    Once old event told new → outcome ≡ told ∷ [] → Step old event outcome new
+Step-alone old event told outcome new parts once one =
+    subst (λ (es : List Event). Carries old es outcome new) (sym parts) (subst (λ (os : List Happened). Carries old (event ∷ []) os new) (sym one) (Carries-one old event told new once))
 
-once-seat : (old : State) (event : Event) (told : Happened) (new : State) → KeepsSeat event → Once old event told new → new.broker.seat ≡ old.broker.seat
-once-seat old event told new keeps once = in_ (fault old event) once where
-  in_ : (f : Option Refusal) → OnceBy old event f told new → new.broker.seat ≡ old.broker.seat
-  in_ (Some r) s = ap (λ (x : State). x.broker.seat) s.1
-  in_ None (inl made) = made-seat old event told new keeps made
-  in_ None (inr lacks) = ap (λ (x : State). x.broker.seat) lacks.1.1
+-- so far all were made, and what comes of the others completes it
+abbrev pub Goes : State → List Event → List Happened → State → List Event → Type 0
+Goes old events told now rest = (outcome : List Happened) (new : State) → Carries now rest outcome new → Carries old events (told ++ outcome) new
 
--- no event of a list but the last is a mount
-abbrev pub StaysSeated : List Event → Type 0
-StaysSeated [] = Unit {0}
-StaysSeated (event ∷ []) = Unit {0}
-StaysSeated (event ∷ next ∷ events) = KeepsSeat event × StaysSeated (next ∷ events)
+-- nothing happened yet
+pub goes-nothing : (old : State) (events : List Event) (told : List Happened) → told ≡ [] → Goes old events told old events
+goes-nothing old events told none = λ outcome new h. subst (λ (os : List Happened). Carries old events (os ++ outcome) new) (sym none) h
 
--- ---- one after another
+-- one more was made
+pub goes-on : (old : State) (events : List Event) (before after : List Happened) (between : State) (event : Event) (told : Happened) (next : State) (rest : List Event) →
+    Goes old events before between (event ∷ rest) → Once between event told next → after ≡ before ++ told ∷ [] → true ≡ is_made told → Goes old events after next rest
+goes-on old events before after between event told next rest goes once added made = λ outcome new h.
+    let longer : before ++ told ∷ outcome ≡ after ++ outcome = sym (append_assoc before (told ∷ []) outcome) ∙ ap (λ (os : List Happened). os ++ outcome) (sym added) in
+    subst (λ (os : List Happened). Carries old events os new) longer (goes (told ∷ outcome) new (Carries-go between event rest told next outcome new once made h))
 
--- what events did
-pub record Carried (w : World) (old : State) (events : List Event) (outcome : List Happened) (new : State) : Type 0 where
-  pub run : IsRun w (moves_in_turn events outcome)
-  pub matches : Matches (after_all w (moves_in_turn events outcome)) new
-  pub forgets : AllByRecursion IsGoodForget outcome
-  pub answered : list_any is_posted outcome ≡ true → IsAnswered (after_all w (moves_in_turn events outcome)) old.broker.seat
+-- one was refused
+pub goes-stop : (old : State) (events : List Event) (before after : List Happened) (between : State) (event : Event) (told : Happened) (next : State) (rest : List Event) →
+    Goes old events before between (event ∷ rest) → Once between event told next → after ≡ before ++ told ∷ [] → false ≡ is_made told → Carries old events after next
+goes-stop old events before after between event told next rest goes once added refused =
+    subst (λ (os : List Happened). Carries old events os next) (sym added) (goes (told ∷ []) next (Carries-stop between event rest told next once refused))
 
-or_in : (b c : Bool) → (b || c) ≡ true → (b ≡ true) ⊎ (c ≡ true)
-or_in true c e = inl refl
-or_in false c e = inr e
+-- the last was made or refused
+pub goes-last : (old : State) (events : List Event) (before after : List Happened) (between : State) (event : Event) (told : Happened) (next : State) →
+    Goes old events before between (event ∷ []) → Once between event told next → after ≡ before ++ told ∷ [] → Carries old events after next
+goes-last old events before after between event told next goes once added =
+    subst (λ (os : List Happened). Carries old events os next) (sym added) (goes (told ∷ []) next (Carries-one between event told next once))
 
--- one event, and then the others
-carried-on : (w : World) (old between : State) (event : Event) (events : List Event) (told : Happened) (rest : List Happened) (new : State) → MovesBy w (move_of event told) old told between →
-    Carried (after_all w (move_of event told)) between events rest new → (list_any is_posted rest ≡ true → between.broker.seat ≡ old.broker.seat) → Carried w old (event ∷ events) (told ∷ rest) new
-carried-on w old between event events told rest new one more seat = record {
-  run = run-append w (move_of event told) (moves_in_turn events rest) one.run more.run;
-  matches = subst (λ (x : World). Matches x new) (sym joined) more.matches;
-  forgets = (one.forget, more.forgets);
-  answered = λ e. subst (λ (x : World). IsAnswered x old.broker.seat) (sym joined) (answered_in (or_in (is_posted told) (list_any is_posted rest) e));
-} where
-  joined : after_all w (move_of event told ++ moves_in_turn events rest) ≡ after_all (after_all w (move_of event told)) (moves_in_turn events rest)
-  joined = after_all-append w (move_of event told) (moves_in_turn events rest)
+-- all were made
+pub goes-end : (old : State) (events : List Event) (told : List Happened) (now : State) → Goes old events told now [] → Carries old events told now
+goes-end old events told now goes = subst (λ (os : List Happened). Carries old events os now) (append-nil told) (goes [] now (refl, refl))
 
-  answered_in : (is_posted told ≡ true) ⊎ (list_any is_posted rest ≡ true) → IsAnswered (after_all (after_all w (move_of event told)) (moves_in_turn events rest)) old.broker.seat
-  answered_in (inl e) = answered-after_all (after_all w (move_of event told)) (moves_in_turn events rest) old.broker.seat (one.answered e)
-  answered_in (inr e) = subst (λ (o : Option Seat). IsAnswered (after_all (after_all w (move_of event told)) (moves_in_turn events rest)) o) (seat e) (more.answered e)
+-- a `do` by its seat
+pub Step-do : (old start : State) (seat : Option Seat) (request : Request) (outcome : List Happened) (new : State) → start ≡ old → start.broker.seat ≡ seat →
+    Carries start (events_of_do seat request) outcome new → Step old (Do request) outcome new
+Step-do old start seat request outcome new same has h =
+    subst (λ (s : State). Step s (Do request) outcome new) same
+    (subst (λ (o : Option Seat). Carries start (events_of_do o request) outcome new) (sym has) h)
 
--- nothing more happened
-carried-none : (w : World) (old new : State) (events : List Event) (rest : List Happened) → Matches w old → rest ≡ [] → new ≡ old → Carried w old events rest new
-carried-none w old new events rest m none same = subst (λ (r : List Happened). Carried w old events r new) (sym none) (record {
-  run = subst (λ (ms : List Move). IsRun w ms) (sym (no_moves events)) tt;
-  matches = subst (λ (ms : List Move). Matches (after_all w ms) new) (sym (no_moves events)) (subst (λ (s : State). Matches w s) (sym same) m);
-  forgets = tt;
-  answered = λ e. absurd (let x : ⊥ = cc in x);
-}) where
-  no_moves : (es : List Event) → moves_in_turn es [] ≡ []
-  no_moves [] = refl
-  no_moves (e ∷ es) = refl
+-- a `do` whose request was not issued
+refused-by : (old : State) (seat : Option Seat) (request : Request) (told : Happened) (new : State) → Once old (Issue request) told new → false ≡ is_made told →
+    Carries old (events_of_do seat request) (told ∷ []) new
+refused-by old None request told new once refused = Carries-stop old (Issue request) [] told new once refused
+refused-by old (Some seat) request told new once refused = Carries-stop old (Issue request) (Take seat.daemon ∷ Work seat.daemon 1 false ∷ (if is_ask request then Post seat.daemon 1 ∷ Deliver ∷ [] else [])) told new once refused
 
-stays-behind : (event : Event) (events : List Event) → StaysSeated (event ∷ events) → StaysSeated events
-stays-behind event [] stays = tt
-stays-behind event (next ∷ events) stays = stays.1
-
-pub carries-moved : (w : World) (old : State) (events : List Event) (outcome : List Happened) (new : State) → Matches w old → StaysSeated events → Carries old events outcome new → Carried w old events outcome new
-carries-moved w old [] outcome new m stays (none, same) = carried-none w old new [] outcome m none same
-carries-moved w old (event ∷ events) [] new m stays carries = absurd carries
-carries-moved w old (event ∷ events) (told ∷ rest) new m stays (between, once, goes) =
-    let one = once-moved w old event told between m once in
-    in_ (is_made told) one goes (λ more. carries-moved (after_all w (move_of event told)) between events rest new one.matches (stays-behind event events stays) more) where
-      seat_in : (es : List Event) → es ≡ events → StaysSeated (event ∷ es) → Carries between es rest new → list_any is_posted rest ≡ true → between.broker.seat ≡ old.broker.seat
-      seat_in [] e s c posted = absurd (let p : list_any is_posted [] ≡ true = subst (λ (r : List Happened). list_any is_posted r ≡ true) c.0 posted in let x : ⊥ = cc in x)
-      seat_in (next ∷ es) e s c posted = once-seat old event told between s.0 once
-
-      in_ : (b : Bool) → MovesBy w (move_of event told) old told between → IfMade b (Carries between events rest new) ((rest ≡ []) × (new ≡ between)) →
-          (Carries between events rest new → Carried (after_all w (move_of event told)) between events rest new) → Carried w old (event ∷ events) (told ∷ rest) new
-      in_ true one goes more = carried-on w old between event events told rest new one (more goes) (λ p. seat_in events refl stays goes p)
-      in_ false one (none, same) more = carried-on w old between event events told rest new one (carried-none (after_all w (move_of event told)) between new events rest one.matches none same)
-          (λ p. absurd (let q : list_any is_posted [] ≡ true = subst (λ (r : List Happened). list_any is_posted r ≡ true) none p in let x : ⊥ = cc in x))
-
--- ---- every event
-
-stays-do : (seat : Option Seat) (request : Request) → StaysSeated (events_of_do seat request)
-stays-do None request = tt
-stays-do (Some seat) request = in_ (is_ask request) where
-  in_ : (b : Bool) → StaysSeated (Issue request ∷ Take seat.daemon ∷ Work seat.daemon 1 false ∷ (if b then Post seat.daemon 1 ∷ Deliver ∷ [] else []))
-  in_ true = (tt, (tt, (tt, (tt, tt))))
-  in_ false = (tt, (tt, tt))
-
-stays-parts : (seat : Option Seat) (event : Event) → StaysSeated (parts_of seat event)
-stays-parts seat Start = tt
-stays-parts seat (Mount daemon) = tt
-stays-parts seat (Issue request) = tt
-stays-parts seat (Take daemon) = tt
-stays-parts seat (Work daemon place fails) = tt
-stays-parts seat (Post daemon place) = tt
-stays-parts seat Deliver = tt
-stays-parts seat (Do request) = stays-do seat request
-stays-parts seat Show = tt
-
--- Every event, made or refused, is moves that may happen in the world, and the state matches the world after them.
-pub step-matched : (w : World) (old : State) (event : Event) (outcome : List Happened) (new : State) → Matches w old → Step old event outcome new → MovesOn w old event outcome new
-step-matched w old event outcome new m step = record {
-  run = subst (λ (ms : List Move). IsRun w ms) (sym moves) carried.run;
-  matches = subst (λ (ms : List Move). Matches (after_all w ms) new) (sym moves) carried.matches;
-  forgets = carried.forgets;
-  answered = subst (λ (ms : List Move). IsAnswered (after_all w ms) (posted_from old outcome)) (sym moves) (answered_in (list_any is_posted outcome) refl);
-} where
-  moves : moves_of w event outcome ≡ moves_in_turn (parts_of old.broker.seat event) outcome
-  moves = ap (λ (o : Option Seat). moves_in_turn (parts_of o event) outcome) (m.books).seat
-
-  carried : Carried w old (parts_of old.broker.seat event) outcome new
-  carried = carries-moved w old (parts_of old.broker.seat event) outcome new m (stays-parts old.broker.seat event) step
-
-  answered_in : (b : Bool) → list_any is_posted outcome ≡ b → IsAnswered (after_all w (moves_in_turn (parts_of old.broker.seat event) outcome)) (if b then old.broker.seat else None)
-  answered_in true e = carried.answered e
-  answered_in false e = tt
+pub Step-do-refused : (old start : State) (request : Request) (told : Happened) (outcome : List Happened) (new : State) → start ≡ old → Once start (Issue request) told new → false ≡ is_made told →
+    outcome ≡ told ∷ [] → Step old (Do request) outcome new
+Step-do-refused old start request told outcome new same once refused one =
+    Step-do old start start.broker.seat request outcome new same refl
+    (subst (λ (os : List Happened). Carries start (events_of_do start.broker.seat request) os new) (sym one) (refused-by start start.broker.seat request told new once refused))

@@ -1,3 +1,4 @@
+pub mod Carrying
 pub mod StepLemmas
 pub mod ServingLemmas
 pub mod DaemonWrites
@@ -20,6 +21,6 @@ mod Issuing
 mod Taking
 mod Working
 mod Events
-pub mod Carrying
+pub mod InTurn
 pub mod WholeRun
 pub mod LawProofs

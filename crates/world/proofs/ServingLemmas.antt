@@ -2,10 +2,11 @@
 use Rattle.std.proofs.Common.{◌≡◌, ℕ, suc, zero, ◌+◌, ◌-◌, ◌<◌, Bool, List, [], ◌∷◌, ◌++◌, length, Option, Some, None, get_or, refl, sym, ap, ◌∙◌, subst, inl, inr, arith}
 use Rattle.std.proofs.lemmas.List.{append-nil, map-append, take_more}
 use Rattle.std.proofs.lemmas.Option.{slice_get_read}
-use Rattle.std.specs.Prelude.{slice_get, remove, map, take, ◌≢◌, false}
+use Rattle.std.specs.Prelude.{slice_get, remove, map, take, ◌≢◌, true, false, ◌||◌, is_some, if◌then◌else◌}
+use Rattle.std.specs.List.{AllByRecursion}
 use Rattle.eden_base.specs.declared.number.DaemonId.{DaemonId}
 use Rattle.eden_base.specs.declared.errno.Errno.TheVariants.{EIO}
-use Rattle.fuse_wire.specs.Ask.{item_of}
+use Rattle.fuse_wire.specs.Ask.{is_ask, item_of, items_of}
 use Rattle.fuse_wire.specs.declared.ask.Ask.{Ask}
 use Rattle.fuse_wire.specs.declared.item.Item.{Item}
 use Rattle.fuse_wire.specs.declared.reply.Answer.{Answer}
@@ -13,7 +14,7 @@ use Rattle.fuse_wire.specs.declared.reply.Answer.TheVariants.{Error}
 use Rattle.fuse_ops.specs.Served.{ServedState, Replay}
 use Rattle.fuse_wire.specs.declared.reply.Reply.{Reply}
 use Rattle.broker_core.specs.Broker.{BrokerState, post_fault}
-use Rattle.world.specs.Server.{ServerState, at_place, without_place, single, told_item}
+use Rattle.world.specs.Server.{ServerState, at_place, without_place, single, is_single, handed, told_item}
 use Rattle.world.specs.Serving.{IsIndex, HasNone, Stays, Keeps, WorksBy, WorksOff, PostsBy, PostsReply}
 use Rattle.world.specs.declared.outcome.Happened.{Happened}
 use Rattle.world.specs.declared.outcome.Happened.TheVariants.{Refused, Made}
@@ -68,9 +69,9 @@ PostsBy-some s n broker left d place index reply told at read posts =
 -- ---- what was worked
 
 -- a daemon's fields after a work
-worked-fields : (old : ServerState) (later : ServedState) (hand now : List Ask) (unposted then : List Reply) → hand ≡ now → unposted ≡ then →
-    record old { served = later; hand = hand; unposted = unposted } ≡ record old { served = later; hand = now; unposted = then }
-worked-fields old later hand now unposted then e f =
+worked-fields : (old : ServerState) (later : ServedState) (hand now : List Ask) (unposted last : List Reply) → hand ≡ now → unposted ≡ last →
+    record old { served = later; hand = hand; unposted = unposted } ≡ record old { served = later; hand = now; unposted = last }
+worked-fields old later hand now unposted last e f =
     ap (λ (h : List Ask). record old { served = later; hand = h; unposted = unposted }) e ∙ ap (λ (u : List Reply). record old { served = later; hand = now; unposted = u }) f
 
 -- a request without an answer
@@ -103,3 +104,27 @@ WorksOff-answers old count place index fails task answer given later hand before
 -- one item more, each by itself
 pub singles-more : (items : List Item) (i : ℕ) (d : Item) → i < length items → map single (take (i + 1) items) ≡ map single (take i items) ++ single (get_or items i d) ∷ []
 singles-more items i d within = ap (map single) (take_more items i d within) ∙ map-append single (take i items) (get_or items i d ∷ [])
+
+-- ---- what is in hand
+
+-- items by themselves
+singles : (items : List Item) → AllByRecursion (λ task. is_single task ≡ true) (map single items)
+singles [] = tt
+singles (item ∷ items) = (refl, singles items)
+
+-- what a take brings
+handed-single : (ask : Ask) → AllByRecursion (λ task. is_single task ≡ true) (handed ask)
+handed-single ask = by_kind (is_ask ask.what) refl where
+  by_kind : (b : Bool) → is_ask ask.what ≡ b → AllByRecursion (λ task. is_single task ≡ true) (if b then ask ∷ [] else map single (items_of ask.what))
+  by_kind true asks = (ap (λ (b : Bool). b || is_some (item_of ask.what)) asks, tt)
+  by_kind false forgets = singles (items_of ask.what)
+
+both-single : (xs ys : List Ask) → AllByRecursion (λ task. is_single task ≡ true) xs → AllByRecursion (λ task. is_single task ≡ true) ys → AllByRecursion (λ task. is_single task ≡ true) (xs ++ ys)
+both-single [] ys h k = k
+both-single (x ∷ xs) ys h k = (h.0, both-single xs ys h.1 k)
+
+-- a hand after a take
+pub hand-single : (old before new : List Ask) (ask : Ask) → before ≡ old → new ≡ before ++ handed ask → AllByRecursion (λ task. is_single task ≡ true) old →
+    AllByRecursion (λ task. is_single task ≡ true) new
+hand-single old before new ask same put single_before =
+    subst (AllByRecursion (λ task. is_single task ≡ true)) (sym (put ∙ ap (λ (xs : List Ask). xs ++ handed ask) same)) (both-single old (handed ask) single_before (handed-single ask))

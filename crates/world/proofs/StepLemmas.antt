@@ -13,7 +13,7 @@ use Rattle.fuse_ops.specs.Served.{ServedState, new_served}
 use Rattle.world.specs.Server.{ServerState, new_server, at_place}
 use Rattle.world.specs.Serving.{is_waiting, beginning, IsIndex, ChangesAt, Stays, Keeps, TakesBy, WorksBy, PostsBy, PostsReply, DaemonTakes, DaemonWorks, DaemonPosts}
 use Rattle.world.specs.State.{State, daemon_of, with_daemon, fault, mount_refusal, refusal_of_mount, take_refusal, work_refusal, post_refusal, reply_refusal, refusal_of_take, refusal_of_post}
-use Rattle.world.specs.Step.{Refuses, Makes, TakesMemory, Once, OnceBy, Carries, is_made, Step, Steps, Takes, Works, Posts}
+use Rattle.world.specs.Step.{Refuses, Makes, TakesMemory, Once, OnceBy, Step, Steps, Takes, Works, Posts}
 use Rattle.world.specs.declared.daemon.Daemon.{Daemon}
 use Rattle.world.specs.declared.daemon.Daemon.TheVariants.{Waiting, Serving}
 use Rattle.world.specs.declared.event.Event.{Event}
@@ -54,7 +54,7 @@ refuses : (old : State) (index : ℕ) (was later : Daemon) (left : BrokerState) 
 refuses old index was later left daemons refusal told there makes tells same broker =
     let back : daemons ≡ old.daemons = makes ∙ ap (λ (d : Daemon). set old.daemons index d) same ∙ set-there old.daemons index was there in
     let all : record old { broker = left; daemons = daemons } ≡ old =
-        ap (λ (b : BrokerState). record old { broker = b; daemons = daemons }) broker ∙ ap (λ (ds : List Daemon). record old { daemons = ds }) back in
+    ap (λ (b : BrokerState). record old { broker = b; daemons = daemons }) broker ∙ ap (λ (ds : List Daemon). record old { daemons = ds }) back in
     (tells, all)
 
 -- a daemon that changed, by its number
@@ -63,7 +63,7 @@ changes : (old : State) (d : DaemonId) (index : ℕ) (left now : BrokerState) (d
     record old { broker = left; daemons = daemons } ≡ with_daemon (record old { broker = now }) d is
 changes old d index left now daemons later is at makes same broker =
     let written : daemons ≡ set old.daemons (d.0 - 1) is =
-        makes ∙ ap (λ (x : Daemon). set old.daemons index x) same ∙ ap (λ (i : ℕ). set old.daemons i is) at.is in
+    makes ∙ ap (λ (x : Daemon). set old.daemons index x) same ∙ ap (λ (i : ℕ). set old.daemons i is) at.is in
     ap (λ (b : BrokerState). record old { broker = b; daemons = daemons }) broker ∙ ap (λ (ds : List Daemon). record old { broker = now; daemons = ds }) written
 
 -- the daemon of a number stands at its index
@@ -204,32 +204,11 @@ pub Once-mounts : (old : State) (d : DaemonId) (index : ℕ) (server : ServerSta
 Once-mounts old d index server broker generation served at there fine begins new next broke =
     let told : happened.Mounted generation ≡ happened.Mounted (old.broker.last + 1) = ap happened.Mounted next in
     let is : Serving server ≡ Serving (new_server old.manifest old.limit (old.broker.last + 1)) =
-        ap Serving (begins ∙ ap (λ (g : ℕ). beginning g served) next ∙ ap (beginning (old.broker.last + 1)) new) in
+    ap Serving (begins ∙ ap (λ (g : ℕ). beginning g served) next ∙ ap (beginning (old.broker.last + 1)) new) in
     let waits : mount_refusal old (daemon_of old d) ≡ None =
-        ap (mount_refusal old) (daemon-there old d index Waiting at there) ∙ ap (option_map refusal_of_mount) fine in
+    ap (mount_refusal old) (daemon-there old d index Waiting at there) ∙ ap (option_map refusal_of_mount) fine in
     Once-makes old (Mount d) (happened.Mounted generation) _ waits
     (told, changes old d index broker (mounted old.broker d) (set old.daemons index (Serving server)) (Serving server) _ at refl is broke)
-
--- ---- one after another
-
--- the first is refused
-pub Carries-stop : (old : State) (event : Event) (events : List Event) (told : Happened) (new : State) → Once old event told new → is_made told ≡ false →
-    Carries old (event ∷ events) (told ∷ []) new
-Carries-stop old event events told new once refused =
-    (new, once, subst (λ (b : Bool). if b then Carries new events [] new else (([] ≡ []) × (new ≡ new))) (sym refused) (refl, refl))
-
--- the first is made
-pub Carries-go : (old : State) (event : Event) (events : List Event) (told : Happened) (between : State) (rest : List Happened) (new : State) →
-    Once old event told between → is_made told ≡ true → Carries between events rest new → Carries old (event ∷ events) (told ∷ rest) new
-Carries-go old event events told between rest new once made later =
-    (between, once, subst (λ (b : Bool). if b then Carries between events rest new else ((rest ≡ []) × (new ≡ between))) (sym made) later)
-
--- one event alone
-pub Carries-one : (old : State) (event : Event) (told : Happened) (new : State) → Once old event told new → Carries old (event ∷ []) (told ∷ []) new
-Carries-one old event told new once = by_made (is_made told) refl where
-  by_made : (b : Bool) → is_made told ≡ b → Carries old (event ∷ []) (told ∷ []) new
-  by_made true made = Carries-go old event [] told new [] new once made (refl, refl)
-  by_made false refused = Carries-stop old event [] told new once refused
 
 -- one more event
 pub Steps-more : (first : State) (events : List Event) (outcomes : List (List Happened)) (between : State) (event : Event) (outcome : List Happened) (last : State) →

@@ -15,7 +15,7 @@ use Rattle.world.specs.World.{World, first_world, IsRun, after_all}
 use Rattle.world.specs.Agreement.{Agrees, CountsAreOwed, NumbersNameTheirFirstFile, Matches, IsGoodForget, IsAnswered, posted_from, posters, moves_of, all_moves}
 use Rattle.world.specs.declared.event.Event.{Event}
 use Rattle.world.specs.declared.outcome.Happened.{Happened}
-use Rattle.world.proofs.Carrying.{step-matched}
+use Rattle.world.proofs.InTurn.{step-matched}
 use Rattle.world.proofs.Daemons.{holder-is}
 use Rattle.world.proofs.Runs.{run-append, after_all-append, answered-after_all}
 

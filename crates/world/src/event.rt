@@ -20,7 +20,10 @@ pub enum Event {
         fails: bool,
     },
     /// The reply at a place of those that the daemon did not post yet waits for the kernel.
-    Post { daemon: DaemonId, place: u64 },
+    Post {
+        daemon: DaemonId,
+        place: u64,
+    },
     /// The reply that was posted first reaches the kernel.
     Deliver,
     /// The request is issued; what waits first is taken, and the first of the hand worked, by the daemon that serves;

@@ -45,7 +45,6 @@ impl Model for World {
       broker = w.broker;
       daemons = w.daemons.items;
     } };
-
 }
 
 impl World {
@@ -168,7 +167,9 @@ impl World {
             return Happened::Refused(Refusal::NoMemory);
         };
         let generation = self.broker.mount(daemon);
-        self.daemons[index] = Daemon::Serving(Server::new(self.alloc, generation, manifest, served));
+        self.daemons[index] = Daemon::Serving(Server::new(
+            self.alloc, generation, manifest, served,
+        ));
         Happened::Mounted(generation)
     }
 

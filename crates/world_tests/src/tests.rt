@@ -417,10 +417,7 @@ fn refuses_events_for_the_first_cause(rt: HostRuntime) -> Result<(), Fail> {
         (Deed::Mount(2), mounted(1)),
         (Deed::Mount(1), refused(Refusal::Seated)),
         (Deed::Mount(2), refused(Refusal::WrongPhase)),
-        (
-            Deed::Do(Wish::LookUp(2, b"a")),
-            refused(Refusal::NotHeld),
-        ),
+        (Deed::Do(Wish::LookUp(2, b"a")), refused(Refusal::NotHeld)),
         (Deed::Do(Wish::Forget(1, 1)), refused(Refusal::BadForget)),
         (Deed::Do(Wish::Forget(2, 1)), refused(Refusal::BadForget)),
     ];
@@ -556,10 +553,7 @@ fn does_what_waits_first(rt: HostRuntime) -> Result<(), Fail> {
         (Deed::Take(1), one(Happened::TookForgets(1))),
         (Deed::Deliver, refused(Refusal::Empty)),
         (Deed::Post(1, 1), one(Happened::Posted(2))),
-        (
-            Deed::Deliver,
-            delivered(2, Answer::Error(Errno::ENOENT)),
-        ),
+        (Deed::Deliver, delivered(2, Answer::Error(Errno::ENOENT))),
         (Deed::Do(LOOK_UP_SRC), stopped()),
     ];
     let world = after(rt.alloc(), &deeds)?;

@@ -30,7 +30,12 @@ fn choices(alloc: Global) -> Result<[Event; CHOICES], Fail> {
 
 /// Returns how often a choice was made before this event.
 fn times(order: &Order, at: usize, choice: usize) -> usize {
-    order.made.iter().take(at).filter(|made| **made == choice).count()
+    order
+        .made
+        .iter()
+        .take(at)
+        .filter(|made| **made == choice)
+        .count()
 }
 
 /// Returns whether a choice is open: the kernel asks twice and forgets once, and all else needs something to hand on.

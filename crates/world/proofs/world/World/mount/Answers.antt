@@ -22,5 +22,5 @@ returns c =
           (Once-mounts old c.args.daemon c.in-Some.index c.new-2.result c.mount-generation.new.self c.mount-generation.result c.in-Ok.served at
           (waits-read old.daemons c.in-Some.index c.index.result.now at.within c.if-not-is_waiting.ensures.waiting c.index.ensures)
           (sym c.mount_refusal.ensures.fault ∙ none-unless c.mount_refusal.result c.in_default-mount_refusal.not-Some)
-          c.new-2.ensures c.in-Ok.ensures.new c.mount-generation.ensures.generation c.mount-generation.ensures.mounted);
+          c.new-2.ensures.new c.in-Ok.ensures.new c.mount-generation.ensures.generation c.mount-generation.ensures.mounted);
     }

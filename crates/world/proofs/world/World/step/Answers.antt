@@ -1,5 +1,5 @@
 -- One event is moves that may happen in each world that the state matches.
-use Rattle.world.proofs.Carrying.{step-matched}
+use Rattle.world.proofs.InTurn.{step-matched}
 use Rattle.world.proofs.world.World.step.Goals as goal
 
 pub returns-clause-moves_on : goal.returns-clause-moves_on
