@@ -1,16 +1,16 @@
 //! Whether an image is one that has a text.
-ghost use Rattle.std.specs.Prelude.{All, ◌≡◌, ◌↔◌, ◌<◌, IsTrue, None, length};
-ghost use Rattle.std.specs.List.{list_any};
-ghost use Rattle.inode_map.specs.InodeMap.{is_in, is_kid_of, is_of_use};
+ghost use Rattle.std.specs.Prelude.{All, ◌≡◌, ◌↔◌, IfOk, IsTrue, None};
 ghost use Rattle.inode_map.specs.EntryPlaces.{HasName, IsNamedEntry};
 ghost use Rattle.map_codec.specs.Fit.{rises, entry_follows, made_follows, link_follows, IsFit, IsNamedLink};
-ghost use Rattle.map_codec.specs.ImageReading.{are_of_use, last_of};
+ghost use Rattle.map_codec.specs.ImageReading.{last_of};
 
 use crate::Image;
 use crate::member_reader::{is_next_file, is_next_number, is_next_place};
+use crate::usage::are_of_use;
 use checkout::{LinkChange, Made};
-use eden_base::{Number, Place};
+use eden_base::{NoMemory, Place};
 use inode_map::Kept;
+use std::alloc::Global;
 
 /// Returns whether an entry may follow others. Its name, where it has one, is a name.
 fn entry_follows(done: &[Kept], kept: &Kept) -> bool
@@ -72,46 +72,21 @@ fn links_rise(links: &[LinkChange]) -> bool
     true
 }
 
-/// Returns whether a place is a name in the directory of a number.
-fn is_in(number: Number, place: &Place) -> bool
-    ensures { result ≡ is_in number.0 place.now }
-{
-    match place {
-        Place::Linked { parent, .. } => parent.0 == number.0,
-        Place::Unlinked { .. } => false,
-    }
-}
-
-/// Returns whether an entry stands in the directory of a number.
-fn has_kid(entries: &[Kept], number: Number) -> bool
-    ensures { result ≡ list_any (is_kid_of number.0) entries.now }
-{
-    entries.iter().any(|kept| is_in(number, &kept.place))
-}
-
-/// Returns whether an entry is of use among others.
-fn is_of_use(entries: &[Kept], kept: &Kept) -> bool
-    ensures { result ≡ is_of_use entries.now kept.now }
-{
-    kept.count > 0 || has_kid(entries, kept.number)
-}
-
-/// Returns whether each entry is of use.
-fn are_of_use(entries: &[Kept]) -> bool
-    ensures { result ≡ are_of_use entries.now }
-{
-    entries.iter().all(|kept| is_of_use(entries, kept))
-}
-
 impl Image {
-    /// Returns whether the image has a text, how large its counts and how long its lists are apart. It takes no memory,
-    /// and for that goes over all entries once for each with count 0.
-    pub fn is_fit(&self) -> bool
-        ensures fit { IsTrue result ↔ IsFit self.now }
+    /// Returns whether the image has a text, how large its counts and how long its lists are apart. It takes memory for
+    /// the directories in which entries stand, which it sorts.
+    pub fn is_fit(&self, alloc: Global) -> Result<bool, NoMemory>
+        ensures fit { IfOk result (λ fit. IsTrue fit ↔ IsFit self.now) }
     {
-        entries_rise(self.entries.as_slice())
-            && made_rise(self.changes.made.as_slice())
-            && links_rise(self.changes.links.as_slice())
-            && are_of_use(self.entries.as_slice())
+        if !entries_rise(self.entries.as_slice()) {
+            return Ok(false);
+        }
+        if !made_rise(self.changes.made.as_slice()) {
+            return Ok(false);
+        }
+        if !links_rise(self.changes.links.as_slice()) {
+            return Ok(false);
+        }
+        are_of_use(alloc, self.entries.as_slice())
     }
 }

@@ -311,7 +311,7 @@ fn refuses_a_count_of_33_bits(rt: HostRuntime) -> Result<(), Fail> {
         first.count = 1 << 32;
     }
     image.entries = Entries::of(kept);
-    if !image.is_fit() {
+    if !image.is_fit(alloc)? {
         panic!(rt; "a count is no part of being fit");
     }
     assert!(rt; matches!(text_of(alloc, &image, 1), Err(WriteFault::CountTooLarge)));
