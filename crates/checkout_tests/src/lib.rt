@@ -4,6 +4,10 @@
 #[cfg(test)]
 mod change_tests;
 #[cfg(test)]
+mod deeds;
+#[cfg(test)]
 mod tests;
+#[cfg(test)]
+mod tree_tests;
 #[cfg(test)]
 mod with_changes_tests;

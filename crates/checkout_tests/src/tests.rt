@@ -1,11 +1,8 @@
 //! What a small manifest says, and the first fault of lines that are none.
-use checkout::{
-    Backing, CreateFault, Line, Manifest, ManifestBacking, ManifestFault, ManifestFaultKind, Tree,
-};
-use eden_base::{FileId, Kind, Name, Number, Perm};
+use crate::deeds::{Deed, all_go_so};
+use checkout::{Backing, Line, Manifest, ManifestBacking, ManifestFault, ManifestFaultKind};
+use eden_base::{FileId, Kind, NoMemory};
 use std::alloc::{AllocError, Global};
-use std::process::Abort;
-use std::test::Fail;
 
 pub const SMALL: &[u8] =
     b"commit 0123456789abcdef0123456789abcdef01234567\ndir src\nfile 0644 12 src/a\nfile 0755 0 src/b\nfile 0644 7 README\n";
@@ -29,20 +26,30 @@ fn joined(alloc: Global, front: &[u8], back: &[u8]) -> Result<Vec<u8>, AllocErro
     Ok(text)
 }
 
-/// Asserts that each of these texts, parted by semicolons, is refused so with an LF after it, below these lines.
-fn each_is(
-    rt: &impl Abort,
-    alloc: Global,
-    above: &[u8],
-    texts: &[u8],
-    fault: ManifestFault,
-) -> Result<(), AllocError> {
-    for line in texts.split(|byte| *byte == b';') {
-        let mut text = joined(alloc, above, line)?;
-        text.push(b'\n')?;
-        assert_eq!(rt; fault_of(alloc, text.as_slice()), Some(fault), "{line:?}");
+/// Returns whether a text with these bytes behind it is refused so, or is a manifest where no fault is said.
+fn is_fault(alloc: Global, front: &[u8], back: &[u8], fault: Option<ManifestFault>) -> bool {
+    match joined(alloc, front, back) {
+        Ok(text) => fault_of(alloc, text.as_slice()) == fault,
+        Err(AllocError) => false,
     }
-    Ok(())
+}
+
+/// Returns whether a line is refused so below these lines, with an LF after it.
+fn is_bad_line(alloc: Global, above: &[u8], line: &[u8], fault: ManifestFault) -> bool {
+    match joined(alloc, above, line) {
+        Ok(text) => is_fault(alloc, text.as_slice(), b"\n".as_slice(), Some(fault)),
+        Err(AllocError) => false,
+    }
+}
+
+/// Returns whether each of these lines, parted by semicolons, is refused so below these lines.
+fn are_bad_lines(alloc: Global, above: &[u8], lines: &[u8], fault: ManifestFault) -> bool {
+    for line in lines.split(|byte| *byte == b';') {
+        if !is_bad_line(alloc, above, line, fault) {
+            return false;
+        }
+    }
+    true
 }
 
 const BAD_LINES: &[u8] = b";dir; dir z;Dir z;link z;commit z;file;file 0644;file 0644 1";
@@ -61,9 +68,9 @@ const NO_PARENTS: &[u8] = b"file 0644 1 x/y;dir a/b;dir a/src;dir README/z;dir s
 const TWICE: &[u8] = b"dir src;dir src/a;file 0644 1 src;file 0644 1 src/b;dir README";
 
 #[test]
-fn tells_the_first_fault_of_a_sixth_line(rt: HostRuntime) -> Result<(), Fail> {
+fn tells_the_first_fault_of_a_sixth_line(rt: HostRuntime) {
     use ManifestFaultKind::{BadLine, BadMode, BadPath, BadSize, NoParent, Twice};
-    for (texts, kind) in [
+    for (lines, kind) in [
         (BAD_LINES, BadLine),
         (BAD_MODES, BadMode),
         (BAD_SIZES, BadSize),
@@ -71,62 +78,64 @@ fn tells_the_first_fault_of_a_sixth_line(rt: HostRuntime) -> Result<(), Fail> {
         (NO_PARENTS, NoParent),
         (TWICE, Twice),
     ] {
-        each_is(
-            &rt,
-            rt.alloc(),
-            SMALL,
-            texts,
-            ManifestFault { line: 6, kind },
-        )?;
+        let fault = ManifestFault { line: 6, kind };
+        assert!(rt; are_bad_lines(rt.alloc(), SMALL, lines, fault));
     }
-    Ok(())
 }
 
 const NO_COMMITS: &[u8] =
     b";commit ;commit 0123456789abcdef0123456789abcdef0123456;commit 0123456789abcdef0123456789abcdef012345678;commit 0123456789abcdefg123456789abcdef01234567;commit 0123456789abcdef0123456789abcdef01234567\r;commit  123456789abcdef0123456789abcdef01234567;Commit 0123456789abcdef0123456789abcdef01234567;dir src";
 
+const NO_COMMIT: ManifestFault = ManifestFault {
+    line: 1,
+    kind: ManifestFaultKind::NoCommit,
+};
+
 #[test]
-fn tells_the_fault_of_a_first_line(rt: HostRuntime) -> Result<(), Fail> {
-    let none = ManifestFault {
-        line: 1,
-        kind: ManifestFaultKind::NoCommit,
-    };
-    each_is(&rt, rt.alloc(), b"".as_slice(), NO_COMMITS, none)?;
-    assert_eq!(rt; fault_of(rt.alloc(), b"".as_slice()), Some(none));
-    Ok(())
+fn tells_the_fault_of_a_first_line(rt: HostRuntime) {
+    let nothing = b"".as_slice();
+    assert!(rt; are_bad_lines(rt.alloc(), nothing, NO_COMMITS, NO_COMMIT));
+    assert!(rt; fault_of(rt.alloc(), nothing) == Some(NO_COMMIT));
+}
+
+/// Returns the fault of a line that is none.
+fn bad_line(line: usize) -> Option<ManifestFault> {
+    let kind = ManifestFaultKind::BadLine;
+    Some(ManifestFault { line, kind })
 }
 
 #[test]
-fn refuses_a_line_that_is_not_ended(rt: HostRuntime) -> Result<(), Fail> {
-    let first = ManifestFault {
-        line: 1,
-        kind: ManifestFaultKind::BadLine,
-    };
+fn refuses_a_line_that_is_not_ended(rt: HostRuntime) {
     let text = b"commit 0123456789abcdef0123456789abcdef01234567".as_slice();
-    assert_eq!(rt; fault_of(rt.alloc(), text), Some(first));
-    let second = ManifestFault {
-        line: 2,
-        kind: ManifestFaultKind::BadLine,
-    };
-    let text = joined(rt.alloc(), HEAD, b"dir z".as_slice())?;
-    assert_eq!(rt; fault_of(rt.alloc(), text.as_slice()), Some(second));
-    Ok(())
+    assert!(rt; fault_of(rt.alloc(), text) == bad_line(1));
+    assert!(rt; is_fault(rt.alloc(), HEAD, b"dir z".as_slice(), bad_line(2)));
 }
 
 const ODD: &[u8] =
     b"file 0644 9223372036854775807 z\nfile 7777 0 a b  c\nfile 0000 0 \xff\x01\xe9\ndir z\r\ndir ...\ndir  \ndir a\ndir a/a\ndir a/a/a\nfile 0644 1 a/a/a/a\n";
 
+/// Returns how many lines a manifest has below its commit.
+fn line_count(alloc: Global, text: &[u8]) -> Option<usize> {
+    match Manifest::read(alloc, text) {
+        Ok(manifest) => Some(manifest.lines().len()),
+        Err(_) => None,
+    }
+}
+
+/// Returns that of a text with these bytes behind it.
+fn joined_count(alloc: Global, front: &[u8], back: &[u8]) -> Option<usize> {
+    let text = joined(alloc, front, back).ok()?;
+    line_count(alloc, text.as_slice())
+}
+
 #[test]
-fn takes_odd_names_and_great_sizes(rt: HostRuntime) -> Result<(), Fail> {
-    let text = joined(rt.alloc(), HEAD, ODD)?;
-    let manifest = Manifest::read(rt.alloc(), text.as_slice())?;
-    assert_eq!(rt; manifest.lines().len(), 10);
-    assert_eq!(rt; fault_of(rt.alloc(), HEAD), None);
-    Ok(())
+fn takes_odd_names_and_great_sizes(rt: HostRuntime) {
+    assert!(rt; joined_count(rt.alloc(), HEAD, ODD) == Some(10));
+    assert!(rt; fault_of(rt.alloc(), HEAD).is_none());
 }
 
 /// The commit of each of these texts.
-const COMMIT: [u8; 20] = [
+pub const COMMIT: [u8; 20] = [
     0x01, 0x23, 0x45, 0x67, 0x89, 0xab, 0xcd, 0xef, 0x01, 0x23, 0x45, 0x67, 0x89, 0xab, 0xcd, 0xef,
     0x01, 0x23, 0x45, 0x67,
 ];
@@ -138,96 +147,17 @@ fn has_commit(manifest: &Manifest) -> bool {
     manifest.commit() == COMMIT
 }
 
-#[test]
-fn reads_a_commit_in_either_case(rt: HostRuntime) -> Result<(), Fail> {
-    let manifest = Manifest::read(rt.alloc(), UPPER)?;
-    assert!(rt; has_commit(&manifest));
-    Ok(())
-}
-
-/// What `SMALL` has at a directory and a name.
-const CHILDREN: [(u64, &[u8], Option<u64>); 5] = [
-    (1, b"src", Some(2)),
-    (2, b"a", Some(3)),
-    (1, b"README", Some(5)),
-    (1, b"a", None),
-    (3, b"a", None),
-];
-
-/// Returns the file under a name; nothing also where the bytes are no name, or memory was refused.
-fn child_at(alloc: Global, tree: &Tree, dir: u64, name: &[u8]) -> Option<u64> {
-    let name = Name::parse(alloc, name).ok()?;
-    let file = tree.child(FileId(dir), &name)?;
-    Some(file.0)
-}
-
-fn has_children(
-    rt: &impl Abort,
-    alloc: Global,
-    tree: &Tree,
-    children: &[(u64, &[u8], Option<u64>)],
-) {
-    for (dir, name, file) in children {
-        assert!(rt; child_at(alloc, tree, *dir, name) == *file);
+/// Returns whether the manifest that a text is has that commit.
+fn reads_commit(alloc: Global, text: &[u8]) -> bool {
+    match Manifest::read(alloc, text) {
+        Ok(manifest) => has_commit(&manifest),
+        Err(_) => false,
     }
 }
 
 #[test]
-fn finds_the_files_of_a_small_manifest(rt: HostRuntime) -> Result<(), Fail> {
-    let manifest = Manifest::read(rt.alloc(), SMALL)?;
-    let tree = Tree::of(rt.alloc(), &manifest)?;
-    assert_eq!(rt; tree.commit(), manifest.commit());
-    has_children(&rt, rt.alloc(), &tree, CHILDREN.as_slice());
-    Ok(())
-}
-
-/// The files of `SMALL`, with their kind, permissions, size and count of links.
-const ATTRIBUTES: [(u64, Option<(Kind, u16, u64, u32)>); 6] = [
-    (0, None),
-    (1, Some((Kind::Dir, 0o755, 0, 2))),
-    (2, Some((Kind::Dir, 0o755, 0, 2))),
-    (3, Some((Kind::File, 0o644, 12, 1))),
-    (5, Some((Kind::File, 0o644, 7, 1))),
-    (6, None),
-];
-
-fn attributes_of(tree: &Tree, file: u64) -> Option<(Kind, u16, u64, u32)> {
-    let attr = tree.attr(FileId(file))?;
-    Some((attr.kind, attr.perm.bits(), attr.size, attr.nlink))
-}
-
-fn has_attributes(rt: &impl Abort, tree: &Tree, table: &[(u64, Option<(Kind, u16, u64, u32)>)]) {
-    for (file, attributes) in table {
-        assert!(rt; attributes_of(tree, *file) == *attributes);
-        assert_eq!(rt; tree.kind(FileId(*file)).is_some(), attributes.is_some());
-    }
-}
-
-#[test]
-fn tells_attributes_as_a_line_has_them(rt: HostRuntime) -> Result<(), Fail> {
-    let tree = tree_of(rt.alloc(), SMALL)?;
-    has_attributes(&rt, &tree, ATTRIBUTES.as_slice());
-    Ok(())
-}
-
-/// A directory in a directory, and a file beside them.
-const NESTED: &[u8] =
-    b"commit 0123456789abcdef0123456789abcdef01234567\ndir a\ndir a/b\nfile 0644 0 c\n";
-
-/// The files of `NESTED` and one more, and whether they are empty directories.
-const NESTED_EMPTY: [(u64, bool); 5] = [(1, false), (2, false), (3, true), (4, false), (5, false)];
-
-fn has_empty_dirs(rt: &impl Abort, tree: &Tree, files: &[(u64, bool)]) {
-    for (file, empty) in files {
-        assert_eq!(rt; tree.is_empty_dir(FileId(*file)), *empty);
-    }
-}
-
-#[test]
-fn takes_a_directory_of_directories_for_one_with_entries(rt: HostRuntime) -> Result<(), Fail> {
-    let tree = tree_of(rt.alloc(), NESTED)?;
-    has_empty_dirs(&rt, &tree, NESTED_EMPTY.as_slice());
-    Ok(())
+fn reads_a_commit_in_either_case(rt: HostRuntime) {
+    assert!(rt; reads_commit(rt.alloc(), UPPER));
 }
 
 /// Returns what the backing of a manifest tells of a file that the manifest has, and then its count of failures.
@@ -238,62 +168,89 @@ fn told(manifest: &Manifest, file: FileId) -> Option<(u16, u64, u64)> {
     Some((content.perm.bits(), content.size, backing.failures()))
 }
 
-#[test]
-fn answers_from_the_manifest_and_never_fails(rt: HostRuntime) -> Result<(), Fail> {
-    let manifest = Manifest::read(rt.alloc(), SMALL)?;
-    assert_eq!(rt; told(&manifest, FileId(4)), Some((0o755, 0, 0)));
-    Ok(())
+/// Returns that of the manifest that a text is.
+fn told_of(alloc: Global, text: &[u8], file: FileId) -> Option<(u16, u64, u64)> {
+    match Manifest::read(alloc, text) {
+        Ok(manifest) => told(&manifest, file),
+        Err(_) => None,
+    }
 }
 
 #[test]
-fn tells_a_fault_as_a_script_does(rt: HostRuntime) -> Result<(), Fail> {
-    let fault = fault_of(rt.alloc(), b"".as_slice()).ok_or("a fault")?;
-    let text = format!(in rt.alloc(); "fault: {fault}")?;
-    assert_eq!(rt; text.as_str(), "fault: line 1: NoCommit");
-    Ok(())
+fn answers_from_the_manifest_and_never_fails(rt: HostRuntime) {
+    assert!(rt; told_of(rt.alloc(), SMALL, FileId(4)) == Some((0o755, 0, 0)));
+}
+
+/// Returns whether a fault is told in these words.
+fn is_worded(alloc: Global, fault: ManifestFault, words: &str) -> bool {
+    match format!(in alloc; "fault: {fault}") {
+        Ok(text) => text.as_str() == words,
+        Err(AllocError) => false,
+    }
+}
+
+#[test]
+fn tells_a_fault_as_a_script_does(rt: HostRuntime) {
+    assert!(rt; is_worded(rt.alloc(), NO_COMMIT, "fault: line 1: NoCommit"));
+}
+
+/// Puts the line of a file.
+fn put_file(alloc: Global, text: &mut Vec<u8>, i: u32) -> Result<(), AllocError> {
+    let line = format!(in alloc; "file 0644 0 f{i}\n")?;
+    text.extend_from_slice(line.as_bytes())
 }
 
 /// Makes a manifest of a commit and this many files.
 fn many(alloc: Global, files: u32) -> Result<Vec<u8>, AllocError> {
     let mut text = Vec::from_slice(alloc, HEAD)?;
     for i in 0..files {
-        let line = format!(in alloc; "file 0644 0 f{i}\n")?;
-        text.extend_from_slice(line.as_bytes())?;
+        put_file(alloc, &mut text, i)?;
     }
     Ok(text)
 }
 
-/// Returns the file that a text's tree has under a name of the root.
-fn read_child(alloc: Global, text: &[u8], name: &[u8]) -> Option<u64> {
-    let manifest = Manifest::read(alloc, text).ok()?;
-    let tree = Tree::of(alloc, &manifest).ok()?;
-    child_at(alloc, &tree, 1, name)
+const LAST_FILE: [Deed; 1] = [Deed::Find((1, b"f65534", Some(65536)))];
+
+/// Returns whether a manifest of as many files as there may be has the last one.
+fn has_last_file(alloc: Global) -> bool {
+    match many(alloc, 65535) {
+        Ok(full) => all_go_so(alloc, full.as_slice(), &LAST_FILE),
+        Err(AllocError) => false,
+    }
 }
 
 #[test]
-fn takes_65536_lines(rt: HostRuntime) -> Result<(), Fail> {
-    let full = many(rt.alloc(), 65535)?;
-    assert_eq!(rt;
-        read_child(rt.alloc(), full.as_slice(), b"f65534"),
-        Some(65536)
-    );
-    Ok(())
+fn takes_65536_lines(rt: HostRuntime) {
+    assert!(rt; has_last_file(rt.alloc()));
 }
 
-#[test]
-fn tells_each_fault_of_line_65537(rt: HostRuntime) -> Result<(), Fail> {
+/// Returns whether a line behind these is refused for its first fault.
+fn are_too_many(alloc: Global, full: &[u8]) -> bool {
     use ManifestFaultKind::{BadLine, TooManyLines, Twice};
-    let full = many(rt.alloc(), 65535)?;
     for (line, kind) in [
         (b"file 0644 0 z\n".as_slice(), TooManyLines),
         (b"file 0644 0 z".as_slice(), BadLine),
         (b"dir f0\n".as_slice(), Twice),
     ] {
-        let text = joined(rt.alloc(), full.as_slice(), line)?;
         let fault = ManifestFault { line: 65537, kind };
-        assert_eq!(rt; fault_of(rt.alloc(), text.as_slice()), Some(fault));
+        if !is_fault(alloc, full, line, Some(fault)) {
+            return false;
+        }
     }
-    Ok(())
+    true
+}
+
+/// Returns whether that is so where there are as many lines as there may be.
+fn refuses_a_line_more(alloc: Global) -> bool {
+    match many(alloc, 65535) {
+        Ok(full) => are_too_many(alloc, full.as_slice()),
+        Err(AllocError) => false,
+    }
+}
+
+#[test]
+fn tells_each_fault_of_line_65537(rt: HostRuntime) {
+    assert!(rt; refuses_a_line_more(rt.alloc()));
 }
 
 /// Makes a front, and then a text so many times.
@@ -305,47 +262,66 @@ fn repeated(alloc: Global, front: &[u8], text: &[u8], times: u32) -> Result<Vec<
     Ok(whole)
 }
 
-#[test]
-fn takes_names_of_255_bytes(rt: HostRuntime) -> Result<(), Fail> {
-    let line = repeated(rt.alloc(), DIR_LINE, b"x".as_slice(), 255)?;
-    let text = joined(rt.alloc(), line.as_slice(), b"\n".as_slice())?;
-    assert_eq!(rt; fault_of(rt.alloc(), text.as_slice()), None);
-    let longer = joined(rt.alloc(), line.as_slice(), b"x\n".as_slice())?;
+/// Returns whether a name of 255 bytes is taken, and one of a byte more is not.
+fn takes_255(alloc: Global) -> bool {
     let kind = ManifestFaultKind::BadPath;
-    assert_eq!(rt;
-        fault_of(rt.alloc(), longer.as_slice()),
-        Some(ManifestFault { line: 2, kind })
-    );
-    Ok(())
+    let too_long = Some(ManifestFault { line: 2, kind });
+    match repeated(alloc, DIR_LINE, b"x".as_slice(), 255) {
+        Ok(line) => {
+            is_fault(alloc, line.as_slice(), b"\n".as_slice(), None)
+                && is_fault(alloc, line.as_slice(), b"x\n".as_slice(), too_long)
+        }
+        Err(AllocError) => false,
+    }
 }
 
-/// Makes a manifest of so many directories, each in the one before, and then a line of one that stands below two more.
+#[test]
+fn takes_names_of_255_bytes(rt: HostRuntime) {
+    assert!(rt; takes_255(rt.alloc()));
+}
+
+/// Puts a path's line, and makes the path one directory deeper.
+fn put_path(text: &mut Vec<u8>, path: &mut Vec<u8>) -> Result<(), AllocError> {
+    text.extend_from_slice(path.as_slice())?;
+    text.push(b'\n')?;
+    path.extend_from_slice(b"/d".as_slice())
+}
+
+/// Puts the lines of so many directories, each in the one before, and then that of one that stands below two more.
+fn put_paths(text: &mut Vec<u8>, path: &mut Vec<u8>, directories: u32) -> Result<(), AllocError> {
+    for _ in 0..directories {
+        put_path(text, path)?;
+    }
+    path.extend_from_slice(b"/d".as_slice())?;
+    put_path(text, path)
+}
+
+/// Makes a manifest of them.
 fn deep(alloc: Global, directories: u32) -> Result<Vec<u8>, AllocError> {
     let mut text = Vec::from_slice(alloc, HEAD)?;
     let mut path = Vec::from_slice(alloc, b"dir d".as_slice())?;
-    for _ in 0..directories {
-        text.extend_from_slice(path.as_slice())?;
-        text.push(b'\n')?;
-        path.extend_from_slice(b"/d".as_slice())?;
-    }
-    text.extend_from_slice(path.as_slice())?;
-    text.extend_from_slice(b"/d\n".as_slice())?;
+    put_paths(&mut text, &mut path, directories)?;
     Ok(text)
 }
 
-#[test]
-fn takes_deep_paths(rt: HostRuntime) -> Result<(), Fail> {
-    let text = deep(rt.alloc(), 200)?;
-    let kind = ManifestFaultKind::NoParent;
-    assert_eq!(rt;
-        fault_of(rt.alloc(), text.as_slice()),
-        Some(ManifestFault { line: 202, kind })
-    );
-    Ok(())
+/// Returns the first fault of such a manifest.
+fn deep_fault(alloc: Global, directories: u32) -> Option<ManifestFault> {
+    let text = deep(alloc, directories).ok()?;
+    fault_of(alloc, text.as_slice())
 }
 
-/// Each line of `SMALL`: its directory, name, kind, permissions and size.
-const SMALL_LINES: [(u64, &[u8], Kind, u16, u64); 4] = [
+#[test]
+fn takes_deep_paths(rt: HostRuntime) {
+    let kind = ManifestFaultKind::NoParent;
+    let fault = ManifestFault { line: 202, kind };
+    assert!(rt; deep_fault(rt.alloc(), 200) == Some(fault));
+}
+
+/// A line: its directory, name, kind, permissions and size.
+type Row = (u64, &'static [u8], Kind, u16, u64);
+
+/// Each line of `SMALL`.
+const SMALL_LINES: [Row; 4] = [
     (1, b"src", Kind::Dir, 0o755, 0),
     (2, b"a", Kind::File, 0o644, 12),
     (2, b"b", Kind::File, 0o755, 0),
@@ -353,7 +329,8 @@ const SMALL_LINES: [(u64, &[u8], Kind, u16, u64); 4] = [
 ];
 
 /// Returns whether a line says this.
-fn says(line: &Line, dir: u64, name: &[u8], kind: Kind, perm: u16, size: u64) -> bool {
+fn says(line: &Line, row: Row) -> bool {
+    let (dir, name, kind, perm, size) = row;
     line.dir.0 == dir
         && line.name.bytes() == name
         && line.kind == kind
@@ -361,18 +338,30 @@ fn says(line: &Line, dir: u64, name: &[u8], kind: Kind, perm: u16, size: u64) ->
         && line.size == size
 }
 
-/// Asserts that these are the first lines of a manifest; takes no memory.
-fn has_lines(rt: &impl Abort, manifest: &Manifest, lines: &[(u64, &[u8], Kind, u16, u64)]) {
-    for (line, (dir, name, kind, perm, size)) in manifest.lines().iter().zip(lines) {
-        assert!(rt; says(line, *dir, name, *kind, *perm, *size));
+/// Returns whether the lines say this; takes no memory.
+fn say(lines: &[Line], rows: &[Row]) -> bool {
+    if lines.len() != rows.len() {
+        return false;
     }
+    for place in 0..rows.len() {
+        if !says(&lines[place], rows[place]) {
+            return false;
+        }
+    }
+    true
 }
 
-/// Asserts that the manifest is what `SMALL` says; takes no memory.
-fn is_small(rt: &impl Abort, manifest: &Manifest) {
-    assert!(rt; has_commit(manifest));
-    has_lines(rt, manifest, SMALL_LINES.as_slice());
-    assert!(rt; manifest.lines().len() == SMALL_LINES.len());
+/// Returns whether the manifest is what `SMALL` says; takes no memory.
+fn is_small(manifest: &Manifest) -> bool {
+    has_commit(manifest) && say(manifest.lines(), &SMALL_LINES)
+}
+
+/// Returns whether what a manifest shares is what `SMALL` says.
+fn shares_small(manifest: &Manifest) -> bool {
+    match manifest.share() {
+        Ok(shared) => is_small(&shared),
+        Err(NoMemory) => false,
+    }
 }
 
 /// Reads a text, once more where it was refused: a text that is read was refused for memory alone.
@@ -383,218 +372,17 @@ pub fn read_again(alloc: Global, text: &[u8]) -> Result<Manifest, ManifestFault>
     }
 }
 
+/// Returns whether `SMALL` is read and shared as what it says.
+fn reads_small(alloc: Global) -> bool {
+    match read_again(alloc, SMALL) {
+        Ok(manifest) => is_small(&manifest) && shares_small(&manifest),
+        Err(_) => false,
+    }
+}
+
 /// Passes also where one allocation is refused, as the next one does:
 /// `rt try --test --fail-alloc N -- again_after_memory_was_refused`.
 #[test]
-fn reads_and_shares_again_after_memory_was_refused(rt: HostRuntime) -> Result<(), Fail> {
-    let manifest = read_again(rt.alloc(), SMALL)?;
-    is_small(&rt, &manifest);
-    is_small(&rt, &manifest.share()?);
-    Ok(())
-}
-
-/// Makes the tree of a text, again where memory was refused.
-pub fn tree_of(alloc: Global, text: &[u8]) -> Result<Tree, Fail> {
-    let manifest = read_again(alloc, text)?;
-    match Tree::of(alloc, &manifest) {
-        Ok(tree) => Ok(tree),
-        Err(_) => Ok(Tree::of(alloc, &manifest)?),
-    }
-}
-
-/// Returns a name, which it makes once more where memory was refused.
-pub fn parsed(alloc: Global, name: &[u8]) -> Option<Name> {
-    match Name::parse(alloc, name) {
-        Ok(name) => Some(name),
-        Err(_) => Name::parse(alloc, name).ok(),
-    }
-}
-
-/// Makes a file where the call's conditions hold.
-fn created(
-    tree: &mut Tree,
-    dir: FileId,
-    name: &Name,
-    kind: Kind,
-    perm: Perm,
-) -> Option<Result<FileId, CreateFault>> {
-    match tree.kind(dir) {
-        Some(Kind::Dir) => {}
-        Some(Kind::File) => return None,
-        None => return None,
-    }
-    if dir.0 != 1 && !tree.is_linked(dir) {
-        return None;
-    }
-    match tree.child(dir, name) {
-        Some(_) => None,
-        None => Some(tree.create(dir, name, kind, perm)),
-    }
-}
-
-/// Makes a file, once more where memory was refused, and returns its id.
-pub fn created_again(
-    alloc: Global,
-    tree: &mut Tree,
-    dir: FileId,
-    name: &[u8],
-    kind: Kind,
-    perm: Perm,
-) -> Option<u64> {
-    let name = parsed(alloc, name)?;
-    let made = match created(tree, dir, &name, kind, perm)? {
-        Ok(file) => file,
-        Err(_) => created(tree, dir, &name, kind, perm)?.ok()?,
-    };
-    Some(made.0)
-}
-
-/// Takes a name out where the call's conditions hold.
-#[tactic(auto, using(checkout::proofs::RemoveLaws::not_full_rules))]
-fn removed(tree: &mut Tree, dir: FileId, name: &Name) -> Option<FileId> {
-    let file = tree.child(dir, name)?;
-    if tree.is_empty_dir(file) {
-        return Some(tree.remove(dir, name));
-    }
-    match tree.kind(file) {
-        Some(Kind::File) => Some(tree.remove(dir, name)),
-        Some(Kind::Dir) => None,
-        None => None,
-    }
-}
-
-/// Takes a name out, and returns the file that it gave; nothing where the call's conditions don't hold.
-pub fn removed_at(alloc: Global, tree: &mut Tree, dir: u64, name: &[u8]) -> Option<u64> {
-    let name = parsed(alloc, name)?;
-    let file = removed(tree, FileId(dir), &name)?;
-    Some(file.0)
-}
-
-/// Takes these names out of their directories, and compares the files that they gave.
-fn takes_out(rt: &impl Abort, alloc: Global, tree: &mut Tree, names: &[(u64, &[u8], Option<u64>)]) {
-    for (dir, name, file) in names {
-        assert_eq!(rt; removed_at(alloc, tree, *dir, name), *file);
-    }
-}
-
-/// Makes these files, each by its directory and name, and compares their ids.
-fn makes(rt: &impl Abort, alloc: Global, tree: &mut Tree, files: &[(u64, &[u8], Kind, u64)]) {
-    for (dir, name, kind, file) in files {
-        assert_eq!(rt;
-            created_again(alloc, tree, FileId(*dir), name, *kind, Perm::DIRECTORY),
-            Some(*file)
-        );
-    }
-}
-
-/// Returns how many names lead to a file.
-fn nlink_of(tree: &Tree, file: FileId) -> Option<u32> {
-    let attr = tree.attr(file)?;
-    Some(attr.nlink)
-}
-
-/// Compares what a tree tells of files: their kind, count of links, and whether they are empty directories.
-fn tells(rt: &impl Abort, tree: &Tree, files: &[(u64, Kind, u32, bool)]) {
-    for (file, kind, nlink, empty) in files {
-        let file = FileId(*file);
-        assert_eq!(rt; tree.kind(file), Some(*kind));
-        assert_eq!(rt; nlink_of(tree, file), Some(*nlink));
-        assert_eq!(rt; tree.is_linked(file), file != FileId::ROOT && *nlink != 0);
-        assert_eq!(rt; tree.is_empty_dir(file), *empty);
-    }
-}
-
-/// Files to be made, each in a directory and under a name, with the id that it gets.
-const DIRECTORY: [(u64, &[u8], Kind, u64); 1] = [(1, b"d", Kind::Dir, 6)];
-
-const FILE_IN_IT: [(u64, &[u8], Kind, u64); 1] = [(6, b"x", Kind::File, 7)];
-
-const FILE_FOR_SRC: [(u64, &[u8], Kind, u64); 1] = [(1, b"src", Kind::File, 6)];
-
-const FILE_IN_SRC: [(u64, &[u8], Kind, u64); 1] = [(2, b"made", Kind::File, 6)];
-
-/// Directories and their names, and the files that the names give when they are taken out in this order.
-const FILLED: [(u64, &[u8], Option<u64>); 3] = [
-    (1, b"d", None),
-    (6, b"x", Some(7)),
-    (1, b"d", Some(6)),
-];
-
-#[test]
-fn fills_and_empties_a_directory_again_after_memory_was_refused(
-    rt: HostRuntime,
-) -> Result<(), Fail> {
-    let mut tree = tree_of(rt.alloc(), SMALL)?;
-    makes(&rt, rt.alloc(), &mut tree, DIRECTORY.as_slice());
-    tells(&rt, &tree, [(6, Kind::Dir, 2, true)].as_slice());
-    makes(&rt, rt.alloc(), &mut tree, FILE_IN_IT.as_slice());
-    tells(
-        &rt,
-        &tree,
-        [(6, Kind::Dir, 2, false), (7, Kind::File, 1, false)].as_slice(),
-    );
-    takes_out(&rt, rt.alloc(), &mut tree, FILLED.as_slice());
-    tells(
-        &rt,
-        &tree,
-        [(6, Kind::Dir, 0, true), (7, Kind::File, 0, false)].as_slice(),
-    );
-    Ok(())
-}
-
-/// The same of what `SMALL` has.
-const TAKEN: [(u64, &[u8], Option<u64>); 5] = [
-    (1, b"src", None),
-    (2, b"b", Some(4)),
-    (2, b"b", None),
-    (2, b"a", Some(3)),
-    (1, b"src", Some(2)),
-];
-
-/// What is left of them.
-const LEFT: [(u64, Kind, u32, bool); 3] = [
-    (1, Kind::Dir, 2, false),
-    (2, Kind::Dir, 0, true),
-    (3, Kind::File, 0, false),
-];
-
-#[test]
-fn removes_what_the_manifest_has_and_makes_it_anew(rt: HostRuntime) -> Result<(), Fail> {
-    let mut tree = tree_of(rt.alloc(), SMALL)?;
-    takes_out(&rt, rt.alloc(), &mut tree, TAKEN.as_slice());
-    tells(&rt, &tree, LEFT.as_slice());
-    makes(&rt, rt.alloc(), &mut tree, FILE_FOR_SRC.as_slice());
-    tells(
-        &rt,
-        &tree,
-        [(5, Kind::File, 1, false), (6, Kind::File, 1, false)].as_slice(),
-    );
-    Ok(())
-}
-
-/// Returns the permissions that a file was made with.
-fn perm_made(tree: &Tree, file: u64) -> Option<u16> {
-    let perm = tree.perm_made(FileId(file))?;
-    Some(perm.bits())
-}
-
-fn has_perms_made(rt: &impl Abort, tree: &Tree, perms: &[(u64, Option<u16>)]) {
-    for (file, perm) in perms {
-        assert_eq!(rt; perm_made(tree, *file), *perm);
-    }
-}
-
-#[test]
-fn tells_the_permissions_of_made_files_alone(rt: HostRuntime) -> Result<(), Fail> {
-    let mut tree = tree_of(rt.alloc(), SMALL)?;
-    makes(&rt, rt.alloc(), &mut tree, FILE_IN_SRC.as_slice());
-    has_perms_made(&rt, &tree, [(5, None), (6, Some(0o755))].as_slice());
-    assert_eq!(rt; tree.next_file().0, 7);
-    Ok(())
-}
-
-#[test]
-fn names_the_root_and_its_permissions_as_fuse_does(rt: HostRuntime) {
-    assert_eq!(rt; (FileId::ROOT.0, Number::ROOT.0), (1, 1));
-    assert_eq!(rt; Perm::DIRECTORY.bits, 0o755);
+fn reads_and_shares_again_after_memory_was_refused(rt: HostRuntime) {
+    assert!(rt; reads_small(rt.alloc()));
 }

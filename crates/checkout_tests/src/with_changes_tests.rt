@@ -1,53 +1,65 @@
 //! Trees that are made of changes, and the first change that no tree has.
-use crate::change_tests::{Named, differs};
-use crate::tests::{SMALL, parsed, read_again};
+use crate::deeds::{MadeRow, Named, differs, parsed};
+use crate::tests::{SMALL, read_again};
 use checkout::{ChangeFault, Changes, LinkChange, LinkList, Made, MadeList, Manifest, Tree};
 use eden_base::{FileId, Kind, Perm};
 use std::alloc::Global;
-use std::test::Fail;
 
-/// Files that were made, each by its id and kind, names with what they give, and the next file.
-type Told = (&'static [(u64, Kind)], &'static [Named], u64);
+/// Files that were made, names with what they give, and the next file.
+type Told = (&'static [MadeRow], &'static [Named], u64);
 
-/// Returns files that were made, which all their owner alone may read.
-fn made_of(alloc: Global, files: &[(u64, Kind)]) -> Option<MadeList> {
-    let mut made = Vec::with_capacity(alloc, files.len()).ok()?;
-    for (file, kind) in files {
-        let perm = Perm::of(0o400)?;
-        made.push(Made {
-            file: FileId(*file),
-            kind: *kind,
-            perm,
-        })
-        .ok()?;
+/// Returns a file that was made; nothing where these are no permissions.
+fn made_of(row: MadeRow) -> Option<Made> {
+    let (file, kind, bits) = row;
+    let file = FileId(file);
+    let perm = Perm::of(bits)?;
+    Some(Made { file, kind, perm })
+}
+
+fn list_made(alloc: Global, rows: &[MadeRow]) -> Option<MadeList> {
+    let mut made = Vec::with_capacity(alloc, rows.len()).ok()?;
+    for row in rows {
+        made.push(made_of(*row)?).ok()?;
     }
     Some(MadeList::of(made))
 }
 
-/// Returns names with what they give.
-fn links_of(alloc: Global, names: &[Named]) -> Option<LinkList> {
+/// Returns a name with what it gives.
+fn link_of(alloc: Global, named: Named) -> Option<LinkChange> {
+    let (dir, bytes, file) = named;
+    Some(LinkChange {
+        dir: FileId(dir),
+        name: parsed(alloc, bytes)?,
+        target: file.map(FileId),
+    })
+}
+
+fn list_links(alloc: Global, names: &[Named]) -> Option<LinkList> {
     let mut links = Vec::with_capacity(alloc, names.len()).ok()?;
-    for (dir, bytes, file) in names {
-        let name = parsed(alloc, bytes)?;
-        links
-            .push(LinkChange {
-                dir: FileId(*dir),
-                name,
-                target: file.map(FileId),
-            })
-            .ok()?;
+    for named in names {
+        links.push(link_of(alloc, *named)?).ok()?;
     }
     Some(LinkList::of(links))
 }
 
 /// Returns changes; nothing where memory was refused.
-fn changes_of(alloc: Global, told: &Told) -> Option<Changes> {
-    let (made, links, next) = told;
+fn changes_of(alloc: Global, told: Told) -> Option<Changes> {
+    let (made, names, next) = told;
+    let made = list_made(alloc, made)?;
+    let links = list_links(alloc, names)?;
     Some(Changes {
-        made: made_of(alloc, made)?,
-        links: links_of(alloc, links)?,
-        next_file: FileId(*next),
+        made,
+        links,
+        next_file: FileId(next),
     })
+}
+
+/// Returns changes, which it makes once more where memory was refused.
+fn changes_again(alloc: Global, told: Told) -> Option<Changes> {
+    match changes_of(alloc, told) {
+        Some(changes) => Some(changes),
+        None => changes_of(alloc, told),
+    }
 }
 
 /// Makes a tree of changes, and once more where memory was refused.
@@ -59,15 +71,27 @@ fn changed(alloc: Global, manifest: &Manifest, changes: &Changes) -> Result<Tree
     }
 }
 
-/// Returns why no tree is made of changes, if none is.
-fn fault_of(alloc: Global, manifest: &Manifest, told: &Told) -> Option<ChangeFault> {
-    let changes = match changes_of(alloc, told) {
-        Some(changes) => changes,
-        None => changes_of(alloc, told)?,
-    };
-    match changed(alloc, manifest, &changes) {
-        Ok(_) => None,
-        Err(fault) => Some(fault),
+/// Returns whether a tree is made of changes and tells just them; or why none is made.
+fn is_told_again(
+    alloc: Global,
+    manifest: &Manifest,
+    changes: &Changes,
+    told: Told,
+) -> Result<bool, ChangeFault> {
+    match changed(alloc, manifest, changes) {
+        Ok(tree) => Ok(differs(&tree, told.0, told.1, told.2)),
+        Err(fault) => Err(fault),
+    }
+}
+
+/// Returns whether these changes of `SMALL` are told again, or the first of them that no tree has is at this place.
+fn goes_so(alloc: Global, told: Told, place: Option<usize>) -> Option<bool> {
+    let manifest = read_again(alloc, SMALL).ok()?;
+    let changes = changes_again(alloc, told)?;
+    let is_told = is_told_again(alloc, &manifest, &changes, told);
+    match place {
+        Some(place) => Some(is_told == Err(ChangeFault::BadChange(place))),
+        None => Some(is_told == Ok(true)),
     }
 }
 
@@ -78,7 +102,7 @@ const ROWS: [(Told, Option<usize>); 6] = [
     ((&[], &[(1, b"z", Some(3)), (2, b"a", None)], 6), None),
     (
         (
-            &[(6, Kind::Dir), (9, Kind::File)],
+            &[(6, Kind::Dir, 0o400), (9, Kind::File, 0o400)],
             &[(1, b"d", Some(6)), (6, b"x", Some(9))],
             10,
         ),
@@ -89,7 +113,7 @@ const ROWS: [(Told, Option<usize>); 6] = [
     ((&[], &[(1, b"src", None)], 6), Some(1)),
     (
         (
-            &[(6, Kind::Dir), (7, Kind::Dir)],
+            &[(6, Kind::Dir, 0o400), (7, Kind::Dir, 0o400)],
             &[(6, b"x", Some(7)), (7, b"y", Some(6))],
             8,
         ),
@@ -98,17 +122,14 @@ const ROWS: [(Told, Option<usize>); 6] = [
 ];
 
 #[test]
-fn tells_the_first_change_that_no_tree_has(rt: HostRuntime) -> Result<(), Fail> {
-    let manifest = read_again(rt.alloc(), SMALL)?;
+fn tells_the_first_change_that_no_tree_has(rt: HostRuntime) {
     for (told, place) in &ROWS {
-        let fault = fault_of(rt.alloc(), &manifest, told);
-        assert_eq!(rt; fault, place.map(ChangeFault::BadChange));
+        assert!(rt; goes_so(rt.alloc(), *told, *place) == Some(true));
     }
-    Ok(())
 }
 
 const MOVED: Told = (
-    &[(6, Kind::File)],
+    &[(6, Kind::File, 0o400)],
     &[
         (1, b"README", Some(3)),
         (1, b"a", Some(6)),
@@ -118,13 +139,6 @@ const MOVED: Told = (
 );
 
 #[test]
-fn has_the_changes_that_it_was_made_of(rt: HostRuntime) -> Result<(), Fail> {
-    let alloc = rt.alloc();
-    let manifest = read_again(alloc, SMALL)?;
-    let changes = match changes_of(alloc, &MOVED) {
-        Some(changes) => changes,
-        None => panic!(rt; "memory is ample"),
-    };
-    let tree = changed(alloc, &manifest, &changes)?;
-    differs(&rt, &tree, &[(6, Kind::File, 0o400)], MOVED.1, 7)
+fn has_the_changes_that_it_was_made_of(rt: HostRuntime) {
+    assert!(rt; goes_so(rt.alloc(), MOVED, None) == Some(true));
 }
