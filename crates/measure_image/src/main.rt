@@ -234,6 +234,17 @@ fn measure_taken(rt: &HostRuntime, served: &Served, entries: u64) -> Result<usiz
     measure_write(rt, &image, entries)
 }
 
+/// Says what a raise took, and goes on with what is served.
+fn measure_served(
+    rt: &HostRuntime,
+    served: &Served,
+    started: Duration,
+    entries: u64,
+) -> Result<usize> {
+    tell(rt, "raise", started, entries)?;
+    measure_taken(rt, served, entries)
+}
+
 /// Raises an image, and goes on with what is served then.
 fn measure_raise(rt: &HostRuntime, image: Image, manifest: &Manifest, entries: u64) -> Result<usize>
     requires fit { IsFit image }
@@ -241,8 +252,7 @@ fn measure_raise(rt: &HostRuntime, image: Image, manifest: &Manifest, entries: u
 {
     let started = rt.thread_cpu_time()?;
     let served = image_raised(rt.alloc(), image, manifest)?;
-    tell(rt, "raise", started, entries)?;
-    measure_taken(rt, &served, entries)
+    measure_served(rt, &served, started, entries)
 }
 
 /// Reads the image that bytes spell, and goes on with it.
