@@ -76,11 +76,18 @@ fn manifest_text(alloc: Global, lines: u64) -> Result<Vec<u8>, NoMemory> {
     Ok(text)
 }
 
-/// Begins to serve a manifest of this many lines.
-fn begin(alloc: Global, lines: u64) -> Result<Hosted> {
+/// Reads a manifest of this many lines.
+fn manifest_of(alloc: Global, lines: u64) -> Result<Manifest, NoMemory> {
     let text = manifest_text(alloc, lines)?;
-    let manifest = Manifest::read(alloc, text.as_slice())?;
-    Ok(Hosted::of(alloc, manifest)?)
+    match Manifest::read(alloc, text.as_slice()) {
+        Ok(manifest) => Ok(manifest),
+        Err(_fault) => Err(NoMemory),
+    }
+}
+
+/// Begins to serve a manifest of this many lines.
+fn begin(alloc: Global, lines: u64) -> Result<Hosted, NoMemory> {
+    Hosted::of(alloc, manifest_of(alloc, lines)?)
 }
 
 /// Makes a name of a text that is one.
@@ -333,17 +340,21 @@ fn ask_batches(alloc: Global, served: &mut Hosted) -> Result<u64, NoMemory> {
     Ok(batches)
 }
 
-/// Makes all requests, and counts the names found, the files made and the batches forgotten.
-fn ask_all(
-    alloc: Global,
-    served: &mut Hosted,
-    lines: u64,
-    depth: u64,
-) -> Result<(u64, u64, u64), NoMemory> {
+/// What came of all requests: the names found, the files made, the batches forgotten, and the next number.
+type Told = (u64, u64, u64, u64);
+
+/// Makes all requests.
+fn ask_all(alloc: Global, served: &mut Hosted, lines: u64, depth: u64) -> Result<Told, NoMemory> {
     let found = ask_fresh(alloc, served, lines)?;
     let done = ask_made(alloc, served, depth)?;
     let batches = ask_batches(alloc, served)?;
-    Ok((found, done, batches))
+    Ok((found, done, batches, served.served.map().next()))
+}
+
+/// Makes all requests of a daemon that begins.
+fn ask_begun(alloc: Global, lines: u64, depth: u64) -> Result<Told, NoMemory> {
+    let mut served = begin(alloc, lines)?;
+    ask_all(alloc, &mut served, lines, depth)
 }
 
 /// Prints words and a number behind them.
@@ -353,14 +364,8 @@ fn print_count(rt: &HostRuntime, before: &str, count: u64) -> Result<()> {
 }
 
 /// Prints what was asked, and what came of it.
-fn print_told(
-    rt: &HostRuntime,
-    lines: u64,
-    depth: u64,
-    told: (u64, u64, u64),
-    next: u64,
-) -> Result<()> {
-    let (found, done, batches) = told;
+fn print_told(rt: &HostRuntime, lines: u64, depth: u64, told: Told) -> Result<()> {
+    let (found, done, batches, next) = told;
     print_count(rt, "", lines)?;
     print_count(rt, " lines, depth ", depth)?;
     print_count(rt, ": ", found)?;
@@ -372,9 +377,8 @@ fn print_told(
 }
 
 fn measure(rt: &HostRuntime, lines: u64, depth: u64) -> Result<()> {
-    let mut served = begin(rt.alloc(), lines)?;
-    let told = ask_all(rt.alloc(), &mut served, lines, depth)?;
-    print_told(rt, lines, depth, told, served.served.map().next())
+    let told = ask_begun(rt.alloc(), lines, depth)?;
+    print_told(rt, lines, depth, told)
 }
 
 /// Returns a word's number, or another where there is no word or no number.
