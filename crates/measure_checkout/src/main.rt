@@ -35,23 +35,17 @@ fn manifest_text(alloc: Global, lines: u32) -> Result<Vec<u8>, AllocError> {
     Ok(text)
 }
 
-/// Reads a manifest of this many lines. Says how long it took to read.
-fn read_manifest(rt: &HostRuntime, lines: u32) -> Result<Manifest> {
-    let text = manifest_text(rt.alloc(), lines)?;
-    let started = Instant::now(rt)?;
-    let manifest = Manifest::read(rt.alloc(), text.as_slice())?;
-    let took = started.elapsed(rt)?;
-    eprintln!(rt; "{lines} lines: read in {took:?}")?;
-    Ok(manifest)
+/// Reads a manifest of this many lines.
+fn read_manifest(alloc: Global, lines: u32) -> Result<Manifest> {
+    let text = manifest_text(alloc, lines)?;
+    Ok(Manifest::read(alloc, text.as_slice())?)
 }
 
-/// Makes the tree of a manifest. Says how long it took to make.
-fn make_tree(rt: &HostRuntime, manifest: &Manifest) -> Result<Tree> {
-    let started = Instant::now(rt)?;
-    let tree = Tree::of(rt.alloc(), manifest)?;
+/// Says how many things were done since then, and how long it took.
+fn tell(rt: &HostRuntime, count: u64, things: &str, started: Instant) -> Result<()> {
     let took = started.elapsed(rt)?;
-    eprintln!(rt; "tree made in {took:?}")?;
-    Ok(tree)
+    eprintln!(rt; "{count} {things} in {took:?}")?;
+    Ok(())
 }
 
 /// A file's directory, and its name there.
@@ -86,19 +80,37 @@ fn found_of(tree: &Tree, files: &[Sought]) -> u32 {
     found
 }
 
-/// Says how many look-ups found a file, and how long all took.
-fn look_up(rt: &HostRuntime, lines: u32, tree: &Tree) -> Result<()> {
-    let files = sought_files(rt.alloc())?;
-    let started = Instant::now(rt)?;
+/// Looks files up a hundred times, and counts those that are found.
+fn found_often(tree: &Tree, files: &[Sought]) -> u32 {
     let mut found = 0u32;
     for _ in 0..100u32 {
-        found = found.wrapping_add(found_of(tree, files.as_slice()));
+        found = found.wrapping_add(found_of(tree, files));
     }
-    let took = started.elapsed(rt)?;
-    let tries = files.len().saturating_mul(100);
+    found
+}
+
+/// Says how many look-ups found a file, and how long all took.
+fn look_up(rt: &HostRuntime, lines: u32, tree: &Tree, files: &[Sought]) -> Result<()> {
+    let started = Instant::now(rt)?;
+    let found = found_often(tree, files);
+    let tries = files.len().saturating_mul(100) as u64;
+    tell(rt, tries, "look-ups", started)?;
     println!(rt; "{lines} lines, {found} of {tries} found")?;
-    eprintln!(rt; "{tries} look-ups in {took:?}")?;
     Ok(())
+}
+
+/// Says how long a tree took to make, and looks files up in it.
+fn look_up_in(rt: &HostRuntime, lines: u32, tree: &Tree, started: Instant) -> Result<()> {
+    tell(rt, 1, "tree made", started)?;
+    let files = sought_files(rt.alloc())?;
+    look_up(rt, lines, tree, files.as_slice())
+}
+
+/// Makes the tree of a manifest, and looks files up in it.
+fn make_tree(rt: &HostRuntime, lines: u32, manifest: &Manifest) -> Result<()> {
+    let started = Instant::now(rt)?;
+    let tree = Tree::of(rt.alloc(), manifest)?;
+    look_up_in(rt, lines, &tree, started)
 }
 
 /// A file, where it stands, and a name that its directory lacks.
@@ -254,29 +266,68 @@ fn change_all(tree: &mut Tree, list: &[Member]) -> u32 {
     changes
 }
 
+/// How many files each call was made on, how many were found, and how many changes were made.
+type Told = (usize, u32, u32);
+
 /// Makes each call on files of a tree.
+fn call_each(tree: &mut Tree, list: &[Member]) -> Told {
+    let found = read_members(tree, list);
+    (list.len(), found, change_all(tree, list))
+}
+
+/// Makes each call on files of a tree of a manifest.
+fn call_made(alloc: Global, manifest: &Manifest, list: &[Member]) -> Result<Told, NoMemory> {
+    let mut tree = tree_of(alloc, manifest)?;
+    Ok(call_each(&mut tree, list))
+}
+
+/// Makes each call on files that lie evenly over those of a manifest.
+fn call_listed(alloc: Global, lines: u32, manifest: &Manifest) -> Result<Told> {
+    let list = list_members(alloc, lines)?;
+    Ok(call_made(alloc, manifest, list.as_slice())?)
+}
+
+/// Makes each call, and says what came of it.
 fn call_all(rt: &HostRuntime, lines: u32, manifest: &Manifest) -> Result<()> {
-    let mut tree = tree_of(rt.alloc(), manifest)?;
-    let list = list_members(rt.alloc(), lines)?;
-    let found = read_members(&tree, list.as_slice());
-    let changes = change_all(&mut tree, list.as_slice());
-    let members = list.len();
+    let (members, found, changes) = call_listed(rt.alloc(), lines, manifest)?;
     println!(rt; "{lines} lines, {members} files: {found} found, {changes} changes")?;
     Ok(())
+}
+
+/// Makes each call on a manifest of this many lines.
+fn measure_calls(rt: &HostRuntime, lines: u32) -> Result<()> {
+    let manifest = read_manifest(rt.alloc(), lines)?;
+    call_all(rt, lines, &manifest)
+}
+
+/// Says how long a manifest took to read, and goes on with it.
+fn measure_read(rt: &HostRuntime, lines: u32, manifest: &Manifest, started: Instant) -> Result<()> {
+    tell(rt, u64::from(lines), "lines read", started)?;
+    make_tree(rt, lines, manifest)?;
+    call_all(rt, lines, manifest)
+}
+
+/// Reads the manifest that a text is, and goes on with it.
+fn measure_text(rt: &HostRuntime, lines: u32, text: &[u8]) -> Result<()> {
+    let started = Instant::now(rt)?;
+    let manifest = Manifest::read(rt.alloc(), text)?;
+    measure_read(rt, lines, &manifest, started)
+}
+
+/// Goes through all that is measured of a manifest of this many lines.
+fn measure(rt: &HostRuntime, lines: u32) -> Result<()> {
+    let text = manifest_text(rt.alloc(), lines)?;
+    measure_text(rt, lines, text.as_slice())
 }
 
 fn main(rt: HostRuntime) -> Result<()> {
     let mut words = env::args(&rt)?.skip(1);
     if let Some(word) = words.next() {
         let lines = word.as_str().parse::<u32>().unwrap_or(1000);
-        let manifest = read_manifest(&rt, lines)?;
-        return call_all(&rt, lines, &manifest);
+        return measure_calls(&rt, lines);
     }
     for lines in LINES {
-        let manifest = read_manifest(&rt, lines)?;
-        let tree = make_tree(&rt, &manifest)?;
-        look_up(&rt, lines, &tree)?;
-        call_all(&rt, lines, &manifest)?;
+        measure(&rt, lines)?;
     }
     Ok(())
 }
