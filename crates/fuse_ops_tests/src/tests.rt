@@ -583,13 +583,18 @@ fn fails_once(alloc: Global, served: &mut Hosted, place: usize, next: u64) -> Op
 
 /// Answers all requests in turn, one of them from a backing that fails at once. Returns whether that one is answered
 /// EIO where it asks the backing, and what it is without a failure when it is made again.
-fn fails_at(alloc: Global, place: usize, next: u64) -> Option<bool> {
-    let mut served = Hosted::of(alloc, FOUR_FILES, 1)?;
-    if ask_before(alloc, &mut served, place) {
-        fails_once(alloc, &mut served, place, next)
+fn fails_in_turn(alloc: Global, served: &mut Hosted, place: usize, next: u64) -> Option<bool> {
+    if ask_before(alloc, served, place) {
+        fails_once(alloc, served, place, next)
     } else {
         None
     }
+}
+
+/// Returns that of a daemon that begins.
+fn fails_at(alloc: Global, place: usize, next: u64) -> Option<bool> {
+    let mut served = Hosted::of(alloc, FOUR_FILES, 1)?;
+    fails_in_turn(alloc, &mut served, place, next)
 }
 
 /// The place of a request, the next number then, and whether the request asks the backing.
@@ -624,14 +629,19 @@ fn are_loaded(alloc: Global, served: &mut Hosted) -> [bool; 3] {
     [first, second, is_loaded(alloc, served, 5)]
 }
 
-/// Looks each file up at a limit, and returns which of the three regular ones stay loaded.
-fn stay_loaded(alloc: Global, limit: usize) -> Option<[bool; 3]> {
-    let mut served = Hosted::of(alloc, FOUR_FILES, limit)?;
-    if ask_before(alloc, &mut served, 4) {
-        Some(are_loaded(alloc, &mut served))
+/// Looks each file up, and returns which of the three regular ones stay loaded.
+fn loaded_then(alloc: Global, served: &mut Hosted) -> Option<[bool; 3]> {
+    if ask_before(alloc, served, 4) {
+        Some(are_loaded(alloc, served))
     } else {
         None
     }
+}
+
+/// Returns that at a limit.
+fn stay_loaded(alloc: Global, limit: usize) -> Option<[bool; 3]> {
+    let mut served = Hosted::of(alloc, FOUR_FILES, limit)?;
+    loaded_then(alloc, &mut served)
 }
 
 /// A limit, and whether each of the files stays loaded.
