@@ -3,7 +3,7 @@
 //! so many given entries in place of that.
 #![tactic(auto)]
 
-ghost use Rattle.std.specs.Prelude.{◌≡◌, IfOk, None, IsSome, false, length};
+ghost use Rattle.std.specs.Prelude.{◌≡◌, ◌<◌, IfOk, None, IsSome, false, length};
 ghost use Rattle.std.specs.List.{list_any};
 ghost use Rattle.inode_map.specs.InodeMap.{attr_of, entry_of, is_kid_of, AreEntries, IsLinked};
 ghost use Rattle.measure_map.specs.Chain.{IsChain};
@@ -50,14 +50,19 @@ fn name_of(alloc: Global, i: u64) -> Result<Name> {
     Ok(Name::parse(alloc, text.as_bytes())?)
 }
 
-/// Makes a map of so many entries, in directories of 63 files each.
-fn filled(alloc: Global, entries: u64) -> Result<InodeMap> {
-    let mut map = InodeMap::new(alloc, LOADED_LIMIT)?;
+/// Gives an entry, by its place, a number.
+fn give_entry(alloc: Global, map: &mut InodeMap, i: u64) -> Result<()> {
+    let name = name_of(alloc, i)?;
+    map.give(alloc, parent_of(i), &name)?;
+    Ok(())
+}
+
+/// Gives so many entries numbers, in directories of 63 files each.
+fn fill(alloc: Global, map: &mut InodeMap, entries: u64) -> Result<()> {
     for i in 0..entries {
-        let name = name_of(alloc, i)?;
-        map.give(alloc, parent_of(i), &name)?;
+        give_entry(alloc, map, i)?;
     }
-    Ok(map)
+    Ok(())
 }
 
 /// Lists numbers that lie evenly over those of a map.
@@ -239,13 +244,33 @@ fn give_all_new(alloc: Global, map: &mut InodeMap, list: &[Sought]) -> Result<u6
     Ok(dropped)
 }
 
+/// What came of all calls: the attributes loaded, the sum of the answers, the numbers lowered, and those dropped.
+type Told = (u64, u64, u64, u64);
+
+/// Makes each call on the numbers of a list.
+fn call_all(alloc: Global, map: &mut InodeMap, list: &[Sought]) -> Result<Told> {
+    let loaded = remember_all(map, list);
+    let sum = read_all(map, list);
+    let lowered = give_all_again(alloc, map, list);
+    let dropped = give_all_new(alloc, map, list)?;
+    Ok((loaded, sum, lowered, dropped))
+}
+
+/// Fills a map, and makes each call on it.
+fn fill_and_call(alloc: Global, map: &mut InodeMap, entries: u64) -> Result<Told> {
+    fill(alloc, map, entries)?;
+    let list = list_sought(alloc, entries)?;
+    call_all(alloc, map, list.as_slice())
+}
+
+/// Makes a map of so many entries, and each call on it.
+fn told_of(alloc: Global, entries: u64) -> Result<Told> {
+    let mut map = InodeMap::new(alloc, LOADED_LIMIT)?;
+    fill_and_call(alloc, &mut map, entries)
+}
+
 fn measure(rt: &HostRuntime, entries: u64) -> Result<()> {
-    let mut map = filled(rt.alloc(), entries)?;
-    let list = list_sought(rt.alloc(), entries)?;
-    let loaded = remember_all(&mut map, list.as_slice());
-    let sum = read_all(&map, list.as_slice());
-    let lowered = give_all_again(rt.alloc(), &mut map, list.as_slice());
-    let dropped = give_all_new(rt.alloc(), &mut map, list.as_slice())?;
+    let (loaded, sum, lowered, dropped) = told_of(rt.alloc(), entries)?;
     println!(rt;
         "{entries} entries: {loaded} loaded, {lowered} lowered, {dropped} dropped, sum {sum}"
     )?;
@@ -280,12 +305,25 @@ fn of_entries(alloc: Global, entries: &[Kept], next: u64) -> Result<InodeMap, No
     InodeMap::of_entries(alloc, entries, next, LOADED_LIMIT)
 }
 
+/// Makes a map of entries, and tells whether it knows the last.
+fn knows_last(alloc: Global, entries: &[Kept], next: u64) -> Result<bool, NoMemory>
+    requires entries { AreEntries entries.now next }
+    requires next { 0 < next }
+{
+    let map = of_entries(alloc, entries, next)?;
+    Ok(map.known(Number(next - 1)))
+}
+
+/// Makes that of so many entries.
+fn knows_last_of(alloc: Global, entries: u32) -> Result<bool> {
+    let list = list_chain(alloc, entries)?;
+    let next = entries as u64 + 2;
+    Ok(knows_last(alloc, list.as_slice(), next)?)
+}
+
 /// Makes a map of given entries.
 fn measure_given(rt: &HostRuntime, entries: u32) -> Result<()> {
-    let list = list_chain(rt.alloc(), entries)?;
-    let next = entries as u64 + 2;
-    let map = of_entries(rt.alloc(), list.as_slice(), next)?;
-    let known = map.known(Number(next - 1));
+    let known = knows_last_of(rt.alloc(), entries)?;
     println!(rt; "{entries} given entries, the last known: {known}")?;
     Ok(())
 }

@@ -4,12 +4,12 @@ use Rattle.eden_base.specs.Limits.{end_of_numbers}
 use Rattle.inode_map.specs.InodeMap.{AreEntries}
 use Rattle.inode_map.specs.declared.inode_map.Kept.{Kept}
 use Rattle.measure_map.proofs.ChainLemmas.{chain-entries}
-use Rattle.measure_map.proofs.measure_given.Goals as goal
+use Rattle.measure_map.proofs.knows_last_of.Goals as goal
 
-pub of_entries-requires : goal.of_entries-requires
-of_entries-requires c =
+pub knows_last-requires-clause-entries : goal.knows_last-requires-clause-entries
+knows_last-requires-clause-entries c =
     let list = c.in_ok-list.list in
     let n = c.args.entries in
     let fits : n + 2 ≤ end_of_numbers = let few = c.ranges.entries.fits in omega arith in
     let len : length list.items ≡ n = c.in_ok-list.ensures.len in
-    record { entries = subst (λ (es : List Kept). AreEntries es (n + 2)) (sym c.as_slice.ensures.value) (chain-entries list.items (n + 2) c.in_ok-list.ensures.chain (omega arith) fits) }
+    subst (λ (es : List Kept). AreEntries es (n + 2)) (sym c.as_slice.ensures.value) (chain-entries list.items (n + 2) c.in_ok-list.ensures.chain (omega arith) fits)
