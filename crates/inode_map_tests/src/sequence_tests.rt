@@ -1,8 +1,7 @@
 //! A long sequence of calls, on a map and on a plain list of the same entries.
-use eden_base::{FileId, Name, NameFault, Number, Place};
+use eden_base::{FileId, Name, NameFault, NoMemory, Number, Place};
 use inode_map::{Forgot, GiveFault, InodeMap};
 use std::alloc::{AllocError, Global};
-use std::test::Fail;
 
 /// An entry under a name of one byte in a directory, or under none: then the directory is 0.
 #[derive(Clone, Copy)]
@@ -197,22 +196,45 @@ fn step(
     }
 }
 
-#[test]
-fn answers_as_a_plain_list_does(rt: HostRuntime) -> Result<(), Fail> {
-    let mut map = InodeMap::new(rt.alloc(), 4)?;
-    let mut plain = Plain {
-        entries: Vec::new(rt.alloc()),
-        next: 2,
-        bad_items: 0,
-    };
+/// Makes a thousand calls on both, and returns whether both answered the same each time and agree after each.
+fn agree_for_long(alloc: Global, map: &mut InodeMap, plain: &mut Plain) -> Result<bool, NameFault> {
     let mut dice = 20260u64;
-    for count in 0..1000u32 {
+    for _call in 0..1000u32 {
         dice = dice
             .wrapping_mul(6364136223846793005)
             .wrapping_add(1442695040888963407);
-        let is_same = step(rt.alloc(), &mut map, &mut plain, dice / 2147483648)?;
-        assert!(rt; is_same && agrees(&map, &plain), "call {count}");
+        if !step(alloc, map, plain, dice / 2147483648)? || !agrees(map, plain) {
+            return Ok(false);
+        }
     }
-    assert!(rt; plain.next > 200 && plain.bad_items > 50 && plain.entries.len() > 10);
-    Ok(())
+    Ok(true)
+}
+
+/// Returns whether they do, and come to many numbers, bad forgets and entries.
+fn agree_on_much(alloc: Global, map: &mut InodeMap) -> bool {
+    let mut plain = Plain {
+        entries: Vec::new(alloc),
+        next: 2,
+        bad_items: 0,
+    };
+    agree_for_long(alloc, map, &mut plain) == Ok(true)
+        && plain.next > 200
+        && plain.bad_items > 50
+        && plain.entries.len() > 10
+}
+
+/// Returns that of a map that begins.
+fn agree(alloc: Global) -> bool {
+    match InodeMap::new(alloc, 4) {
+        Ok(map) => {
+            let mut map = map;
+            agree_on_much(alloc, &mut map)
+        }
+        Err(NoMemory) => false,
+    }
+}
+
+#[test]
+fn answers_as_a_plain_list_does(rt: HostRuntime) {
+    assert!(rt; agree(rt.alloc()));
 }

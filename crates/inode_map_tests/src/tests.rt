@@ -2,11 +2,10 @@
 ghost use Rattle.std.specs.Prelude.{◌+◌, ◌<◌, ◌≤◌};
 ghost use Rattle.eden_base.specs.Limits.{end_of_numbers};
 
-use checkout::{Manifest, ManifestFault, ManifestFaultKind, Tree};
-use eden_base::{Attr, FileId, Kind, Name, NameFault, NoMemory, Number, Perm, Place};
+use checkout::{Manifest, Tree};
+use eden_base::{Attr, FileId, Kind, Name, NoMemory, Number, Perm, Place};
 use inode_map::{Forgot, GiveFault, InodeMap, Kept};
 use std::alloc::{AllocError, Global};
-use std::test::Fail;
 
 /// Gives the number of a name, and gives it again where memory was short.
 fn given(alloc: Global, map: &mut InodeMap, parent: Number, name: &Name) -> Option<Number> {
@@ -27,52 +26,65 @@ fn given_below(alloc: Global, map: &mut InodeMap, name: &Name, depth: u64) -> Op
 }
 
 /// Parses a name, and parses it again where memory was short.
-fn parsed(alloc: Global, bytes: &[u8]) -> Result<Name, NameFault> {
+fn parsed(alloc: Global, bytes: &[u8]) -> Option<Name> {
     match Name::parse(alloc, bytes) {
-        Err(NameFault::NoMemory) => Name::parse(alloc, bytes),
-        told => told,
+        Ok(name) => Some(name),
+        Err(_refused) => Name::parse(alloc, bytes).ok(),
     }
 }
 
 /// Reads a manifest, and reads it again where memory was short.
-fn read(alloc: Global, text: &[u8]) -> Result<Manifest, ManifestFault> {
+fn read(alloc: Global, text: &[u8]) -> Option<Manifest> {
     match Manifest::read(alloc, text) {
-        Err(
-            ManifestFault {
-                kind: ManifestFaultKind::NoMemory,
-                ..
-            },
-        ) => Manifest::read(alloc, text),
-        told => told,
+        Ok(manifest) => Some(manifest),
+        Err(_refused) => Manifest::read(alloc, text).ok(),
     }
 }
 
-/// Makes a manifest's tree, and makes it again where memory was short.
-fn tree_of(alloc: Global, manifest: &Manifest) -> Result<Tree, NoMemory> {
-    match Tree::of(alloc, manifest) {
-        Err(_refused) => Tree::of(alloc, manifest),
-        told => told,
+/// Makes the tree of a text, and makes it again where memory was short.
+fn tree_of(alloc: Global, text: &[u8]) -> Option<Tree> {
+    let manifest = read(alloc, text)?;
+    match Tree::of(alloc, &manifest) {
+        Ok(tree) => Some(tree),
+        Err(_refused) => Tree::of(alloc, &manifest).ok(),
     }
 }
 
-/// Writes the text of a hundred directories, each in the one before, again where memory was short.
+/// Writes a path's line, and makes the path one directory deeper.
+fn put_path(text: &mut Vec<u8>, path: &mut Vec<u8>) -> Result<(), AllocError> {
+    text.extend_from_slice(path.as_slice())?;
+    text.push(b'\n')?;
+    path.extend_from_slice(b"/a")
+}
+
+/// Writes the lines of directories, each in the one before.
+fn put_paths(text: &mut Vec<u8>, path: &mut Vec<u8>, depth: usize) -> Result<(), AllocError> {
+    for _line in 0..depth {
+        put_path(text, path)?;
+    }
+    Ok(())
+}
+
+/// Writes the text of a hundred directories, each in the one before.
 fn nested(alloc: Global) -> Result<Vec<u8>, AllocError> {
-    match nested_so_deep(alloc, 100) {
-        Err(_refused) => nested_so_deep(alloc, 100),
-        told => told,
-    }
-}
-
-/// Writes the text of directories, each in the one before.
-fn nested_so_deep(alloc: Global, depth: usize) -> Result<Vec<u8>, AllocError> {
     let mut text = Vec::from_slice(alloc, b"commit 0123456789abcdef0123456789abcdef01234567\n")?;
     let mut path = Vec::from_slice(alloc, b"dir a")?;
-    for _line in 0..depth {
-        text.extend_from_slice(path.as_slice())?;
-        text.push(b'\n')?;
-        path.extend_from_slice(b"/a")?;
-    }
+    put_paths(&mut text, &mut path, 100)?;
     Ok(text)
+}
+
+/// Writes it, again where memory was short.
+fn nested_again(alloc: Global) -> Option<Vec<u8>> {
+    match nested(alloc) {
+        Ok(text) => Some(text),
+        Err(_refused) => nested(alloc).ok(),
+    }
+}
+
+/// Makes the tree of that text.
+fn nested_tree(alloc: Global) -> Option<Tree> {
+    let text = nested_again(alloc)?;
+    tree_of(alloc, text.as_slice())
 }
 
 /// Makes a map, and makes it again where memory was short.
@@ -93,21 +105,48 @@ fn given_ready(alloc: Global, map: &mut InodeMap, parent: Number, name: Name) ->
     map.give_ready(parent, name).ok()
 }
 
-#[test]
-fn finds_each_file_of_a_deep_path(rt: HostRuntime) -> Result<(), Fail> {
-    let text = nested(rt.alloc())?;
-    let manifest = read(rt.alloc(), text.as_slice())?;
-    let tree = tree_of(rt.alloc(), &manifest)?;
-    let a = parsed(rt.alloc(), b"a")?;
-    let mut map = map_of(rt.alloc(), 4)?;
-    let last = given_below(rt.alloc(), &mut map, &a, 101);
-    assert!(rt; last == Some(Number(102)));
+/// Returns whether each number names the file that has its id, and the two behind them name none.
+fn are_located(map: &mut InodeMap, tree: &Tree) -> bool {
     for id in 1..102u64 {
-        assert!(rt; map.locate(&tree, Number(id)) == Some(FileId(id)));
+        if map.locate(tree, Number(id)) != Some(FileId(id)) {
+            return false;
+        }
     }
-    assert!(rt; map.locate(&tree, Number(102)) == None);
-    assert!(rt; map.locate(&tree, Number(103)) == None);
-    Ok(())
+    map.locate(tree, Number(102)).is_none() && map.locate(tree, Number(103)).is_none()
+}
+
+/// Gives the numbers of a path that is one directory deeper than a tree, and returns whether they name its files.
+fn finds_each(alloc: Global, map: &mut InodeMap, tree: &Tree) -> bool {
+    match parsed(alloc, b"a") {
+        Some(name) => {
+            given_below(alloc, map, &name, 101) == Some(Number(102)) && are_located(map, tree)
+        }
+        None => false,
+    }
+}
+
+/// Returns that of a map that begins.
+fn finds_each_in(alloc: Global, tree: &Tree) -> bool {
+    match map_of(alloc, 4) {
+        Ok(map) => {
+            let mut map = map;
+            finds_each(alloc, &mut map, tree)
+        }
+        Err(NoMemory) => false,
+    }
+}
+
+/// Returns that of a tree of a hundred directories.
+fn finds_each_nested(alloc: Global) -> bool {
+    match nested_tree(alloc) {
+        Some(tree) => finds_each_in(alloc, &tree),
+        None => false,
+    }
+}
+
+#[test]
+fn finds_each_file_of_a_deep_path(rt: HostRuntime) {
+    assert!(rt; finds_each_nested(rt.alloc()));
 }
 
 /// Loads an attribute whose size is the number, unless the number is unknown or has one.
@@ -184,16 +223,16 @@ fn number_or_0(number: Option<Number>) -> u64 {
 /// Gives the number of a name, and returns it.
 fn number_given(alloc: Global, map: &mut InodeMap, parent: u64, name: &[u8]) -> u64 {
     match parsed(alloc, name) {
-        Ok(name) => number_or_0(given(alloc, map, Number(parent), &name)),
-        Err(_refused) => 0,
+        Some(name) => number_or_0(given(alloc, map, Number(parent), &name)),
+        None => 0,
     }
 }
 
 /// Gives it in room that was made before, and returns it.
 fn number_given_ready(alloc: Global, map: &mut InodeMap, parent: u64, name: &[u8]) -> u64 {
     match parsed(alloc, name) {
-        Ok(name) => number_or_0(given_ready(alloc, map, Number(parent), name)),
-        Err(_refused) => 0,
+        Some(name) => number_or_0(given_ready(alloc, map, Number(parent), name)),
+        None => 0,
     }
 }
 
@@ -201,16 +240,16 @@ fn number_given_ready(alloc: Global, map: &mut InodeMap, parent: u64, name: &[u8
 fn is_refused(alloc: Global, map: &mut InodeMap, place: (u64, &[u8]), fault: GiveFault) -> bool {
     let (parent, name) = place;
     match parsed(alloc, name) {
-        Ok(name) => map.give(alloc, Number(parent), &name) == Err(fault),
-        Err(_refused) => false,
+        Some(name) => map.give(alloc, Number(parent), &name) == Err(fault),
+        None => false,
     }
 }
 
 /// Returns the number of a name.
 fn number_found(alloc: Global, map: &InodeMap, parent: u64, name: &[u8]) -> u64 {
     match parsed(alloc, name) {
-        Ok(name) => number_or_0(map.number_for(Number(parent), &name)),
-        Err(_refused) => 0,
+        Some(name) => number_or_0(map.number_for(Number(parent), &name)),
+        None => 0,
     }
 }
 
@@ -293,161 +332,195 @@ fn goes_so(alloc: Global, map: &mut InodeMap, deed: Deed) -> bool {
     }
 }
 
-/// Makes the calls of a table, and returns the place of the first that answers something else.
-fn first_wrong(alloc: Global, map: &mut InodeMap, deeds: &[Deed]) -> Option<usize> {
-    for place in 0..deeds.len() {
-        if !goes_so(alloc, map, deeds[place]) {
-            return Some(place);
+/// Makes the calls of a table, and returns whether each answers what it says.
+fn each_goes_so(alloc: Global, map: &mut InodeMap, deeds: &[Deed]) -> bool {
+    for deed in deeds {
+        if !goes_so(alloc, map, *deed) {
+            return false;
         }
     }
-    None
+    true
 }
 
-#[test]
-fn gives_each_name_one_number(rt: HostRuntime) -> Result<(), Fail> {
-    let mut map = map_of(rt.alloc(), 4)?;
-    let deeds = [
-        Deed::Give(1, b"a", 2),
-        Deed::Give(1, b"b", 3),
-        Deed::Give(1, b"a", 2),
-        Deed::At(4, 0),
-    ];
-    assert_eq!(rt; first_wrong(rt.alloc(), &mut map, &deeds), None);
-    Ok(())
+/// Makes the calls of a table on a map that begins, and returns whether each answers what it says.
+fn all_go_so(alloc: Global, limit: usize, deeds: &[Deed]) -> bool
+    requires { 1 ≤ limit }
+{
+    match map_of(alloc, limit) {
+        Ok(map) => {
+            let mut map = map;
+            each_goes_so(alloc, &mut map, deeds)
+        }
+        Err(NoMemory) => false,
+    }
 }
 
-#[test]
-fn gives_numbers_in_room_that_was_made_before(rt: HostRuntime) -> Result<(), Fail> {
-    let mut map = map_of(rt.alloc(), 2)?;
-    let deeds = [
-        Deed::GiveReady(1, b"a", 2),
-        Deed::GiveReady(2, b"b", 3),
-        Deed::GiveReady(2, b"b", 3),
-        Deed::At(4, 0),
-        Deed::Count(2, 1),
-        Deed::Count(3, 2),
-        Deed::Entries(&[(2, 1, 1), (3, 2, 2)]),
-        Deed::Know(1, true),
-        Deed::Know(3, true),
-        Deed::Know(4, false),
-    ];
-    assert_eq!(rt; first_wrong(rt.alloc(), &mut map, &deeds), None);
-    Ok(())
-}
+const ONE_NAME: [Deed; 4] = [
+    Deed::Give(1, b"a", 2),
+    Deed::Give(1, b"b", 3),
+    Deed::Give(1, b"a", 2),
+    Deed::At(4, 0),
+];
 
 #[test]
-fn goes_over_its_numbers_and_forgets_upwards(rt: HostRuntime) -> Result<(), Fail> {
-    let mut map = map_of(rt.alloc(), 4)?;
-    let deeds = [
-        Deed::Give(1, b"a", 2),
-        Deed::Give(2, b"a", 3),
-        Deed::Give(3, b"a", 4),
-        Deed::After(1, 2),
-        Deed::After(3, 4),
-        Deed::After(4, 0),
-        Deed::Find(3, b"a", 4),
-        Deed::Find(4, b"a", 0),
-        Deed::Parent(4, 3),
-        Deed::Forget(2, 1, Forgot::Lowered),
-        Deed::Entries(&[(2, 1, 0), (3, 2, 1), (4, 3, 1)]),
-        Deed::Foresee(4, 1, Forgot::Dropped),
-        Deed::Count(4, 1),
-        Deed::Forget(4, 1, Forgot::Dropped),
-        Deed::After(1, 2),
-        Deed::After(3, 0),
-        Deed::Forget(3, 1, Forgot::Dropped),
-        Deed::After(1, 0),
-        Deed::At(5, 0),
-    ];
-    assert_eq!(rt; first_wrong(rt.alloc(), &mut map, &deeds), None);
-    Ok(())
+fn gives_each_name_one_number(rt: HostRuntime) {
+    assert!(rt; all_go_so(rt.alloc(), 4, &ONE_NAME));
 }
 
-#[test]
-fn unloads_the_oldest_attribute_at_the_limit(rt: HostRuntime) -> Result<(), Fail> {
-    let mut map = map_of(rt.alloc(), 2)?;
-    let deeds = [
-        Deed::GiveReady(1, b"src", 2),
-        Deed::Load(2),
-        Deed::Give(1, b"README", 3),
-        Deed::Load(3),
-        Deed::Size(2, 2),
-        Deed::Give(2, b"README", 4),
-        Deed::Load(4),
-        Deed::Size(3, 0),
-        Deed::Size(2, 2),
-        Deed::Size(4, 4),
-        Deed::Unload(true),
-        Deed::Size(2, 0),
-        Deed::Unload(true),
-        Deed::Unload(false),
-        Deed::Count(2, 1),
-        Deed::Count(3, 1),
-        Deed::Count(4, 1),
-    ];
-    assert_eq!(rt; first_wrong(rt.alloc(), &mut map, &deeds), None);
-    Ok(())
-}
+const IN_ROOM: [Deed; 10] = [
+    Deed::GiveReady(1, b"a", 2),
+    Deed::GiveReady(2, b"b", 3),
+    Deed::GiveReady(2, b"b", 3),
+    Deed::At(4, 0),
+    Deed::Count(2, 1),
+    Deed::Count(3, 2),
+    Deed::Entries(&[(2, 1, 1), (3, 2, 2)]),
+    Deed::Know(1, true),
+    Deed::Know(3, true),
+    Deed::Know(4, false),
+];
 
 #[test]
-fn tells_what_each_forget_comes_to(rt: HostRuntime) -> Result<(), Fail> {
-    let mut map = map_of(rt.alloc(), 1)?;
-    let deeds = [
-        Deed::Give(1, b"src", 2),
-        Deed::Give(1, b"src", 2),
-        Deed::Give(1, b"README", 3),
-        Deed::Forget(2, 1, Forgot::Lowered),
-        Deed::Forget(9, 1, Forgot::Bad),
-        Deed::Forget(2, 5, Forgot::Bad),
-        Deed::Forget(2, 0, Forgot::Bad),
-        Deed::Forget(1, 3, Forgot::Root),
-        Deed::Forget(3, 1, Forgot::Dropped),
-        Deed::Count(2, 1),
-        Deed::Know(3, false),
-        Deed::At(4, 3),
-    ];
-    assert_eq!(rt; first_wrong(rt.alloc(), &mut map, &deeds), None);
-    Ok(())
+fn gives_numbers_in_room_that_was_made_before(rt: HostRuntime) {
+    assert!(rt; all_go_so(rt.alloc(), 2, &IN_ROOM));
 }
 
+const UPWARDS: [Deed; 19] = [
+    Deed::Give(1, b"a", 2),
+    Deed::Give(2, b"a", 3),
+    Deed::Give(3, b"a", 4),
+    Deed::After(1, 2),
+    Deed::After(3, 4),
+    Deed::After(4, 0),
+    Deed::Find(3, b"a", 4),
+    Deed::Find(4, b"a", 0),
+    Deed::Parent(4, 3),
+    Deed::Forget(2, 1, Forgot::Lowered),
+    Deed::Entries(&[(2, 1, 0), (3, 2, 1), (4, 3, 1)]),
+    Deed::Foresee(4, 1, Forgot::Dropped),
+    Deed::Count(4, 1),
+    Deed::Forget(4, 1, Forgot::Dropped),
+    Deed::After(1, 2),
+    Deed::After(3, 0),
+    Deed::Forget(3, 1, Forgot::Dropped),
+    Deed::After(1, 0),
+    Deed::At(5, 0),
+];
+
 #[test]
-fn gives_up_at_the_greatest_count_and_behind_the_last_number(rt: HostRuntime) -> Result<(), Fail> {
+fn goes_over_its_numbers_and_forgets_upwards(rt: HostRuntime) {
+    assert!(rt; all_go_so(rt.alloc(), 4, &UPWARDS));
+}
+
+const LOADED: [Deed; 17] = [
+    Deed::GiveReady(1, b"src", 2),
+    Deed::Load(2),
+    Deed::Give(1, b"README", 3),
+    Deed::Load(3),
+    Deed::Size(2, 2),
+    Deed::Give(2, b"README", 4),
+    Deed::Load(4),
+    Deed::Size(3, 0),
+    Deed::Size(2, 2),
+    Deed::Size(4, 4),
+    Deed::Unload(true),
+    Deed::Size(2, 0),
+    Deed::Unload(true),
+    Deed::Unload(false),
+    Deed::Count(2, 1),
+    Deed::Count(3, 1),
+    Deed::Count(4, 1),
+];
+
+#[test]
+fn unloads_the_oldest_attribute_at_the_limit(rt: HostRuntime) {
+    assert!(rt; all_go_so(rt.alloc(), 2, &LOADED));
+}
+
+const FORGOTTEN: [Deed; 12] = [
+    Deed::Give(1, b"src", 2),
+    Deed::Give(1, b"src", 2),
+    Deed::Give(1, b"README", 3),
+    Deed::Forget(2, 1, Forgot::Lowered),
+    Deed::Forget(9, 1, Forgot::Bad),
+    Deed::Forget(2, 5, Forgot::Bad),
+    Deed::Forget(2, 0, Forgot::Bad),
+    Deed::Forget(1, 3, Forgot::Root),
+    Deed::Forget(3, 1, Forgot::Dropped),
+    Deed::Count(2, 1),
+    Deed::Know(3, false),
+    Deed::At(4, 3),
+];
+
+#[test]
+fn tells_what_each_forget_comes_to(rt: HostRuntime) {
+    assert!(rt; all_go_so(rt.alloc(), 1, &FORGOTTEN));
+}
+
+/// A map of one entry, under a name of the root, whose number is the last, and which is held as often as may be but once.
+const AT_THE_ENDS: [Deed; 9] = [
+    Deed::At(9223372036854775807, 0),
+    Deed::Give(1, b"src", 9223372036854775806),
+    Deed::Refuse(1, b"src", GiveFault::TooMany),
+    Deed::Refuse(1, b"README", GiveFault::NoNumber),
+    Deed::Refuse(9223372036854775806, b"src", GiveFault::NoNumber),
+    Deed::Count(9223372036854775806, 4294967295),
+    Deed::At(9223372036854775807, 0),
+    Deed::Forget(9223372036854775806, 4294967295, Forgot::Dropped),
+    Deed::Know(9223372036854775806, false),
+];
+
+/// Returns whether the calls on that map go so.
+fn gives_up_at_the_ends(alloc: Global) -> Option<bool> {
     let place = Place::Linked {
         parent: Number::ROOT,
-        name: parsed(rt.alloc(), b"src")?,
+        name: parsed(alloc, b"src")?,
     };
-    let mut map = map_of_one(rt.alloc(), Number(9223372036854775806), place, 4294967294)?;
-    let deeds = [
-        Deed::At(9223372036854775807, 0),
-        Deed::Give(1, b"src", 9223372036854775806),
-        Deed::Refuse(1, b"src", GiveFault::TooMany),
-        Deed::Refuse(1, b"README", GiveFault::NoNumber),
-        Deed::Refuse(9223372036854775806, b"src", GiveFault::NoNumber),
-        Deed::Count(9223372036854775806, 4294967295),
-        Deed::At(9223372036854775807, 0),
-        Deed::Forget(9223372036854775806, 4294967295, Forgot::Dropped),
-        Deed::Know(9223372036854775806, false),
-    ];
-    assert_eq!(rt; first_wrong(rt.alloc(), &mut map, &deeds), None);
-    Ok(())
+    let mut map = map_of_one(alloc, Number(9223372036854775806), place, 4294967294).ok()?;
+    Some(each_goes_so(alloc, &mut map, &AT_THE_ENDS))
 }
 
 #[test]
-fn names_the_file_of_a_mark_until_it_is_forgotten(rt: HostRuntime) -> Result<(), Fail> {
-    let commit = b"commit 0123456789abcdef0123456789abcdef01234567\n";
-    let manifest = read(rt.alloc(), commit)?;
-    let tree = tree_of(rt.alloc(), &manifest)?;
+fn gives_up_at_the_greatest_count_and_behind_the_last_number(rt: HostRuntime) {
+    assert!(rt; gives_up_at_the_ends(rt.alloc()) == Some(true));
+}
+
+const MARKED: [Deed; 5] = [
+    Deed::After(1, 5),
+    Deed::Entries(&[(5, 0, 2)]),
+    Deed::At(6, 0),
+    Deed::Forget(5, 1, Forgot::Lowered),
+    Deed::Forget(5, 1, Forgot::Dropped),
+];
+
+/// Returns whether number 5 names file 7 until it is forgotten.
+fn names_until_forgotten(alloc: Global, map: &mut InodeMap, tree: &Tree) -> bool {
+    map.locate(tree, Number(5)) == Some(FileId(7))
+        && each_goes_so(alloc, map, &MARKED)
+        && map.locate(tree, Number(5)).is_none()
+}
+
+/// Returns that of a map in which number 5 is unlinked.
+fn names_a_mark(alloc: Global, tree: &Tree) -> bool {
     let place = Place::Unlinked { file: FileId(7) };
-    let mut map = map_of_one(rt.alloc(), Number(5), place, 2)?;
-    assert!(rt; map.locate(&tree, Number(5)) == Some(FileId(7)));
-    let deeds = [
-        Deed::After(1, 5),
-        Deed::Entries(&[(5, 0, 2)]),
-        Deed::At(6, 0),
-        Deed::Forget(5, 1, Forgot::Lowered),
-        Deed::Forget(5, 1, Forgot::Dropped),
-    ];
-    assert_eq!(rt; first_wrong(rt.alloc(), &mut map, &deeds), None);
-    assert!(rt; map.locate(&tree, Number(5)) == None);
-    Ok(())
+    match map_of_one(alloc, Number(5), place, 2) {
+        Ok(map) => {
+            let mut map = map;
+            names_until_forgotten(alloc, &mut map, tree)
+        }
+        Err(NoMemory) => false,
+    }
+}
+
+/// Returns that of a tree that has no files.
+fn names_a_mark_of_nothing(alloc: Global) -> bool {
+    match tree_of(alloc, b"commit 0123456789abcdef0123456789abcdef01234567\n") {
+        Some(tree) => names_a_mark(alloc, &tree),
+        None => false,
+    }
+}
+
+#[test]
+fn names_the_file_of_a_mark_until_it_is_forgotten(rt: HostRuntime) {
+    assert!(rt; names_a_mark_of_nothing(rt.alloc()));
 }
