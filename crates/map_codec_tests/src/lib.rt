@@ -2,6 +2,10 @@
 #![tactic(auto)]
 
 #[cfg(test)]
+mod deep_tests;
+#[cfg(test)]
+mod limit_tests;
+#[cfg(test)]
 mod raise_tests;
 #[cfg(test)]
 mod tests;

@@ -1,5 +1,5 @@
 //! What is raised from images, and the first that stands against others.
-ghost use Rattle.std.specs.Prelude.{◌≡◌, IfOk, IfSome};
+ghost use Rattle.std.specs.Prelude.{◌≡◌, IfOk};
 
 use crate::tests::{CHECKOUT, all, image_of_bytes, is_spelled, manifest_of};
 use crate::vectors::{CHANGED, LOOKED_UP, MOVED};
@@ -9,36 +9,44 @@ use map_codec::{RaiseFault, raise};
 use std::alloc::Global;
 use std::test::Fail;
 
-/// Raises an image of these bytes; nothing where they are none.
+/// Raises an image of these bytes; no fault is told where they are none.
 fn raised_once(
     alloc: Global,
     manifest: &Manifest,
     bytes: &[u8],
-) -> Option<Result<Served, RaiseFault>>
-    ensures manifest { IfSome result (λ raised. IfOk raised (λ served. served.tree.manifest ≡ manifest.now)) }
+) -> Result<Served, Option<RaiseFault>>
+    ensures manifest { IfOk result (λ served. served.tree.manifest ≡ manifest.now) }
 {
     match image_of_bytes(alloc, bytes) {
-        Ok(image) => Some(raise(alloc, image, manifest, 8)),
-        Err(_) => None,
+        Ok(image) => raise(alloc, image, manifest, 8).map_err(Some),
+        Err(_) => Err(None),
     }
 }
 
-/// Raises an image of these bytes, and once more where memory was refused; nothing where they are none.
-fn raised(alloc: Global, manifest: &Manifest, bytes: &[u8]) -> Option<Result<Served, RaiseFault>>
-    ensures manifest { IfSome result (λ raised. IfOk raised (λ served. served.tree.manifest ≡ manifest.now)) }
+/// Raises an image of these bytes, and once more where memory was refused.
+pub fn raised(
+    alloc: Global,
+    manifest: &Manifest,
+    bytes: &[u8],
+) -> Result<Served, Option<RaiseFault>>
+    ensures manifest { IfOk result (λ served. served.tree.manifest ≡ manifest.now) }
 {
     match raised_once(alloc, manifest, bytes) {
-        Some(Err(RaiseFault::NoMemory)) => raised_once(alloc, manifest, bytes),
+        Err(Some(RaiseFault::NoMemory)) => raised_once(alloc, manifest, bytes),
         other => other,
     }
 }
 
 /// Returns whether bytes are an image that is refused so, or raised where there is no fault.
-fn comes_to(alloc: Global, manifest: &Manifest, bytes: &[u8], fault: Option<RaiseFault>) -> bool {
+pub fn comes_to(
+    alloc: Global,
+    manifest: &Manifest,
+    bytes: &[u8],
+    fault: Option<RaiseFault>,
+) -> bool {
     match raised(alloc, manifest, bytes) {
-        Some(Ok(_)) => fault.is_none(),
-        Some(Err(found)) => fault == Some(found),
-        None => false,
+        Ok(_) => fault.is_none(),
+        Err(found) => found.is_some() && fault == found,
     }
 }
 
@@ -99,15 +107,20 @@ fn refuses_two_numbers_of_one_file(rt: HostRuntime) -> Result<(), Fail> {
     Ok(())
 }
 
+/// Returns whether the image of what was raised is the one that it was raised from.
+fn is_raised_and_spelled(alloc: Global, manifest: &Manifest, bytes: &[u8]) -> bool {
+    match raised(alloc, manifest, bytes) {
+        Ok(served) => is_spelled(alloc, &served, bytes),
+        Err(_) => false,
+    }
+}
+
 #[test]
 fn has_the_image_that_it_was_raised_from(rt: HostRuntime) -> Result<(), Fail> {
     let alloc = rt.alloc();
     let manifest = manifest_of(alloc, CHECKOUT)?;
     for bytes in [LOOKED_UP.as_slice(), CHANGED.as_slice(), MOVED.as_slice()] {
-        match raised(alloc, &manifest, bytes) {
-            Some(Ok(served)) => assert!(rt; is_spelled(alloc, &served, bytes)?),
-            _ => panic!(rt; "the image is of this checkout"),
-        }
+        assert!(rt; is_raised_and_spelled(alloc, &manifest, bytes));
     }
     Ok(())
 }

@@ -5,7 +5,7 @@ ghost use Rattle.map_codec.specs.Fit.{CountsFit, IsFit};
 
 use crate::vectors::{CHANGED, LOOKED_UP, MOVED};
 use checkout::{Manifest, ManifestBacking, ManifestFault};
-use eden_base::{Name, NameFault, NoMemory, Number, Perm};
+use eden_base::{Errno, Name, NameFault, NoMemory, Number, Perm};
 use fuse_ops::Served;
 use fuse_wire::{Answer, Request};
 use map_codec::{Entries, Image, ImageFault, WriteFault, image_of, read, write};
@@ -35,6 +35,16 @@ fn text_of(alloc: Global, image: &Image, version: u16) -> Result<Vec<u8>, WriteF
     }
 }
 
+/// Returns whether an image is written as these bytes.
+fn has_text(alloc: Global, image: &Image, bytes: &[u8]) -> bool
+    requires { IsFit image.now }
+{
+    match text_of(alloc, image, 1) {
+        Ok(text) => text.as_slice() == bytes,
+        Err(_) => false,
+    }
+}
+
 /// Returns the fault of bytes that are no image.
 fn fault_of(alloc: Global, bytes: &[u8]) -> Option<ImageFault> {
     match image_of_bytes(alloc, bytes) {
@@ -46,10 +56,7 @@ fn fault_of(alloc: Global, bytes: &[u8]) -> Option<ImageFault> {
 /// Returns whether bytes are refused, or are the one spelling of the image that they are read as.
 fn is_refused_or_spelled_so(alloc: Global, bytes: &[u8]) -> bool {
     match image_of_bytes(alloc, bytes) {
-        Ok(image) => match text_of(alloc, &image, 1) {
-            Ok(text) => text.as_slice() == bytes,
-            Err(_) => false,
-        },
+        Ok(image) => has_text(alloc, &image, bytes),
         Err(_) => true,
     }
 }
@@ -64,14 +71,9 @@ fn fault_with(alloc: Global, at: usize, byte: u8) -> Option<ImageFault> {
 }
 
 #[test]
-fn writes_what_it_reads(rt: HostRuntime) -> Result<(), Fail> {
-    let alloc = rt.alloc();
-    for bytes in [LOOKED_UP.as_slice(), CHANGED.as_slice()] {
-        let image = image_of_bytes(alloc, bytes)?;
-        let text = text_of(alloc, &image, 1)?;
-        assert_eq!(rt; text.as_slice(), bytes);
-    }
-    Ok(())
+fn writes_what_it_reads(rt: HostRuntime) {
+    assert!(rt; is_written_again(rt.alloc(), LOOKED_UP.as_slice()));
+    assert!(rt; is_written_again(rt.alloc(), CHANGED.as_slice()));
 }
 
 #[test]
@@ -95,12 +97,18 @@ fn tells_the_first_fault(rt: HostRuntime) {
     }
 }
 
-/// Returns these bytes, one behind the other.
-fn joined(alloc: Global, parts: &[&[u8]]) -> Result<Vec<u8>, AllocError> {
-    let mut bytes = Vec::new(alloc);
+/// Puts these bytes behind others.
+pub fn put(bytes: &mut Vec<u8>, parts: &[&[u8]]) -> Result<(), AllocError> {
     for part in parts {
         bytes.extend_from_slice(part)?;
     }
+    Ok(())
+}
+
+/// Returns these bytes, one behind the other.
+fn joined(alloc: Global, parts: &[&[u8]]) -> Result<Vec<u8>, AllocError> {
+    let mut bytes = Vec::new(alloc);
+    put(&mut bytes, parts)?;
     Ok(bytes)
 }
 
@@ -141,38 +149,61 @@ fn refuses_a_changed_byte_or_spells_it_so(rt: HostRuntime) {
     }
 }
 
-/// Writes the text of so many entries without names, each held once.
-fn unlinked(alloc: Global, count: u32) -> Result<Vec<u8>, AllocError> {
+/// Puts the text of so many entries without names, each held once.
+fn put_unlinked(bytes: &mut Vec<u8>, count: u32) -> Result<(), AllocError> {
     let (head, _) = CHANGED.split_at(50);
-    let mut bytes = Vec::from_slice(alloc, head)?;
-    bytes.extend_from_slice(&count.to_be_bytes())?;
+    put(bytes, &[head, count.to_be_bytes().as_slice()])?;
     for i in 0..count {
-        bytes.extend_from_slice(&(u64::from(i) + 2).to_be_bytes())?;
-        bytes.extend_from_slice(&[1, 0, 0, 0, 1])?;
-        bytes.extend_from_slice(&(u64::from(i) + 9).to_be_bytes())?;
+        let number = (u64::from(i) + 2).to_be_bytes();
+        let file = (u64::from(i) + 9).to_be_bytes();
+        put(
+            bytes,
+            &[
+                number.as_slice(),
+                [1, 0, 0, 0, 1].as_slice(),
+                file.as_slice(),
+            ],
+        )?;
     }
-    bytes.extend_from_slice(&[0, 0, 0, 0, 0, 0, 0, 0])?;
-    Ok(bytes)
+    put(bytes, &[[0; 8].as_slice()])
+}
+
+/// Returns such a text, which it puts once more where memory was refused.
+fn unlinked(alloc: Global, count: u32) -> Vec<u8> {
+    let mut bytes = Vec::new(alloc);
+    if put_unlinked(&mut bytes, count).is_err() {
+        bytes.clear();
+        let _ = put_unlinked(&mut bytes, count);
+    }
+    bytes
+}
+
+/// Returns whether the image of a text is written as that text in version 1, and in no version 2.
+fn is_written_again(alloc: Global, bytes: &[u8]) -> bool {
+    match image_of_bytes(alloc, bytes) {
+        Ok(image) => {
+            has_text(alloc, &image, bytes)
+                && matches!(text_of(alloc, &image, 2), Err(WriteFault::NoSuchVersion))
+        }
+        Err(_) => false,
+    }
+}
+
+/// Returns whether the image of a text is too long to be written.
+fn is_too_long(alloc: Global, bytes: &[u8]) -> bool {
+    match image_of_bytes(alloc, bytes) {
+        Ok(image) => matches!(text_of(alloc, &image, 1), Err(WriteFault::TooLong)),
+        Err(_) => false,
+    }
 }
 
 #[test]
-fn writes_65000_bytes_at_most(rt: HostRuntime) -> Result<(), Fail> {
-    let alloc = rt.alloc();
-    let most = match unlinked(alloc, 3092) {
-        Ok(bytes) => bytes,
-        Err(_refused) => unlinked(alloc, 3092)?,
-    };
+fn writes_65000_bytes_at_most(rt: HostRuntime) {
+    let most = unlinked(rt.alloc(), 3092);
     assert_eq!(rt; most.len(), 64994);
-    let image = image_of_bytes(alloc, most.as_slice())?;
-    assert!(rt; text_of(alloc, &image, 1)?.as_slice() == most.as_slice());
-    assert!(rt; matches!(text_of(alloc, &image, 2), Err(WriteFault::NoSuchVersion)));
-    let more = match unlinked(alloc, 3093) {
-        Ok(bytes) => bytes,
-        Err(_refused) => unlinked(alloc, 3093)?,
-    };
-    let image = image_of_bytes(alloc, more.as_slice())?;
-    assert!(rt; matches!(text_of(alloc, &image, 1), Err(WriteFault::TooLong)));
-    Ok(())
+    assert!(rt; is_written_again(rt.alloc(), most.as_slice()));
+    let more = unlinked(rt.alloc(), 3093);
+    assert!(rt; is_too_long(rt.alloc(), more.as_slice()));
 }
 
 /// A checkout with a directory and three files.
@@ -212,93 +243,119 @@ fn image_taken(alloc: Global, served: &Served) -> Result<Image, NoMemory>
 }
 
 /// Parses a name, and once more where memory was refused.
-pub fn name_of(alloc: Global, bytes: &[u8]) -> Result<Name, NameFault> {
+fn name_of(alloc: Global, bytes: &[u8]) -> Result<Name, NameFault> {
     match Name::parse(alloc, bytes) {
         Ok(name) => Ok(name),
         Err(_refused) => Name::parse(alloc, bytes),
     }
 }
 
-/// Makes a lookup in the root.
-pub fn lookup_of(alloc: Global, name: &[u8]) -> Result<Request, NameFault> {
-    Ok(Request::Lookup {
-        dir: Number::ROOT,
-        name: name_of(alloc, name)?,
-    })
+/// Which request a test makes, by a directory's number and a name in it.
+pub type Asking = (Asks, u64, &'static [u8]);
+
+/// The kinds of request that a test makes.
+#[derive(Clone, Copy)]
+pub enum Asks {
+    LookUp,
+    /// Makes a file in the root with these permissions.
+    Create(u16),
+    Unlink,
 }
 
-/// Makes a CREATE in the root.
-pub fn create_of(alloc: Global, name: &[u8], perm: Perm) -> Result<Request, NameFault> {
-    Ok(Request::Create {
-        dir: Number::ROOT,
-        name: name_of(alloc, name)?,
-        perm,
-    })
-}
-
-/// Makes an UNLINK in the directory of a number.
-fn unlink_of(alloc: Global, dir: u64, name: &[u8]) -> Result<Request, NameFault> {
-    Ok(Request::Unlink {
-        dir: Number(dir),
-        name: name_of(alloc, name)?,
+/// Makes a request.
+pub fn request_of(alloc: Global, asking: Asking) -> Result<Request, NameFault> {
+    let (asks, dir, bytes) = asking;
+    let name = name_of(alloc, bytes)?;
+    let dir = Number(dir);
+    Ok(match asks {
+        Asks::LookUp => Request::Lookup { dir, name },
+        Asks::Create(bits) => Request::Create {
+            dir,
+            name,
+            perm: Perm::of(bits).unwrap_or(Perm::DIRECTORY),
+        },
+        Asks::Unlink => Request::Unlink { dir, name },
     })
 }
 
 /// Answers a request, and once more where memory was refused.
-fn does(alloc: Global, served: &mut Served, manifest: &Manifest, request: &Request)
+pub fn answer_to(
+    alloc: Global,
+    served: &mut Served,
+    manifest: &Manifest,
+    request: &Request,
+) -> Option<Answer>
     requires over { served.old.tree.manifest ≡ manifest.now }
     ensures over { served.new.tree.manifest ≡ manifest.now }
 {
     let mut backing = ManifestBacking::of(manifest);
-    if let Some(Answer::Error(_)) = served.apply(alloc, &mut backing, request) {
-        served.apply(alloc, &mut backing, request);
+    match served.apply(alloc, &mut backing, request) {
+        Some(Answer::Error(Errno::ENOMEM)) => served.apply(alloc, &mut backing, request),
+        answer => answer,
     }
 }
 
 /// Returns whether the image of what a daemon serves is spelled so.
-pub fn is_spelled(alloc: Global, served: &Served, bytes: &[u8]) -> Result<bool, Fail> {
-    let image = image_taken(alloc, served)?;
-    let text = text_of(alloc, &image, 1)?;
-    Ok(text.as_slice() == bytes)
+pub fn is_spelled(alloc: Global, served: &Served, bytes: &[u8]) -> bool {
+    match image_taken(alloc, served) {
+        Ok(image) => has_text(alloc, &image, bytes),
+        Err(NoMemory) => false,
+    }
 }
 
-#[test]
-fn takes_the_image_of_one_lookup(rt: HostRuntime) -> Result<(), Fail> {
-    let alloc = rt.alloc();
-    let manifest = manifest_of(alloc, CHECKOUT)?;
-    let mut served = served_of(alloc, &manifest)?;
-    does(alloc, &mut served, &manifest, &lookup_of(alloc, b"src")?);
-    assert!(rt; is_spelled(alloc, &served, LOOKED_UP.as_slice())?);
-    Ok(())
+/// Makes requests, and returns whether each has a name.
+fn asks_all(alloc: Global, served: &mut Served, manifest: &Manifest, askings: &[Asking]) -> bool
+    requires over { served.old.tree.manifest ≡ manifest.now }
+{
+    for asking in askings {
+        match request_of(alloc, *asking) {
+            Ok(request) => {
+                answer_to(alloc, served, manifest, &request);
+            }
+            Err(_) => return false,
+        }
+    }
+    true
 }
 
-#[test]
-fn takes_a_made_file_without_a_name(rt: HostRuntime) -> Result<(), Fail> {
-    let alloc = rt.alloc();
-    let manifest = manifest_of(alloc, CHECKOUT)?;
-    let mut served = served_of(alloc, &manifest)?;
-    let readme = lookup_of(alloc, b"README")?;
-    does(alloc, &mut served, &manifest, &lookup_of(alloc, b"src")?);
-    does(alloc, &mut served, &manifest, &readme);
-    does(alloc, &mut served, &manifest, &readme);
-    does(alloc, &mut served, &manifest, &readme);
-    let create = create_of(alloc, b"t", Perm { bits: 0o600 })?;
-    does(alloc, &mut served, &manifest, &create);
-    does(alloc, &mut served, &manifest, &unlink_of(alloc, 1, b"t")?);
-    assert!(rt; is_spelled(alloc, &served, CHANGED.as_slice())?);
-    Ok(())
+/// Returns whether the image after these requests is spelled so.
+fn is_spelled_after(alloc: Global, manifest: &Manifest, askings: &[Asking], bytes: &[u8]) -> bool {
+    match served_of(alloc, manifest) {
+        Ok(mut served) => {
+            asks_all(alloc, &mut served, manifest, askings) && is_spelled(alloc, &served, bytes)
+        }
+        Err(NoMemory) => false,
+    }
 }
 
+const TAKEN_OUT: [Asking; 6] = [
+    (Asks::LookUp, 1, b"src"),
+    (Asks::LookUp, 1, b"README"),
+    (Asks::LookUp, 1, b"README"),
+    (Asks::LookUp, 1, b"README"),
+    (Asks::Create(0o600), 1, b"t"),
+    (Asks::Unlink, 1, b"t"),
+];
+
+const MOVING: [Asking; 3] = [
+    (Asks::LookUp, 1, b"src"),
+    (Asks::Create(0o644), 1, b"a"),
+    (Asks::Unlink, 2, b"a"),
+];
+
 #[test]
-fn takes_names_that_changed(rt: HostRuntime) -> Result<(), Fail> {
-    let alloc = rt.alloc();
-    let manifest = manifest_of(alloc, CHECKOUT)?;
-    let mut served = served_of(alloc, &manifest)?;
-    does(alloc, &mut served, &manifest, &lookup_of(alloc, b"src")?);
-    let create = create_of(alloc, b"a", Perm { bits: 0o644 })?;
-    does(alloc, &mut served, &manifest, &create);
-    does(alloc, &mut served, &manifest, &unlink_of(alloc, 2, b"a")?);
-    assert!(rt; is_spelled(alloc, &served, MOVED.as_slice())?);
+fn takes_the_image_of_what_was_asked(rt: HostRuntime) -> Result<(), Fail> {
+    let manifest = manifest_of(rt.alloc(), CHECKOUT)?;
+    for (askings, bytes) in [
+        (
+            [(Asks::LookUp, 1, b"src".as_slice())].as_slice(),
+            LOOKED_UP.as_slice(),
+        ),
+        (TAKEN_OUT.as_slice(), CHANGED.as_slice()),
+        (MOVING.as_slice(), MOVED.as_slice()),
+    ] {
+        assert!(rt; is_spelled_after(rt.alloc(), &manifest, askings, bytes));
+    }
     Ok(())
 }
 

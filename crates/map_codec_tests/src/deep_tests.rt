@@ -1,0 +1,101 @@
+//! Entries that stand in one another, so deep that a walk up may not take stack for each, and in a circle.
+use crate::raise_tests::comes_to;
+use crate::tests::{CHECKOUT, manifest_of, put};
+use crate::vectors::CHANGED;
+use checkout::Manifest;
+use map_codec::RaiseFault;
+use std::alloc::{AllocError, Global};
+use std::test::Fail;
+
+/// The first file that the checkout doesn't have.
+const FIRST_FILE: u64 = 6;
+
+/// Puts so many entries named `a`, each in the directory of the next, and the last in that of a number.
+fn put_entries(bytes: &mut Vec<u8>, count: u32, top: u64) -> Result<(), AllocError> {
+    bytes.extend_from_slice(&count.to_be_bytes())?;
+    for i in 0..count {
+        let number = u64::from(i) + 2;
+        let parent = if i + 1 < count { number + 1 } else { top };
+        bytes.extend_from_slice(&number.to_be_bytes())?;
+        bytes.extend_from_slice(&[0, 0, 0, 0, 1])?;
+        bytes.extend_from_slice(&parent.to_be_bytes())?;
+        bytes.extend_from_slice(b"\x01a")?;
+    }
+    Ok(())
+}
+
+/// Puts so many directories that were made.
+fn put_made(bytes: &mut Vec<u8>, count: u32) -> Result<(), AllocError> {
+    bytes.extend_from_slice(&count.to_be_bytes())?;
+    for i in 0..count {
+        bytes.extend_from_slice(&(FIRST_FILE + u64::from(i)).to_be_bytes())?;
+        bytes.extend_from_slice(&[1, 0x01, 0xed])?;
+    }
+    Ok(())
+}
+
+/// Puts so many names `a`, the first in the root, and each other in the directory that the one before it gives.
+fn put_links(bytes: &mut Vec<u8>, count: u32) -> Result<(), AllocError> {
+    bytes.extend_from_slice(&count.to_be_bytes())?;
+    let mut dir: u64 = 1;
+    for i in 0..count {
+        let file = FIRST_FILE + u64::from(i);
+        bytes.extend_from_slice(&dir.to_be_bytes())?;
+        bytes.extend_from_slice(b"\x01a\x01")?;
+        bytes.extend_from_slice(&file.to_be_bytes())?;
+        dir = file;
+    }
+    Ok(())
+}
+
+/// Spells what stands before the entries: the numbers and files behind so many are next.
+fn put_head(bytes: &mut Vec<u8>, count: u32) -> Result<(), AllocError> {
+    let (head, _) = CHANGED.split_at(34);
+    let next_number = (u64::from(count) + 2).to_be_bytes();
+    let next_file = (u64::from(count) + FIRST_FILE).to_be_bytes();
+    put(bytes, &[head, next_number.as_slice(), next_file.as_slice()])
+}
+
+/// Spells the image of so many directories, each made in the one before it, of which the deepest has the first number.
+fn put_chain(bytes: &mut Vec<u8>, count: u32) -> Result<(), AllocError> {
+    put_head(bytes, count)?;
+    put_entries(bytes, count, 1)?;
+    put_made(bytes, count)?;
+    put_links(bytes, count)
+}
+
+/// Spells the image of so many entries, of which each stands above itself. Nothing was changed.
+fn put_circle(bytes: &mut Vec<u8>, count: u32) -> Result<(), AllocError> {
+    put_head(bytes, count)?;
+    put_entries(bytes, count, 2)?;
+    put(bytes, &[[0; 8].as_slice()])
+}
+
+/// Returns whether a chain of so many directories is raised.
+fn is_chain_raised(alloc: Global, manifest: &Manifest, count: u32) -> bool {
+    let mut bytes = Vec::new(alloc);
+    put_chain(&mut bytes, count).is_ok() && comes_to(alloc, manifest, bytes.as_slice(), None)
+}
+
+/// Returns whether a circle of so many entries is refused.
+fn is_circle_refused(alloc: Global, manifest: &Manifest, count: u32) -> bool {
+    let mut bytes = Vec::new(alloc);
+    put_circle(&mut bytes, count).is_ok()
+        && comes_to(alloc, manifest, bytes.as_slice(), Some(RaiseFault::NoLink))
+}
+
+#[test]
+fn raises_a_chain_of_65000_directories(rt: HostRuntime) -> Result<(), Fail> {
+    let manifest = manifest_of(rt.alloc(), CHECKOUT)?;
+    assert!(rt; is_chain_raised(rt.alloc(), &manifest, 2));
+    assert!(rt; is_chain_raised(rt.alloc(), &manifest, 65_000));
+    Ok(())
+}
+
+#[test]
+fn refuses_a_circle_of_two_and_of_65000(rt: HostRuntime) -> Result<(), Fail> {
+    let manifest = manifest_of(rt.alloc(), CHECKOUT)?;
+    assert!(rt; is_circle_refused(rt.alloc(), &manifest, 2));
+    assert!(rt; is_circle_refused(rt.alloc(), &manifest, 65_000));
+    Ok(())
+}
