@@ -1,5 +1,5 @@
 -- What was worked leaves the hand, and its reply is unposted.
-use Rattle.std.proofs.Common.{◌≡◌, ◌<◌, length, None, sym, subst, arith}
+use Rattle.std.proofs.Common.{length, subst, arith}
 use Rattle.world.specs.Server.{ServerState, at_place}
 use Rattle.world.specs.Serving.{IsIndex, WorksBy}
 use Rattle.world.specs.declared.outcome.Happened.TheVariants.{Made}

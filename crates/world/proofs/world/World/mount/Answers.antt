@@ -1,5 +1,5 @@
 -- Who waited has the seat and serves.
-use Rattle.std.proofs.Common.{◌≡◌, ◌<◌, length, set, sym, ◌∙◌, subst, arith}
+use Rattle.std.proofs.Common.{length, set, sym, ◌∙◌, subst, arith}
 use Rattle.world.specs.declared.daemon.Daemon.TheVariants.{Serving}
 use Rattle.world.specs.Serving.{IsIndex}
 use Rattle.world.specs.State.{State}

@@ -1,5 +1,5 @@
 -- Who posted.
-use Rattle.std.proofs.Common.{◌≡◌, ◌<◌, length, set, sym, subst, arith}
+use Rattle.std.proofs.Common.{length, subst, arith}
 use Rattle.world.specs.Serving.{IsIndex}
 use Rattle.world.specs.State.{State}
 use Rattle.world.specs.Step.{Once}
