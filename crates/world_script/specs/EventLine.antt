@@ -1,13 +1,14 @@
 -- The lines of a script that say what happens: a command, and its words, parted by one space each. A name is the last
 -- word, and runs to the end of the line. (This project's own.)
-use Rattle.std.specs.Prelude.{ℕ, ◌^◌, nat_lt, List, Option, Some, None, codes, option_map, option_and_then, is_none, if◌then◌else◌}
+use Rattle.std.specs.Prelude.{ℕ, ◌^◌, Bool, true, false, nat_lt, List, Option, Some, None, codes, option_map, option_and_then, is_none, if◌then◌else◌}
 use Rattle.fuse_wire.specs.declared.ask.Request.{Request}
 use Rattle.fuse_wire.specs.declared.ask.Request.TheVariants.{Lookup, Getattr, Create, Mkdir, Unlink, Rmdir, Forget}
 use Rattle.fuse_wire.specs.RequestText.{other_of}
 use Rattle.world.specs.declared.event.Event.{Event}
-use Rattle.world.specs.declared.event.Event.TheVariants.{Start, Mount, Do, Show}
+use Rattle.world.specs.declared.event.Event.TheVariants.{Start, Mount, Issue, Take, Work, Post, Deliver, Do, Show}
 use Rattle.eden_base.specs.Name.{name_fault}
 use Rattle.eden_base.specs.declared.attr.Perm.{Perm}
+use Rattle.eden_base.specs.declared.number.DaemonId.{DaemonId}
 use Rattle.eden_base.specs.declared.number.Number.{Number}
 use Rattle.checkout.specs.Text.{mode_of}
 use Rattle.world_script.specs.Number.{number_of}
@@ -108,24 +109,80 @@ request_by word rest =
 abbrev pub request_of : List ℕ → Option Request
 request_of words = option_and_then (λ (parts : List ℕ × List ℕ). request_by parts.0 parts.1) (cut 32 words)
 
+-- the daemon of a number
+abbrev pub daemon_said : ℕ → DaemonId
+daemon_said daemon = record { 0 = daemon }
+
 -- `D`
 abbrev pub mount_of : List ℕ → Option Event
-mount_of words = option_map (λ (daemon : ℕ). Mount (record { 0 = daemon })) (number_of words)
+mount_of words = option_map (λ (daemon : ℕ). Mount (daemon_said daemon)) (number_of words)
 
--- a request
+-- `D`
+abbrev pub take_of : List ℕ → Option Event
+take_of words = option_map (λ (daemon : ℕ). Take (daemon_said daemon)) (number_of words)
+
+-- a place, and whether the backing fails
+abbrev pub tried_at : Option ℕ → Bool → Option (ℕ × Bool)
+tried_at place fails = option_map (λ (place : ℕ). (place, fails)) place
+
+-- by the words behind the place, if there are any
+abbrev pub tried_by : List ℕ → Option (List ℕ × List ℕ) → Option (ℕ × Bool)
+tried_by words None = tried_at (number_of words) false
+tried_by words (Some parts) = if is_word parts.1 (codes "fail") then tried_at (number_of parts.0) true else None
+
+-- `I` or `I fail`
+abbrev pub tried_of : List ℕ → Option (ℕ × Bool)
+tried_of words = tried_by words (cut 32 words)
+
+-- a daemon works at a place
+abbrev pub work_both : Option ℕ → Option (ℕ × Bool) → Option Event
+work_both (Some daemon) (Some tried) = Some (Work (daemon_said daemon) tried.0 tried.1)
+work_both _ _ = None
+
+-- `D I` or `D I fail`
+abbrev pub work_of : List ℕ → Option Event
+work_of words =
+    option_and_then (λ (parts : List ℕ × List ℕ). work_both (number_of parts.0) (tried_of parts.1)) (cut 32 words)
+
+-- a daemon posts from a place
+abbrev pub post_both : Option ℕ → Option ℕ → Option Event
+post_both (Some daemon) (Some place) = Some (Post (daemon_said daemon) place)
+post_both _ _ = None
+
+-- `D I`
+abbrev pub post_of : List ℕ → Option Event
+post_of words =
+    option_and_then (λ (parts : List ℕ × List ℕ). post_both (number_of parts.0) (number_of parts.1)) (cut 32 words)
+
+-- a daemon's command, by its first word
+abbrev pub daemon_event_by : List ℕ → List ℕ → Option Event
+daemon_event_by word rest =
+    if is_word word (codes "mount") then mount_of rest
+    else if is_word word (codes "take") then take_of rest
+    else if is_word word (codes "work") then work_of rest
+    else if is_word word (codes "post") then post_of rest
+    else None
+
+-- a request that waits
+abbrev pub issue_of : List ℕ → Option Event
+issue_of words = option_map (λ (request : Request). Issue request) (request_of words)
+
+-- a request that is worked off
 abbrev pub do_of : List ℕ → Option Event
 do_of words = option_map (λ (request : Request). Do request) (request_of words)
 
 -- a command with words behind it, by its first word
 abbrev pub event_by : List ℕ → List ℕ → Option Event
 event_by word rest =
-    if is_word word (codes "mount") then mount_of rest
-    else if is_word word (codes "do") then do_of rest
-    else None
+    if is_word word (codes "do") then do_of rest
+    else if is_word word (codes "issue") then issue_of rest
+    else daemon_event_by word rest
 
--- `start`, `show`, `mount D` or `do REQUEST`
+-- `start`, `show`, `deliver`, `do REQUEST`, `issue REQUEST`, `mount D`, `take D`, `work D I`, `work D I fail` or
+-- `post D I`
 abbrev pub event_of : List ℕ → Option Event
 event_of line =
     if is_word line (codes "start") then Some Start
     else if is_word line (codes "show") then Some Show
+    else if is_word line (codes "deliver") then Some Deliver
     else option_and_then (λ (parts : List ℕ × List ℕ). event_by parts.0 parts.1) (cut 32 line)

@@ -1,6 +1,6 @@
 //! A line that says what happens.
 ghost use Rattle.std.specs.Prelude.{◌≡◌, IfOk};
-ghost use Rattle.world_script.specs.EventLine.{event_of, mount_of, do_of, request_of, lookup_of, create_of, mkdir_of, unlink_of, rmdir_of, forget_of, getattr_of, other_said, named_of, made_of, name_of};
+ghost use Rattle.world_script.specs.EventLine.{event_of, daemon_event_by, mount_of, take_of, work_of, tried_of, tried_at, post_of, issue_of, do_of, request_of, lookup_of, create_of, mkdir_of, unlink_of, rmdir_of, forget_of, getattr_of, other_said, named_of, made_of, name_of};
 
 use crate::number::number;
 use checkout::mode_of;
@@ -19,16 +19,38 @@ pub fn read_event(alloc: Global, line: &[u8]) -> Result<Option<Event>, NoMemory>
     if line == b"show".as_slice() {
         return Ok(Some(Event::Show));
     }
+    if line == b"deliver".as_slice() {
+        return Ok(Some(Event::Deliver));
+    }
     let Some((word, rest)) = cut(line, b' ') else {
         return Ok(None);
     };
-    if word == b"mount".as_slice() {
-        return Ok(read_mount(rest));
-    }
     if word == b"do".as_slice() {
         return read_do(alloc, rest);
     }
-    Ok(None)
+    if word == b"issue".as_slice() {
+        return read_issue(alloc, rest);
+    }
+    Ok(read_daemon_event(word, rest))
+}
+
+/// Reads what a daemon does, by the line's first word.
+fn read_daemon_event(word: &[u8], rest: &[u8]) -> Option<Event>
+    ensures { result ≡ daemon_event_by word.now rest.now }
+{
+    if word == b"mount".as_slice() {
+        return read_mount(rest);
+    }
+    if word == b"take".as_slice() {
+        return read_take(rest);
+    }
+    if word == b"work".as_slice() {
+        return read_work(rest);
+    }
+    if word == b"post".as_slice() {
+        return read_post(rest);
+    }
+    None
 }
 
 /// Reads the daemon that mounts.
@@ -39,7 +61,64 @@ fn read_mount(words: &[u8]) -> Option<Event>
     Some(Event::Mount(DaemonId(daemon)))
 }
 
-/// Reads what the kernel asks or forgets.
+/// Reads the daemon that takes what waits first.
+fn read_take(words: &[u8]) -> Option<Event>
+    ensures { result ≡ take_of words.now }
+{
+    let daemon = number(words)?;
+    Some(Event::Take(DaemonId(daemon)))
+}
+
+/// Reads the daemon that works, the place in its hand, and whether its backing fails.
+fn read_work(words: &[u8]) -> Option<Event>
+    ensures { result ≡ work_of words.now }
+{
+    let (daemon, rest) = cut(words, b' ')?;
+    let daemon = DaemonId(number(daemon)?);
+    let (place, fails) = read_tried(rest)?;
+    Some(Event::Work {
+        daemon,
+        place,
+        fails,
+    })
+}
+
+/// Reads a place, and whether the word `fail` stands behind it.
+fn read_tried(words: &[u8]) -> Option<(u64, bool)>
+    ensures { result ≡ tried_of words.now }
+{
+    match cut(words, b' ') {
+        None => Some((number(words)?, false)),
+        Some((place, word)) => {
+            if word != b"fail".as_slice() {
+                return None;
+            }
+            Some((number(place)?, true))
+        }
+    }
+}
+
+/// Reads the daemon that posts, and the place among its replies.
+fn read_post(words: &[u8]) -> Option<Event>
+    ensures { result ≡ post_of words.now }
+{
+    let (daemon, place) = cut(words, b' ')?;
+    let daemon = DaemonId(number(daemon)?);
+    let place = number(place)?;
+    Some(Event::Post { daemon, place })
+}
+
+/// Reads what the kernel asks or forgets, and waits.
+fn read_issue(alloc: Global, words: &[u8]) -> Result<Option<Event>, NoMemory>
+    ensures { IfOk result (λ event. event ≡ issue_of words.now) }
+{
+    match read_request(alloc, words)? {
+        Some(request) => Ok(Some(Event::Issue(request))),
+        None => Ok(None),
+    }
+}
+
+/// Reads what the kernel asks or forgets, and is worked off.
 fn read_do(alloc: Global, words: &[u8]) -> Result<Option<Event>, NoMemory>
     ensures { IfOk result (λ event. event ≡ do_of words.now) }
 {
