@@ -1,27 +1,32 @@
 -- What each event prints, and what `show` prints of the world. (This project's own.)
-use Rattle.std.specs.Prelude.{ℕ, ◌+◌, ◌-◌, ◌/◌, ◌%◌, List, [], ◌∷◌, ◌++◌, length, codes, slice_get, Option, Some, None}
+use Rattle.std.specs.Prelude.{ℕ, ◌+◌, ◌-◌, ◌/◌, ◌%◌, List, [], ◌∷◌, ◌++◌, length, codes, slice_get, sum_by, count_by, Option, Some, None}
 use Rattle.std.specs.Fmt.{decimal}
-use Rattle.std.specs.Option.{option_and_then}
+use Rattle.std.specs.Option.{option_and_then, option_map_or}
 use Rattle.eden_base.specs.Words.{errno_name, kind_name}
 use Rattle.eden_base.specs.declared.attr.Attr.{Attr}
+use Rattle.eden_base.specs.declared.number.DaemonId.{DaemonId}
 use Rattle.eden_base.specs.declared.number.Number.{Number}
 use Rattle.eden_base.specs.declared.place.Place.{Place}
 use Rattle.eden_base.specs.declared.place.Place.TheVariants.{Linked, Unlinked}
-use Rattle.broker_core.specs.Broker.{BrokerState}
 use Rattle.broker_core.specs.Held.{held_count}
+use Rattle.broker_core.specs.Traffic.{taken_back, forgets_on, gives, entries_of}
 use Rattle.broker_core.specs.declared.seat.Seat.{Seat}
 use Rattle.fuse_ops.specs.Served.{ServedState}
+use Rattle.fuse_wire.specs.Ask.{item_of}
+use Rattle.fuse_wire.specs.declared.ask.Ask.{Ask}
 use Rattle.fuse_wire.specs.declared.reply.Answer.{Answer}
 use Rattle.fuse_wire.specs.declared.reply.Answer.TheVariants.{Entry, Opened, Attrs, Done, Error}
 use Rattle.fuse_wire.specs.declared.reply.Reply.{Reply}
-use Rattle.world.specs.State.{State, served_of}
+use Rattle.world.specs.State.{State, served_of, hand_of, unposted_of}
 use Rattle.inode_map.specs.Words.{forgot_name}
 use Rattle.world.specs.Words.{refusal_name}
 use Rattle.world.specs.declared.event.Event.{Event}
 use Rattle.world.specs.declared.event.Event.TheVariants.{Show}
 use Rattle.inode_map.specs.declared.inode_map.Kept.{Kept}
 use Rattle.world.specs.declared.outcome.Happened.{Happened}
-use Rattle.world.specs.declared.outcome.Happened.TheVariants.{Started, Mounted, Answered, Forgot, Refused}
+use Rattle.world.specs.declared.outcome.Happened.TheVariants.{Started, Mounted, Asked, Took, TookForgets, Made, Forgot, Posted, Answered, Refused}
+use Rattle.world.specs.declared.outcome.Refusal.{Refusal}
+use Rattle.world.specs.declared.outcome.Refusal.TheVariants.{Stale}
 
 -- words parted by one space each, and LF
 abbrev pub line : List (List ℕ) → List ℕ
@@ -55,43 +60,75 @@ answer_words (Attrs number attr) = file_words (codes "attr") number attr
 answer_words Done = codes "done" ∷ []
 answer_words (Error errno) = codes "error" ∷ errno_name errno ∷ []
 
--- `answer U` and the answer
-abbrev pub reply_line : Reply → List ℕ
-reply_line reply = spaced (codes "answer" ∷ decimal reply.unique ∷ []) ++ line (answer_words reply.answer)
+-- `WORD U` and the answer
+abbrev pub reply_line : List ℕ → Reply → List ℕ
+reply_line word reply = spaced (word ∷ decimal reply.unique ∷ []) ++ line (answer_words reply.answer)
+
+-- the unique of an ask; a forget has none
+abbrev pub asked_words : Option ℕ → List (List ℕ)
+asked_words (Some unique) = codes "asked" ∷ decimal unique ∷ []
+asked_words None = codes "asked" ∷ []
+
+-- what a refusal says beside its name
+abbrev pub refusal_values : Refusal → List (List ℕ)
+refusal_values (Stale now) = decimal now ∷ []
+refusal_values refusal = []
 
 -- the line of what happened
 abbrev pub line_of : Happened → List ℕ
 line_of (Started daemon) = line (codes "daemon" ∷ decimal daemon.0 ∷ [])
 line_of (Mounted generation) = line (codes "mounted" ∷ decimal generation ∷ [])
-line_of (Answered reply) = reply_line reply
+line_of (Asked unique) = line (asked_words unique)
+line_of (Took unique) = line (codes "took" ∷ decimal unique ∷ [])
+line_of (TookForgets count) = line (codes "took" ∷ codes "forgets" ∷ decimal count ∷ [])
+line_of (Made reply) = reply_line (codes "made") reply
 line_of (Forgot item forgot) = line (codes "forgot" ∷ forgot_name forgot ∷ [])
-line_of (Refused refusal) = line (codes "refused" ∷ refusal_name refusal ∷ [])
+line_of (Posted unique) = line (codes "posted" ∷ decimal unique ∷ [])
+line_of (Answered reply) = reply_line (codes "answer") reply
+line_of (Refused refusal) = line (codes "refused" ∷ refusal_name refusal ∷ refusal_values refusal)
 
 -- where a number stands: `at PARENT NAME`, the name byte for byte, or `unlinked FILE`
 abbrev pub place_line : Place → List ℕ
 place_line (Linked parent name) = line (codes "at" ∷ decimal parent.0 ∷ name ∷ [])
 place_line (Unlinked file) = line (codes "unlinked" ∷ decimal file.0 ∷ [])
 
--- a number that a daemon keeps, and what stands before its place; nothing is under way between events
-abbrev pub kept_words : BrokerState → Kept → List (List ℕ)
-kept_words broker kept =
-    codes "number" ∷ decimal kept.number.0 ∷ codes "held" ∷ decimal (held_count broker.held kept.number.0)
-    ∷ codes "up" ∷ codes "0" ∷ codes "down" ∷ codes "0" ∷ codes "count" ∷ decimal kept.count ∷ []
+-- how often what a daemon took takes a number back: an item does, and an ask does not
+abbrev pub taken_back_by : ℕ → Ask → ℕ
+taken_back_by n task = option_map_or (taken_back n) (item_of task.what) 0
 
--- `number N held H up 0 down 0 count C` and the place
-abbrev pub kept_line : BrokerState → Kept → List ℕ
-kept_line broker kept = spaced (kept_words broker kept) ++ place_line kept.place
+-- how often the items under way take a number back: those that wait, and those in a daemon's hand
+abbrev pub taken_back_under_way : State → DaemonId → ℕ → ℕ
+taken_back_under_way state daemon n =
+    forgets_on state.broker.traffic n + sum_by (taken_back_by n) (hand_of state daemon)
+
+-- how many replies under way give a number out: those that a daemon did not post, and those that wait for the kernel
+abbrev pub given_under_way : State → DaemonId → ℕ → ℕ
+given_under_way state daemon n =
+    count_by (gives n) (unposted_of state daemon) + entries_of state.broker.traffic n
+
+-- how often a number is held, is under way both ways, and is counted by a daemon
+abbrev pub count_words : State → DaemonId → ℕ → ℕ → List (List ℕ)
+count_words state daemon n count =
+    codes "held" ∷ decimal (held_count state.broker.held n)
+    ∷ codes "up" ∷ decimal (taken_back_under_way state daemon n)
+    ∷ codes "down" ∷ decimal (given_under_way state daemon n) ∷ codes "count" ∷ decimal count ∷ []
+
+-- `number N held H up U down W count C` and the place
+abbrev pub kept_line : State → DaemonId → Kept → List ℕ
+kept_line state daemon kept =
+    spaced (codes "number" ∷ decimal kept.number.0 ∷ [])
+    ++ spaced (count_words state daemon kept.number.0 kept.count) ++ place_line kept.place
 
 -- the line of each number that a daemon keeps
-abbrev pub kept_lines : BrokerState → List Kept → List ℕ
-kept_lines broker [] = []
-kept_lines broker (kept ∷ more) = kept_line broker kept ++ kept_lines broker more
+abbrev pub kept_lines : State → DaemonId → List Kept → List ℕ
+kept_lines state daemon [] = []
+kept_lines state daemon (kept ∷ more) = kept_line state daemon kept ++ kept_lines state daemon more
 
 -- `seat G D next X`, and what the daemon keeps
-abbrev pub served_lines : BrokerState → Seat → ServedState → List ℕ
-served_lines broker seat served =
+abbrev pub served_lines : State → Seat → ServedState → List ℕ
+served_lines state seat served =
     line (codes "seat" ∷ decimal seat.generation ∷ decimal seat.daemon.0 ∷ codes "next" ∷ decimal served.map.next ∷ [])
-    ++ kept_lines broker served.map.entries
+    ++ kept_lines state seat.daemon served.map.entries
 
 -- nobody has the seat
 abbrev pub no_seat : List ℕ
@@ -99,7 +136,7 @@ no_seat = line (codes "seat" ∷ codes "none" ∷ [])
 
 -- who has the seat, and what it serves
 abbrev pub seat_lines : State → Option Seat → Option ServedState → List ℕ
-seat_lines state (Some seat) (Some served) = served_lines state.broker seat served
+seat_lines state (Some seat) (Some served) = served_lines state seat served
 seat_lines state _ _ = no_seat
 
 -- what `show` prints

@@ -47,9 +47,10 @@ pub record IsPromised (manifest : Manifest) (limit : ℕ) (events : List Event)
     (outcomes : List (List Happened)) (last : State) : Type 0 where
   pub run : IsRun (first_world manifest) (all_moves (first_world manifest) events outcomes)
   pub matches : Matches (world_after manifest events outcomes) last
-  -- seat, last generation, held counts and tree are the world's, nothing is under way, and the seated daemon serves
+  -- seat, last generation, held counts, tree and what is under way are the world's, and the seated daemon serves
   pub events_are_a_run_of_moves : IsRunOfMoves manifest events outcomes last
-  -- the seated daemon counts each number as often as the world owes it, which is how often the kernel holds it
+  -- the seated daemon counts each number as often as the world owes it: as the kernel holds it, replies under way give
+  -- it out, and items under way take it back
   pub counts_are_what_is_owed : CountsAreOwed (world_after manifest events outcomes) last
   -- each of its numbers names the file that the number was first given out for in this mount
   pub numbers_name_their_first_file : NumbersNameTheirFirstFile (world_after manifest events outcomes) last

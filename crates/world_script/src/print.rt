@@ -1,16 +1,17 @@
 //! The lines that a script's events print.
-ghost use Rattle.std.specs.Prelude.{◌≡◌, OnOk};
+ghost use Rattle.std.specs.Prelude.{◌≡◌, ◌<◌, ◌^◌, sum_by, count_by, OnOk};
 ghost use Rattle.std.specs.Io.KnownBytes.{Appends};
+ghost use Rattle.broker_core.specs.Traffic.{gives};
 ghost use Rattle.inode_map.specs.declared.inode_map.Kept.{Kept};
-ghost use Rattle.world_script.specs.Printed.{printed, line, line_of, spaced, reply_line, answer_words, file_words, octal, world_lines, served_lines, kept_lines, kept_line, place_line};
+ghost use Rattle.world_script.specs.Printed.{printed, line, line_of, asked_words, spaced, reply_line, answer_words, file_words, octal, world_lines, served_lines, kept_lines, kept_line, count_words, taken_back_by, taken_back_under_way, given_under_way, place_line};
 
-use broker_core::{Broker, Seat};
-use eden_base::{Attr, Number, Perm, Place};
+use broker_core::Seat;
+use eden_base::{Attr, DaemonId, Number, Perm, Place};
 use fuse_ops::Served;
-use fuse_wire::{Answer, Reply};
+use fuse_wire::{Answer, Ask, Reply};
 use inode_map::InodeMap;
 use std::io::{self, Write};
-use world::{Event, Happened, Outcome, World};
+use world::{Event, Happened, Outcome, Refusal, World};
 
 /// Prints what came of an event, and the world where the event was to show it.
 pub fn print_event<W: Write>(
@@ -42,25 +43,50 @@ fn print_happened<W: Write>(out: &mut W, happened: &Happened) -> io::Result<()>
             writeln!(out, "daemon {number}")
         }
         Happened::Mounted(generation) => writeln!(out, "mounted {generation}"),
-        Happened::Answered(reply) => print_reply(out, reply),
+        Happened::Asked(unique) => print_asked(out, *unique),
+        Happened::Took(unique) => writeln!(out, "took {unique}"),
+        Happened::TookForgets(count) => writeln!(out, "took forgets {count}"),
+        Happened::Made(reply) => print_reply(out, "made", reply),
         Happened::Forgot { forgot, .. } => {
             let name = forgot.name();
             writeln!(out, "forgot {name}")
         }
-        Happened::Refused(refusal) => {
-            let name = refusal.name();
-            writeln!(out, "refused {name}")
-        }
+        Happened::Posted(unique) => writeln!(out, "posted {unique}"),
+        Happened::Answered(reply) => print_reply(out, "answer", reply),
+        Happened::Refused(refusal) => print_refusal(out, *refusal),
     }
 }
 
-/// Prints the unique that an answer goes by, and the answer.
-fn print_reply<W: Write>(out: &mut W, reply: &Reply) -> io::Result<()>
+/// Prints that a request waits, with the unique of an ask.
+fn print_asked<W: Write>(out: &mut W, unique: Option<u64>) -> io::Result<()>
     ensures { OnOk result (Appends (W.contents out.old) (W.contents out.new)
-        (reply_line reply.now)) }
+        (line (asked_words unique))) }
+{
+    match unique {
+        Some(unique) => writeln!(out, "asked {unique}"),
+        None => writeln!(out, "asked"),
+    }
+}
+
+/// Prints a refusal, with its values.
+fn print_refusal<W: Write>(out: &mut W, refusal: Refusal) -> io::Result<()>
+    ensures { OnOk result (Appends (W.contents out.old) (W.contents out.new)
+        (line_of (Happened.Refused refusal))) }
+{
+    let name = refusal.name();
+    match refusal {
+        Refusal::Stale(now) => writeln!(out, "refused {name} {now}"),
+        _ => writeln!(out, "refused {name}"),
+    }
+}
+
+/// Prints a word, the unique that an answer goes by, and the answer.
+fn print_reply<W: Write>(out: &mut W, word: &str, reply: &Reply) -> io::Result<()>
+    ensures { OnOk result (Appends (W.contents out.old) (W.contents out.new)
+        (reply_line word.now reply.now)) }
 {
     let unique = reply.unique;
-    write!(out, "answer {unique} ")?;
+    write!(out, "{word} {unique} ")?;
     print_answer(out, &reply.answer)
 }
 
@@ -109,68 +135,137 @@ fn print_world<W: Write>(out: &mut W, world: &World) -> io::Result<()>
     ensures { OnOk result (Appends (W.contents out.old) (W.contents out.new)
         (world_lines world.now)) }
 {
-    let broker = world.broker();
-    let Some(seat) = broker.seat() else {
+    let Some(seat) = world.broker().seat() else {
         return writeln!(out, "seat none");
     };
     match world.served(seat.daemon) {
-        Some(served) => print_served(out, broker, seat, served),
+        Some(served) => print_served(out, world, seat, served),
         None => writeln!(out, "seat none"),
     }
 }
 
 /// Prints the seat, the number that its daemon gives next, and all numbers that the daemon keeps.
-fn print_served<W: Write>(
-    out: &mut W,
-    broker: &Broker,
-    seat: Seat,
-    served: &Served,
-) -> io::Result<()>
+fn print_served<W: Write>(out: &mut W, world: &World, seat: Seat, served: &Served) -> io::Result<()>
     ensures { OnOk result (Appends (W.contents out.old) (W.contents out.new)
-        (served_lines broker.now seat served.now)) }
+        (served_lines world.now seat served.now)) }
 {
     let generation = seat.generation;
     let daemon = seat.daemon.0;
     let next = served.map().next();
     writeln!(out, "seat {generation} {daemon} next {next}")?;
-    print_all_kept(out, broker, served.map())
+    print_all_kept(out, world, seat.daemon, served.map())
 }
 
 /// Prints each number that a daemon keeps, by rising number. The least comes after the root's, which is no entry.
-fn print_all_kept<W: Write>(out: &mut W, broker: &Broker, map: &InodeMap) -> io::Result<()>
+fn print_all_kept<W: Write>(
+    out: &mut W,
+    world: &World,
+    daemon: DaemonId,
+    map: &InodeMap,
+) -> io::Result<()>
     ensures { OnOk result (Appends (W.contents out.old) (W.contents out.new)
-        (kept_lines broker.now map.now.entries)) }
+        (kept_lines world.now daemon map.now.entries)) }
 {
     let mut last = Number::ROOT;
     while let Some(number) = map.after(last) {
         let Some(place) = map.entry(number) else {
             unreachable!()
         };
-        print_kept(out, broker, number, map.count(number), place)?;
+        print_kept(out, world, daemon, number, map.count(number), place)?;
         last = number;
     }
     Ok(())
 }
 
-/// Prints a number that a daemon keeps. Nothing is under way between events, so `up` and `down` are 0.
+/// Prints a number that a daemon keeps.
 fn print_kept<W: Write>(
     out: &mut W,
-    broker: &Broker,
+    world: &World,
+    daemon: DaemonId,
     number: Number,
     count: u64,
     place: &Place,
 ) -> io::Result<()>
     ensures { (kept : Kept) → kept ≡ record { number = number; place = place.now; count = count }
         → OnOk result (Appends (W.contents out.old) (W.contents out.new)
-        (kept_line broker.now kept)) }
+        (kept_line world.now daemon kept)) }
 {
-    let held = broker.held(number);
-    let number = number.0;
-    write!(
-        out,
-        "number {number} held {held} up 0 down 0 count {count} "
-    )?;
+    let n = number.0;
+    write!(out, "number {n} ")?;
+    print_counts(out, world, daemon, number, count)?;
     print_place(out, place)
+}
+
+/// Prints how often a number is held, is under way both ways, and is counted by its daemon.
+fn print_counts<W: Write>(
+    out: &mut W,
+    world: &World,
+    daemon: DaemonId,
+    number: Number,
+    count: u64,
+) -> io::Result<()>
+    ensures { OnOk result (Appends (W.contents out.old) (W.contents out.new)
+        (spaced (count_words world.now daemon number.0 count))) }
+{
+    let held = world.broker().held(number);
+    let up = taken_back_under_way(world, daemon, number);
+    let down = given_under_way(world, daemon, number);
+    write!(out, "held {held} up {up} down {down} count {count} ")
+}
+
+/// Returns how often the items that wait and those in a daemon's hand take a number back.
+fn taken_back_under_way(world: &World, daemon: DaemonId, number: Number) -> u128
+    ensures { result ≡ taken_back_under_way world.now daemon number.0 }
+{
+    u128::from(world.broker().forgets_waiting(number)) + taken_back_in(world.hand(daemon), number)
+}
+
+/// Returns how often items in a hand take a number back. A hand has fewer than 2^63 members.
+fn taken_back_in(hand: &[Ask], number: Number) -> u128
+    ensures sum { result ≡ sum_by (taken_back_by number.0) hand.now }
+    ensures below { result < 2 ^ 127 }
+{
+    let mut sum = 0;
+    for task in hand {
+        sum += u128::from(taken_back_by(task, number));
+    }
+    sum
+}
+
+/// Returns how often what a daemon took takes a number back.
+fn taken_back_by(task: &Ask, number: Number) -> u64
+    ensures { result ≡ taken_back_by number.0 task.now }
+{
+    match task.what.item() {
+        Some(item) if item.node == number => item.k,
+        _ => 0,
+    }
+}
+
+/// Returns how many replies that a daemon did not post, or that wait for the kernel, give a number out.
+fn given_under_way(world: &World, daemon: DaemonId, number: Number) -> u128
+    ensures { result ≡ given_under_way world.now daemon number.0 }
+{
+    let unposted = entries_of(world.unposted(daemon), number);
+    u128::from(unposted) + u128::from(world.broker().entries_posted(number))
+}
+
+/// Returns how many replies give a number out.
+fn entries_of(replies: &[Reply], number: Number) -> u64
+    ensures { result ≡ count_by (gives number.0) replies.now }
+{
+    let count = replies.iter().filter(|reply| gives(reply, number)).count();
+    count as u64
+}
+
+/// Returns whether a reply gives a number out.
+fn gives(reply: &Reply, number: Number) -> bool
+    ensures { result ≡ gives number.0 reply.now }
+{
+    match reply.answer.given_out() {
+        Some(given) => given == number,
+        None => false,
+    }
 }
 
 /// Prints where a number stands. A name is written byte for byte.

@@ -5,7 +5,7 @@ use Rattle.world_script.proofs.print.print_all_kept.Goals as goal
 
 pub loop-number-init : goal.loop-number-init
 loop-number-init g c = λ are end more.
-    kept_lines_same c.args.broker.now _ c.args.map.now.entries _ end (above-all 2 c.args.map.now.next 1 c.args.map.now.entries are (omega arith)) more
+    kept_lines_same c.args.world.now c.args.daemon _ c.args.map.now.entries _ end (above-all 2 c.args.map.now.next 1 c.args.map.now.entries are (omega arith)) more
 
 pub unreachable-requires : goal.unreachable-requires
 unreachable-requires g c =
@@ -21,9 +21,9 @@ pub loop-number-preserved : goal.loop-number-preserved
 loop-number-preserved g c = λ are end more.
     let (kept, i) = next-is 2 c.args.map.now.next c.loop-number.last.0 c.args.map.now.entries c.in-Some.number are (sym c.after.ensures.after ∙ c.in-Some.is) in
     let is = kept-is c.args.map.now.next c.loop-number.last.0 c.args.map.now.entries c.in-Some.number kept c.entry.result c.in-Some-entry.place c.count.result i c.entry.ensures.place c.in-Some-entry.is c.count.ensures.count in
-    c.loop-number.invariant are end (kept_lines_more c.args.broker.now kept _ _ _ _ end i.goes_on (c.in_ok-print_kept.ensures kept is) more)
+    c.loop-number.invariant are end (kept_lines_more c.args.world.now c.args.daemon kept _ _ _ _ end i.goes_on (c.in_ok-print_kept.ensures kept is) more)
 
 pub returns : goal.returns
 returns g c =
     let none = none-above c.loop-number.last.0 c.args.map.now.entries (sym c.after.ensures.after ∙ c.in_default.is) in
-    c.loop-number.invariant c.after.ensures.numbers _ (kept_lines_none c.args.broker.now _ _ none)
+    c.loop-number.invariant c.after.ensures.numbers _ (kept_lines_none c.args.world.now c.args.daemon _ _ none)

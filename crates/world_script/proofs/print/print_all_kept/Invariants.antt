@@ -8,8 +8,8 @@ use Rattle.world_script.proofs.print.print_all_kept.Given as goal
 -- with the lines of the numbers above the last one, all lines are written
 abbrev pub invariant-loop-number : goal.invariant-loop-number
 invariant-loop-number g l =
-    AreNumbers 2 l.map.next l.map.entries → (end : Option (List ℕ)) → Appends (g.W.Write.contents l.out) end (kept_lines l.broker (above l.last.0 l.map.entries)) →
-    Appends (g.W.Write.contents l.initial.out) end (kept_lines l.broker l.map.entries)
+    AreNumbers 2 l.map.next l.map.entries → (end : Option (List ℕ)) → Appends (g.W.Write.contents l.out) end (kept_lines l.world l.daemon (above l.last.0 l.map.entries)) →
+    Appends (g.W.Write.contents l.initial.out) end (kept_lines l.world l.daemon l.map.entries)
 
 abbrev pub decreases-loop-number : goal.decreases-loop-number
 decreases-loop-number g l = l.map.next - l.last.0
