@@ -2,7 +2,7 @@
 use super::{MANIFEST, prints};
 use std::alloc::Global;
 
-const BAD_LINES: [&[u8]; 60] = [
+const BAD_LINES: [&[u8]; 78] = [
     b"\n",
     b" \n",
     b"\r\n",
@@ -61,8 +61,26 @@ const BAD_LINES: [&[u8]; 60] = [
     b"do unlink 1 .\n",
     b"do rmdir 1 \n",
     b"do rename 1 2 a/b\n",
-    b"issue lookup 1 src\n",
-    b"take 1\n",
+    b"issue\n",
+    b"issue \n",
+    b"issue show\n",
+    b"issue lookup 1\n",
+    b"take\n",
+    b"take \n",
+    b"take x\n",
+    b"take 1 1\n",
+    b"work 1\n",
+    b"work 1 \n",
+    b"work x 1\n",
+    b"work 1 1 \n",
+    b"work 1 1 fails\n",
+    b"work 1 1 fail x\n",
+    b"work 1 fail\n",
+    b"post 1\n",
+    b"post 1 x\n",
+    b"post 1 1 fail\n",
+    b"deliver x\n",
+    b"deliver \n",
 ];
 
 /// Returns whether each line is told as bad.

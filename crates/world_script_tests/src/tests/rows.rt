@@ -3,7 +3,7 @@ use super::{MANIFEST, prints};
 use std::alloc::Global;
 
 /// The start of a script, its rest, and the printed lines.
-const ROWS: [(&[u8], &[u8], &[u8]); 28] = [
+const ROWS: [(&[u8], &[u8], &[u8]); 34] = [
     (
         MANIFEST,
         b"start\nmount 1\nshow\n",
@@ -61,6 +61,42 @@ const ROWS: [(&[u8], &[u8], &[u8]); 28] = [
         b"commit 0123456789abcdef0123456789abcdef01234567\ndir \xff\xc3\nfile 4755 18 \xff\xc3/\xe9 -- \n--\n",
         b"start\nmount 1\ndo lookup 1 \xff\xc3\ndo lookup 2 \xe9 -- \nshow\n",
         b"daemon 1\nmounted 1\nanswer 1 entry 2 dir 0755 0 2\nanswer 2 entry 3 file 4755 18 1\nseat 1 1 next 4\nnumber 2 held 1 up 0 down 0 count 1 at 1 \xff\xc3\nnumber 3 held 1 up 0 down 0 count 1 at 2 \xe9 -- \n",
+    ),
+    // A forget overtakes the reply that gives its number.
+    (
+        MANIFEST,
+        b"start\nmount 1\ndo lookup 1 src\nissue lookup 1 src\ntake 1\nwork 1 1\nissue forget 2 1\nshow\ntake 1\nwork 1 1\npost 1 1\ndeliver\nshow\n",
+        b"daemon 1\nmounted 1\nanswer 1 entry 2 dir 0755 0 2\nasked 2\ntook 2\nmade 2 entry 2 dir 0755 0 2\nasked\nseat 1 1 next 3\nnumber 2 held 0 up 1 down 1 count 2 at 1 src\ntook forgets 1\nforgot Lowered\nposted 2\nanswer 2 entry 2 dir 0755 0 2\nseat 1 1 next 3\nnumber 2 held 1 up 0 down 0 count 1 at 1 src\n",
+    ),
+    // Asks are worked and posted in any order, and forgets are taken together.
+    (
+        MANIFEST,
+        b"start\nmount 1\nissue create 1 0644 a\nissue lookup 1 README\nissue other 15 1\ntake 1\ntake 1\ntake 1\nwork 1 3\nwork 1 2\nwork 1 1\nshow\npost 1 2\ndeliver\npost 1 3\npost 1 2\npost 1 1\ndeliver\nissue forget 2 1\nissue forget 3 1\nissue forget 3 1\ntake 1\nshow\nwork 1 2\nwork 1 1 fail\ndeliver\nshow\n",
+        b"daemon 1\nmounted 1\nasked 1\nasked 2\nasked 3\ntook 1\ntook 2\ntook 3\nmade 3 error ENOSYS\nmade 2 entry 2 file 0644 7 1\nmade 1 opened 3 file 0644 0 1\nseat 1 1 next 4\nnumber 2 held 0 up 0 down 1 count 1 at 1 README\nnumber 3 held 0 up 0 down 1 count 1 at 1 a\nposted 2\nanswer 2 entry 2 file 0644 7 1\nrefused NoSuch\nposted 1\nposted 3\nanswer 1 opened 3 file 0644 0 1\nasked\nasked\nrefused BadForget\ntook forgets 2\nseat 1 1 next 4\nnumber 2 held 0 up 1 down 0 count 1 at 1 README\nnumber 3 held 0 up 1 down 0 count 1 at 1 a\nforgot Dropped\nforgot Dropped\nanswer 3 error ENOSYS\nseat 1 1 next 4\n",
+    ),
+    // A number that is forgotten before its requests are worked is stale.
+    (
+        MANIFEST,
+        b"start\nmount 1\ndo lookup 1 src\nissue lookup 2 a\nissue getattr 2\nissue forget 2 1\ntake 1\ntake 1\ntake 1\nwork 1 3\nwork 1 1\nwork 1 1\nshow\n",
+        b"daemon 1\nmounted 1\nanswer 1 entry 2 dir 0755 0 2\nasked 2\nasked 3\nasked\ntook 2\ntook 3\ntook forgets 1\nforgot Dropped\nmade 2 error ESTALE\nmade 3 error ESTALE\nseat 1 1 next 3\n",
+    ),
+    // What is asked of daemons that aren't there, wait, or have nothing in hand.
+    (
+        MANIFEST,
+        b"issue lookup 1 src\ntake 1\ndeliver\nstart\ntake 1\nwork 1 1\npost 1 1\nwork 2 1\npost 0 1\nmount 1\ntake 1\nwork 1 0\nwork 1 18446744073709551615\npost 1 1\ndeliver\nissue getattr 2\nissue forget 1 1\n",
+        b"refused NotMounted\nrefused NoDaemon\nrefused Empty\ndaemon 1\nrefused WrongPhase\nrefused NoSuch\nrefused NoSuch\nrefused NoDaemon\nrefused NoDaemon\nmounted 1\nrefused Empty\nrefused NoSuch\nrefused NoSuch\nrefused NoSuch\nrefused Empty\nrefused NotHeld\nrefused BadForget\n",
+    ),
+    // A `do` takes what waits first, and ends where an event is refused.
+    (
+        MANIFEST,
+        b"start\nmount 1\nissue lookup 1 src\ndo lookup 1 README\nissue forget 2 1\ntake 1\ntake 1\nwork 1 1\ndo lookup 1 src\nshow\n",
+        b"daemon 1\nmounted 1\nasked 1\nanswer 1 entry 2 dir 0755 0 2\nasked\ntook 2\ntook forgets 1\nmade 2 entry 3 file 0644 7 1\nanswer 2 entry 3 file 0644 7 1\nseat 1 1 next 4\nnumber 3 held 1 up 0 down 0 count 1 at 1 README\n",
+    ),
+    // The backing fails where it is asked alone.
+    (
+        MANIFEST,
+        b"start\nmount 1\nissue lookup 1 README\ntake 1\nwork 1 1 fail\npost 1 1\ndeliver\ndo lookup 1 README\nissue getattr 2\ntake 1\nwork 1 1 fail\nshow\n",
+        b"daemon 1\nmounted 1\nasked 1\ntook 1\nmade 1 error EIO\nposted 1\nanswer 1 error EIO\nanswer 2 entry 2 file 0644 7 1\nasked 3\ntook 3\nmade 3 attr 2 file 0644 7 1\nseat 1 1 next 3\nnumber 2 held 1 up 0 down 0 count 1 at 1 README\n",
     ),
     // The first bad line is told, and nothing is run.
     (

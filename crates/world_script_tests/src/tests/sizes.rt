@@ -1,4 +1,5 @@
-//! Scripts beyond the sizes that worked rows have: many daemons, long names, many numbers in deep and wide trees.
+//! Scripts beyond the sizes that worked rows have: many daemons, long names, many numbers in deep and wide trees, and as
+//! much under way as may be.
 use super::prints;
 use std::alloc::{AllocError, Global};
 
@@ -7,12 +8,19 @@ const DEPTH: u32 = 300;
 
 const WIDTH: u32 = 300;
 
+/// How many asks may be under way, and how many forgets may wait.
+const ASKS: u32 = 1024;
+
+const FORGETS: u32 = 4096;
+
 /// What a script has many of.
 #[derive(Clone, Copy)]
 enum Many {
     Daemons,
     Directories,
     Files,
+    Asks,
+    Forgets,
 }
 
 /// A script in two parts, and what it prints.
@@ -53,6 +61,8 @@ fn add(long: &mut Long, many: Many) -> Result<(), AllocError> {
         Many::Daemons => add_daemons(long),
         Many::Directories => add_directories(long),
         Many::Files => add_files(long),
+        Many::Asks => add_asks(long),
+        Many::Forgets => add_forgets(long),
     }
 }
 
@@ -152,4 +162,81 @@ fn forget_file(long: &mut Long, file: u32) -> Result<(), AllocError> {
 #[test]
 fn gives_300_files_with_names_of_255_bytes(rt: HostRuntime) {
     assert!(rt; prints_many(rt.alloc(), Many::Files));
+}
+
+/// Issues an ask more than may be under way, works and posts them, and delivers them.
+fn add_asks(long: &mut Long) -> Result<(), AllocError> {
+    long.events.push_str("mount 1\n")?;
+    long.lines.push_str("mounted 1\n")?;
+    for unique in 1..ASKS + 1 {
+        long.events.push_str("issue getattr 1\n")?;
+        writeln!(long.lines, "asked {unique}")?;
+    }
+    for unique in 1..ASKS + 1 {
+        post_ask(long, unique)?;
+    }
+    for unique in 1..ASKS + 1 {
+        long.events.push_str("deliver\n")?;
+        writeln!(long.lines, "answer {unique} attr 1 dir 0755 0 2")?;
+    }
+    long.events.push_str("issue getattr 1\n")?;
+    long.lines.push_str("asked 1025\n")
+}
+
+/// Works and posts an ask. No other can be issued meanwhile.
+fn post_ask(long: &mut Long, unique: u32) -> Result<(), AllocError> {
+    long.events
+        .push_str("take 1\nwork 1 1\npost 1 1\nissue getattr 1\n")?;
+    writeln!(
+        long.lines,
+        "took {unique}\nmade {unique} attr 1 dir 0755 0 2\nposted {unique}\nrefused Full"
+    )
+}
+
+#[test]
+fn has_1024_asks_under_way_and_no_more(rt: HostRuntime) {
+    assert!(rt; prints_many(rt.alloc(), Many::Asks));
+}
+
+/// Forgets a file more often than forgets may wait, and works them all.
+fn add_forgets(long: &mut Long) -> Result<(), AllocError> {
+    long.manifest.push_str("file 0644 1 f\n")?;
+    long.events.push_str("mount 1\n")?;
+    long.lines.push_str("mounted 1\n")?;
+    for unique in 1..FORGETS + 2 {
+        long.events.push_str("do lookup 1 f\n")?;
+        writeln!(long.lines, "answer {unique} entry 2 file 0644 1 1")?;
+    }
+    for _ in 0..FORGETS {
+        long.events.push_str("issue forget 2 1\n")?;
+        long.lines.push_str("asked\n")?;
+    }
+    long.events.push_str("issue forget 2 1\nshow\n")?;
+    long.lines.push_str(
+        "refused Full\nseat 1 1 next 3\nnumber 2 held 1 up 4096 down 0 count 4097 at 1 f\n",
+    )?;
+    work_forgets(long)
+}
+
+/// Takes the forgets that wait, as many at once as there may be, and works each.
+fn work_forgets(long: &mut Long) -> Result<(), AllocError> {
+    for _ in 0..FORGETS / 256 {
+        long.events.push_str("take 1\n")?;
+        long.lines.push_str("took forgets 256\n")?;
+    }
+    long.events.push_str("take 1\nshow\n")?;
+    long.lines.push_str(
+        "refused Empty\nseat 1 1 next 3\nnumber 2 held 1 up 4096 down 0 count 4097 at 1 f\n",
+    )?;
+    for _ in 0..FORGETS {
+        long.events.push_str("work 1 1\n")?;
+        long.lines.push_str("forgot Lowered\n")?;
+    }
+    long.events.push_str("show\n")?;
+    long.lines.push_str("seat 1 1 next 3\nnumber 2 held 1 up 0 down 0 count 1 at 1 f\n")
+}
+
+#[test]
+fn has_4096_forgets_waiting_and_no_more(rt: HostRuntime) {
+    assert!(rt; prints_many(rt.alloc(), Many::Forgets));
 }
