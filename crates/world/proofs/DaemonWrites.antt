@@ -1,5 +1,5 @@
 -- The daemons of a world, by number and place, and after one of them changed.
-use Rattle.std.proofs.Common.{◌≡◌, ℕ, suc, zero, ◌-◌, ◌<◌, ◌≤◌, Bool, true, false, List, [], ◌∷◌, length, Option, Some, None, set, refl, sym, ap, ◌∙◌, if◌then◌else◌, inl, inr, arith}
+use Rattle.std.proofs.Common.{◌≡◌, ℕ, suc, zero, ◌-◌, ◌≤◌, Bool, true, false, List, [], ◌∷◌, length, Some, None, set, refl, sym, ap, ◌∙◌, if◌then◌else◌, inl, inr, arith}
 use Rattle.std.proofs.lemmas.Option.{slice_get_past}
 use Rattle.std.specs.Prelude.{slice_get, ◌==◌}
 use Rattle.world.specs.Server.{at_place}

@@ -1,24 +1,22 @@
 -- Each event is moves that may happen, and the state matches the world after them.
-use Rattle.std.proofs.Common.{◌≡◌, ℕ, ◌+◌, ◌<◌, ◌≤◌, Bool, true, false, ◌||◌, List, [], ◌∷◌, ◌++◌, length, Option, Some, None, is_some, refl, sym, ap, ◌∙◌, subst, inl, inr, ◌⊎◌, arith}
-use Rattle.std.specs.Prelude.{sum_by, if◌then◌else◌}
+use Rattle.std.proofs.Common.{◌≡◌, ℕ, ◌+◌, true, false, List, [], Option, Some, None, is_some, refl, sym, ap, ◌∙◌, subst, inl, inr, ◌⊎◌}
+use Rattle.std.specs.Prelude.{sum_by}
 use Rattle.std.specs.Option.{option_map}
-use Rattle.std.specs.List.{AllByRecursion, list_any}
 use Rattle.eden_base.specs.declared.number.DaemonId.{DaemonId}
 use Rattle.checkout.specs.Manifest.{Manifest}
 use Rattle.checkout.specs.Tree.{IsTree, tree_of}
-use Rattle.fuse_wire.specs.Ask.{is_ask}
 use Rattle.fuse_wire.specs.declared.ask.Request.{Request}
 use Rattle.broker_core.specs.Broker.{issue_fault, mounted}
 use Rattle.broker_core.specs.Traffic.{TrafficState, no_traffic}
 use Rattle.broker_core.specs.declared.broker.IssueFault.{IssueFault}
 use Rattle.broker_core.specs.declared.seat.Seat.{Seat}
 use Rattle.broker_core.proofs.Accepted.{accepted-seated}
-use Rattle.world.specs.Server.{ServerState, new_server}
-use Rattle.world.specs.World.{World, Move, mount, times, owed, IsRun, after, after_all}
-use Rattle.world.specs.Agreement.{Knows, IsQuiet, IsUnderWay, is_posted, posted_from, IsGoodForget, IsAnswered, Matches, MovesOn, move_of, moves_in_turn, moves_of}
-use Rattle.world.specs.State.{State, fault, refusal_of_issue, daemon_of, with_daemon, IsSeated}
-use Rattle.world.specs.Step.{Starts, Mounts, Makes, Refuses, TakesMemory, OnceBy, Once, is_made, IfMade, Carries, events_of_do, parts_of, Step}
-use Rattle.world.specs.declared.daemon.Daemon.TheVariants.{Waiting, Serving}
+use Rattle.world.specs.Server.{new_server}
+use Rattle.world.specs.World.{World, Move, mount, owed, after}
+use Rattle.world.specs.Agreement.{Knows, IsQuiet, Matches, move_of}
+use Rattle.world.specs.State.{State, fault, refusal_of_issue, daemon_of}
+use Rattle.world.specs.Step.{Starts, Mounts, Makes, Refuses, TakesMemory, OnceBy, Once}
+use Rattle.world.specs.declared.daemon.Daemon.TheVariants.{Waiting}
 use Rattle.world.specs.declared.event.Event.{Event}
 use Rattle.world.specs.declared.event.Event.TheVariants.{Start, Mount, Issue, Take, Work, Post, Deliver, Do, Show}
 use Rattle.world.specs.declared.outcome.Happened.{Happened}
@@ -30,7 +28,6 @@ use Rattle.world.proofs.Issuing.{issues-moved}
 use Rattle.world.proofs.Keeping.{books-mounted, answered-mounted, seat-mounted}
 use Rattle.world.proofs.Knowing.{new-knows}
 use Rattle.world.proofs.Moving.{MovesBy, unmoved}
-use Rattle.world.proofs.Runs.{run-append, after_all-append, answered-after_all}
 use Rattle.world.proofs.Taking.{takes-moved, posts-moved, delivers-moved}
 use Rattle.world.proofs.Working.{works-moved}
 

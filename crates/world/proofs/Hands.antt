@@ -1,5 +1,5 @@
 -- What a daemon has in hand: it grows at its end by what was taken, and loses what was worked.
-use Rattle.std.proofs.Common.{◌≡◌, ℕ, suc, zero, ◌+◌, ◌<◌, ◌≤◌, Bool, true, false, List, [], ◌∷◌, ◌++◌, Option, Some, None, map, refl, sym, ap, ◌∙◌, subst, arith}
+use Rattle.std.proofs.Common.{◌≡◌, ℕ, suc, zero, ◌+◌, ◌≤◌, Bool, true, false, List, [], ◌∷◌, ◌++◌, Option, Some, None, map, refl, ap, ◌∙◌, subst, arith}
 use Rattle.std.specs.Prelude.{◌==◌, sum_by, count_by, slice_get, remove, if◌then◌else◌}
 use Rattle.std.proofs.lemmas.List.Sums.{sum_by-append}
 use Rattle.eden_base.proofs.NumberTests.{eq-true}
@@ -13,7 +13,7 @@ use Rattle.std.specs.List.{AllByRecursion}
 use Rattle.world.specs.Server.{single, handed, is_single}
 use Rattle.world.specs.World.{is_asked}
 use Rattle.world.specs.Agreement.{asks_in, items_in}
-use Rattle.world.proofs.Bags.{mark, count-cons, first-passes, sum-without}
+use Rattle.world.proofs.Bags.{mark, count-cons, sum-without}
 
 -- ---- what joins it
 
@@ -97,7 +97,7 @@ asks-worked (first ∷ hand) (suc i) task at ask few = in_ (is_ask first.what) r
       let a : count_by (is_asked task.unique) (first ∷ asks_in hand) ≡ mark (first.unique == task.unique) + count_by (is_asked task.unique) (asks_in hand) = count-cons (is_asked task.unique) first (asks_in hand) in
       let m : mark (first.unique == task.unique) ≡ 1 = ap mark t in
       let s : count_by (is_asked task.unique) (asks_in hand) ≡ mark (task.unique == task.unique) + count_by (is_asked task.unique) (without_where (is_asked task.unique) (asks_in hand)) =
-          sum-without (λ (x : Ask). mark (is_asked task.unique x)) (is_asked task.unique) (asks_in hand) task r.0 in
+      sum-without (λ (x : Ask). mark (is_asked task.unique x)) (is_asked task.unique) (asks_in hand) task r.0 in
       let n : mark (task.unique == task.unique) ≡ 1 = ap mark (eq-true task.unique task.unique refl) in
       omega (arith, c))
   behind r false t c = (rw t r.0, rw t (ap (λ all. first ∷ all) r.1))

@@ -1,26 +1,21 @@
 -- Events one after another until one is refused, and so each event of a list, are moves that may happen.
-use Rattle.std.proofs.Common.{◌≡◌, ℕ, Bool, true, false, ◌||◌, List, [], ◌∷◌, ◌++◌, Option, Some, None, refl, sym, ap, ◌∙◌, subst, inl, inr, ◌⊎◌}
+use Rattle.std.proofs.Common.{◌≡◌, Bool, true, false, ◌||◌, List, [], ◌∷◌, ◌++◌, Option, Some, None, refl, sym, ap, ◌∙◌, subst, inl, inr, ◌⊎◌}
 use Rattle.std.specs.Prelude.{if◌then◌else◌}
 use Rattle.std.specs.Option.{option_map_or}
 use Rattle.std.specs.List.{AllByRecursion, list_any}
-use Rattle.eden_base.specs.declared.number.Number.{Number}
 use Rattle.fuse_wire.specs.Ask.{is_ask, item_of}
-use Rattle.fuse_wire.specs.Given.{given_out}
 use Rattle.fuse_wire.specs.declared.ask.Request.{Request}
 use Rattle.fuse_wire.specs.declared.item.Item.{Item}
-use Rattle.fuse_wire.specs.declared.reply.Reply.{Reply}
 use Rattle.broker_core.specs.Broker.{BrokerState, asked, forgot}
 use Rattle.broker_core.specs.declared.seat.Seat.{Seat}
 use Rattle.world.specs.World.{World, Move, IsRun, after_all}
 use Rattle.world.specs.Agreement.{is_posted, posted_from, IsGoodForget, IsAnswered, Matches, MovesOn, move_of, moves_in_turn, moves_of}
 use Rattle.world.specs.State.{State, fault}
-use Rattle.world.specs.Step.{Makes, Refuses, TakesMemory, OnceBy, Once, is_made, IfMade, Carries, events_of_do, parts_of, Step}
+use Rattle.world.specs.Step.{Makes, OnceBy, Once, is_made, IfMade, Carries, events_of_do, parts_of, Step}
 use Rattle.world.specs.declared.event.Event.{Event}
 use Rattle.world.specs.declared.event.Event.TheVariants.{Start, Mount, Issue, Take, Work, Post, Deliver, Do, Show}
 use Rattle.world.specs.declared.outcome.Happened.{Happened}
-use Rattle.world.specs.declared.outcome.Happened.TheVariants as happened
 use Rattle.world.specs.declared.outcome.Refusal.{Refusal}
-use Rattle.world.specs.declared.outcome.Refusal.TheVariants as refusal
 use Rattle.world.proofs.Events.{once-moved}
 use Rattle.world.proofs.Moving.{MovesBy}
 use Rattle.world.proofs.Runs.{run-append, after_all-append, answered-after_all}

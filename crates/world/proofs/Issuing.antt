@@ -1,19 +1,18 @@
 -- What the kernel issues is a move of the world.
-use Rattle.std.proofs.Common.{◌≡◌, ℕ, ◌+◌, ◌-◌, ◌<◌, ◌≤◌, Bool, true, false, ◌||◌, List, [], ◌∷◌, ◌++◌, Option, Some, None, is_some, refl, sym, ap, ◌∙◌, subst, arith}
-use Rattle.std.specs.Prelude.{◌==◌, ◌≢◌, sum_by, count_by, if◌then◌else◌}
+use Rattle.std.proofs.Common.{◌≡◌, ℕ, ◌+◌, ◌-◌, ◌<◌, ◌≤◌, Bool, true, false, [], ◌∷◌, ◌++◌, Option, Some, None, is_some, refl, sym, ap, ◌∙◌, subst, arith}
+use Rattle.std.specs.Prelude.{◌==◌, sum_by, count_by, if◌then◌else◌}
 use Rattle.std.specs.Option.{option_map_or}
-use Rattle.std.specs.List.{list_all}
 use Rattle.std.proofs.lemmas.List.Sums.{sum_by_push}
 use Rattle.eden_base.proofs.NumberTests.{eq-false, true-eq}
 use Rattle.fuse_wire.specs.Ask.{is_ask, nodes, item_of}
 use Rattle.fuse_wire.specs.declared.ask.Ask.{Ask}
 use Rattle.fuse_wire.specs.declared.ask.Request.{Request}
 use Rattle.fuse_wire.specs.declared.item.Item.{Item}
-use Rattle.broker_core.specs.Broker.{BrokerState, last_unique, issue_fault, may_be_asked, asked, forgot, issued, unique_of}
+use Rattle.broker_core.specs.Broker.{issue_fault, asked, forgot, unique_of}
 use Rattle.broker_core.specs.declared.seat.Seat.{Seat}
 use Rattle.broker_core.proofs.Accepted.{accepted-ask, IsAcceptedItem, accepted-forget}
 use Rattle.world.specs.Server.{ServerState}
-use Rattle.world.specs.World.{World, Move, issue, issue_item, times, without_times, taken_back, carries, owed}
+use Rattle.world.specs.World.{World, issue, issue_item, times, without_times, taken_back, carries, owed}
 use Rattle.world.specs.Agreement.{is_bad, Matches, move_of}
 use Rattle.world.specs.State.{State, IsSeated}
 use Rattle.world.specs.Step.{Issues}

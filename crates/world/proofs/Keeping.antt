@@ -18,7 +18,7 @@ use Rattle.broker_core.specs.Held.{HeldMap, held_count, raised}
 use Rattle.broker_core.specs.Traffic.{TrafficState, front}
 use Rattle.broker_core.specs.declared.seat.Seat.{Seat}
 use Rattle.broker_core.proofs.HeldLaws.{held_count-raised, held_count-lowered}
-use Rattle.world.specs.World.{World, mount, MayGoTo, times, without_times, held_after, carries, gives, answered_by, after}
+use Rattle.world.specs.World.{World, mount, MayGoTo, times, without_times, held_after, carries, gives, after}
 use Rattle.world.specs.Agreement.{Books, AnsweredBefore, SeatIsLast}
 use Rattle.world.proofs.Bags.{mark}
 use Rattle.world.proofs.Times.{times-without}

@@ -1,6 +1,6 @@
 -- A legal step on what is under way is a move of the world.
-use Rattle.std.proofs.Common.{◌≡◌, ℕ, ◌+◌, ◌≤◌, Bool, [], ◌∷◌, Option, Some, is_some, refl, sym, ap, ◌∙◌, subst, arith}
-use Rattle.std.specs.Prelude.{◌==◌, sum_by, if◌then◌else◌}
+use Rattle.std.proofs.Common.{◌≡◌, ◌+◌, ◌≤◌, Bool, Option, Some, is_some, refl, sym, ap, ◌∙◌, subst, arith}
+use Rattle.std.specs.Prelude.{sum_by, if◌then◌else◌}
 use Rattle.eden_base.specs.First.{without_where}
 use Rattle.eden_base.proofs.NumberTests.{eq-true}
 use Rattle.fuse_wire.specs.declared.ask.Ask.{Ask}

@@ -1,5 +1,5 @@
 -- What a daemon's calls did, by the first fault.
-use Rattle.std.proofs.Common.{◌≡◌, ℕ, suc, zero, ◌+◌, ◌-◌, ◌<◌, Bool, List, [], ◌∷◌, ◌++◌, length, Option, Some, None, get_or, refl, sym, ap, ◌∙◌, subst, inl, inr, arith}
+use Rattle.std.proofs.Common.{◌≡◌, ℕ, suc, zero, ◌+◌, ◌<◌, Bool, List, [], ◌∷◌, ◌++◌, length, Option, Some, None, get_or, refl, sym, ap, ◌∙◌, subst, inl, inr, arith}
 use Rattle.std.proofs.lemmas.List.{append-nil, map-append, take_more}
 use Rattle.std.proofs.lemmas.Option.{slice_get_read}
 use Rattle.std.specs.Prelude.{slice_get, remove, map, take, ◌≢◌, true, false, ◌||◌, is_some, if◌then◌else◌}
@@ -15,7 +15,7 @@ use Rattle.fuse_ops.specs.Served.{ServedState, Replay}
 use Rattle.fuse_wire.specs.declared.reply.Reply.{Reply}
 use Rattle.broker_core.specs.Broker.{BrokerState, post_fault}
 use Rattle.world.specs.Server.{ServerState, at_place, without_place, single, is_single, handed, told_item}
-use Rattle.world.specs.Serving.{IsIndex, HasNone, Stays, Keeps, WorksBy, WorksOff, PostsBy, PostsReply}
+use Rattle.world.specs.Serving.{IsIndex, HasNone, WorksBy, WorksOff, PostsBy, PostsReply}
 use Rattle.world.specs.declared.outcome.Happened.{Happened}
 use Rattle.world.specs.declared.outcome.Happened.TheVariants.{Refused, Made}
 use Rattle.world.specs.declared.outcome.Refusal.TheVariants.{NoSuch, NoMemory}

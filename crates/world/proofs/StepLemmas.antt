@@ -1,5 +1,5 @@
 -- What the world's calls did is one event, and events one after another.
-use Rattle.std.proofs.Common.{◌≡◌, ℕ, ◌-◌, ◌+◌, ◌<◌, Bool, true, false, if◌then◌else◌, List, [], ◌∷◌, ◌++◌, length, Option, Some, None, get_or, set, refl, sym, ap, ◌∙◌, subst, inl, inr, ◌⊎◌}
+use Rattle.std.proofs.Common.{◌≡◌, ℕ, ◌-◌, ◌+◌, ◌<◌, Bool, true, if◌then◌else◌, List, [], ◌∷◌, ◌++◌, length, Option, Some, None, get_or, set, refl, sym, ap, ◌∙◌, subst, inl, inr}
 use Rattle.std.proofs.lemmas.Option.{slice_get_read}
 use Rattle.std.specs.Prelude.{slice_get, is_none}
 use Rattle.std.specs.Option.{option_map}
@@ -11,9 +11,9 @@ use Rattle.broker_core.specs.declared.fault.TakeFault.{TakeFault}
 use Rattle.broker_core.specs.declared.fault.PostFault.{PostFault}
 use Rattle.fuse_ops.specs.Served.{ServedState, new_served}
 use Rattle.world.specs.Server.{ServerState, new_server, at_place}
-use Rattle.world.specs.Serving.{is_waiting, beginning, IsIndex, ChangesAt, Stays, Keeps, TakesBy, WorksBy, PostsBy, PostsReply, DaemonTakes, DaemonWorks, DaemonPosts}
+use Rattle.world.specs.Serving.{is_waiting, beginning, IsIndex, ChangesAt, TakesBy, WorksBy, PostsBy, PostsReply, DaemonTakes, DaemonWorks, DaemonPosts}
 use Rattle.world.specs.State.{State, daemon_of, with_daemon, fault, mount_refusal, refusal_of_mount, take_refusal, work_refusal, post_refusal, reply_refusal, refusal_of_take, refusal_of_post}
-use Rattle.world.specs.Step.{Refuses, Makes, TakesMemory, Once, OnceBy, Step, Steps, Takes, Works, Posts}
+use Rattle.world.specs.Step.{Refuses, Makes, TakesMemory, Once, OnceBy, Step, Steps}
 use Rattle.world.specs.declared.daemon.Daemon.{Daemon}
 use Rattle.world.specs.declared.daemon.Daemon.TheVariants.{Waiting, Serving}
 use Rattle.world.specs.declared.event.Event.{Event}

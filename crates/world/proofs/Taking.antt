@@ -1,5 +1,5 @@
 -- A take moves nothing in the world; a reply that is posted is taken there, and one that is delivered reaches the kernel.
-use Rattle.std.proofs.Common.{◌≡◌, ℕ, suc, ◌+◌, ◌-◌, ◌<◌, ◌≤◌, Bool, true, false, length, List, [], ◌∷◌, ◌++◌, Option, Some, None, is_some, refl, sym, ap, ◌∙◌, subst, inl, inr, ◌⊎◌, arith}
+use Rattle.std.proofs.Common.{◌≡◌, ℕ, suc, ◌+◌, ◌-◌, ◌<◌, ◌≤◌, Bool, true, false, length, List, [], ◌∷◌, ◌++◌, Option, Some, None, is_some, refl, sym, ap, ◌∙◌, subst, arith}
 use Rattle.std.specs.Prelude.{sum_by, count_by, slice_get, if◌then◌else◌}
 use Rattle.std.specs.Option.{option_map, option_map_or, option_and_then}
 use Rattle.std.specs.List.{AllByRecursion}
@@ -8,14 +8,14 @@ use Rattle.eden_base.specs.declared.number.DaemonId.{DaemonId}
 use Rattle.fuse_wire.specs.Ask.{is_ask, items_of}
 use Rattle.fuse_wire.specs.declared.ask.Ask.{Ask}
 use Rattle.fuse_wire.specs.declared.reply.Reply.{Reply}
-use Rattle.broker_core.specs.Broker.{BrokerState, take_fault, post_fault, taken, posted, delivered as broker_delivered}
-use Rattle.broker_core.specs.Traffic.{TrafficState, front, no_traffic, left_by_take, reply_posted}
+use Rattle.broker_core.specs.Broker.{take_fault, post_fault, taken, posted, delivered as broker_delivered}
+use Rattle.broker_core.specs.Traffic.{TrafficState, front, left_by_take}
 use Rattle.broker_core.specs.declared.fault.TakeFault.{TakeFault}
 use Rattle.broker_core.specs.declared.fault.PostFault.{PostFault}
 use Rattle.broker_core.specs.declared.seat.Seat.{Seat}
 use Rattle.broker_core.proofs.SeatFaults.{taken-seated, posted-seated}
 use Rattle.broker_core.proofs.TakeLaws.{IsAskTaken, take-is}
-use Rattle.world.specs.Server.{ServerState, at_place, told_taken, with_taken, with_posted}
+use Rattle.world.specs.Server.{ServerState, told_taken, with_taken, with_posted}
 use Rattle.world.specs.World.{World, Move, is_asked, is_replied, times, carries, held_after, owed, delivered, answered_by}
 use Rattle.world.specs.Agreement.{IsGoodForget, IsAnswered, is_posted, asks_in, Books, Matches, move_of}
 use Rattle.world.specs.State.{State, fault, refusal_of_take, refusal_of_post, take_refusal, post_refusal, reply_refusal, server_in, IsSeated}
@@ -25,9 +25,8 @@ use Rattle.world.specs.declared.daemon.Daemon.TheVariants.{Serving}
 use Rattle.world.specs.declared.event.Event.TheVariants.{Take, Post, Deliver}
 use Rattle.world.specs.declared.outcome.Happened.{Happened}
 use Rattle.world.specs.declared.outcome.Happened.TheVariants as happened
-use Rattle.world.specs.declared.outcome.Refusal.{Refusal}
 use Rattle.world.proofs.Bags.{mark, sum-without}
-use Rattle.world.proofs.Daemons.{HolderIs, holder-is, goes-on, broker-goes-on, only-holder, hand-seated, at-is}
+use Rattle.world.proofs.Daemons.{HolderIs, holder-is, goes-on, broker-goes-on, only-holder, at-is}
 use Rattle.world.proofs.Keeping.{books-queued, books-delivered, answered-still, answered-posted, seat-stays, times-held}
 use Rattle.world.proofs.Knowing.{knows-along}
 use Rattle.world.proofs.Moving.{MovesBy}

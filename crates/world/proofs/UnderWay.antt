@@ -1,7 +1,7 @@
 -- What is under way in the world is what the holder has in hand and what waits at the broker, and stays so over each
 -- call of the broker and each request that is worked.
-use Rattle.std.proofs.Common.{◌≡◌, ℕ, suc, zero, ◌+◌, ◌-◌, ◌<◌, ◌≤◌, Bool, true, false, ◌&&◌, List, [], ◌∷◌, ◌++◌, Option, Some, None, drop, refl, sym, ap, ◌∙◌, subst, inl, inr, ◌⊎◌, arith}
-use Rattle.std.specs.Prelude.{◌==◌, sum_by, count_by, slice_get, remove, if◌then◌else◌}
+use Rattle.std.proofs.Common.{◌≡◌, ℕ, ◌+◌, ◌-◌, ◌<◌, ◌≤◌, Bool, true, false, ◌&&◌, List, [], ◌∷◌, ◌++◌, Some, drop, refl, sym, ap, ◌∙◌, inl, inr, ◌⊎◌, arith}
+use Rattle.std.specs.Prelude.{◌==◌, sum_by, count_by, slice_get, remove}
 use Rattle.std.proofs.lemmas.List.{append_assoc, append-nil}
 use Rattle.std.proofs.lemmas.List.Sums.{sum_by-cons, sum_by-append, sum_by_push}
 use Rattle.eden_base.proofs.NumberTests.{eq-true, true-eq}
@@ -11,16 +11,14 @@ use Rattle.fuse_wire.proofs.ItemLaws.{items-one}
 use Rattle.fuse_wire.specs.declared.ask.Ask.{Ask}
 use Rattle.fuse_wire.specs.declared.ask.Request.{Request}
 use Rattle.fuse_wire.specs.declared.item.Item.{Item}
-use Rattle.fuse_wire.specs.declared.reply.Answer.{Answer}
 use Rattle.fuse_wire.specs.declared.reply.Reply.{Reply}
-use Rattle.broker_core.specs.Traffic.{TrafficState, front, ask_issued, item_issued, next_taken, left_by_take, reply_posted, reply_delivered}
+use Rattle.broker_core.specs.Traffic.{TrafficState, front, ask_issued, item_issued, left_by_take, reply_posted, reply_delivered}
 use Rattle.broker_core.specs.declared.seat.Seat.{Seat}
-use Rattle.broker_core.proofs.TakeLaws.{IsAskTaken, AreItemsTaken, take-is}
-use Rattle.fuse_ops.specs.Served.{ServedState}
-use Rattle.world.specs.Server.{ServerState, is_single, handed, with_taken, with_worked, with_posted, reply_to}
+use Rattle.broker_core.proofs.TakeLaws.{IsAskTaken, AreItemsTaken}
+use Rattle.world.specs.Server.{ServerState, is_single, handed, with_taken, with_posted}
 use Rattle.world.specs.World.{World, is_asked, is_replied, is_item}
 use Rattle.world.specs.Agreement.{IsSameBag, asks_in, items_in, IsUnderWay}
-use Rattle.world.proofs.Bags.{mark, count-cons, counted-first, first-passes, sum-without, same-measure, sum-at, first-append}
+use Rattle.world.proofs.Bags.{mark, counted-first, first-passes, sum-without, same-measure, sum-at, first-append}
 use Rattle.eden_base.proofs.FirstLemmas.{Each-append}
 use Rattle.world.proofs.Hands.{handed-single, asks_in-append, items_in-append, ask-items, handed-ask, handed-items, asks-worked, asks-forgot, items-worked}
 
@@ -148,7 +146,7 @@ ask-at w t server place task at ask few u = record {
   low =
       let c : count_by (is_asked task.unique) w.asks ≡ count_by (is_asked task.unique) (asks_in server.hand ++ t.untaken) = ap (λ (all : List Ask). count_by (is_asked task.unique) all) u.asks in
       let a : count_by (is_asked task.unique) (asks_in server.hand ++ t.untaken) ≡ count_by (is_asked task.unique) (asks_in server.hand) + count_by (is_asked task.unique) t.untaken =
-          sum_by-append (λ (x : Ask). mark (is_asked task.unique x)) (asks_in server.hand) t.untaken in
+      sum_by-append (λ (x : Ask). mark (is_asked task.unique x)) (asks_in server.hand) t.untaken in
       omega (arith, few)
 
   own : (first_where (is_asked task.unique) (asks_in server.hand) ≡ Some task) × (without_where (is_asked task.unique) (asks_in server.hand) ≡ asks_in (remove server.hand (place - 1)))

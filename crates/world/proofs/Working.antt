@@ -1,13 +1,11 @@
 -- What a daemon works is a move of the world.
-use Rattle.std.proofs.Common.{◌≡◌, ℕ, ◌+◌, ◌-◌, ◌<◌, ◌≤◌, Bool, true, false, ◌||◌, List, [], ◌∷◌, ◌++◌, Option, Some, None, is_some, refl, sym, ap, ◌∙◌, subst, inl, inr, ◌⊎◌, arith}
-use Rattle.std.specs.Prelude.{◌==◌, sum_by, count_by, slice_get, remove, if◌then◌else◌}
-use Rattle.std.specs.Option.{option_and_then}
+use Rattle.std.proofs.Common.{◌≡◌, ℕ, ◌+◌, ◌-◌, ◌≤◌, Bool, true, false, ◌||◌, List, [], ◌∷◌, ◌++◌, Option, Some, None, is_some, refl, sym, ap, ◌∙◌, subst, inl, inr, arith}
+use Rattle.std.specs.Prelude.{◌==◌, sum_by, count_by, slice_get, if◌then◌else◌}
 use Rattle.std.proofs.lemmas.List.{append-nil}
 use Rattle.eden_base.specs.First.{first_where, without_where}
 use Rattle.eden_base.specs.declared.number.DaemonId.{DaemonId}
 use Rattle.eden_base.proofs.NumberTests.{eq-true, false-ne}
-use Rattle.checkout.specs.Tree.{IsTree}
-use Rattle.fuse_wire.specs.Ask.{is_ask, item_of, items_of}
+use Rattle.fuse_wire.specs.Ask.{is_ask, item_of}
 use Rattle.fuse_wire.proofs.ItemLaws.{items-one}
 use Rattle.fuse_wire.specs.declared.ask.Ask.{Ask}
 use Rattle.fuse_wire.specs.declared.item.Item.{Item}
@@ -19,10 +17,10 @@ use Rattle.inode_map.specs.declared.inode_map.Forgot.{Forgot}
 use Rattle.fuse_ops.specs.Gifts.{IsTaken}
 use Rattle.fuse_ops.specs.Served.{ServedState, forgotten_all, IsLegal, Replay}
 use Rattle.fuse_ops.proofs.SameManifest.{answered-manifest}
-use Rattle.world.specs.Server.{ServerState, at_place, is_single, told_worked, told_item, with_worked}
-use Rattle.world.specs.World.{World, Move, work, work_item, is_asked, is_replied, is_item, file_named, times, gives, carries, taken_back, owed, MayAnswer, MayWork, worked}
-use Rattle.world.specs.Agreement.{Knows, Books, IsGoodForget, is_bad, IsUnderWay, IsIdle, Matches, move_of}
-use Rattle.world.specs.State.{State, server_in, with_daemon, IsSeated}
+use Rattle.world.specs.Server.{ServerState, is_single, told_worked, told_item, with_worked}
+use Rattle.world.specs.World.{World, work, work_item, is_asked, is_replied, is_item, file_named, times, gives, carries, taken_back, owed, MayWork, worked}
+use Rattle.world.specs.Agreement.{Knows, IsGoodForget, is_bad, Matches, move_of}
+use Rattle.world.specs.State.{State, with_daemon, IsSeated}
 use Rattle.world.specs.Step.{Works}
 use Rattle.world.specs.declared.daemon.Daemon.TheVariants.{Serving}
 use Rattle.world.specs.declared.event.Event.TheVariants.{Work}

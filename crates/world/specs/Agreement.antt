@@ -10,7 +10,6 @@ use Rattle.checkout.specs.Tree.{Tree, IsTree, tree_of}
 use Rattle.fuse_wire.specs.Ask.{is_ask, item_of, items_of}
 use Rattle.fuse_wire.specs.declared.ask.Ask.{Ask}
 use Rattle.fuse_wire.specs.declared.item.Item.{Item}
-use Rattle.fuse_wire.specs.declared.reply.Reply.{Reply}
 use Rattle.broker_core.specs.Broker.{BrokerState}
 use Rattle.broker_core.specs.Held.{held_count}
 use Rattle.broker_core.specs.Traffic.{TrafficState, no_traffic}

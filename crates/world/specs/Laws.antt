@@ -1,5 +1,5 @@
 -- What holds of the definitions alone, for those who work requests elsewhere than in an event.
-use Rattle.std.specs.Prelude.{◌≡◌, ℕ, ◌≤◌, ◌≢◌, true, Option, Some, None}
+use Rattle.std.specs.Prelude.{◌≡◌, ◌≤◌, ◌≢◌, Some, None}
 use Rattle.eden_base.specs.First.{first_where}
 use Rattle.checkout.specs.Tree.{IsTree}
 use Rattle.fuse_wire.specs.declared.ask.Ask.{Ask}

@@ -6,5 +6,4 @@ ghost use Rattle.world.specs.Laws.{AnswerIsMove, ItemIsMove};
 pub fn step_is_move()
     ensures answers { AnswerIsMove }
     ensures items { ItemIsMove }
-{
-}
+{}
