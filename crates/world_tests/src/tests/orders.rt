@@ -98,7 +98,7 @@ fn is_even(world: &World) -> bool {
         if broker.held(number) != served.map().count(number) {
             return false;
         }
-        held += broker.held(number).min(9);
+        held = broker.held(number).saturating_add(held);
     }
     held == 2 && world.hand(daemon).is_empty() && world.unposted(daemon).is_empty()
 }
