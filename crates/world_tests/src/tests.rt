@@ -617,3 +617,33 @@ fn goes_on_after_memory_was_refused(rt: HostRuntime) -> Result<(), Fail> {
     assert_eq!(rt; counts(&world)[0], counts(&world)[1]);
     Ok(())
 }
+
+/// Returns what a `do` told last, or, where memory ran out, what was told last then: when its reply, which waited, was
+/// delivered, or when it came again.
+fn finished(world: &mut World, event: &Event) -> Option<Happened> {
+    let told = last_of(&world.step(event));
+    if told != refused_for_memory() {
+        return told;
+    }
+    if counts(world)[2] == 1 {
+        return last_of(&world.step(&Event::Deliver));
+    }
+    last_of(&world.step(event))
+}
+
+/// Passes also where one allocation is refused: what a `do` made before it was refused stands, and the kernel is answered
+/// in the end.
+#[test]
+fn finishes_a_do_after_memory_was_refused(rt: HostRuntime) -> Result<(), Fail> {
+    let alloc = rt.alloc();
+    let mut world = new_world(alloc)?;
+    let ask = event(alloc, Deed::Do(LOOK_UP_SRC))?;
+    let _started = last_told(&mut world, &Event::Start);
+    let mounted = last_told(&mut world, &Event::Mount(DaemonId(1)));
+    assert_eq!(rt; mounted, Some(Happened::Mounted(1)));
+    let told = finished(&mut world, &ask);
+    assert!(rt; matches!(told, Some(Happened::Answered(_))));
+    assert!(rt; world.hand(DaemonId(1)).is_empty() && world.unposted(DaemonId(1)).is_empty());
+    assert_eq!(rt; counts(&world)[0], counts(&world)[1]);
+    Ok(())
+}
