@@ -1,6 +1,6 @@
 -- The entries after a number was given.
 use Rattle.std.proofs.Common.{◌≡◌, ℕ, ◌+◌, ◌<◌, ◌≤◌, true, false, List, [], ◌∷◌, ◌++◌, Option, Some, None, refl, sym, ap, ◌∙◌, subst, is_some, inr, arith}
-use Rattle.std.specs.Prelude.{nat_le, if◌then◌else◌}
+use Rattle.std.specs.Prelude.{nat_le, nat_lt, if◌then◌else◌}
 use Rattle.std.specs.Option.{option_map}
 use Rattle.std.proofs.lemmas.Bool.Decides.{nat_tests}
 use Rattle.eden_base.specs.First.{changed_where}
@@ -8,12 +8,10 @@ use Rattle.eden_base.specs.Limits.{greatest_count}
 use Rattle.eden_base.specs.declared.number.Number.{Number}
 use Rattle.inode_map.specs.EntryPlaces.{AreOfUseBut}
 use Rattle.inode_map.specs.InodeMap.{MapState, has_number, stands_at, entry_of, entry_at, count_of, number_of_kept, once_more, give_fault, give_fault_at, given, AreNumbers}
-use Rattle.inode_map.specs.Table.{counted}
 use Rattle.inode_map.specs.declared.inode_map.GiveFault.TheVariants.{TooMany}
 use Rattle.inode_map.specs.declared.inode_map.Kept.{Kept}
 use Rattle.inode_map.proofs.Changing.{KeepsPlace, raised-of_use, added-of_use, count_of-entry}
 use Rattle.inode_map.proofs.EntryLemmas.{changed-first, entry_of-first, entry_of-number, numbers-append, numbers-changed, numbers-outside}
-use Rattle.inode_map.proofs.Keeping.{changed-alike}
 
 pub once-keeps : KeepsPlace once_more
 once-keeps = record { number = λ x. refl; place = λ x. refl }
@@ -59,23 +57,28 @@ again-free map parent name number count are has is free =
     free_in : (m : ℕ) → m < greatest_count → nat_le greatest_count m ≡ false
     free_in m e = grind (arith, nat_tests)
 
+-- a count that may rise is below the greatest
+pub is-full : (m : ℕ) → false ≡ nat_lt m greatest_count → greatest_count ≤ m
+is-full m e = grind (arith, nat_tests)
+
+pub is-free : (m : ℕ) → true ≡ nat_lt m greatest_count → m < greatest_count
+is-free m e = grind (arith, nat_tests)
+
 -- counted once more, where the place is
-pub again-given : (map : MapState) (parent : Number) (name : List ℕ) (number : Number) (count : ℕ) → AreNumbers 2 map.next map.entries → Some number ≡ option_map number_of_kept (entry_at map.entries parent.0 name) →
-    count ≡ count_of map.entries number.0 → record map { entries = changed_where (has_number number.0) (counted (count + 1)) map.entries } ≡ given map parent name
-again-given map parent name number count are has is =
+pub again-given : (map : MapState) (parent : Number) (name : List ℕ) (number : Number) → AreNumbers 2 map.next map.entries → Some number ≡ option_map number_of_kept (entry_at map.entries parent.0 name) →
+    record map { entries = changed_where (has_number number.0) once_more map.entries } ≡ given map parent name
+again-given map parent name number are has =
     let h = has-entry map.entries 2 map.next parent.0 name number are has in
-    let same : count ≡ h.kept.count = is ∙ count_of-entry map.entries number.0 h.kept h.entry in
     let found : is_some (entry_at map.entries parent.0 name) ≡ true = ap (λ (o : Option Kept). is_some o) h.at in
     let it : h.kept.number.0 ≡ number.0 = entry_of-number map.entries number.0 h.kept h.entry in
-    let changed : changed_where (has_number number.0) (counted (count + 1)) map.entries ≡ changed_where (stands_at parent.0 name) once_more map.entries =
-    changed-alike map.entries (has_number number.0) (counted (count + 1)) once_more h.kept h.entry (ap (λ (m : ℕ). record h.kept { count = m + 1 }) same)
-    ∙ ap (λ (n : ℕ). changed_where (has_number n) once_more map.entries) (sym it) ∙ sym (changed-first map.entries 2 map.next (stands_at parent.0 name) once_more h.kept are h.at) in
+    let changed : changed_where (has_number number.0) once_more map.entries ≡ changed_where (stands_at parent.0 name) once_more map.entries =
+    ap (λ (n : ℕ). changed_where (has_number n) once_more map.entries) (sym it) ∙ sym (changed-first map.entries 2 map.next (stands_at parent.0 name) once_more h.kept are h.at) in
     rw found (ap (λ (entries : List Kept). record map { entries = entries }) changed)
 
-pub again-kept : (es : List Kept) (next n count : ℕ) → AreKept next es → AreKept next (changed_where (has_number n) (counted (count + 1)) es)
-again-kept es next n count are = record {
-  numbers = numbers-changed es 2 next (has_number n) (counted (count + 1)) (λ x. refl) are.numbers;
-  of_use = raised-of_use es n (counted (count + 1)) (record { number = λ x. refl; place = λ x. refl }) (λ y. omega arith) are.of_use;
+pub again-kept : (es : List Kept) (next n : ℕ) → AreKept next es → AreKept next (changed_where (has_number n) once_more es)
+again-kept es next n are = record {
+  numbers = numbers-changed es 2 next (has_number n) once_more (λ x. refl) are.numbers;
+  of_use = raised-of_use es n once_more once-keeps (λ y. omega arith) are.of_use;
 }
 
 -- no entry has the next number

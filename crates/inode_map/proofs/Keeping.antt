@@ -1,4 +1,4 @@
--- What is loaded or remembered of numbers, where entries change or leave; and how a change of one entry is said.
+-- What is loaded or remembered of numbers, where entries change or leave.
 use Rattle.std.proofs.Common.{◌≡◌, ℕ, zero, suc, ◌<◌, Bool, true, false, cond, List, [], ◌∷◌, ◌++◌, take, get_or, length, Option, Some, None, is_some, refl, sym, ap, ◌∙◌, subst, inl, inr, ◌⊎◌}
 use Rattle.std.specs.Prelude.{◌==◌, not}
 use Rattle.std.specs.List.{filter}
@@ -11,15 +11,6 @@ use Rattle.inode_map.specs.InodeMap.{MapState, left_with, has_number, entry_of, 
 use Rattle.inode_map.specs.Table.{AreOfKept, file_number, of_kept, is_other}
 use Rattle.inode_map.specs.declared.inode_map.Kept.{Kept}
 use Rattle.inode_map.specs.declared.loaded.LoadedAttr.{LoadedAttr}
-
--- a change of one entry, said by what it does to that one
-pub changed-alike : (es : List Kept) (p : Kept → Bool) (f g : Kept → Kept) (x : Kept) → first_where p es ≡ Some x → f x ≡ g x → changed_where p f es ≡ changed_where p g es
-changed-alike [] p f g x e same = refl
-changed-alike (y ∷ es) p f g x e same = in_ (p y) e (λ there. changed-alike es p f g x there same) where
-  in_ : (b : Bool) → cond b (Some y) (first_where p es) ≡ Some x → (first_where p es ≡ Some x → changed_where p f es ≡ changed_where p g es) →
-      cond b (f y ∷ es) (y ∷ changed_where p f es) ≡ cond b (g y ∷ es) (y ∷ changed_where p g es)
-  in_ true h rest = let is : x ≡ y = cc in ap (λ (z : Kept). z ∷ es) (ap f (sym is) ∙ same ∙ ap g is)
-  in_ false h rest = ap (λ (xs : List Kept). y ∷ xs) (rest h)
 
 -- numbers that have entries
 kept-map : (o : Option Kept) (change : Kept → Kept) → is_some (option_map change o) ≡ is_some o

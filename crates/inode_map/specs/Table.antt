@@ -83,10 +83,6 @@ IsIn entries n dir =
 abbrev pub is_other : ℕ → ℕ → Bool
 is_other n m = not (m == n)
 
--- counted so often
-abbrev pub counted : ℕ → Kept → Kept
-counted count kept = record kept { count = count }
-
 -- the table without an entry
 abbrev pub without_entry : TableState → ℕ → List Kept → TableState
 without_entry table n entries =

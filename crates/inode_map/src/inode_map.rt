@@ -285,11 +285,9 @@ impl InodeMap {
         ensures refused { IfErr result (λ fault. give_fault self.old parent.0 name.now ≡ Some fault) }
         ensures unchanged { OnErr result (self.new ≡ self.old) }
     {
-        let count = self.count(number);
-        if count >= GREATEST_COUNT {
+        if !self.table.raise(number) {
             return Err(GiveFault::TooMany);
         }
-        self.table.set_count(number, count + 1);
         Ok(number)
     }
 

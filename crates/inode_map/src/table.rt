@@ -1,21 +1,21 @@
 //! The entries of an inode map by number, and the index of their places.
-ghost use Rattle.std.specs.Prelude.{◌≡◌, ℕ, ◌+◌, ◌<◌, ◌≤◌, List, [], ◌∷◌, ◌++◌, Option, Some, None, IsSome, MatchOption, IfOk, OnOk, OnErr, ◌-◌, true, false, vec_len, vec_capacity, length};
+ghost use Rattle.std.specs.Prelude.{◌≡◌, ℕ, ◌+◌, ◌<◌, ◌≤◌, List, [], ◌∷◌, ◌++◌, Option, Some, None, IsSome, MatchOption, IfOk, OnOk, OnErr, ◌-◌, true, false, nat_lt, vec_len, vec_capacity, length, if◌then◌else◌};
 ghost use Rattle.std.specs.Option.{option_map, option_copied, option_and_then, IfNone, IfSome, OnSome};
 ghost use Rattle.std.specs.List.{AllByRecursion, list_any, filter};
 ghost use Rattle.checkout.specs.Tree.{Tree};
 ghost use Rattle.eden_base.specs.First.{changed_where, without_where};
-ghost use Rattle.eden_base.specs.Limits.{end_of_numbers};
+ghost use Rattle.eden_base.specs.Limits.{end_of_numbers, greatest_count};
 ghost use Rattle.eden_base.specs.declared.number.FileId.{FileId};
 ghost use Rattle.eden_base.specs.declared.number.Number.{Number};
 ghost use Rattle.inode_map.specs.EntryPlaces.{HasName, IsNamedEntry};
-ghost use Rattle.inode_map.specs.InodeMap.{has_number, entry_of, entry_at, is_kid_of, number_of_kept, place_of_kept, number_after, new_entry, marked, IsLinked, IsFileOf, file_remembered, remembered, AreNumbers, AreEntries, count_of, is_bad_item, lowered};
-ghost use Rattle.inode_map.specs.Table.{IsIn, held_of, slots_of, kept_of, kept_from, held_in, IsSlots, counted, without_entry, AreOfKept, file_number};
+ghost use Rattle.inode_map.specs.InodeMap.{has_number, entry_of, entry_at, is_kid_of, number_of_kept, place_of_kept, number_after, new_entry, marked, IsLinked, IsFileOf, file_remembered, remembered, AreNumbers, AreEntries, count_of, once_more, is_bad_item, lowered};
+ghost use Rattle.inode_map.specs.Table.{IsIn, held_of, slots_of, kept_of, kept_from, held_in, IsSlots, without_entry, AreOfKept, file_number};
 
 use crate::index::Index;
 use crate::inode_map::Kept;
 use crate::way::locate;
 use checkout::Tree;
-use eden_base::{FileId, Name, NoMemory, Number, Place};
+use eden_base::{FileId, GREATEST_COUNT, Name, NoMemory, Number, Place};
 use std::alloc::Global;
 use std::collections::BTreeMap;
 use std::marker::Model;
@@ -239,19 +239,23 @@ impl Table {
         number
     }
 
-    /// Sets how often the kernel holds a number.
-    pub fn set_count(&mut self, number: Number, count: u64)
+    /// Counts a number once more, and tells whether it did: not where the kernel holds it as often as it may.
+    pub fn raise(&mut self, number: Number) -> bool
         requires { IsSome (entry_of self.old.entries number.0) }
-        ensures counted { self.new ≡ record self.old {
-          entries = changed_where (has_number number.0) (counted count) self.old.entries;
-        } }
-        ensures kept { AreOfKept file_number self.new.entries self.new.remembered }
+        ensures may { result ≡ nat_lt (count_of self.old.entries number.0) greatest_count }
+        ensures raised { self.new ≡ (if result then record self.old {
+          entries = changed_where (has_number number.0) once_more self.old.entries;
+        } else self.old) }
     {
         let Some(slot) = self.slots.get_mut(&number.0) else {
             unreachable!()
         };
         let Some(held) = slot else { unreachable!() };
-        held.count = count;
+        if held.count >= GREATEST_COUNT {
+            return false;
+        }
+        held.count += 1;
+        true
     }
 
     /// Counts a number fewer times, and returns how often the kernel holds it then. A bad item changes nothing.

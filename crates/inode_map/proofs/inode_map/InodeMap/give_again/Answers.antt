@@ -1,47 +1,50 @@
 -- The number that the place has is counted once more.
-use Rattle.std.proofs.Common.{◌≡◌, ◌+◌, IsSome, refl, sym, subst, arith}
+use Rattle.std.proofs.Common.{◌≡◌, ◌<◌, ◌≤◌, IsSome, refl, sym, subst}
 use Rattle.eden_base.proofs.MemberLemmas.{some-IsSome}
 use Rattle.eden_base.specs.First.{changed_where}
-use Rattle.inode_map.specs.InodeMap.{MapState, has_number, entry_of, given, loaded_number, AreNumbers}
+use Rattle.eden_base.specs.Limits.{greatest_count}
+use Rattle.inode_map.specs.InodeMap.{MapState, has_number, entry_of, count_of, once_more, given, loaded_number, AreNumbers}
 use Rattle.inode_map.specs.Inside.{IsConsistent}
-use Rattle.inode_map.specs.Table.{TableState, counted}
-use Rattle.inode_map.proofs.Giving.{has-entry, again-full, again-free, again-given, again-kept}
+use Rattle.inode_map.specs.Table.{TableState}
+use Rattle.inode_map.proofs.Giving.{has-entry, again-full, again-free, again-given, again-kept, is-full, is-free}
 use Rattle.inode_map.proofs.Keeping.{of-changed}
 use Rattle.inode_map.proofs.inode_map.InodeMap.give_again.Goals as goal
 
-pub returns-then-count-ge-GREATEST_COUNT-clause-refused : goal.returns-then-count-ge-GREATEST_COUNT-clause-refused
-returns-then-count-ge-GREATEST_COUNT-clause-refused c =
-    let map = c.args.self.now in
-    let numbers = subst (λ (m : MapState). AreNumbers 2 m.next m.entries) c.self.view_is c.self.invariant.numbers in
-    again-full map c.args.parent.0 c.args.name.now c.args.number c.count-count.result numbers c.requires.has c.count-count.ensures.count c.if-count-ge-GREATEST_COUNT.true
-
-pub set_count-requires : goal.set_count-requires
-set_count-requires c =
+pub raise-requires : goal.raise-requires
+raise-requires c =
     let map = c.args.self.now in
     let numbers = subst (λ (m : MapState). AreNumbers 2 m.next m.entries) c.self.view_is c.self.invariant.numbers in
     let h = has-entry map.entries 2 map.next c.args.parent.0 c.args.name.now c.args.number numbers c.requires.has in
     subst (λ (m : MapState). IsSome (entry_of m.entries c.args.number.0)) (sym c.self.view_is) (some-IsSome (entry_of map.entries c.args.number.0) h.kept h.entry)
 
-pub invariant_of-self : goal.invariant_of-self
-invariant_of-self c =
+pub returns-then-not-raise-clause-refused : goal.returns-then-not-raise-clause-refused
+returns-then-not-raise-clause-refused c =
+    let map = c.args.self.now in
+    let numbers = subst (λ (m : MapState). AreNumbers 2 m.next m.entries) c.self.view_is c.self.invariant.numbers in
+    let full = subst (λ (m : MapState). greatest_count ≤ count_of m.entries c.args.number.0) c.self.view_is (is-full _ c.if-not-raise.ensures.may) in
+    again-full map c.args.parent.0 c.args.name.now c.args.number (count_of map.entries c.args.number.0) numbers c.requires.has refl full
+
+pub invariant_of-self-2 : goal.invariant_of-self-2
+invariant_of-self-2 c =
     let t = c.self.inside.table in
-    let are = again-kept t.entries t.next c.args.number.0 c.count-count.result (record { numbers = c.self.invariant.numbers; of_use = c.self.invariant.of_use }) in
-    subst (λ (new : TableState). IsConsistent (record { table = new; bad_items = c.self.inside.bad_items; loaded = c.self.inside.loaded })) (sym c.set_count.ensures.counted) (record {
+    let are = again-kept t.entries t.next c.args.number.0 (record { numbers = c.self.invariant.numbers; of_use = c.self.invariant.of_use }) in
+    subst (λ (new : TableState). IsConsistent (record { table = new; bad_items = c.self.inside.bad_items; loaded = c.self.inside.loaded })) (sym c.if-not-raise.ensures.raised) (record {
       numbers = are.numbers;
       numbers_fit = c.self.invariant.numbers_fit;
       of_use = are.of_use;
-      loaded = of-changed loaded_number t.entries c.args.number.0 (counted (c.count-count.result + 1)) c.self.inside.loaded.attrs (λ x. refl) c.self.invariant.loaded;
+      loaded = of-changed loaded_number t.entries c.args.number.0 once_more c.self.inside.loaded.attrs (λ x. refl) c.self.invariant.loaded;
     })
 
 pub returns-clause-given : goal.returns-clause-given
 returns-clause-given c =
     let map = c.args.self.now in
     let numbers = subst (λ (m : MapState). AreNumbers 2 m.next m.entries) c.self.view_is c.self.invariant.numbers in
-    let is = again-given map c.args.parent c.args.name.now c.args.number c.count-count.result numbers c.requires.has c.count-count.ensures.count in
-    rw c.set_count.ensures.counted (subst (λ (m : MapState). record m { entries = changed_where (has_number c.args.number.0) (counted (c.count-count.result + 1)) m.entries } ≡ given map c.args.parent c.args.name.now) (sym c.self.view_is) is)
+    let is = again-given map c.args.parent c.args.name.now c.args.number numbers c.requires.has in
+    rw c.if-not-raise.ensures.raised (subst (λ (m : MapState). record m { entries = changed_where (has_number c.args.number.0) once_more m.entries } ≡ given map c.args.parent c.args.name.now) (sym c.self.view_is) is)
 
 pub returns-clause-accepted : goal.returns-clause-accepted
 returns-clause-accepted c =
     let map = c.args.self.now in
     let numbers = subst (λ (m : MapState). AreNumbers 2 m.next m.entries) c.self.view_is c.self.invariant.numbers in
-    again-free map c.args.parent.0 c.args.name.now c.args.number c.count-count.result numbers c.requires.has c.count-count.ensures.count (let f = c.if-count-ge-GREATEST_COUNT.false in omega arith)
+    let free = subst (λ (m : MapState). count_of m.entries c.args.number.0 < greatest_count) c.self.view_is (is-free _ c.if-not-raise.ensures.may) in
+    again-free map c.args.parent.0 c.args.name.now c.args.number (count_of map.entries c.args.number.0) numbers c.requires.has refl free

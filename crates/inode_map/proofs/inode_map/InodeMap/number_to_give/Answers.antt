@@ -1,5 +1,5 @@
 -- Which fault stands against the number that the place has.
-use Rattle.std.proofs.Common.{◌≡◌, Some, sym, ap, ◌∙◌, subst, arith}
+use Rattle.std.proofs.Common.{sym, ap, ◌∙◌, subst, arith}
 use Rattle.std.specs.Option.{option_map}
 use Rattle.inode_map.specs.InodeMap.{MapState, entry_at, number_of_kept, AreNumbers}
 use Rattle.inode_map.proofs.Giving.{again-full, again-free}
