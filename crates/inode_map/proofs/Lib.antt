@@ -12,6 +12,7 @@ pub mod Keeping
 pub mod Lowering
 pub mod Places
 pub mod Pruning
+pub mod Recency
 pub mod Removing
 pub mod SlotGrowth
 pub mod SlotLemmas

@@ -51,8 +51,9 @@ impl Loaded {
         ensures used { self.new ≡ record self.old { attrs = used self.old.attrs number.0 } }
     {
         let place = place_of(self.attrs.as_slice(), number)?;
-        let loaded = self.attrs.remove(place);
-        self.attrs.insert(0, loaded).unwrap();
+        let loaded = self.attrs[place];
+        self.attrs.copy_within(0..place, 1);
+        self.attrs[0] = loaded;
         Some(loaded.attr)
     }
 
