@@ -329,7 +329,7 @@ impl InodeMap {
         if self.table.has_kids(number) {
             return Forgot::Lowered;
         }
-        prune(&mut self.table, &mut self.loaded, number);
+        drop_upwards(&mut self.table, &mut self.loaded, number);
         Forgot::Dropped
     }
 
@@ -398,7 +398,7 @@ fn is_useless(table: &Table, number: Number) -> bool
     }
 }
 
-/// Drops a number of no use, and then its directory if that is of none, and so on upwards.
+/// Drops a number where it is of no use, and then its directory if that is of none, and so on upwards.
 fn prune(table: &mut Table, loaded: &mut Loaded, number: Number)
     requires numbers { AreNumbers 2 table.old.next table.old.entries }
     requires others_of_use { AreOfUseBut (Some number.0) table.old.entries }
@@ -407,13 +407,31 @@ fn prune(table: &mut Table, loaded: &mut Loaded, number: Number)
     ensures pruned { table.new ≡ pruned table.old }
     ensures unloaded { loaded.new ≡ record loaded.old { attrs = of_kept loaded_number (left_of_use table.old.entries) loaded.old.attrs } }
 {
+    if is_useless(table, number) {
+        drop_upwards(table, loaded, number);
+    }
+}
+
+/// Drops a number of no use, and then its directory if that is of none, and so on upwards.
+fn drop_upwards(table: &mut Table, loaded: &mut Loaded, number: Number)
+    requires numbers { AreNumbers 2 table.old.next table.old.entries }
+    requires useless { is_useless table.old.entries number.0 ≡ true }
+    requires others_of_use { AreOfUseBut (Some number.0) table.old.entries }
+    requires loaded { AreOfKept loaded_number table.old.entries loaded.old.attrs }
+    requires remembered { AreOfKept file_number table.old.entries table.old.remembered }
+    ensures pruned { table.new ≡ pruned table.old }
+    ensures unloaded { loaded.new ≡ record loaded.old { attrs = of_kept loaded_number (left_of_use table.old.entries) loaded.old.attrs } }
+{
     let mut number = number;
-    while is_useless(table, number) {
+    loop {
         let place = table.remove(number);
         loaded.remove(number);
         match place {
             Place::Linked { parent, .. } => number = parent,
             Place::Unlinked { .. } => return,
+        }
+        if !is_useless(table, number) {
+            return;
         }
     }
 }

@@ -5,7 +5,7 @@ use Rattle.std.specs.List.{list_any}
 use Rattle.std.proofs.lemmas.Bool.Decides.{nat_tests}
 use Rattle.inode_map.specs.EntryPlaces.{AreOfUseBut}
 use Rattle.inode_map.specs.Inside.{IsConsistent}
-use Rattle.inode_map.specs.InodeMap.{MapState, count_of, forgot, is_kid_of, lowered, left_of_use, loaded_number, AreNumbers}
+use Rattle.inode_map.specs.InodeMap.{MapState, count_of, forgot, is_kid_of, is_useless, lowered, left_of_use, loaded_number, AreNumbers}
 use Rattle.inode_map.specs.Recency.{LoadedState}
 use Rattle.inode_map.specs.Table.{TableState, AreOfKept, of_kept, pruned}
 use Rattle.inode_map.specs.declared.inode_map.Kept.{Kept}
@@ -67,17 +67,26 @@ returns-then-has_kids-clause-forgotten c =
     let told = told-by (seen m c.args.self.now c.lower.new.self n c.args.k m.table) n c.args.k false true (sym c.if-eq.ensures) c.in-Some.ensures.good counted kids in
     less-forgotten m c.args.self.now c.lower.new.self n c.args.k c.self.view_is c.self.invariant c.in-Some.ensures.lowered c.in-Some.ensures.kept told
 
-pub prune-requires-clause-numbers : goal.prune-requires-clause-numbers
-prune-requires-clause-numbers c =
+pub drop_upwards-requires-clause-numbers : goal.drop_upwards-requires-clause-numbers
+drop_upwards-requires-clause-numbers c =
     let t = c.self.inside.table in
     subst (λ (new : TableState). AreNumbers 2 new.next new.entries) (sym c.in-Some.ensures.lowered) (lowered-numbers t.entries t.next c.args.number.0 c.args.k c.self.invariant.numbers)
 
-pub prune-requires-clause-others_of_use : goal.prune-requires-clause-others_of_use
-prune-requires-clause-others_of_use c =
+pub drop_upwards-requires-clause-useless : goal.drop_upwards-requires-clause-useless
+drop_upwards-requires-clause-useless c =
+    let m = c.self.inside in
+    let n = c.args.number.0 in
+    let counted : nat_lt 0 (count_of m.table.entries n - c.args.k) ≡ false = let l = c.in-Some.ensures.left in let none = c.if-left-gt0.false in grind (arith, nat_tests) in
+    let kids = kids-less m c.args.self.now c.lower.new.self n c.args.k false c.in-Some.ensures.lowered c.if-has_kids.ensures in
+    let told = told-by (seen m c.args.self.now c.lower.new.self n c.args.k m.table) n c.args.k false false (sym c.if-eq.ensures) c.in-Some.ensures.good counted kids in
+    subst (λ (new : TableState). is_useless new.entries n ≡ true) (sym c.in-Some.ensures.lowered) told.useless
+
+pub drop_upwards-requires-clause-others_of_use : goal.drop_upwards-requires-clause-others_of_use
+drop_upwards-requires-clause-others_of_use c =
     subst (λ (new : TableState). AreOfUseBut (Some c.args.number.0) new.entries) (sym c.in-Some.ensures.lowered) (lowered-others c.self.inside.table.entries c.args.number.0 c.args.k c.self.invariant.of_use)
 
-pub prune-requires-clause-loaded : goal.prune-requires-clause-loaded
-prune-requires-clause-loaded c =
+pub drop_upwards-requires-clause-loaded : goal.drop_upwards-requires-clause-loaded
+drop_upwards-requires-clause-loaded c =
     let m = c.self.inside in
     subst (λ (new : TableState). AreOfKept loaded_number new.entries m.loaded.attrs) (sym c.in-Some.ensures.lowered) (loaded-less m c.args.self.now c.lower.new.self c.args.number.0 c.args.k c.self.invariant)
 
@@ -88,9 +97,9 @@ invariant_of-self-2 c =
     let less = c.in-Some.ensures.lowered in
     let es : List Kept = left_of_use (lowered t.entries c.args.number.0 c.args.k) in
     let now = struck-kept t.entries t.next c.args.number.0 c.args.k (record { numbers = c.self.invariant.numbers; of_use = c.self.invariant.of_use }) in
-    let left = c.prune.ensures.pruned ∙ ap pruned less in
-    let loaded = c.prune.ensures.unloaded ∙ ap (λ (s : TableState). record m.loaded { attrs = of_kept loaded_number (left_of_use s.entries) m.loaded.attrs }) less in
-    subst (λ (new : TableState). IsConsistent (record { table = new; bad_items = m.bad_items; loaded = c.prune.new.loaded })) (sym left)
+    let left = c.drop_upwards.ensures.pruned ∙ ap pruned less in
+    let loaded = c.drop_upwards.ensures.unloaded ∙ ap (λ (s : TableState). record m.loaded { attrs = of_kept loaded_number (left_of_use s.entries) m.loaded.attrs }) less in
+    subst (λ (new : TableState). IsConsistent (record { table = new; bad_items = m.bad_items; loaded = c.drop_upwards.new.loaded })) (sym left)
     (subst (λ (new : LoadedState). IsConsistent (record { table = pruned (record t { entries = lowered t.entries c.args.number.0 c.args.k }); bad_items = m.bad_items; loaded = new })) (sym loaded)
     (record { numbers = now.numbers; numbers_fit = c.self.invariant.numbers_fit; of_use = now.of_use; loaded = of_kept-kept loaded_number es m.loaded.attrs }))
 
