@@ -29,7 +29,7 @@ mod tree;
 
 pub use backing::{Backing, BackingFault, ManifestBacking};
 pub use changes::{Changes, LinkChange, LinkList, Made, MadeList};
-pub use content::Content;
+pub use content::{Content, nlink_of_kind};
 pub use fault::{ChangeFault, CreateFault, ManifestFault, ManifestFaultKind};
 pub use field::mode_of;
 pub use line::Line;

@@ -15,6 +15,7 @@ use crate::added::Added;
 use crate::bad_around::first_bad_around;
 use crate::bad_itself::bad_itself;
 use crate::by_other::first_given_twice;
+use crate::content::nlink_of_kind;
 use crate::gone::Gone;
 use crate::made::{MadeFile, MadeFiles};
 use crate::order::sort;
@@ -185,17 +186,14 @@ impl Tree {
         })
     }
 
-    /// Returns how many names lead to a file of a kind, as stat(2) counts them: a directory names itself.
+    /// Returns how many names lead to a file of a kind: none to one that is not linked.
     fn nlink(&self, file: FileId, kind: Kind) -> u32
         ensures { result ≡ nlink_of self.now file kind }
     {
         if file.0 != 1 && !self.is_linked(file) {
             return 0;
         }
-        match kind {
-            Kind::File => 1,
-            Kind::Dir => 2,
-        }
+        nlink_of_kind(kind)
     }
 
     /// Returns whether the file is a directory of the tree without a name in it. What is no directory isn't an empty
