@@ -1,5 +1,5 @@
 -- What the code says of entries and of ways beside the definitions of the inode map.
-use Rattle.std.specs.Prelude.{◌≡◌, ℕ, ◌⊎◌, true, List, [], ◌∷◌, Option, Some, None}
+use Rattle.std.specs.Prelude.{◌≡◌, ℕ, ◌⊎◌, Bool, true, false, List, [], ◌∷◌, Option, Some, None}
 use Rattle.eden_base.specs.Name.{IsNameText}
 use Rattle.eden_base.specs.declared.number.FileId.{FileId}
 use Rattle.eden_base.specs.declared.number.Number.{Number}
@@ -21,6 +21,15 @@ HasName (Unlinked file) = Unit {0}
 
 abbrev pub IsNamedEntry : Kept → Type 0
 IsNamedEntry kept = HasName kept.place
+
+-- the place is under a name
+abbrev pub is_under_name : Place → Bool
+is_under_name (Linked dir name) = true
+is_under_name (Unlinked file) = false
+
+-- an entry that stands under a name
+abbrev pub is_linked_entry : Kept → Bool
+is_linked_entry kept = is_under_name kept.place
 
 -- the directory of a place
 abbrev pub dir_of : Place → Option ℕ

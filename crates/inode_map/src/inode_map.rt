@@ -1,13 +1,13 @@
 //! What a daemon remembers for the kernel.
 ghost use Rattle.std.specs.Prelude.{◌≡◌, ℕ, ◌+◌, ◌<◌, ◌≤◌, ◌^◌, None, Some, IsSome, false, true, nat_lt, length, MatchOption, IfOk, IfErr, OnOk, OnErr};
 ghost use Rattle.std.specs.List.{AllByRecursion, filter, list_any};
-ghost use Rattle.std.specs.Option.{option_map, option_copied};
+ghost use Rattle.std.specs.Option.{option_map, option_copied, IfSome};
 ghost use Rattle.eden_base.specs.Limits.{end_of_numbers};
 ghost use Rattle.eden_base.specs.declared.number.FileId.{FileId};
 ghost use Rattle.eden_base.specs.declared.number.Number.{Number};
 ghost use Rattle.inode_map.specs.declared.loaded.LoadedAttr.{LoadedAttr};
 ghost use Rattle.inode_map.specs.Words.{forgot_name};
-ghost use Rattle.inode_map.specs.EntryPlaces.{AreOfUseBut, IsNamedEntry};
+ghost use Rattle.inode_map.specs.EntryPlaces.{AreOfUseBut, IsNamedEntry, is_linked_entry};
 ghost use Rattle.inode_map.specs.InodeMap.{new_map, map_of, entry_of, entry_at, count_of, number_after, number_of_kept, place_of_kept, is_known, give_fault, number_given, given, IsGiveRefusal, forgot, forgotten, unlinked, is_kid_of, is_useless, is_bad_item, lowered, IsLinked, IsFileOf, AreNumbers, AreEntries, attr_of, used, load, without_oldest, loaded_number, left_of_use, file_remembered, remembered};
 ghost use Rattle.inode_map.specs.Table.{AreOfKept, of_kept, pruned, file_number};
 
@@ -384,6 +384,17 @@ impl InodeMap {
         ensures file { result ≡ file_remembered self.now.remembered number.0 }
     {
         self.table.get(number)?.file
+    }
+
+    /// Returns the file that is remembered of a number, and whether the number stands under a name.
+    pub fn recall_linked(&self, number: Number) -> Option<(FileId, bool)>
+        ensures file { option_map (λ found. found.0) result ≡ file_remembered self.now.remembered number.0 }
+        ensures linked { IfSome result (λ found.
+            option_map is_linked_entry (entry_of self.now.entries number.0) ≡ Some found.1) }
+    {
+        let held = self.table.get(number)?;
+        let file = held.file?;
+        Some((file, held.is_linked()))
     }
 }
 

@@ -7,7 +7,7 @@ ghost use Rattle.eden_base.specs.First.{changed_where, without_where};
 ghost use Rattle.eden_base.specs.Limits.{end_of_numbers, greatest_count};
 ghost use Rattle.eden_base.specs.declared.number.FileId.{FileId};
 ghost use Rattle.eden_base.specs.declared.number.Number.{Number};
-ghost use Rattle.inode_map.specs.EntryPlaces.{HasName, IsNamedEntry};
+ghost use Rattle.inode_map.specs.EntryPlaces.{HasName, IsNamedEntry, is_under_name};
 ghost use Rattle.inode_map.specs.InodeMap.{has_number, entry_of, entry_at, is_kid_of, number_of_kept, place_of_kept, number_after, new_entry, marked, IsLinked, IsFileOf, file_remembered, remembered, AreNumbers, AreEntries, count_of, once_more, is_bad_item, lowered};
 ghost use Rattle.inode_map.specs.Table.{IsIn, held_of, slots_of, kept_of, kept_from, held_in, IsSlots, without_entry, AreOfKept, file_number};
 
@@ -58,6 +58,16 @@ impl Held {
             count: kept.count,
             file: None,
         })
+    }
+
+    /// Tells whether the entry stands under a name.
+    pub fn is_linked(&self) -> bool
+        ensures { result ≡ is_under_name self.now.place }
+    {
+        match &self.place {
+            Place::Linked { .. } => true,
+            Place::Unlinked { .. } => false,
+        }
     }
 
     /// Returns the entry of a number with this beside it, in memory of its own.
