@@ -1,10 +1,8 @@
 -- What a daemon knows of its numbers is told by a list of entries that a map may have.
-use Rattle.std.proofs.Common.{◌≡◌, ℕ, ◌+◌, List, [], ◌∷◌, ◌++◌, Option, Some, None, true, false, refl, sym, ap, ◌∙◌, subst}
+use Rattle.std.proofs.Common.{◌≡◌, ℕ, List, [], ◌∷◌, ◌++◌, Option, Some, None, true, false, refl, sym, ap, ◌∙◌, subst}
 use Rattle.std.proofs.lemmas.List.{append_assoc}
 use Rattle.std.specs.List.{AllByRecursion}
 use Rattle.eden_base.proofs.MemberLemmas.{first-none, first-passes}
-use Rattle.eden_base.specs.declared.number.Number.{Number}
-use Rattle.eden_base.specs.declared.place.Place.TheVariants.{Linked}
 use Rattle.inode_map.proofs.EntryLemmas.{entry_of-first}
 use Rattle.inode_map.proofs.EntryRuns.{found-there}
 use Rattle.inode_map.proofs.Places.{place-stands, stands-place}

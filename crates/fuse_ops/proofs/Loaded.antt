@@ -2,7 +2,7 @@
 use Rattle.std.proofs.Common.{◌≡◌, ℕ, ◌<◌, Bool, true, false, List, [], ◌∷◌, ◌++◌, Option, Some, None, is_some, refl, sym, ap, ◌∙◌, subst, inl, inr, ◌⊎◌, arith}
 use Rattle.std.specs.List.{filter}
 use Rattle.std.specs.Option.{option_map, option_map_or}
-use Rattle.std.specs.Prelude.{◌+◌, ◌-◌, ◌==◌, ◌^◌, min, IsSome, if◌then◌else◌}
+use Rattle.std.specs.Prelude.{◌+◌, ◌-◌, ◌==◌, ◌^◌, min, not, if◌then◌else◌}
 use Rattle.eden_base.proofs.MemberLemmas.{some-IsSome}
 use Rattle.eden_base.proofs.NumberTests.{eq-false, false-ne}
 use Rattle.eden_base.specs.First.{changed_where}
@@ -12,7 +12,7 @@ use Rattle.eden_base.specs.declared.attr.Perm.{Perm}
 use Rattle.eden_base.specs.declared.number.FileId.{FileId}
 use Rattle.eden_base.specs.declared.number.Number.{Number}
 use Rattle.checkout.proofs.CreateLaws.{file_of-created_other}
-use Rattle.checkout.specs.Tree.{Tree, IsTree, file_of as tree_file, attr_of as file_attr, nlink_of, created, removed}
+use Rattle.checkout.specs.Tree.{Tree, IsTree, file_of as tree_file, attr_of as file_attr, nlink_of, nlink_of_kind, is_unlinked, created, removed}
 use Rattle.checkout.specs.declared.content.Content.{Content}
 use Rattle.inode_map.proofs.FileLemmas.{IsFileOf-same, named-known}
 use Rattle.inode_map.specs.InodeMap.{MapState, entry_of, entry_at, is_kept, is_bad_item, left_with, left_of_use, lowered, given, forgotten, unlinked, has_number, marked, stands_at, once_more, new_entry, attr_of, loaded_number, load, used}
@@ -71,15 +71,20 @@ told-new map number attr other none =
     ap (λ (b : Bool). if b then map.loaded else if is_some (attr_of map.loaded number.0) then used map.loaded number.0 else load map.limit map.loaded number attr) f
     ∙ ap (λ (o : Option Attr). if is_some o then used map.loaded number.0 else load map.limit map.loaded number attr) none
 
--- the attributes of a loaded number, with the count of its names that the tree tells
-pub loaded-attr : (served : ServedState) (n : ℕ) (file : FileId) (attr loaded : Attr) → AreLoaded served → Names served n file → file_attr served.tree file ≡ Some attr → attr_of served.map.loaded n ≡ Some loaded →
-    file_attr served.tree file ≡ Some (record { kind = loaded.kind; perm = loaded.perm; size = loaded.size; nlink = attr.nlink })
-loaded-attr served n file attr loaded right names is at =
+-- the attributes of a loaded number, with the count of its names
+pub loaded-attr : (served : ServedState) (n : ℕ) (file : FileId) (linked : Bool) (nlink : ℕ) (loaded : Attr) → AreLoaded served → Names served n file → is_unlinked served.tree file ≡ not linked →
+    nlink ≡ (if linked then nlink_of_kind loaded.kind else 0) → attr_of served.map.loaded n ≡ Some loaded →
+    file_attr served.tree file ≡ Some (record { kind = loaded.kind; perm = loaded.perm; size = loaded.size; nlink = nlink })
+loaded-attr served n file linked nlink loaded right names unlinked counted at =
     let was = right n loaded at in
     let same : was.0 ≡ file = IsFileOf-same served.tree served.map.entries n was.0 file was.1 names in
-    let both : Some (content_in loaded) ≡ Some (content_in attr) = sym was.2 ∙ ap (tree_file served.tree) same ∙ attr-content served.tree file attr is in
-    let one : content_in attr ≡ content_in loaded = cc in
-    is ∙ ap (λ (c : Content). Some (record { kind = c.kind; perm = c.perm; size = c.size; nlink = attr.nlink })) one
+    let told : nlink_of served.tree file loaded.kind ≡ nlink = ap (λ (b : Bool). if b then 0 else nlink_of_kind loaded.kind) unlinked ∙ count_in linked ∙ sym counted in
+    ap (option_map (λ (f : Content). record { kind = f.kind; perm = f.perm; size = f.size; nlink = nlink_of served.tree file f.kind })) (sym (ap (tree_file served.tree) same) ∙ was.2)
+    ∙ ap (λ (m : ℕ). Some (record { kind = loaded.kind; perm = loaded.perm; size = loaded.size; nlink = m })) told
+  where
+    count_in : (b : Bool) → (if not b then 0 else nlink_of_kind loaded.kind) ≡ (if b then nlink_of_kind loaded.kind else 0)
+    count_in true = refl
+    count_in false = refl
 
 -- a number's attributes are loaded, which are its file's
 pub load-true : (served : ServedState) (number : Number) (attr : Attr) (file : FileId) → Names served number.0 file → tree_file served.tree file ≡ Some (content_in attr) → AreLoaded served →

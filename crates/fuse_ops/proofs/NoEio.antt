@@ -1,22 +1,21 @@
 -- Which answers a backing has no part in, and what those leave.
-use Rattle.std.proofs.Common.{◌≡◌, ℕ, ◌<◌, Bool, true, false, List, Option, Some, None, is_some, Result, Ok, Err, refl, sym, ap, ◌∙◌, subst}
+use Rattle.std.proofs.Common.{◌≡◌, ℕ, Bool, true, false, List, Option, Some, None, Result, Ok, Err, refl, sym, ap, ◌∙◌, subst}
 use Rattle.std.specs.Option.{option_map_or}
-use Rattle.std.specs.Prelude.{nat_le, if◌then◌else◌}
-use Rattle.eden_base.specs.Limits.{end_of_files}
+use Rattle.std.specs.Prelude.{if◌then◌else◌}
 use Rattle.eden_base.specs.declared.attr.Kind.{Kind}
 use Rattle.eden_base.specs.declared.attr.Kind.TheVariants.{Dir, File}
 use Rattle.eden_base.specs.declared.errno.Errno.{Errno}
-use Rattle.eden_base.specs.declared.errno.Errno.TheVariants.{ENOENT, ENOTDIR, EISDIR, EEXIST, ENOTEMPTY, ENOSPC, EIO}
+use Rattle.eden_base.specs.declared.errno.Errno.TheVariants.{ENOENT, ENOTDIR, EISDIR, ENOTEMPTY, EIO}
 use Rattle.eden_base.specs.declared.number.FileId.{FileId}
 use Rattle.eden_base.specs.declared.number.Number.{Number}
-use Rattle.checkout.specs.Tree.{Tree, child_of, kind_of, is_dir, has_links, is_unlinked}
+use Rattle.checkout.specs.Tree.{Tree, child_of, kind_of, is_dir, has_links}
 use Rattle.fuse_wire.specs.declared.ask.Request.{Request}
 use Rattle.fuse_wire.specs.declared.reply.Answer.{Answer}
-use Rattle.fuse_wire.specs.declared.reply.Answer.TheVariants.{Entry, Opened, Attrs, Done, Error}
+use Rattle.fuse_wire.specs.declared.reply.Answer.TheVariants.{Error}
 use Rattle.inode_map.specs.declared.inode_map.GiveFault.{GiveFault}
 use Rattle.inode_map.specs.declared.inode_map.GiveFault.TheVariants.{NoNumber, TooMany, NoMemory}
-use Rattle.fuse_ops.specs.Answers.{found_in, found_in_dir, free_in, free_in_dir, unless, against_unlink, against_rmdir}
-use Rattle.fuse_ops.specs.Loading.{FailsAs, Loads, LoadsNone}
+use Rattle.fuse_ops.specs.Answers.{found_in, found_in_dir, unless, against_unlink, against_rmdir}
+use Rattle.fuse_ops.specs.Loading.{FailsAs, Loads}
 use Rattle.fuse_ops.specs.Served.{ServedState, place_taken, map_without}
 use Rattle.fuse_ops.specs.Work.{errno_of, TakesName, Takes}
 

@@ -1,5 +1,5 @@
 -- The tree stays one of its manifest, whatever a daemon is asked.
-use Rattle.std.proofs.Common.{◌≡◌, ℕ, List, Option, Some, None, Result, Ok, Err, refl, sym, ap, ◌∙◌}
+use Rattle.std.proofs.Common.{◌≡◌, ℕ, List, Option, Some, None, Result, Ok, Err, refl, ap, ◌∙◌}
 use Rattle.eden_base.specs.declared.attr.Kind.{Kind}
 use Rattle.eden_base.specs.declared.attr.Kind.TheVariants.{Dir, File}
 use Rattle.eden_base.specs.declared.attr.Perm.{Perm}
@@ -11,7 +11,7 @@ use Rattle.fuse_wire.specs.declared.ask.Request.TheVariants.{Lookup, Getattr, Cr
 use Rattle.fuse_wire.specs.declared.reply.Answer.{Answer}
 use Rattle.fuse_wire.specs.declared.reply.Answer.TheVariants.{Entry, Opened, Attrs, Done, Error}
 use Rattle.fuse_ops.specs.Answers.{Effect, comes_to, found_in, free_in, enters, shows, makes, takes, takes_from, unless, against_unlink, against_rmdir, tree_after}
-use Rattle.fuse_ops.specs.Served.{ServedState, PlainState, plain, Replay}
+use Rattle.fuse_ops.specs.Served.{ServedState, PlainState, Replay}
 
 -- a success is over a tree of the same manifest
 abbrev pub IsOver : Tree → Result Effect Errno → Type 0

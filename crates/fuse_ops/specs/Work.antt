@@ -1,5 +1,5 @@
 -- What the code of a served state says of its answers.
-use Rattle.std.specs.Prelude.{◌≡◌, ℕ, ◌<◌, ◌≤◌, ◌⊎◌, List, Option, Some, None, Result, Ok, Err}
+use Rattle.std.specs.Prelude.{◌≡◌, ℕ, ◌<◌, ◌≤◌, ◌⊎◌, IsSome, List, Option, Some, None, Result, Ok, Err}
 use Rattle.eden_base.specs.Limits.{end_of_numbers}
 use Rattle.eden_base.specs.Name.{IsNameText}
 use Rattle.eden_base.specs.declared.attr.Kind.{Kind}
@@ -9,7 +9,7 @@ use Rattle.eden_base.specs.declared.errno.Errno.{Errno}
 use Rattle.eden_base.specs.declared.errno.Errno.TheVariants.{ESTALE, ENOSPC, EOVERFLOW, EIO, ENOMEM}
 use Rattle.eden_base.specs.declared.number.FileId.{FileId}
 use Rattle.eden_base.specs.declared.number.Number.{Number}
-use Rattle.checkout.specs.Tree.{Tree, child_of, attr_of, next_file, created, removed}
+use Rattle.checkout.specs.Tree.{Tree, child_of, attr_of, file_of, next_file, created, removed}
 use Rattle.fuse_wire.specs.declared.reply.Answer.{Answer}
 use Rattle.fuse_wire.specs.declared.reply.Answer.TheVariants.{Entry, Attrs, Done, Error}
 use Rattle.inode_map.specs.InodeMap.{IsGiveRefusal, give_fault, given, number_given}
@@ -22,7 +22,7 @@ use Rattle.fuse_ops.specs.declared.served.Found.{Found}
 -- the directory of a number and the file under a name in it, or the error that is told in their place
 abbrev pub IsFoundAs : Tree → Option FileId → List ℕ → Result Found Errno → Type 0
 IsFoundAs tree dir name (Ok found) =
-    (dir ≡ Some found.dir) × (found_in tree dir name ≡ Ok found.file) × (attr_of tree found.file ≡ Some found.attr)
+    (dir ≡ Some found.dir) × (found_in tree dir name ≡ Ok found.file) × IsSome (file_of tree found.file)
 IsFoundAs tree dir name (Err errno) = found_in tree dir name ≡ Err errno
 
 -- the file that the number of a directory names, and what a name in it gives

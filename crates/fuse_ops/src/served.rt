@@ -1,9 +1,9 @@
 //! The numbers and the tree that one daemon serves.
-ghost use Rattle.std.specs.Prelude.{◌≡◌, ◌<◌, true, false, None, Some, Ok, IsSome, IfOk, IfErr, IfSome, OnOk, OnErr};
+ghost use Rattle.std.specs.Prelude.{◌≡◌, ◌<◌, true, false, not, None, Some, Ok, IsSome, IfOk, IfErr, IfSome, OnOk, OnErr};
 ghost use Rattle.eden_base.specs.Limits.{end_of_numbers};
 ghost use Rattle.eden_base.specs.declared.number.FileId.{FileId};
 ghost use Rattle.std.specs.Option.{option_map};
-ghost use Rattle.checkout.specs.Tree.{IsTree, child_of, attr_of, is_full_dir};
+ghost use Rattle.checkout.specs.Tree.{IsTree, child_of, attr_of, file_of as tree_file, is_full_dir, is_unlinked};
 ghost use Rattle.eden_base.specs.declared.errno.Errno.TheVariants.{EIO};
 ghost use Rattle.fuse_wire.specs.declared.reply.Answer.TheVariants.{Error};
 ghost use Rattle.fuse_wire.specs.declared.ask.Request.TheVariants.{Lookup, Getattr, Create, Mkdir, Unlink, Rmdir};
@@ -14,7 +14,7 @@ ghost use Rattle.fuse_ops.specs.Served.{new_served, served_of, forgotten_all, Is
 ghost use Rattle.fuse_ops.specs.Soundness.{IsSound, Names, AreRemembered, AreLoaded};
 ghost use Rattle.fuse_ops.specs.Work.{errno_of, Finds, GivesEntry, IsFree, IsNextRefusal, IsSamePlainly, LooksUp, Makes, NameIsTaken, Shows, Takes};
 
-use checkout::{Backing, BackingFault, Manifest, Tree};
+use checkout::{Backing, BackingFault, Manifest, Tree, nlink_of_kind};
 use eden_base::{
     Attr, END_OF_FILES, END_OF_NUMBERS, Errno, FileId, Kind, Name, NoMemory, Number, Perm,
 };
@@ -55,7 +55,6 @@ impl Model for Served {
 struct Found {
     dir: FileId,
     file: FileId,
-    attr: Attr,
 }
 
 impl Served {
@@ -185,7 +184,7 @@ impl Served {
         ensures fails { FailsAs (Some result) (B.failed backing.old) (B.failed backing.new) }
         ensures same_content { (file : FileId) → B.content backing.new file ≡ B.content backing.old file }
     {
-        let Ok(attr) = self.load(backing, number, found.file, found.attr) else {
+        let Ok(attr) = self.load(backing, number, found.file, true) else {
             return Answer::Error(Errno::EIO);
         };
         match self.map.give_again(dir, name, number) {
@@ -212,7 +211,7 @@ impl Served {
         ensures fails { FailsAs (Some result) (B.failed backing.old) (B.failed backing.new) }
         ensures same_content { (file : FileId) → B.content backing.new file ≡ B.content backing.old file }
     {
-        let Ok(attr) = ask(&self.tree, backing, found.file, found.attr) else {
+        let Ok(attr) = ask(&self.tree, backing, found.file) else {
             return Answer::Error(Errno::EIO);
         };
         match self.map.give(alloc, dir, name) {
@@ -226,17 +225,17 @@ impl Served {
     }
 
     /// Tells the attributes of a number's file, which become the most recent that are loaded. Those that aren't loaded
-    /// are asked for; how many names lead to the file is the tree's to tell.
+    /// are asked for. Whether a name leads to the file is not loaded, since names come and go.
     fn load<B: Backing>(
         &mut self,
         backing: &mut B,
         number: Number,
         file: FileId,
-        attr: Attr,
+        is_linked: bool,
     ) -> Result<Attr, BackingFault>
         requires backs { Backs (B.content backing.old) self.old.tree }
         requires names { Names self.old number.0 file }
-        requires attr { attr_of self.old.tree file ≡ Some attr }
+        requires linked { is_unlinked self.old.tree file ≡ not is_linked }
         ensures attr { IfOk result (λ told. attr_of self.old.tree file ≡ Some told) }
         ensures loaded { IfOk result (λ told. self.new
             ≡ record self.old { map = record self.old.map { loaded = loaded_told self.old.map number told } }) }
@@ -247,17 +246,21 @@ impl Served {
         ensures same_content { (file : FileId) → B.content backing.new file ≡ B.content backing.old file }
     {
         if number == Number::ROOT {
-            return Ok(attr);
+            return ask(&self.tree, backing, file);
         }
         if let Some(loaded) = self.map.attr(number) {
             return Ok(Attr {
                 kind: loaded.kind,
                 perm: loaded.perm,
                 size: loaded.size,
-                nlink: attr.nlink,
+                nlink: if is_linked {
+                    nlink_of_kind(loaded.kind)
+                } else {
+                    0
+                },
             });
         }
-        let told = ask(&self.tree, backing, file, attr)?;
+        let told = ask(&self.tree, backing, file)?;
         self.map.load(number, told);
         Ok(told)
     }
@@ -276,20 +279,36 @@ impl Served {
         }
     }
 
+    /// Returns the file that a number names, and whether a name leads to it. None leads to the root, which counts as
+    /// linked.
+    fn linked_file_of(&mut self, number: Number) -> Option<(FileId, bool)>
+        ensures located { IsLocated self.old number.0 (option_map (λ found. found.0) result) }
+        ensures linked { IfSome result (λ found. is_unlinked self.old.tree found.0 ≡ not found.1) }
+        ensures unchanged { self.new ≡ self.old }
+    {
+        if number == Number::ROOT {
+            return Some((FileId::ROOT, true));
+        }
+        if let Some(found) = self.map.recall_linked(number) {
+            return Some(found);
+        }
+        let file = self.map.locate(&self.tree, number)?;
+        Some((file, file == FileId::ROOT || self.tree.is_linked(file)))
+    }
+
     /// Finds the directory of a number, and the file under a name in it.
     fn find(&mut self, dir: Number, name: &Name) -> Result<Found, Errno>
         ensures found { Finds self.old dir.0 name.now result }
         ensures unchanged { self.new ≡ self.old }
     {
         let dir = self.file_of(dir).ok_or(Errno::ESTALE)?;
+        if let Some(file) = self.tree.child(dir, name) {
+            return Ok(Found { dir, file });
+        }
         if self.tree.kind(dir) != Some(Kind::Dir) {
             return Err(Errno::ENOTDIR);
         }
-        let file = self.tree.child(dir, name).ok_or(Errno::ENOENT)?;
-        match self.tree.attr(file) {
-            Some(attr) => Ok(Found { dir, file, attr }),
-            None => unreachable!(),
-        }
+        Err(Errno::ENOENT)
     }
 
     /// Answers a CREATE.
@@ -378,7 +397,7 @@ impl Served {
             Ok(found) => found,
             Err(errno) => return Answer::Error(errno),
         };
-        if found.attr.kind == Kind::Dir {
+        if self.tree.kind(found.file) == Some(Kind::Dir) {
             return Answer::Error(Errno::EISDIR);
         }
         self.take_name(dir, found.dir, name);
@@ -393,7 +412,7 @@ impl Served {
             Ok(found) => found,
             Err(errno) => return Answer::Error(errno),
         };
-        if found.attr.kind != Kind::Dir {
+        if self.tree.kind(found.file) != Some(Kind::Dir) {
             return Answer::Error(Errno::ENOTDIR);
         }
         if !self.tree.is_empty_dir(found.file) {
@@ -426,13 +445,10 @@ impl Served {
         ensures fails { FailsAs (Some result) (B.failed backing.old) (B.failed backing.new) }
         ensures same_content { (file : FileId) → B.content backing.new file ≡ B.content backing.old file }
     {
-        let Some(file) = self.file_of(node) else {
+        let Some((file, is_linked)) = self.linked_file_of(node) else {
             return Answer::Error(Errno::ESTALE);
         };
-        let Some(attr) = self.tree.attr(file) else {
-            unreachable!()
-        };
-        match self.load(backing, node, file, attr) {
+        match self.load(backing, node, file, is_linked) {
             Ok(attr) => Answer::Attrs { number: node, attr },
             Err(BackingFault) => Answer::Error(Errno::EIO),
         }
@@ -455,16 +471,11 @@ impl Served {
     }
 }
 
-/// Asks the backing for a file of a tree that has these attributes, where it is a regular one of the manifest. What is
-/// known of others is the tree's to tell.
-fn ask<B: Backing>(
-    tree: &Tree,
-    backing: &mut B,
-    file: FileId,
-    attr: Attr,
-) -> Result<Attr, BackingFault>
+/// Asks the backing for a file of a tree, where it is a regular one of the manifest. What is known of others is the
+/// tree's to tell.
+fn ask<B: Backing>(tree: &Tree, backing: &mut B, file: FileId) -> Result<Attr, BackingFault>
     requires is_tree { IsTree tree.now }
-    requires attr { attr_of tree.now file ≡ Some attr }
+    requires there { IsSome (tree_file tree.now file) }
     requires backs { Backs (B.content backing.old) tree.now }
     ensures attr { IfOk result (λ told. attr_of tree.now file ≡ Some told) }
     ensures backed { OnErr result (IsBacked tree.now file) }
@@ -472,6 +483,9 @@ fn ask<B: Backing>(
     ensures failed { OnErr result (B.failed backing.old < B.failed backing.new) }
     ensures same_content { (other : FileId) → B.content backing.new other ≡ B.content backing.old other }
 {
+    let Some(attr) = tree.attr(file) else {
+        unreachable!()
+    };
     if attr.kind == Kind::Dir {
         return Ok(attr);
     }

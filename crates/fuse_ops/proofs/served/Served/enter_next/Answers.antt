@@ -1,5 +1,5 @@
 -- The next number is given, and its file's attributes are the first that are loaded of it.
-use Rattle.std.proofs.Common.{◌≡◌, ℕ, sym, ap, ◌∙◌, subst}
+use Rattle.std.proofs.Common.{ap, ◌∙◌, subst}
 use Rattle.inode_map.specs.InodeMap.{entry_at}
 use Rattle.fuse_ops.specs.Gifts.{served_over}
 use Rattle.fuse_ops.specs.Loading.{LoadsTold}
