@@ -15,7 +15,7 @@ pub mod PlaceLaws
 pub mod RaisedLaws
 pub mod RaisingLaws
 pub mod RiseLaws
-pub mod SeenLaws
 pub mod SoundRaises
+pub mod TwiceLaws
 pub mod UsageLaws
 pub mod Written

@@ -1,15 +1,13 @@
 //! What stands against the entries of an image, once the tree is there that they are raised over.
-ghost use Rattle.std.specs.Prelude.{◌≡◌, None, IfOk, true};
+ghost use Rattle.std.specs.Prelude.{◌≡◌, None, true};
 ghost use Rattle.inode_map.specs.InodeMap.{is_kept};
 ghost use Rattle.map_codec.specs.Fit.{entry_follows, rises};
 ghost use Rattle.map_codec.specs.Raising.{are_below, are_right_marks, has_parent, have_parents, is_next, is_right_mark, TellsApart};
 
 use crate::named::place_of;
 use checkout::Tree;
-use eden_base::{END_OF_NUMBERS, FileId, NoMemory, Number, Place};
+use eden_base::{END_OF_NUMBERS, FileId, Number, Place};
 use inode_map::Kept;
-use std::alloc::Global;
-use std::collections::BTreeMap;
 
 /// Returns whether a number has an entry.
 fn is_kept(entries: &[Kept], number: Number) -> bool
@@ -67,18 +65,18 @@ pub(crate) fn are_right_marks(tree: &Tree, entries: &[Kept]) -> bool
     true
 }
 
-/// Returns whether no file stands twice among these.
-pub(crate) fn are_apart(alloc: Global, files: &[FileId]) -> Result<bool, NoMemory>
-    ensures { IfOk result (TellsApart files.now) }
+/// Returns whether no file stands twice among these. It sorts them where they are.
+pub(crate) fn are_apart(files: Vec<FileId>) -> bool
+    ensures { TellsApart files.items result }
 {
-    let mut seen = BTreeMap::new(alloc);
-    for i in 0..files.len() {
-        let file = files[i];
-        if seen.insert(file.0, i)?.is_some() {
-            return Ok(false);
+    let mut files = files;
+    files.sort_unstable_by_key(|file| file.0);
+    for i in 1..files.len() {
+        if files[i - 1].0 == files[i].0 {
+            return false;
         }
     }
-    Ok(true)
+    true
 }
 
 /// Returns whether all entries are below a number.

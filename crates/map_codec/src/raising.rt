@@ -34,7 +34,7 @@ fn entry_fault(
     if !are_right_marks(tree, entries) {
         return Ok(Some(RaiseFault::NoLink));
     }
-    if !are_apart(alloc, files.as_slice())? {
+    if !are_apart(files) {
         return Ok(Some(RaiseFault::TwoNumbers));
     }
     if !is_next(next, entries) {

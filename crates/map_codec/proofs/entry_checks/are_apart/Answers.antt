@@ -1,21 +1,20 @@
--- What a file's place was found under was seen before; else it is seen now.
-use Rattle.std.proofs.Common.{get_or, sym, ◌∙◌}
-use Rattle.std.proofs.lemmas.Option.{slice_get-get_or}
-use Rattle.std.specs.BTreeMap.{get}
-use Rattle.std.specs.Ordering.{nat_cmp}
-use Rattle.map_codec.proofs.SeenLaws.{all_seen, none_found, one_more_seen, seen_again}
+-- What a sort leaves stands twice exactly where what it was given does.
+use Rattle.std.proofs.Common.{◌≤◌, length, rules, arith}
+use Rattle.std.proofs.lemmas.List.Sorted.{answers_always, IsNonDecreasingBy-from_sort}
+use Rattle.eden_base.specs.declared.number.FileId.{FileId}
+use Rattle.map_codec.proofs.TwiceLaws.{neighbours_twice, none_twice, twice_back, twice_in_any_order}
 use Rattle.map_codec.proofs.entry_checks.are_apart.Goals as goal
 
-pub returns-then-is_some : goal.returns-then-is_some
-returns-then-is_some c =
-    let here = slice_get-get_or c.args.files.now c.loop-i.i _ c.loop-i-test.true in
-    seen_again c.args.files.now c.loop-i.i (get nat_cmp c.loop-i.seen) c.loop-i.invariant _ here c.in_ok-insert.field-0 c.in_ok-insert.ensures.old (sym c.if-is_some.ensures)
-
-pub loop-i-preserved : goal.loop-i-preserved
-loop-i-preserved c =
-    let here = slice_get-get_or c.args.files.now c.loop-i.i _ c.loop-i-test.true in
-    let none = none_found c.in_ok-insert.field-0 _ c.in_ok-insert.ensures.old (sym c.if-is_some.ensures) in
-    one_more_seen c.args.files.now c.loop-i.i (get nat_cmp c.loop-i.seen) c.loop-i.invariant _ here (get nat_cmp c.insert.new.self) none c.in_ok-insert.ensures.updates.0
+pub returns-then-index : goal.returns-then-index
+returns-then-index c =
+    let files = c.sort_unstable_by_key.new.self.items in
+    twice_in_any_order c.args.files.items files c.sort_unstable_by_key.ensures.permutation
+    (neighbours_twice files c.loop-i.i c.index.result.now c.index-in-loop-i.result.now c.loop-i.auto.i (search rules) c.index.ensures c.index-in-loop-i.ensures c.if-index.true)
 
 pub returns : goal.returns
-returns c = all_seen c.args.files.now c.loop-i.i (get nat_cmp c.loop-i.seen) c.loop-i.invariant c.loop-i-test.false
+returns c =
+    let all : length c.sort_unstable_by_key.new.self.items ≤ c.loop-i.i = search rules in
+    let rise = IsNonDecreasingBy-from_sort (λ (f : FileId). f.0) c.sort_unstable_by_key.new.self.items
+    (c.sort_unstable_by_key.ensures.sorted (λ f. f.0) (answers_always _ _ _ (λ f a r g called. search rules))) in
+    λ twice. none_twice c.sort_unstable_by_key.new.self.items rise (λ k d lt. c.loop-i.invariant k d (omega (arith, lt, all)))
+    (twice_back c.args.files.items c.sort_unstable_by_key.new.self.items c.sort_unstable_by_key.ensures.permutation twice)

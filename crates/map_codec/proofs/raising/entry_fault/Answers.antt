@@ -1,11 +1,10 @@
 -- Each rule that was found broken, behind those that hold.
-use Rattle.std.proofs.Common.{◌≡◌, List, Option, Some, None, Vec, Global, sym, subst}
+use Rattle.std.proofs.Common.{List, Option, Vec, Global, sym, subst}
 use Rattle.std.specs.Prelude.{MatchOption}
 use Rattle.eden_base.specs.declared.number.FileId.{FileId}
 use Rattle.checkout.specs.Tree.{Tree}
 use Rattle.inode_map.specs.declared.inode_map.Kept.{Kept}
 use Rattle.map_codec.specs.Named.{AreFilesOf, EachNames}
-use Rattle.map_codec.specs.Raising.{TellsApart}
 use Rattle.map_codec.proofs.RaisingLaws.{each_has_file, files_alike, files_apart, found_names, one_mark_wrong, one_names_none}
 use Rattle.map_codec.proofs.raising.entry_fault.Goals as goal
 
@@ -22,26 +21,23 @@ pub returns-then-not-are_right_marks : goal.returns-then-not-are_right_marks
 returns-then-not-are_right_marks c =
     record { fault = (sym c.if-not-have_parents.ensures, one_mark_wrong c.args.tree.now c.args.entries.now (sym c.if-not-are_right_marks.ensures)) }
 
-pub returns-then-not-branch : goal.returns-then-not-branch
-returns-then-not-branch c =
+pub returns-then-not-are_apart : goal.returns-then-not-are_apart
+returns-then-not-are_apart c =
     let found = subst (Found c.args.tree.now c.args.entries.now) c.in-Some.is c.in_ok-files.ensures in
     let have = each_has_file c.args.tree.now c.args.entries.now (found_names c.args.tree.now c.args.entries.now c.in-Some.files.items found) (sym c.if-not-are_right_marks.ensures) in
-    let twice = subst (TellsApart c.as_slice.result.now) c.if-not-branch.true c.in_ok-are_apart.ensures in
-    let two = files_alike c.args.tree.now c.args.entries.now c.in-Some.files.items found (subst (λ (files : List FileId). TellsApart files Rattle.std.proofs.Common.false) c.as_slice.ensures.value twice) in
+    let two = files_alike c.args.tree.now c.args.entries.now c.in-Some.files.items found c.if-not-are_apart.ensures in
     record { fault = (sym c.if-not-have_parents.ensures, have, two) }
 
 pub returns-then-not-is_next : goal.returns-then-not-is_next
 returns-then-not-is_next c =
     let found = subst (Found c.args.tree.now c.args.entries.now) c.in-Some.is c.in_ok-files.ensures in
     let have = each_has_file c.args.tree.now c.args.entries.now (found_names c.args.tree.now c.args.entries.now c.in-Some.files.items found) (sym c.if-not-are_right_marks.ensures) in
-    let apart = subst (TellsApart c.as_slice.result.now) c.if-not-branch.false c.in_ok-are_apart.ensures in
-    let one = files_apart c.args.tree.now c.args.entries.now c.in-Some.files.items found (subst (λ (files : List FileId). TellsApart files Rattle.std.proofs.Common.true) c.as_slice.ensures.value apart) in
+    let one = files_apart c.args.tree.now c.args.entries.now c.in-Some.files.items found c.if-not-are_apart.ensures in
     record { fault = (sym c.if-not-have_parents.ensures, have, one, sym c.if-not-is_next.ensures) }
 
 pub returns : goal.returns
 returns c =
     let found = subst (Found c.args.tree.now c.args.entries.now) c.in-Some.is c.in_ok-files.ensures in
     let have = each_has_file c.args.tree.now c.args.entries.now (found_names c.args.tree.now c.args.entries.now c.in-Some.files.items found) (sym c.if-not-are_right_marks.ensures) in
-    let apart = subst (TellsApart c.as_slice.result.now) c.if-not-branch.false c.in_ok-are_apart.ensures in
-    let one = files_apart c.args.tree.now c.args.entries.now c.in-Some.files.items found (subst (λ (files : List FileId). TellsApart files Rattle.std.proofs.Common.true) c.as_slice.ensures.value apart) in
+    let one = files_apart c.args.tree.now c.args.entries.now c.in-Some.files.items found c.if-not-are_apart.ensures in
     record { fault = record { parents = sym c.if-not-have_parents.ensures; files = have; apart = one; next_is = sym c.if-not-is_next.ensures } }
