@@ -1,7 +1,5 @@
 -- The counts of an image that has a text are those that the kernel may hold.
-use Rattle.std.proofs.Common.{All, ◌≡◌, ◌<◌, ◌≤◌, ◌^◌, ℕ, suc, zero, List, [], ◌∷◌, length, Some, subst, sym, ap, arith}
-use Rattle.std.specs.List.{AllByRecursion}
-use Rattle.eden_base.specs.Limits.{greatest_count}
+use Rattle.std.proofs.Common.{All, ◌≡◌, ◌<◌, ◌^◌, ℕ, suc, List, [], ◌∷◌, subst, sym, arith}
 use Rattle.inode_map.specs.declared.inode_map.Kept.{Kept}
 use Rattle.map_codec.specs.Fit.{CountsFit}
 use Rattle.map_codec.specs.ImageText.{FitsEntry, Form, IsImageText, first_form}

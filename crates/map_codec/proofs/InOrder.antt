@@ -1,5 +1,5 @@
 -- Members whose places are in strict order rise, each above the one before it.
-use Rattle.std.proofs.Common.{◌≡◌, ◌<◌, ℕ, ◌+◌, Bool, true, false, ◌&&◌, ◌||◌, ◌==◌, List, [], ◌∷◌, map, Option, Some, None, refl, sym, ap, ◌∙◌, arith}
+use Rattle.std.proofs.Common.{◌≡◌, ◌<◌, Bool, true, ◌&&◌, List, [], ◌∷◌, map, Option, Some, None, refl, sym, ap, ◌∙◌, arith}
 use Rattle.std.proofs.lemmas.Bool.Decides.{nat_tests}
 use Rattle.std.proofs.lemmas.Map.Keys.{sorted_head, sorted_tail}
 use Rattle.std.specs.Cmp.{ranked}
@@ -9,7 +9,7 @@ use Rattle.std.specs.List.Sorted.{IsStrictlySortedBy}
 use Rattle.std.specs.Ordering.{nat_cmp, is_lt, ordering_then}
 use Rattle.std.specs.declared.cmp.Ordering.{Ordering}
 use Rattle.std.specs.declared.cmp.Ordering.TheVariants.{Less, Equal, Greater}
-use Rattle.checkout.specs.Changes.{AreMade, AreLinkChanges, file_ids, place_of}
+use Rattle.checkout.specs.Changes.{AreMade, AreLinkChanges, place_of}
 use Rattle.checkout.specs.Tree.{Tree, link_cmp}
 use Rattle.checkout.specs.declared.changes.LinkChange.{LinkChange}
 use Rattle.checkout.specs.declared.changes.Made.{Made}

@@ -1,14 +1,12 @@
 -- Entries that may be raised over a tree fit together with it.
-use Rattle.std.proofs.Common.{◌≡◌, ◌<◌, ◌≤◌, ◌+◌, ◌⊎◌, ◌&&◌, ◌↔◌, ℕ, zero, suc, Bool, true, false, cond, List, [], ◌∷◌, length, slice_get, Option, Some, None, IsSome, IsTrue, max, refl, sym, ap, subst, ◌∙◌, inl, inr, arith}
+use Rattle.std.proofs.Common.{◌≡◌, ◌<◌, ◌≤◌, ◌+◌, ◌⊎◌, ◌&&◌, ◌↔◌, ℕ, zero, suc, Bool, true, false, cond, List, [], ◌∷◌, slice_get, Option, Some, None, IsSome, IsTrue, refl, sym, ap, subst, ◌∙◌, inl, inr, arith}
 use Rattle.std.specs.Option.{option_map}
 use Rattle.std.specs.Prelude.{nat_lt, nat_le, ◌==◌, is_some, not}
 use Rattle.std.proofs.lemmas.Bool.Decides.{nat_tests}
-use Rattle.std.specs.List.{AllByRecursion, list_all, list_any}
+use Rattle.std.specs.List.{AllByRecursion, list_all}
 use Rattle.eden_base.proofs.MemberLemmas.{some-is, some-same, some-IsSome}
-use Rattle.eden_base.proofs.NumberTests.{true-eq}
 use Rattle.eden_base.specs.Limits.{end_of_numbers}
 use Rattle.eden_base.specs.declared.number.FileId.{FileId}
-use Rattle.eden_base.specs.declared.number.Number.{Number}
 use Rattle.eden_base.specs.declared.place.Place.{Place}
 use Rattle.eden_base.specs.declared.place.Place.TheVariants.{Linked, Unlinked}
 use Rattle.checkout.proofs.LinkLaws.{linked_from_child}
@@ -16,13 +14,13 @@ use Rattle.checkout.specs.Manifest.{File}
 use Rattle.checkout.specs.Tree.{Tree, IsTree, child_of, file_of, is_linked, is_unlinked, kind_of}
 use Rattle.inode_map.proofs.EntryLemmas.{entry_of-number, numbers-entry}
 use Rattle.inode_map.proofs.EntryRuns.{each-entry}
-use Rattle.inode_map.proofs.FileLemmas.{IsFileOf-same, linked-child, linked-marked, marked-same}
+use Rattle.inode_map.proofs.FileLemmas.{IsFileOf-same, linked-child, marked-same}
 use Rattle.inode_map.specs.InodeMap.{AreNumbers, IsFileOf, entry_of, is_of_use}
 use Rattle.inode_map.specs.declared.inode_map.Kept.{Kept}
 use Rattle.fuse_ops.specs.Served.{served_of}
-use Rattle.fuse_ops.specs.Soundness.{IsSound, IsUnlinkedPlace, Names}
+use Rattle.fuse_ops.specs.Soundness.{IsSound, IsUnlinkedPlace}
 use Rattle.map_codec.specs.Fit.{CountsFit, entry_follows, rises}
-use Rattle.map_codec.specs.Raising.{AreOfOneFile, AreRaisable, HasFile, is_next, is_right_mark}
+use Rattle.map_codec.specs.Raising.{AreRaisable, HasFile, is_next, is_right_mark}
 
 pub both : (b c : Bool) → (b && c) ≡ true → (b ≡ true) × (c ≡ true)
 both true true h = (refl, refl)

@@ -1,5 +1,5 @@
 -- What was found of entries, one rule after the other, is what stands against them.
-use Rattle.std.proofs.Common.{◌≡◌, ◌<◌, ◌&&◌, ℕ, suc, zero, Bool, true, false, List, [], ◌∷◌, length, slice_get, Option, Some, None, refl, sym, ap, subst, ◌∙◌, arith}
+use Rattle.std.proofs.Common.{◌≡◌, ◌&&◌, ℕ, suc, zero, Bool, true, false, List, [], ◌∷◌, length, slice_get, Some, refl, sym, ap, ◌∙◌, arith}
 use Rattle.std.specs.List.{AllByRecursion, list_all}
 use Rattle.eden_base.specs.declared.number.FileId.{FileId}
 use Rattle.checkout.specs.Tree.{Tree}

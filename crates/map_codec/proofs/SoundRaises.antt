@@ -1,5 +1,5 @@
 -- Nothing stands against the entries of a daemon whose numbers and tree fit together.
-use Rattle.std.proofs.Common.{◌≡◌, ◌<◌, ◌≤◌, ◌⊎◌, ◌&&◌, ◌||◌, ◌==◌, ℕ, suc, zero, Bool, true, false, List, [], ◌∷◌, length, get_or, slice_get, Option, Some, None, IsSome, is_some, refl, sym, ap, subst, ◌∙◌, inl, inr, arith}
+use Rattle.std.proofs.Common.{◌≡◌, ◌<◌, ◌≤◌, ◌⊎◌, ◌&&◌, ◌||◌, ◌==◌, ℕ, suc, zero, Bool, true, false, List, [], ◌∷◌, length, slice_get, Option, Some, None, IsSome, is_some, refl, sym, ap, subst, ◌∙◌, inl, inr, arith}
 use Rattle.std.proofs.lemmas.Bool.Decides.{nat_tests}
 use Rattle.std.proofs.lemmas.Option.{get_or_from_slice_get}
 use Rattle.std.specs.List.{AllByRecursion, list_all}
@@ -12,7 +12,7 @@ use Rattle.eden_base.specs.declared.number.FileId.{FileId}
 use Rattle.eden_base.specs.declared.place.Place.{Place}
 use Rattle.eden_base.specs.declared.place.Place.TheVariants.{Linked, Unlinked}
 use Rattle.checkout.specs.Manifest.{File}
-use Rattle.checkout.specs.Tree.{Tree, IsTree, file_of, kind_of, is_unlinked}
+use Rattle.checkout.specs.Tree.{Tree, file_of, kind_of, is_unlinked}
 use Rattle.inode_map.proofs.EntryLemmas.{entry_of-number, numbers-bound, numbers-entry, numbers-rise}
 use Rattle.inode_map.proofs.FileLemmas.{linked-child, marked-same, named-known}
 use Rattle.inode_map.specs.InodeMap.{IsFileOf, entry_of, is_kept, is_known}
@@ -20,7 +20,7 @@ use Rattle.inode_map.specs.declared.inode_map.Kept.{Kept}
 use Rattle.fuse_ops.proofs.FromEntries.{all-entries}
 use Rattle.fuse_ops.specs.Served.{ServedState}
 use Rattle.fuse_ops.specs.Soundness.{IsSound, IsUnlinkedPlace}
-use Rattle.map_codec.specs.Raising.{AreOfOneFile, AreRaisable, HasFile, are_below, has_parent, have_parents, is_next, is_right_mark}
+use Rattle.map_codec.specs.Raising.{AreOfOneFile, AreRaisable, HasFile, are_below, has_parent, is_right_mark}
 
 -- a test holds of all where it holds of each
 pub all_pass : (p : Kept → Bool) (es : List Kept) → AllByRecursion (λ (kept : Kept). p kept ≡ true) es → list_all p es ≡ true

@@ -1,6 +1,6 @@
 -- What a daemon serves that is raised from an image over a manifest, and what stands against it. (This project's own;
 -- EdenFS's daemon takes what it is sent as it is.)
-use Rattle.std.specs.Prelude.{◌≡◌, ◌≢◌, ℕ, ◌<◌, ◌≤◌, ◌⊎◌, ◌&&◌, Bool, true, false, nat_lt, nat_le, List, length, slice_get, Option, Some, None, is_some}
+use Rattle.std.specs.Prelude.{◌≡◌, ◌≢◌, ℕ, ◌<◌, ◌&&◌, Bool, true, false, nat_lt, nat_le, List, slice_get, Option, Some, None, is_some}
 use Rattle.std.specs.List.{AllByRecursion, list_all}
 use Rattle.eden_base.specs.Limits.{end_of_numbers}
 use Rattle.eden_base.specs.declared.number.FileId.{FileId}

@@ -1,4 +1,4 @@
-use Rattle.std.proofs.Common.{◌≡◌, sym, subst}
+use Rattle.std.proofs.Common.{sym, subst}
 use Rattle.checkout.specs.Changes.{AreChanges}
 use Rattle.checkout.specs.Tree.{Tree}
 use Rattle.map_codec.specs.Fit.{CountsFit}
