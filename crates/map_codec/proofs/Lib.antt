@@ -1,4 +1,5 @@
 pub mod CountLaws
+pub mod DirectoryLaws
 pub mod EntryLaws
 pub mod FieldLaws
 pub mod ImageLaws
@@ -18,4 +19,5 @@ pub mod RiseLaws
 pub mod SoundRaises
 pub mod TwiceLaws
 pub mod UsageLaws
+pub mod WayLaws
 pub mod Written

@@ -1,10 +1,8 @@
 -- Files that are found for entries one by one.
-use Rattle.std.proofs.Common.{◌≡◌, ◌<◌, ◌≤◌, ℕ, List, [], ◌∷◌, ◌++◌, length, length-append, get_or, Option, Some, None, sym, ap, subst, ◌∙◌, inl, inr, ◌⊎◌, arith}
+use Rattle.std.proofs.Common.{◌≡◌, ◌<◌, ℕ, List, [], ◌∷◌, ◌++◌, length, get_or, Option, Some, None, sym, ap, subst, ◌∙◌, inl, inr, ◌⊎◌, arith}
 use Rattle.std.specs.Prelude.{slice_get}
 use Rattle.std.proofs.Math.ListN.{set, length-set}
-use Rattle.std.proofs.Math.Seq.{get_or-append_seam}
-use Rattle.std.proofs.lemmas.Bool.{cases_lt}
-use Rattle.std.proofs.lemmas.List.{get_or-set_same, get_or-set_other, get_or_append_left}
+use Rattle.std.proofs.lemmas.List.{get_or-set_same, get_or-set_other}
 use Rattle.std.proofs.lemmas.Option.{slice_get-get_or, slice_get_within, get_or_from_slice_get}
 use Rattle.eden_base.proofs.MemberLemmas.{some-same}
 use Rattle.eden_base.proofs.NumberTests.{eq-or}
@@ -17,7 +15,12 @@ use Rattle.inode_map.specs.InodeMap.{IsFileOf, entry_of}
 use Rattle.inode_map.specs.declared.inode_map.Kept.{Kept}
 use Rattle.inode_map.proofs.Climbing.{step-read}
 use Rattle.inode_map.proofs.EntryLemmas.{entry_of-number}
-use Rattle.map_codec.specs.Named.{AreFound, IsPlaceOf}
+use Rattle.map_codec.specs.Named.{AreFound, IsPlaceOf, number_at}
+use Rattle.map_codec.proofs.DirectoryLaws.{IsEachAt, each_pushed, number_there}
+
+-- an entry names a file
+abbrev pub IsFileAt : Tree → List Kept → Kept → FileId → Type 0
+IsFileAt tree entries kept file = IsFileOf tree entries kept.number.0 file
 
 -- what is read at the place of a number is its entry
 pub entry_read : (entries : List Kept) (n i : ℕ) (kept : Kept) → IsPlaceOf entries n i → kept ≡ get_or entries i kept → entry_of entries n ≡ Some kept
@@ -58,24 +61,9 @@ module _ (tree : Tree) (entries : List Kept) (found : List (Option FileId)) (are
         let lt : j < length found = omega (arith, slice_get_within entries j kept stands, are.len) in
         are.each j kept other stands (slice_get-get_or found j None lt ∙ ap Some was)
 
--- each of these files is that of the entry at its place
-abbrev pub AreEachFile : Tree → List Kept → List FileId → Type 0
-AreEachFile tree entries files = (i : ℕ) (kept : Kept) (file : FileId) → slice_get entries i ≡ Some kept → slice_get files i ≡ Some file → IsFileOf tree entries kept.number.0 file
-
 -- the file of the next entry
-pub next_file_found : (tree : Tree) (entries : List Kept) (files : List FileId) (n : ℕ) (kept : Kept) (file : FileId) → length files ≡ n → kept ≡ get_or entries n kept → IsFileOf tree entries kept.number.0 file → AreEachFile tree entries files
-    → AreEachFile tree entries (files ++ file ∷ [])
-next_file_found tree entries files n kept file len is names each = λ i entry other stands there. in_ i entry other stands there (cases_lt i n) where
-  in_ : (i : ℕ) (entry : Kept) (other : FileId) → slice_get entries i ≡ Some entry → slice_get (files ++ file ∷ []) i ≡ Some other → (i < n) ⊎ (n ≤ i) → IsFileOf tree entries entry.number.0 other
-  in_ i entry other stands there (inl before) =
-      let lt : i < length files = omega (arith, before, len) in
-      let read : get_or files i other ≡ other = sym (get_or_append_left files (file ∷ []) other i lt) ∙ get_or_from_slice_get (files ++ file ∷ []) i other other there in
-      each i entry other stands (slice_get-get_or files i other lt ∙ ap Some read)
-  in_ i entry other stands there (inr last) =
-      let within : i < length (files ++ file ∷ []) = slice_get_within (files ++ file ∷ []) i other there in
-      let same : i ≡ n = omega (arith, within, length-append files (file ∷ []), len, last) in
-      let here : i ≡ length files = omega (arith, same, len) in
-      let read : get_or (files ++ file ∷ []) (length files) other ≡ other = ap (λ (k : ℕ). get_or (files ++ file ∷ []) k other) (sym here) ∙ get_or_from_slice_get (files ++ file ∷ []) i other other there in
-      let it : file ≡ other = sym (get_or-append_seam files file [] other) ∙ read in
-      let entry_is : kept ≡ entry = is ∙ ap (λ (k : ℕ). get_or entries k kept) (sym same) ∙ get_or_from_slice_get entries i entry kept stands in
-      subst (λ (k : Kept). IsFileOf tree entries k.number.0 other) entry_is (subst (λ (f : FileId). IsFileOf tree entries kept.number.0 f) it names)
+pub next_file_found : (tree : Tree) (entries : List Kept) (files : List FileId) (n : ℕ) (file : FileId) → length files ≡ n → IsFileOf tree entries (number_at entries n).0 file → IsEachAt (IsFileAt tree entries) entries files
+    → IsEachAt (IsFileAt tree entries) entries (files ++ file ∷ [])
+next_file_found tree entries files n file len names each =
+    each_pushed (IsFileAt tree entries) entries files file
+    (λ kept there. subst (λ (m : Number). IsFileOf tree entries m.0 file) (number_there entries n kept (ap (slice_get entries) (sym len) ∙ there)) names) each

@@ -1,11 +1,14 @@
 -- Which file each entry of an image names in a tree, and what is found of them one by one. (This project's own.)
-use Rattle.std.specs.Prelude.{◌≡◌, ℕ, List, length, slice_get, Option, Some}
+use Rattle.std.specs.Prelude.{◌≡◌, ◌<◌, ℕ, List, length, map, slice_get, All, Option, Some, None}
+use Rattle.std.specs.Option.{option_map_or}
 use Rattle.std.specs.List.{AllByRecursion}
 use Rattle.eden_base.specs.declared.number.FileId.{FileId}
 use Rattle.eden_base.specs.declared.number.Number.{Number}
+use Rattle.eden_base.specs.declared.place.Place.{Place}
+use Rattle.eden_base.specs.declared.place.Place.TheVariants.{Linked, Unlinked}
 use Rattle.checkout.specs.Tree.{Tree}
 use Rattle.inode_map.specs.EntryPlaces.{Climbs}
-use Rattle.inode_map.specs.InodeMap.{IsFileOf, entry_of}
+use Rattle.inode_map.specs.InodeMap.{IsFileOf, entry_of, number_of_kept}
 use Rattle.inode_map.specs.declared.inode_map.Kept.{Kept}
 
 -- each entry names a file
@@ -25,6 +28,26 @@ pub record IsPlaceOf (entries : List Kept) (n i : ℕ) : Type 0 where
   pub stands : slice_get entries i ≡ Some kept
   pub entry : entry_of entries n ≡ Some kept
 
+-- the number of the entry at a place
+abbrev pub number_at : List Kept → ℕ → Number
+number_at entries i = option_map_or number_of_kept (slice_get entries i) (record { 0 = 0 })
+
+-- the entry of a directory stands at this place; the root has none
+abbrev pub IsDirectoryAt : List Kept → ℕ → Option ℕ → Type 0
+IsDirectoryAt entries n (Some i) = IsPlaceOf entries n i
+IsDirectoryAt entries n None = n ≡ 1
+
+-- the directory of a place has its entry there; a mark is in none
+abbrev pub IsDirectoryOf : List Kept → Place → Option ℕ → Type 0
+IsDirectoryOf entries (Linked dir name) at = IsDirectoryAt entries dir.0 at
+IsDirectoryOf entries (Unlinked file) at = at ≡ None
+
+-- where the directory of each entry has its own
+pub record AreDirectories (entries : List Kept) (places : List (Option ℕ)) : Type 0 where
+  pub len : length places ≡ length entries
+  pub each : (i : ℕ) (kept : Kept) (at : Option ℕ) → slice_get entries i ≡ Some kept → slice_get places i ≡ Some at →
+      IsDirectoryOf entries kept.place at
+
 -- a number names no file, whatever the tree
 abbrev pub NamesNone : List Kept → ℕ → Type 0
 NamesNone entries n = (tree : Tree) (file : FileId) → IsFileOf tree entries n file → ⊥
@@ -35,8 +58,9 @@ pub record AreFound (tree : Tree) (entries : List Kept) (found : List (Option Fi
   pub each : (i : ℕ) (kept : Kept) (file : FileId) → slice_get entries i ≡ Some kept →
       slice_get found i ≡ Some (Some file) → IsFileOf tree entries kept.number.0 file
 
--- a way up from a number to one that names this file
-pub record IsWayTo (tree : Tree) (entries : List Kept) (n : ℕ) (way : List Number) (file : FileId) : Type 0 where
+-- a way up from the entry at a place to a number that names this file, by the places of the entries on it
+pub record IsWayTo (tree : Tree) (entries : List Kept) (place : ℕ) (way : List ℕ) (file : FileId) : Type 0 where
   pub top : ℕ
-  pub climbs : Climbs entries n way top
+  pub climbs : Climbs entries (number_at entries place).0 (map (number_at entries) way) top
+  pub inside : All (λ i. i < length entries) way
   pub names : IsFileOf tree entries top file

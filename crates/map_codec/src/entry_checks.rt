@@ -1,45 +1,10 @@
 //! What stands against the entries of an image, once the tree is there that they are raised over.
-ghost use Rattle.std.specs.Prelude.{◌≡◌, None, true};
-ghost use Rattle.inode_map.specs.InodeMap.{is_kept};
-ghost use Rattle.map_codec.specs.Fit.{entry_follows, rises};
-ghost use Rattle.map_codec.specs.Raising.{are_below, are_right_marks, has_parent, have_parents, is_next, is_right_mark, TellsApart};
+ghost use Rattle.std.specs.Prelude.{◌≡◌};
+ghost use Rattle.map_codec.specs.Raising.{are_below, are_right_marks, is_next, is_right_mark, TellsApart};
 
-use crate::named::place_of;
 use checkout::Tree;
-use eden_base::{END_OF_NUMBERS, FileId, Number, Place};
+use eden_base::{END_OF_NUMBERS, FileId, Place};
 use inode_map::Kept;
-
-/// Returns whether a number has an entry.
-fn is_kept(entries: &[Kept], number: Number) -> bool
-    requires { rises entry_follows None entries.now ≡ true }
-    ensures { result ≡ is_kept entries.now number.0 }
-{
-    place_of(entries, number).is_some()
-}
-
-/// Returns whether the directory of a place is the root, or has an entry.
-fn has_parent(entries: &[Kept], place: &Place) -> bool
-    requires { rises entry_follows None entries.now ≡ true }
-    ensures { result ≡ has_parent entries.now place.now }
-{
-    match place {
-        Place::Linked { parent, .. } => *parent == Number::ROOT || is_kept(entries, *parent),
-        Place::Unlinked { .. } => true,
-    }
-}
-
-/// Returns whether the directory of each entry is the root, or has an entry.
-pub(crate) fn have_parents(entries: &[Kept]) -> bool
-    requires { rises entry_follows None entries.now ≡ true }
-    ensures { result ≡ have_parents entries.now }
-{
-    for kept in entries {
-        if !has_parent(entries, &kept.place) {
-            return false;
-        }
-    }
-    true
-}
 
 /// Returns whether a mark is of a file of the tree to which no name leads, and not of the root.
 fn is_right_mark(tree: &Tree, place: &Place) -> bool

@@ -1,6 +1,7 @@
 //! The image of what a daemon knows of its mount, and its one spelling as bytes.
 #![tactic(auto)]
 
+mod directories;
 mod entry_checks;
 mod fault;
 mod fit;

@@ -1,90 +1,84 @@
 //! The file that each entry names in a tree.
-ghost use Rattle.std.specs.Prelude.{◌≡◌, ◌<◌, ◌≤◌, None, IfOk, IfSome, MatchOption, length, true, vec_capacity};
-ghost use Rattle.checkout.specs.Tree.{Tree};
+ghost use Rattle.std.specs.Prelude.{◌≡◌, ◌<◌, ◌≤◌, None, IfOk, MatchOption, length, true, vec_capacity};
 ghost use Rattle.eden_base.specs.declared.number.FileId.{FileId};
-ghost use Rattle.inode_map.specs.InodeMap.{entry_of, IsFileOf};
+ghost use Rattle.checkout.specs.Tree.{Tree};
+ghost use Rattle.inode_map.specs.InodeMap.{IsFileOf};
 ghost use Rattle.map_codec.specs.Fit.{rises, entry_follows};
-ghost use Rattle.map_codec.specs.Named.{AreFilesOf, AreFound, EachNames, IsPlaceOf, IsWayTo, NamesNone};
+ghost use Rattle.map_codec.specs.Named.{number_at, AreDirectories, AreFilesOf, AreFound, EachNames, IsWayTo, NamesNone};
 
 use checkout::Tree;
-use eden_base::{FileId, NoMemory, Number, Place};
+use eden_base::{FileId, NoMemory, Place};
 use inode_map::Kept;
 use std::alloc::Global;
 
-/// Returns where the entry of a number stands, if the number has one.
-pub(crate) fn place_of(entries: &[Kept], number: Number) -> Option<usize>
-    requires rise { rises entry_follows None entries.now ≡ true }
-    ensures bound { IfSome result (λ place. place < length entries.now) }
-    ensures place { MatchOption result (entry_of entries.now number.0 ≡ None) (IsPlaceOf entries.now number.0) }
-{
-    entries
-        .binary_search_by_key(&number.0, |kept| kept.number.0)
-        .ok()
-}
-
-/// Climbs from a number to one whose file is known, keeps the numbers on the way, and returns that file. A way of more
-/// steps than there are entries goes in a circle.
+/// Climbs from the entry at a place to one whose file is known, keeps the places on the way, and returns that file. A
+/// way of more steps than there are entries goes in a circle.
 fn climb(
     entries: &[Kept],
+    directories: &[Option<usize>],
     found: &[Option<FileId>],
-    way: &mut Vec<Number>,
-    number: Number,
+    way: &mut Vec<usize>,
+    place: usize,
 ) -> Option<FileId>
     requires rise { rises entry_follows None entries.now ≡ true }
+    requires directories { AreDirectories entries.now directories.now }
     requires len { length found.now ≡ length entries.now }
     requires room { length entries.now ≤ vec_capacity way.old }
-    ensures way { MatchOption result (NamesNone entries.now number.0) (λ file. (tree : Tree) →
-        AreFound tree entries.now found.now → IsWayTo tree entries.now number.0 way.new.items file) }
+    requires inside { place < length entries.now }
+    ensures way { MatchOption result (NamesNone entries.now (number_at entries.now place).0) (λ file. (tree : Tree) →
+        AreFound tree entries.now found.now → IsWayTo tree entries.now place way.new.items file) }
     ensures capacity { vec_capacity way.new ≡ vec_capacity way.old }
 {
     way.clear();
-    let mut number = number;
-    while number != Number::ROOT {
-        let place = place_of(entries, number)?;
-        if let Some(file) = found[place] {
+    let mut at = place;
+    loop {
+        if let Some(file) = found[at] {
             return Some(file);
         }
-        match &entries[place].place {
-            Place::Linked { parent, .. } => {
+        match &entries[at].place {
+            Place::Linked { .. } => {
                 if way.len() == entries.len() {
                     return None;
                 }
-                way.push_reserved(number);
-                number = *parent;
+                way.push_reserved(at);
+                let Some(above) = directories[at] else {
+                    return Some(FileId::ROOT);
+                };
+                at = above;
             }
             Place::Unlinked { file } => return Some(*file),
         }
     }
-    Some(FileId::ROOT)
 }
 
-/// Finds the file of a number: climbs to a known file, comes down again by the names on the way, and keeps each file
-/// that it comes to at its entry's place.
+/// Finds the file of the entry at a place: climbs to a known file, comes down again by the names on the way, and keeps
+/// each file that it comes to at its entry's place.
 fn locate(
     tree: &Tree,
     entries: &[Kept],
+    directories: &[Option<usize>],
     found: &mut Vec<Option<FileId>>,
-    way: &mut Vec<Number>,
-    number: Number,
+    way: &mut Vec<usize>,
+    place: usize,
 ) -> Option<FileId>
     requires rise { rises entry_follows None entries.now ≡ true }
+    requires directories { AreDirectories entries.now directories.now }
     requires room { length entries.now ≤ vec_capacity way.old }
     requires known { AreFound tree.now entries.now found.old.items }
-    ensures file { MatchOption result ((file : FileId) → IsFileOf tree.now entries.now number.0 file → ⊥)
-        (IsFileOf tree.now entries.now number.0) }
+    requires inside { place < length entries.now }
+    ensures file { MatchOption result
+        ((file : FileId) → IsFileOf tree.now entries.now (number_at entries.now place).0 file → ⊥)
+        (IsFileOf tree.now entries.now (number_at entries.now place).0) }
     ensures known { AreFound tree.now entries.now found.new.items }
     ensures capacity { vec_capacity way.new ≡ vec_capacity way.old }
 {
-    let mut file = climb(entries, found.as_slice(), way, number)?;
-    while let Some(number) = way.pop() {
-        let Some(place) = place_of(entries, number) else {
-            unreachable!()
-        };
-        let Place::Linked { name, .. } = &entries[place].place else {
+    let mut file = climb(entries, directories, found.as_slice(), way, place)?;
+    while let Some(at) = way.pop() {
+        let Place::Linked { name, .. } = &entries[at].place else {
             unreachable!()
         };
         file = tree.child(file, name)?;
-        found[place] = Some(file);
+        found[at] = Some(file);
     }
     Some(file)
 }
@@ -95,16 +89,18 @@ pub(crate) fn named_files(
     alloc: Global,
     tree: &Tree,
     entries: &[Kept],
+    directories: &[Option<usize>],
 ) -> Result<Option<Vec<FileId>>, NoMemory>
     requires rise { rises entry_follows None entries.now ≡ true }
+    requires directories { AreDirectories entries.now directories.now }
     ensures { IfOk result (λ found. MatchOption found (EachNames tree.now entries.now → ⊥)
         (λ files. AreFilesOf tree.now entries.now files.items)) }
 {
     let mut found = vec![in alloc; None; entries.len()]?;
     let mut way = Vec::with_capacity(alloc, entries.len())?;
     let mut files = Vec::with_capacity(alloc, entries.len())?;
-    for kept in entries {
-        let Some(file) = locate(tree, entries, &mut found, &mut way, kept.number) else {
+    for place in 0..entries.len() {
+        let Some(file) = locate(tree, entries, directories, &mut found, &mut way, place) else {
             return Ok(None);
         };
         files.push_reserved(file);

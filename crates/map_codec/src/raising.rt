@@ -5,7 +5,8 @@ ghost use Rattle.fuse_ops.specs.Soundness.{IsSound};
 ghost use Rattle.map_codec.specs.Fit.{entry_follows, rises, CountsFit, IsFit};
 ghost use Rattle.map_codec.specs.Raising.{raised, IsRaisable, IsRaiseRefusal, StandsAgainst};
 
-use crate::entry_checks::{are_apart, are_right_marks, have_parents, is_next};
+use crate::directories::directories;
+use crate::entry_checks::{are_apart, are_right_marks, is_next};
 use crate::named::named_files;
 use crate::{Image, RaiseFault};
 use checkout::{ChangeFault, Manifest, Tree};
@@ -24,10 +25,11 @@ fn entry_fault(
     requires rise { rises entry_follows None entries.now ≡ true }
     ensures fault { IfOk result (StandsAgainst tree.now entries.now next) }
 {
-    if !have_parents(entries) {
-        return Ok(Some(RaiseFault::NoParent));
-    }
-    let files = match named_files(alloc, tree, entries)? {
+    let directories = match directories(alloc, entries)? {
+        Some(directories) => directories,
+        None => return Ok(Some(RaiseFault::NoParent)),
+    };
+    let files = match named_files(alloc, tree, entries, directories.as_slice())? {
         Some(files) => files,
         None => return Ok(Some(RaiseFault::NoLink)),
     };

@@ -1,15 +1,18 @@
-use Rattle.std.proofs.Common.{◌≡◌, ◌-◌, ◌≤◌, length, vec_len}
+use Rattle.std.proofs.Common.{All, ◌≡◌, ◌-◌, ◌<◌, ◌≤◌, length, map, vec_len}
 use Rattle.std.specs.Prelude.{vec_capacity}
 use Rattle.inode_map.specs.EntryPlaces.{Climbs}
+use Rattle.map_codec.specs.Named.{number_at}
 use Rattle.map_codec.proofs.named.climb.Given as goal
 
--- the way leads from the first number to this one
-abbrev pub invariant-loop-number : goal.invariant-loop-number
-invariant-loop-number l = record {
-  climbs : Climbs l.entries l.fn.number.0 l.way.items l.number.0;
+-- the way leads from the first entry to this one
+abbrev pub invariant-loop-at : goal.invariant-loop-at
+invariant-loop-at l = record {
+  here : l.at < length l.entries;
+  climbs : Climbs l.entries (number_at l.entries l.fn.place).0 (map (number_at l.entries) l.way.items) (number_at l.entries l.at).0;
+  inside : All (λ i. i < length l.entries) l.way.items;
   long : vec_len l.way ≤ length l.entries;
   capacity : vec_capacity l.way ≡ vec_capacity l.fn.way;
 }
 
-abbrev pub decreases-loop-number : goal.decreases-loop-number
-decreases-loop-number l = length l.entries - vec_len l.way
+abbrev pub decreases-loop-at : goal.decreases-loop-at
+decreases-loop-at l = length l.entries - vec_len l.way

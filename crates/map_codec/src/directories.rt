@@ -1,0 +1,63 @@
+//! Where the entries of an image stand among each other.
+ghost use Rattle.std.specs.Prelude.{◌≡◌, ◌<◌, None, true, false, IfOk, IfSome, MatchOption, length};
+ghost use Rattle.inode_map.specs.InodeMap.{entry_of};
+ghost use Rattle.map_codec.specs.Fit.{rises, entry_follows};
+ghost use Rattle.map_codec.specs.Named.{AreDirectories, IsDirectoryOf, IsPlaceOf};
+ghost use Rattle.map_codec.specs.Raising.{has_parent, have_parents};
+
+use eden_base::{NoMemory, Number, Place};
+use inode_map::Kept;
+use std::alloc::Global;
+
+/// Returns where the entry of a number stands, if the number has one: at `near`, or where a search finds it.
+fn place_of(entries: &[Kept], near: usize, number: Number) -> Option<usize>
+    requires rise { rises entry_follows None entries.now ≡ true }
+    ensures place { MatchOption result (entry_of entries.now number.0 ≡ None) (IsPlaceOf entries.now number.0) }
+{
+    if near < entries.len() && entries[near].number.0 == number.0 {
+        return Some(near);
+    }
+    entries
+        .binary_search_by_key(&number.0, |kept| kept.number.0)
+        .ok()
+}
+
+/// Returns where the directory of a place has its entry, nowhere for the root and for a mark; nothing where it has none.
+fn directory_of(entries: &[Kept], near: usize, place: &Place) -> Option<Option<usize>>
+    requires rise { rises entry_follows None entries.now ≡ true }
+    ensures { MatchOption result (has_parent entries.now place.now ≡ false)
+        (λ at. (has_parent entries.now place.now ≡ true) × IsDirectoryOf entries.now place.now at) }
+{
+    match place {
+        Place::Linked { parent, .. } => {
+            if *parent == Number::ROOT {
+                return Some(None);
+            }
+            let at = place_of(entries, near, *parent)?;
+            Some(Some(at))
+        }
+        Place::Unlinked { .. } => Some(None),
+    }
+}
+
+/// Returns where the directory of each entry has its own, as `directory_of` does; nothing where one has none. Entries
+/// beside each other often stand in one directory, so it looks first where the last one was found.
+pub(crate) fn directories(
+    alloc: Global,
+    entries: &[Kept],
+) -> Result<Option<Vec<Option<usize>>>, NoMemory>
+    requires rise { rises entry_follows None entries.now ≡ true }
+    ensures { IfOk result (λ found. MatchOption found (have_parents entries.now ≡ false)
+        (λ places. (have_parents entries.now ≡ true) × AreDirectories entries.now places.items)) }
+{
+    let mut places = Vec::with_capacity(alloc, entries.len())?;
+    let mut near = 0;
+    for kept in entries {
+        let Some(place) = directory_of(entries, near, &kept.place) else {
+            return Ok(None);
+        };
+        near = place.unwrap_or(near);
+        places.push_reserved(place);
+    }
+    Ok(Some(places))
+}
