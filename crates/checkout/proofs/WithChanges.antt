@@ -13,7 +13,7 @@ use Rattle.checkout.specs.declared.made.MadeFile.{MadeFile}
 use Rattle.checkout.specs.BadChanges.{Else, bad_by_other, bad_itself, changed_links, file_does, first_link, first_link_where, is_cut_off, manifest_target, IsBadAround, IsBadChange}
 use Rattle.checkout.specs.Changed.{changed}
 use Rattle.checkout.specs.Gone.{Gone, is_gone}
-use Rattle.checkout.specs.Laying.{AreTaken, CanAdd, taken, with_added, with_made}
+use Rattle.checkout.specs.Laying.{taken, with_made}
 use Rattle.checkout.specs.Manifest.{IsManifest, Manifest}
 use Rattle.checkout.specs.Overlay.{IsOverlay, tree_over}
 use Rattle.checkout.specs.Rounds.{AreLaid, first_of, is_given_twice, marked}
@@ -21,7 +21,6 @@ use Rattle.checkout.specs.Tally.{Tally, count_of}
 use Rattle.checkout.specs.Tree.{IsTree, link_cmp}
 use Rattle.checkout.proofs.AmongLinks.{first_where-is}
 use Rattle.checkout.proofs.ChangedIsTree.{changed_is_tree}
-use Rattle.checkout.proofs.LaidTree.{can_be_added}
 use Rattle.checkout.proofs.RoundTwo.{twice-found}
 use Rattle.checkout.proofs.RoundsAround.{is_changed, parts}
 
@@ -67,30 +66,14 @@ this_round (Some other) Later place h = sym h
 pub bad_by_second : (m : Manifest) (c : Changes) (place : ℕ) → bad_itself m c ≡ None → bad_by_other m c ≡ Some place → IsBadChange m c (Some place)
 bad_by_second m c place itself e = later_round (bad_itself m c) (Else (bad_by_other m c) (IsBadAround m c)) (Some place) itself (this_round (bad_by_other m c) (IsBadAround m c) place e)
 
--- what the first rounds leave, in the words of the calls that made it
-module _ (shared m : Manifest) (c : Changes) (links : List LinkChange) (same : shared ≡ m) (is : IsManifest shared) (here : bad_itself m c ≡ None) (all : links ≡ c.links)
-    (gone : Gone) (lost : Tally) (went : gone.files ≡ taken shared links) (so_far : AreTaken shared gone lost)
-    (found : Option ℕ) (looked : found ≡ first_of (is_given_twice shared (is_gone gone) (λ file. marked file None links)) 0 links) where
-  pub no_first_round : bad_itself shared c ≡ None
-  no_first_round = ap (λ x. bad_itself x c) same ∙ here
-
-  pub second_round : option_map (λ i. first_link c + i) found ≡ bad_by_other shared c
+-- what the second round finds, in the words of the calls that made it
+module _ (m : Manifest) (c : Changes) (is : IsManifest m) (itself : bad_itself m c ≡ None) (gone : Gone) (went : gone.files ≡ taken m c.links)
+    (links : List LinkChange) (all : links ≡ c.links)
+    (found : Option ℕ) (looked : found ≡ first_of (is_given_twice m (is_gone gone) (λ file. marked file None links)) 0 links) where
+  pub second_round : option_map (λ i. first_link c + i) found ≡ bad_by_other m c
   second_round =
-      twice-found shared c is no_first_round (is_gone gone) (λ q. ap (list_any (λ f. q == f)) (went ∙ ap (taken shared) all)) found
-      (looked ∙ ap (λ xs. first_of (is_given_twice shared (is_gone gone) (λ file. marked file None xs)) 0 xs) all)
-
-  pub can_all_be_added : found ≡ None → CanAdd empty links
-  can_all_be_added none = subst (CanAdd empty) (sym all) (can_be_added shared c is no_first_round (sym second_round ∙ ap (option_map (λ i. first_link c + i)) none))
-
-  pub are_laid : found ≡ None → (added : FinMap link_cmp FileId) → added ≡ with_added empty links → AreLaid shared c added gone lost
-  are_laid none added came = record {
-    is_manifest = is;
-    itself = no_first_round;
-    by_other = sym second_round ∙ ap (option_map (λ i. first_link c + i)) none;
-    went = went ∙ ap (taken shared) all;
-    so_far = so_far;
-    came = came ∙ ap (with_added empty) all;
-  }
+      twice-found m c is itself (is_gone gone) (λ q. ap (list_any (λ f. q == f)) went) found
+      (looked ∙ ap (λ xs. first_of (is_given_twice m (is_gone gone) (λ file. marked file None xs)) 0 xs) all)
 
 module _ (m : Manifest) (c : Changes) (added : FinMap link_cmp FileId) (gone : Gone) (lost : Tally) (laid : AreLaid m c added gone lost) where
   pub bad_by_last : (bad : Option ℕ) → IsBadAround m c bad → IsBadChange m c bad

@@ -16,6 +16,7 @@ mod entry;
 mod fault;
 mod field;
 mod gone;
+mod laid;
 mod laying;
 mod line;
 mod lines;

@@ -12,17 +12,14 @@ ghost use Rattle.checkout.specs.Create.{IsCreateRefusal};
 ghost use Rattle.checkout.specs.Tree.{Tree as TreeState, IsTree, tree_of, child_of, kind_of, attr_of, file_of, perm_made, next_file, nlink_of, has_links, is_empty_dir, is_full_dir, is_linked, is_unlinked, created, removed};
 
 use crate::added::Added;
-use crate::bad_around::first_bad_around;
 use crate::bad_itself::bad_itself;
-use crate::by_other::first_given_twice;
 use crate::content::nlink_of_kind;
 use crate::gone::Gone;
+use crate::laid::Laid;
 use crate::made::{MadeFile, MadeFiles};
 use crate::order::sort;
 use crate::tally::Tally;
-use crate::{
-    ChangeFault, Changes, Content, CreateFault, LinkList, MadeList, Manifest, laying, overlay,
-};
+use crate::{ChangeFault, Changes, Content, CreateFault, LinkList, MadeList, Manifest, overlay};
 use eden_base::{Attr, END_OF_FILES, FileId, Kind, Name, NoMemory, Perm};
 use std::alloc::Global;
 use std::marker::Model;
@@ -97,25 +94,15 @@ impl Tree {
         if let Some(place) = bad_itself(manifest, changes) {
             return Err(ChangeFault::BadChange(place));
         }
-        let links = changes.links.as_slice();
-        let files = changes.made.as_slice();
         let manifest = manifest.share()?;
-        let (gone, lost) = laying::taken(alloc, &manifest, links)?;
-        if let Some(i) = first_given_twice(alloc, &manifest, &gone, links)? {
-            return Err(ChangeFault::BadChange(files.len() + 1 + i));
-        }
-        let made = laying::made(alloc, files)?;
-        let added = laying::added(alloc, links)?;
-        if let Some(i) = first_bad_around(alloc, &manifest, changes, &added, &gone, &lost)? {
-            return Err(ChangeFault::BadChange(files.len() + 1 + i));
-        }
+        let laid = Laid::of(alloc, &manifest, changes)?;
         Ok(Tree {
             alloc,
             manifest,
-            made,
-            added,
-            gone,
-            lost,
+            made: laid.made,
+            added: laid.added,
+            gone: laid.gone,
+            lost: laid.lost,
             next_file: changes.next_file.0,
         })
     }
