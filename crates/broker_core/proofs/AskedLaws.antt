@@ -2,13 +2,10 @@
 use Rattle.std.proofs.Common.{◌≡◌, ℕ, ◌-◌, ◌<◌, Bool, true, false, cond, List, [], ◌∷◌, ◌++◌, length, take, map, Option, Some, None, is_some, if◌then◌else◌, refl, ap, ◌∙◌, arith}
 use Rattle.std.specs.Prelude.{◌==◌, All}
 use Rattle.std.specs.List.{AllByRecursion}
-use Rattle.std.specs.List.Sorted.{IsStrictlySortedBy}
-use Rattle.std.specs.Map.{keys_of, lookup, remove_entry}
-use Rattle.std.specs.BTreeMap.{insert_entry, is_at}
-use Rattle.std.specs.Option.{option_map}
-use Rattle.std.specs.Ordering.{nat_cmp, match_ordering}
-use Rattle.std.specs.declared.cmp.Ordering.{Ordering}
-use Rattle.std.specs.declared.cmp.Ordering.TheVariants.{Less, Greater}
+use Rattle.std.specs.Map.{keys_of}
+use Rattle.std.specs.BTreeMap.{is_at}
+use Rattle.std.specs.Ordering.{nat_cmp}
+use Rattle.std.specs.declared.cmp.Ordering.TheVariants.{Less}
 use Rattle.std.proofs.lemmas.Bool.Decides.{nat_tests}
 use Rattle.std.proofs.lemmas.List.{take_all, take-append-le, length-append, length-map}
 use Rattle.std.proofs.lemmas.List.Elements.{All-nil, All-cons, All-head, All-tail, All-weaker}
@@ -17,6 +14,7 @@ use Rattle.eden_base.specs.First.{first_where, without_where}
 use Rattle.eden_base.proofs.FirstLemmas.{first_where-append, without_where-none}
 use Rattle.fuse_wire.specs.declared.ask.Ask.{Ask}
 use Rattle.broker_core.specs.Traffic.{asked_of, is_of}
+use Rattle.broker_core.specs.Rising.{IsRising}
 use Rattle.broker_core.specs.Roomy.{taken_among}
 use Rattle.broker_core.specs.declared.form.Form.{Form}
 
@@ -36,38 +34,9 @@ taken-before es ts asks is = rw is (
     let len : length (ts ++ map asked_of asks) - length asks ≡ length ts = omega (arith, length-append ts (map asked_of asks), length-map asks asked_of) in
     ap (λ n. take n (ts ++ map asked_of asks)) len ∙ take-append-le (length ts) ts (map asked_of asks) (omega arith) ∙ take_all (length ts) ts (omega arith))
 
--- an ask with a unique above all others stands last
-pub stands-last : (es : List Asked) (k : ℕ) (f : Form) → All (Below k) es → insert_entry nat_cmp es k f ≡ es ++ (k, f) ∷ []
-stands-last [] k f all = refl
-stands-last (e ∷ es) k f all = behind (nat_cmp k e.0) (let low : e.0 < k = All-head (Below k) e es all in grind (arith, nat_tests)) (stands-last es k f (All-tail (Below k) e es all)) where
-  behind : (o : Ordering) → o ≡ Greater → insert_entry nat_cmp es k f ≡ es ++ (k, f) ∷ [] → match_ordering o ((k, f) ∷ e ∷ es) ((e.0, f) ∷ es) (e ∷ insert_entry nat_cmp es k f) ≡ e ∷ es ++ (k, f) ∷ []
-  behind o is rest = rw is (ap (λ xs. e ∷ xs) rest)
-
 -- the order's test is that of numbers
 pub one_test : (k n : ℕ) → is_at (nat_cmp k) n ≡ (k == n)
 one_test k n = grind (arith, nat_tests)
-
--- a look-up finds the form of the first ask of a unique
-pub looked-up : (k : ℕ) (es : List Asked) → lookup (is_at (nat_cmp k)) es ≡ option_map (λ e. e.1) (first_where (is_of k) es)
-looked-up k [] = refl
-looked-up k (e ∷ es) = here (is_at (nat_cmp k) e.0) (k == e.0) (one_test k e.0) (looked-up k es) where
-  here : (b c : Bool) → b ≡ c → lookup (is_at (nat_cmp k)) es ≡ option_map (λ e. e.1) (first_where (is_of k) es) →
-      cond b (Some e.1) (lookup (is_at (nat_cmp k)) es) ≡ option_map (λ e. e.1) (cond c (Some e) (first_where (is_of k) es))
-  here true true same rest = refl
-  here true false same rest = absurd (let none : ⊥ = cc in none)
-  here false true same rest = absurd (let none : ⊥ = cc in none)
-  here false false same rest = rest
-
--- a removal takes it out
-pub taken-out : (k : ℕ) (es : List Asked) → remove_entry (is_at (nat_cmp k)) es ≡ without_where (is_of k) es
-taken-out k [] = refl
-taken-out k (e ∷ es) = here (is_at (nat_cmp k) e.0) (k == e.0) (one_test k e.0) (taken-out k es) where
-  here : (b c : Bool) → b ≡ c → remove_entry (is_at (nat_cmp k)) es ≡ without_where (is_of k) es →
-      cond b es (e ∷ remove_entry (is_at (nat_cmp k)) es) ≡ cond c es (e ∷ without_where (is_of k) es)
-  here true true same rest = refl
-  here true false same rest = absurd (let none : ⊥ = cc in none)
-  here false true same rest = absurd (let none : ⊥ = cc in none)
-  here false false same rest = ap (λ xs. e ∷ xs) rest
 
 -- no ask has a unique that all are above, or below
 pub none-above : (k : ℕ) (es : List Asked) → All (Above k) es → first_where (is_of k) es ≡ None
@@ -86,25 +55,25 @@ above n [] all = All-nil (Above n)
 above n (e ∷ es) all = All-cons (Above n) e es (lesser n e.0 all.0) (above n es all.1)
 
 -- in a list that rises the others are above the first
-pub above-first : (e : Asked) (es : List Asked) → IsStrictlySortedBy nat_cmp (keys_of (e ∷ es)) → All (Above e.0) es
+pub above-first : (e : Asked) (es : List Asked) → IsRising (e ∷ es) → All (Above e.0) es
 above-first e es rising = above e.0 es (sorted_head nat_cmp e.0 (keys_of es) rising)
 
 behind : (P : Asked → Type 0) (ts us : List Asked) → All P (ts ++ us) → All P us
 behind P [] us all = all
 behind P (t ∷ ts) us all = behind P ts us (All-tail P t (ts ++ us) all)
 
-pub rising-behind : (ts us : List Asked) → IsStrictlySortedBy nat_cmp (keys_of (ts ++ us)) → IsStrictlySortedBy nat_cmp (keys_of us)
+pub rising-behind : (ts us : List Asked) → IsRising (ts ++ us) → IsRising us
 rising-behind [] us rising = rising
 rising-behind (t ∷ ts) us rising = rising-behind ts us (sorted_tail nat_cmp t.0 (keys_of (ts ++ us)) rising)
 
 -- those before another are below it
-pub below-later : (ts us : List Asked) (u : Asked) → IsStrictlySortedBy nat_cmp (keys_of (ts ++ u ∷ us)) → All (Below u.0) ts
+pub below-later : (ts us : List Asked) (u : Asked) → IsRising (ts ++ u ∷ us) → All (Below u.0) ts
 below-later [] us u rising = All-nil (Below u.0)
 below-later (t ∷ ts) us u rising =
     All-cons (Below u.0) t ts (All-head (Above t.0) u us (behind (Above t.0) ts (u ∷ us) (above-first t (ts ++ u ∷ us) rising))) (below-later ts us u (sorted_tail nat_cmp t.0 (keys_of (ts ++ u ∷ us)) rising))
 
 -- a unique that is found before is not found behind
-pub found-once : (k : ℕ) (ts us : List Asked) → IsStrictlySortedBy nat_cmp (keys_of (ts ++ us)) → is_some (first_where (is_of k) ts) ≡ true → first_where (is_of k) us ≡ None
+pub found-once : (k : ℕ) (ts us : List Asked) → IsRising (ts ++ us) → is_some (first_where (is_of k) ts) ≡ true → first_where (is_of k) us ≡ None
 found-once k [] us rising found = absurd (let none : ⊥ = cc in none)
 found-once k (t ∷ ts) us rising found = here (k == t.0) refl (found-once k ts us (sorted_tail nat_cmp t.0 (keys_of (ts ++ us)) rising)) found where
   here : (b : Bool) → (k == t.0) ≡ b → (is_some (first_where (is_of k) ts) ≡ true → first_where (is_of k) us ≡ None) →

@@ -5,6 +5,7 @@ pub mod HeldLaws
 pub mod LaterLaws
 mod Moves
 mod Queues
+mod RisingLaws
 pub mod SeatLaws
 mod TreeLaws
 pub mod TakeLaws

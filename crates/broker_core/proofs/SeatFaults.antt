@@ -1,11 +1,9 @@
 -- Who takes or posts has the seat.
-use Rattle.std.proofs.Common.{◌≡◌, ℕ, Bool, true, false, ◌&&◌, Option, Some, None, is_none, refl, sym, ap, ◌∙◌, if◌then◌else◌}
+use Rattle.std.proofs.Common.{◌≡◌, ℕ, Bool, true, false, ◌&&◌, Option, Some, None, refl, if◌then◌else◌}
 use Rattle.std.specs.Prelude.{◌==◌}
 use Rattle.eden_base.proofs.NumberTests.{true-eq}
 use Rattle.eden_base.specs.declared.number.DaemonId.{DaemonId}
-use Rattle.fuse_wire.specs.declared.ask.Ask.{Ask}
 use Rattle.fuse_wire.specs.declared.reply.Reply.{Reply}
-use Rattle.broker_core.specs.Traffic.{TrafficState, next_taken}
 use Rattle.broker_core.specs.Broker.{BrokerState, seat_fault, take_fault, take_fault_by, post_fault, post_fault_by}
 use Rattle.broker_core.specs.declared.fault.NotSeated.{NotSeated}
 use Rattle.broker_core.specs.declared.fault.NotSeated.TheVariants as unseated

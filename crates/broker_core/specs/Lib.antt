@@ -3,5 +3,6 @@ pub mod Form
 pub mod Held
 pub mod Inside
 pub mod Kept
+pub mod Rising
 pub mod Roomy
 pub mod Traffic

@@ -2,11 +2,8 @@
 use Rattle.std.specs.Prelude.{◌≡◌, ℕ, ◌+◌, ◌-◌, ◌*◌, ◌≤◌, Bool, false, nat_le, List, length, take, map, ◌++◌, vec_len}
 use Rattle.std.specs.Option.{option_map_or}
 use Rattle.std.specs.VecDeque.{deque_len, deque_capacity}
-use Rattle.std.specs.List.Sorted.{IsStrictlySortedBy}
-use Rattle.std.specs.Ordering.{nat_cmp}
-use Rattle.std.specs.Map.{keys_of}
-use Rattle.std.specs.BTreeMap.{btree_map_len}
 use Rattle.fuse_wire.specs.declared.ask.Ask.{Ask}
+use Rattle.broker_core.specs.Rising.{IsRising}
 use Rattle.broker_core.specs.Traffic.{front, asked_of}
 use Rattle.broker_core.specs.declared.form.Form.{Form}
 use Rattle.broker_core.specs.declared.forgets.Forgets.TheInside.{Inside as Forgets}
@@ -26,7 +23,7 @@ is_not_before untaken unique = option_map_or (λ ask. nat_le ask.unique unique) 
 
 -- the asks without a reply are the taken ones and then the untaken ones, and for a reply to each there is room
 pub record IsRoomyForReplies (traffic : Traffic) : Type 0 where
-  pub rising : IsStrictlySortedBy nat_cmp (keys_of traffic.unanswered.entries)
-  pub parts : traffic.unanswered.entries
-      ≡ taken_among traffic.unanswered.entries traffic.untaken.items ++ map asked_of traffic.untaken.items
-  pub room : deque_len traffic.posted + btree_map_len traffic.unanswered ≤ deque_capacity traffic.posted
+  pub rising : IsRising traffic.unanswered
+  pub parts : traffic.unanswered
+      ≡ taken_among traffic.unanswered traffic.untaken.items ++ map asked_of traffic.untaken.items
+  pub room : deque_len traffic.posted + length traffic.unanswered ≤ deque_capacity traffic.posted

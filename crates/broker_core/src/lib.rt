@@ -8,6 +8,7 @@ mod form;
 mod held;
 mod seat;
 mod traffic;
+mod unanswered;
 
 pub use broker::{Broker, IssueFault, MountFault};
 pub use fault::{DeliverFault, PostFault, TakeFault};

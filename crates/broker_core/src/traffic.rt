@@ -6,10 +6,11 @@ ghost use Rattle.broker_core.specs.Traffic.{no_traffic, front, asks_under_way, a
 use crate::broker::IssueFault;
 use crate::forgets::Forgets;
 use crate::form::Form;
+use crate::unanswered::Unanswered;
 use eden_base::{NoMemory, Number};
 use fuse_wire::{Answer, Ask, Item, Items, Reply, Request};
 use std::alloc::Global;
-use std::collections::{BTreeMap, VecDeque};
+use std::collections::VecDeque;
 use std::marker::Model;
 
 /// The reply answers nothing that was asked.
@@ -21,8 +22,8 @@ pub(crate) struct NotAsked;
 #[derive(Drop)]
 pub(crate) struct Traffic {
     untaken: VecDeque<Ask>,
-    /// The form that answers each ask without a reply. The untaken asks are the last.
-    unanswered: BTreeMap<u64, Form>,
+    /// The untaken asks are the last.
+    unanswered: Unanswered,
     /// It has room for a reply to each ask without one.
     posted: VecDeque<Reply>,
     forgets: Forgets,
@@ -39,7 +40,7 @@ impl Model for Traffic {
 
     ghost view = { λ t. record {
       untaken = t.untaken.items;
-      taken = taken_among t.unanswered.entries t.untaken.items;
+      taken = taken_among t.unanswered t.untaken.items;
       items = t.forgets;
       posted = t.posted.items;
     } };
@@ -60,7 +61,7 @@ impl Traffic {
     {
         Traffic {
             untaken: VecDeque::new(alloc),
-            unanswered: BTreeMap::new(alloc),
+            unanswered: Unanswered::new(alloc),
             posted: VecDeque::new(alloc),
             forgets: Forgets::new(alloc),
             alloc,
@@ -97,7 +98,7 @@ impl Traffic {
         let what = request.copy(self.alloc)?;
         self.untaken.reserve(1)?;
         self.posted.reserve(self.unanswered.len() + 1)?;
-        self.unanswered.insert(unique, Form::of(request))?;
+        self.unanswered.push(unique, Form::of(request))?;
         self.untaken.push_back_reserved(Ask { unique, what });
         Ok(())
     }
@@ -147,7 +148,7 @@ impl Traffic {
         if is_not_before(&self.untaken, unique) {
             return None;
         }
-        self.unanswered.get(&unique).copied()
+        self.unanswered.form_of(unique)
     }
 
     /// Queues a daemon's reply for the kernel. It takes no memory: its ask made the room.
@@ -159,7 +160,7 @@ impl Traffic {
         if !self.is_asked(&reply) {
             return Err(NotAsked);
         }
-        let _form = self.unanswered.remove(&reply.unique);
+        self.unanswered.remove(reply.unique);
         self.posted.push_back_reserved(reply);
         Ok(())
     }

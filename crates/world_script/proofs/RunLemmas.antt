@@ -11,7 +11,10 @@ use Rattle.world.specs.Agreement.{Matches, world_after}
 use Rattle.world.specs.declared.outcome.Happened.{Happened}
 use Rattle.world.proofs.WholeRun.{match-agrees, match-counts, match-names, steps-matched, posters-answered}
 use Rattle.world.specs.declared.event.Event.{Event}
+use Rattle.world_script.specs.declared.fault.Fault.{Fault}
+use Rattle.world_script.specs.declared.fault.Fault.TheVariants.{CannotWrite}
 use Rattle.world_script.specs.Lines.{SaysEvents}
+use Rattle.world_script.specs.Refusal.{IsRunRefusal}
 use Rattle.world_script.specs.Script.{SaysManifest, IsGood, Prints, IsPromised, RunsEvents, Runs}
 
 -- what was printed was printed on the way
@@ -43,17 +46,29 @@ runs-good script good limit before after matches ran = record {
   promised = promised good.manifest limit good.events ran.outcomes ran.last matches (steps-of (started good.manifest limit) good.events ran.outcomes ran.text ran.last ran.prints);
 }
 
+-- a script that was read is good
+good_as_said : (script text : List ℕ) (manifest : Manifest) (events : List Event) → length script ≤ 1048576 → text ≡ script → SaysManifest text (Ok manifest) → SaysEvents text events → IsGood script
+good_as_said script text manifest events len same said says = record {
+  manifest = manifest;
+  events = events;
+  says_manifest = subst (λ (s : List ℕ). SaysManifest s (Ok manifest)) same said;
+  says_events = subst (λ (s : List ℕ). SaysEvents s events) same says;
+  len = len;
+}
+
+-- and may be refused since its lines cannot be written
+pub refused_late : (known : Option (List ℕ)) (script text : List ℕ) (manifest : Manifest) (events : List Event) (fault : Fault) →
+    IfSome known (λ all. script ≡ all) → length script ≤ 1048576 → text ≡ script → SaysManifest text (Ok manifest) → SaysEvents text events → fault ≡ CannotWrite → IfSome known (λ all. IsRunRefusal all fault)
+refused_late None script text manifest events fault is len same said says late = tt
+refused_late (Some all) script text manifest events fault is len same said says late =
+    rw late (subst (λ (s : List ℕ). IsGood s) is (good_as_said script text manifest events len same said says))
+
 -- what a script said, and what it ran
 pub runs_as_said : (script text : List ℕ) (manifest : Manifest) (events listed : List Event) (limit : ℕ) (start : State) (before after : Option (List ℕ)) →
     length script ≤ 1048576 → text ≡ script → listed ≡ events → SaysManifest text (Ok manifest) → SaysEvents text events → start ≡ started manifest limit → Matches (first_world manifest) start → RunsEvents start listed before after → Runs script limit before after
+unfolding good_as_said
 runs_as_said script text manifest events listed limit start before after len same all said says is matches ran =
-    let good : IsGood script = record {
-      manifest = manifest;
-      events = events;
-      says_manifest = subst (λ (s : List ℕ). SaysManifest s (Ok manifest)) same said;
-      says_events = subst (λ (s : List ℕ). SaysEvents s events) same says;
-      len = len;
-    } in
+    let good = good_as_said script text manifest events len same said says in
     runs-good script good limit before after (subst (λ (s : State). Matches (first_world manifest) s) is matches)
     (subst (λ (s : State). RunsEvents s events before after) is (subst (λ (es : List Event). RunsEvents start es before after) all ran))
 

@@ -11,27 +11,27 @@ use Rattle.broker_core.proofs.traffic.Traffic.post.Goals as goal
 pub invariant_of-self : goal.invariant_of-self
 invariant_of-self c =
     let inside = c.self.inside in
-    let es = inside.unanswered.entries in
+    let es = inside.unanswered in
     let asks = inside.untaken.items in
     let ts = taken_among es asks in
     let k = c.args.reply.unique in
     let asked = subst (λ (t : TrafficState). is_asked t c.args.reply ≡ true) (sym c.self.view_is) (sym c.is_asked.ensures.asked ∙ c.if-not-is_asked.false) in
     let found = has-ask (λ form. belongs form c.args.reply.answer && may_be_given c.args.reply.answer) (first_where (is_of k) ts) asked in
-    let after = answered es c.remove-form.new.self.entries ts asks k c.self.invariant.parts c.self.invariant.rising found c.remove-form.ensures.entries in
+    let after = answered es c.remove.new.self ts asks k c.self.invariant.parts c.self.invariant.rising found c.remove.ensures.removed in
     record {
-      rising = c.remove-form.ensures.ordered;
-      parts = parted c.remove-form.new.self.entries (without_where (is_of k) ts) asks after.parts;
+      rising = c.remove.ensures.rising;
+      parts = parted c.remove.new.self (without_where (is_of k) ts) asks after.parts;
       room = omega (arith, after.fewer, c.self.invariant.room, c.push_back_reserved.ensures.len, c.push_back_reserved.ensures.capacity);
     }
 
 pub returns-clause-posted : goal.returns-clause-posted
 returns-clause-posted c =
     let inside = c.self.inside in
-    let es = inside.unanswered.entries in
+    let es = inside.unanswered in
     let asks = inside.untaken.items in
     let ts = taken_among es asks in
     let k = c.args.reply.unique in
     let asked = subst (λ (t : TrafficState). is_asked t c.args.reply ≡ true) (sym c.self.view_is) (sym c.is_asked.ensures.asked ∙ c.if-not-is_asked.false) in
     let found = has-ask (λ form. belongs form c.args.reply.answer && may_be_given c.args.reply.answer) (first_where (is_of k) ts) asked in
-    let after = answered es c.remove-form.new.self.entries ts asks k c.self.invariant.parts c.self.invariant.rising found c.remove-form.ensures.entries in
-    rw (← c.self.view_is) (one-state asks asks _ (without_where (is_of k) ts) inside.forgets _ _ refl (taken-before c.remove-form.new.self.entries (without_where (is_of k) ts) asks after.parts) c.push_back_reserved.ensures.items)
+    let after = answered es c.remove.new.self ts asks k c.self.invariant.parts c.self.invariant.rising found c.remove.ensures.removed in
+    rw (← c.self.view_is) (one-state asks asks _ (without_where (is_of k) ts) inside.forgets _ _ refl (taken-before c.remove.new.self (without_where (is_of k) ts) asks after.parts) c.push_back_reserved.ensures.items)

@@ -7,7 +7,7 @@ use Rattle.broker_core.proofs.traffic.Traffic.take.Goals as goal
 pub invariant_of-self-2 : goal.invariant_of-self-2
 invariant_of-self-2 c =
     let inside = c.self.inside in
-    let es = inside.unanswered.entries in
+    let es = inside.unanswered in
     let asks = inside.untaken.items in
     let ts = taken_among es asks in
     let first = taken-first es ts asks c.self.invariant.parts ∙ ap (λ xs. ts ++ map asked_of (take 1 asks) ++ map asked_of xs) (sym c.pop_front.ensures.rest) in

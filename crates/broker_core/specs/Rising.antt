@@ -1,0 +1,15 @@
+-- The asks without a reply, in the order of their uniques.
+use Rattle.std.specs.Prelude.{ℕ, List, ◌++◌, option_to_list}
+use Rattle.std.specs.List.Sorted.{IsStrictlySortedBy}
+use Rattle.std.specs.Ordering.{nat_cmp}
+use Rattle.std.specs.Map.{keys_of}
+use Rattle.broker_core.specs.declared.form.Form.{Form}
+use Rattle.broker_core.specs.declared.unanswered.Unanswered.TheInside.{Inside}
+
+-- each unique is above those before it
+abbrev pub IsRising : List (ℕ × Form) → Type 0
+IsRising asks = IsStrictlySortedBy nat_cmp (keys_of asks)
+
+-- the last ask stands behind those of the map
+abbrev pub IsInOrder : Inside → Type 0
+IsInOrder unanswered = IsRising (unanswered.earlier.entries ++ option_to_list unanswered.last)
