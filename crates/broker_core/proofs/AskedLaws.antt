@@ -16,7 +16,7 @@ use Rattle.fuse_wire.specs.declared.ask.Ask.{Ask}
 use Rattle.broker_core.specs.Traffic.{asked_of, is_of}
 use Rattle.broker_core.specs.Rising.{IsRising}
 use Rattle.broker_core.specs.Roomy.{taken_among}
-use Rattle.broker_core.specs.declared.form.Form.{Form}
+use Rattle.fuse_wire.specs.declared.form.Form.{Form}
 
 abbrev pub Asked : Type 0
 Asked = ℕ × Form

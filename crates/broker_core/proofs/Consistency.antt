@@ -13,7 +13,7 @@ use Rattle.fuse_wire.specs.declared.ask.Ask.{Ask}
 use Rattle.fuse_wire.specs.declared.item.Item.{Item}
 use Rattle.fuse_wire.specs.declared.reply.Reply.{Reply}
 use Rattle.broker_core.specs.Broker.{held_with}
-use Rattle.broker_core.specs.Form.{belongs}
+use Rattle.fuse_wire.specs.Form.{belongs}
 use Rattle.broker_core.specs.Held.{HeldMap, held_count, none_held, raised, lowered}
 use Rattle.broker_core.specs.Inside.{IsConsistent}
 use Rattle.broker_core.specs.Traffic.{TrafficState, no_traffic, front, asks_under_way, asked_of, item_issued, items_go_first, ask_taken, left_by_take, is_of, is_asked, may_be_given, reply_posted, reply_delivered, taken_back, forgets_on}

@@ -13,7 +13,7 @@ use Rattle.fuse_wire.specs.declared.reply.Reply.{Reply}
 use Rattle.broker_core.specs.Traffic.{TrafficState, asked_of, is_of}
 use Rattle.broker_core.specs.Rising.{IsRising}
 use Rattle.broker_core.specs.Roomy.{taken_among, is_not_before}
-use Rattle.broker_core.specs.declared.form.Form.{Form}
+use Rattle.fuse_wire.specs.declared.form.Form.{Form}
 use Rattle.broker_core.proofs.AskedLaws.{Asked, Below, Above, taken-before, none-above, none-below, above-first, rising-behind, below-later, found-once, found-before, out-before}
 
 -- an ask that is not taken is none of the taken ones

@@ -15,7 +15,7 @@ use Rattle.eden_base.specs.First.{first_where, without_where}
 use Rattle.eden_base.proofs.FirstLemmas.{first_where-append}
 use Rattle.broker_core.specs.Traffic.{is_of}
 use Rattle.broker_core.specs.Rising.{IsRising}
-use Rattle.broker_core.specs.declared.form.Form.{Form}
+use Rattle.fuse_wire.specs.declared.form.Form.{Form}
 use Rattle.broker_core.proofs.AskedLaws.{Asked, Below, one_test, below-later, none-below, found-before, out-before}
 
 -- an ask with a unique above all others stands last

@@ -1,5 +1,4 @@
 pub mod Broker
-pub mod Form
 pub mod Held
 pub mod Inside
 pub mod Kept

@@ -3,7 +3,7 @@ use Rattle.std.specs.Prelude.{ℕ, List, ◌++◌, option_to_list}
 use Rattle.std.specs.List.Sorted.{IsStrictlySortedBy}
 use Rattle.std.specs.Ordering.{nat_cmp}
 use Rattle.std.specs.Map.{keys_of}
-use Rattle.broker_core.specs.declared.form.Form.{Form}
+use Rattle.fuse_wire.specs.declared.form.Form.{Form}
 use Rattle.broker_core.specs.declared.unanswered.Unanswered.TheInside.{Inside}
 
 -- each unique is above those before it

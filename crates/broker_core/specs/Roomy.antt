@@ -5,7 +5,7 @@ use Rattle.std.specs.VecDeque.{deque_len, deque_capacity}
 use Rattle.fuse_wire.specs.declared.ask.Ask.{Ask}
 use Rattle.broker_core.specs.Rising.{IsRising}
 use Rattle.broker_core.specs.Traffic.{front, asked_of}
-use Rattle.broker_core.specs.declared.form.Form.{Form}
+use Rattle.fuse_wire.specs.declared.form.Form.{Form}
 use Rattle.broker_core.specs.declared.forgets.Forgets.TheInside.{Inside as Forgets}
 use Rattle.broker_core.specs.declared.traffic.Traffic.TheInside.{Inside as Traffic}
 

@@ -14,9 +14,10 @@ use Rattle.fuse_wire.specs.contracts.ask.Ask.{the_row as ask_row}
 use Rattle.fuse_wire.specs.contracts.item.Item.{the_row as item_row}
 use Rattle.fuse_wire.specs.contracts.reply.Reply.{the_row as reply_row}
 use Rattle.fuse_wire.specs.Given.{given_out}
-use Rattle.broker_core.specs.Form.{form_of, belongs}
-use Rattle.broker_core.specs.declared.form.Form.{Form}
-use Rattle.broker_core.specs.contracts.form.Form.{the_row as form_row}
+use Rattle.fuse_wire.specs.Ask.{form_of}
+use Rattle.fuse_wire.specs.Form.{belongs}
+use Rattle.fuse_wire.specs.declared.form.Form.{Form}
+use Rattle.fuse_wire.specs.contracts.form.Form.{the_row as form_row}
 use Rattle.broker_core.specs.declared.broker.IssueFault.{IssueFault}
 use Rattle.broker_core.specs.declared.broker.IssueFault.TheVariants.{Full}
 

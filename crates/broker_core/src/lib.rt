@@ -4,7 +4,6 @@
 mod broker;
 mod fault;
 mod forgets;
-mod form;
 mod held;
 mod seat;
 mod traffic;
@@ -12,5 +11,4 @@ mod unanswered;
 
 pub use broker::{Broker, IssueFault, MountFault};
 pub use fault::{DeliverFault, PostFault, TakeFault};
-pub use form::Form;
 pub use seat::Seat;

@@ -5,10 +5,9 @@ ghost use Rattle.broker_core.specs.Traffic.{no_traffic, front, asks_under_way, a
 
 use crate::broker::IssueFault;
 use crate::forgets::Forgets;
-use crate::form::Form;
 use crate::unanswered::Unanswered;
 use eden_base::{NoMemory, Number};
-use fuse_wire::{Answer, Ask, Item, Items, Reply, Request};
+use fuse_wire::{Answer, Ask, Form, Item, Items, Reply, Request};
 use std::alloc::Global;
 use std::collections::VecDeque;
 use std::marker::Model;
@@ -98,7 +97,7 @@ impl Traffic {
         let what = request.copy(self.alloc)?;
         self.untaken.reserve(1)?;
         self.posted.reserve(self.unanswered.len() + 1)?;
-        self.unanswered.push(unique, Form::of(request))?;
+        self.unanswered.push(unique, request.form())?;
         self.untaken.push_back_reserved(Ask { unique, what });
         Ok(())
     }

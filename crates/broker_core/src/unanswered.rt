@@ -5,8 +5,8 @@ ghost use Rattle.eden_base.specs.First.{first_where, without_where};
 ghost use Rattle.broker_core.specs.Traffic.{is_of};
 ghost use Rattle.broker_core.specs.Rising.{IsRising};
 
-use crate::form::Form;
 use eden_base::NoMemory;
+use fuse_wire::Form;
 use std::alloc::Global;
 use std::collections::BTreeMap;
 use std::marker::Model;
@@ -21,7 +21,7 @@ pub(crate) struct Unanswered {
 
 impl Model for Unanswered {
     ghost use Rattle.std.specs.Prelude.{ℕ, List, ◌++◌, option_to_list};
-    ghost use Rattle.broker_core.specs.declared.form.Form.{Form};
+    ghost use Rattle.fuse_wire.specs.declared.form.Form.{Form};
 
     ghost Value = { List (ℕ × Form) };
 

@@ -1,8 +1,11 @@
--- What a layer above has to know of a request: the kernel waits for no reply to a forget (linux/fuse.h), and asks only
--- on numbers that it holds. A kind of request is a row in each.
+-- What a layer above has to know of a request: the kernel waits for no reply to a forget (linux/fuse.h), asks only on
+-- numbers that it holds, and is answered in a form by the kind (libfuse's `fuse_lowlevel.h`). A kind of request is a row
+-- in each.
 use Rattle.std.specs.Prelude.{Bool, true, false, List, [], ◌∷◌, Option, Some, None}
 use Rattle.eden_base.specs.declared.number.Number.{Number}
 use Rattle.fuse_wire.specs.declared.ask.Request.{Request}
+use Rattle.fuse_wire.specs.declared.form.Form.{Form}
+use Rattle.fuse_wire.specs.declared.form.Form.TheVariants.{AnEntry, AnOpenEntry, Attributes, NoValue, OnlyAnError}
 use Rattle.fuse_wire.specs.declared.item.Item.{Item}
 use Rattle.fuse_wire.specs.declared.ask.Request.TheVariants.{Lookup, Getattr, Create, Mkdir, Unlink, Rmdir, Forget, BatchForget, Other}
 
@@ -23,6 +26,16 @@ nodes (Rmdir dir name) = dir ∷ []
 nodes (Forget item) = []
 nodes (BatchForget items) = []
 nodes (Other opcode node) = node ∷ []
+
+-- the form in which a request is answered where it does not fail
+abbrev pub form_of : Request → Form
+form_of (Lookup dir name) = AnEntry
+form_of (Mkdir dir name perm) = AnEntry
+form_of (Create dir name perm) = AnOpenEntry
+form_of (Getattr node) = Attributes
+form_of (Unlink dir name) = NoValue
+form_of (Rmdir dir name) = NoValue
+form_of request = OnlyAnError
 
 -- the item of a FORGET; a batch has none of its own
 abbrev pub item_of : Request → Option Item

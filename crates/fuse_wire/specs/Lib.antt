@@ -1,6 +1,7 @@
 pub mod Ask
 pub mod FaultReply
 pub mod Field
+pub mod Form
 pub mod Given
 pub mod Item
 pub mod Mode

@@ -1,10 +1,10 @@
 //! What the kernel asks.
 ghost use Rattle.std.specs.Prelude.{◌≡◌, IfOk};
-ghost use Rattle.fuse_wire.specs.Ask.{is_ask, nodes, item_of};
+ghost use Rattle.fuse_wire.specs.Ask.{form_of, is_ask, nodes, item_of};
 ghost use Rattle.fuse_wire.specs.RequestText.{other_of};
 
 use crate::opcode::Opcode;
-use crate::{Batch, BatchRoom, Item, Nodes};
+use crate::{Batch, BatchRoom, Form, Item, Nodes};
 use eden_base::{Name, NameRoom, NoMemory, Number, Perm};
 use std::alloc::Global;
 
@@ -132,6 +132,21 @@ impl Request {
         ensures ask { result ≡ is_ask self.now }
     {
         !matches!(self, Request::Forget(_) | Request::BatchForget(_))
+    }
+
+    /// Returns the form in which the request is answered where it does not fail.
+    pub fn form(&self) -> Form
+        ensures form { result ≡ form_of self.now }
+    {
+        match self {
+            Request::Lookup { .. } | Request::Mkdir { .. } => Form::AnEntry,
+            Request::Create { .. } => Form::AnOpenEntry,
+            Request::Getattr { .. } => Form::Attributes,
+            Request::Unlink { .. } | Request::Rmdir { .. } => Form::NoValue,
+            Request::Forget(_) | Request::BatchForget(_) | Request::Other { .. } => {
+                Form::OnlyAnError
+            }
+        }
     }
 
     /// Returns the numbers that the request goes to. Those of a forget are in its items.

@@ -1,7 +1,7 @@
 use Rattle.std.proofs.Common.{◌≡◌, true, refl, sym, ◌∙◌, subst, arith}
 use Rattle.std.specs.Prelude.{◌&&◌}
 use Rattle.eden_base.specs.First.{first_where, without_where}
-use Rattle.broker_core.specs.Form.{belongs}
+use Rattle.fuse_wire.specs.Form.{belongs}
 use Rattle.broker_core.specs.Traffic.{TrafficState, is_of, is_asked, may_be_given}
 use Rattle.broker_core.specs.Roomy.{taken_among}
 use Rattle.broker_core.proofs.AskedLaws.{taken-before}
