@@ -43,7 +43,7 @@ fn tree_of(alloc: Global, text: &[u8]) -> Option<Tree> {
 }
 
 /// Returns a name, which it makes once more where memory was refused.
-pub fn parsed(alloc: Global, name: &[u8]) -> Option<Name> {
+pub(crate) fn parsed(alloc: Global, name: &[u8]) -> Option<Name> {
     match Name::parse(alloc, name) {
         Ok(name) => Some(name),
         Err(_) => Name::parse(alloc, name).ok(),
@@ -208,7 +208,7 @@ fn are_named(links: &[LinkChange], names: &[Named]) -> bool {
 }
 
 /// Returns whether these files were made, these names differ, and this file comes next.
-pub fn differs(tree: &Tree, made: &[MadeRow], names: &[Named], next: u64) -> bool {
+pub(crate) fn differs(tree: &Tree, made: &[MadeRow], names: &[Named], next: u64) -> bool {
     match changes_again(tree) {
         Some(changes) => {
             are_rows(changes.made.as_slice(), made)
@@ -248,7 +248,7 @@ fn each_goes_so(alloc: Global, tree: &mut Tree, deeds: &[Deed]) -> bool {
 }
 
 /// Does each deed in turn on the tree of a text, and returns whether all go so.
-pub fn all_go_so(alloc: Global, text: &[u8], deeds: &[Deed]) -> bool {
+pub(crate) fn all_go_so(alloc: Global, text: &[u8], deeds: &[Deed]) -> bool {
     match tree_of(alloc, text) {
         Some(tree) => {
             let mut tree = tree;
