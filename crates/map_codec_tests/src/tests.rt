@@ -1,6 +1,6 @@
 //! Images from outside, each of their cuts and changes, and limits. Where one allocation is refused, the calls that take
 //! memory tell so, and succeed when they are made once more, as under `rt try --test --fail-alloc N`.
-ghost use Rattle.std.specs.Prelude.{◌≡◌, IfOk};
+ghost use Rattle.std.specs.Prelude.{◌≡◌, IfOk, IsTrue};
 ghost use Rattle.map_codec.specs.Fit.{CountsFit, IsFit};
 
 use crate::vectors::{CHANGED, LOOKED_UP, MOVED};
@@ -359,6 +359,16 @@ fn takes_the_image_of_what_was_asked(rt: HostRuntime) -> Result<(), Fail> {
     Ok(())
 }
 
+/// Asks whether an image is fit, and once more where memory was refused.
+fn is_fit(alloc: Global, image: &Image) -> Result<bool, NoMemory>
+    ensures fit { IfOk result (λ fit. IsTrue fit → IsFit image.now) }
+{
+    match image.is_fit(alloc) {
+        Ok(fit) => Ok(fit),
+        Err(NoMemory) => image.is_fit(alloc),
+    }
+}
+
 #[test]
 fn refuses_a_count_of_33_bits(rt: HostRuntime) -> Result<(), Fail> {
     let alloc = rt.alloc();
@@ -368,7 +378,7 @@ fn refuses_a_count_of_33_bits(rt: HostRuntime) -> Result<(), Fail> {
         first.count = 1 << 32;
     }
     image.entries = Entries::of(kept);
-    if !image.is_fit(alloc)? {
+    if !is_fit(alloc, &image)? {
         panic!(rt; "a count is no part of being fit");
     }
     assert!(rt; matches!(text_of(alloc, &image, 1), Err(WriteFault::CountTooLarge)));
