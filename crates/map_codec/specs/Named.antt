@@ -1,5 +1,5 @@
 -- Which file each entry of an image names in a tree, and what is found of them one by one. (This project's own.)
-use Rattle.std.specs.Prelude.{◌≡◌, ◌<◌, ℕ, List, length, map, slice_get, All, Option, Some, None}
+use Rattle.std.specs.Prelude.{◌≡◌, ◌<◌, ℕ, true, false, List, length, map, slice_get, All, Option, Some, None}
 use Rattle.std.specs.Option.{option_map_or}
 use Rattle.std.specs.List.{AllByRecursion}
 use Rattle.eden_base.specs.declared.number.FileId.{FileId}
@@ -10,6 +10,9 @@ use Rattle.checkout.specs.Tree.{Tree}
 use Rattle.inode_map.specs.EntryPlaces.{Climbs}
 use Rattle.inode_map.specs.InodeMap.{IsFileOf, entry_of, number_of_kept}
 use Rattle.inode_map.specs.declared.inode_map.Kept.{Kept}
+use Rattle.map_codec.specs.declared.directories.DirectoryEntry.{DirectoryEntry}
+use Rattle.map_codec.specs.declared.directories.DirectoryEntry.TheVariants.{At, Missing, Unwanted}
+use Rattle.map_codec.specs.Raising.{has_parent}
 
 -- each entry names a file
 abbrev pub EachNames : Tree → List Kept → Type 0
@@ -41,6 +44,12 @@ IsDirectoryAt entries n None = n ≡ 1
 abbrev pub IsDirectoryOf : List Kept → Place → Option ℕ → Type 0
 IsDirectoryOf entries (Linked dir name) at = IsDirectoryAt entries dir.0 at
 IsDirectoryOf entries (Unlinked file) at = at ≡ None
+
+-- what is told of the directory of a place: it wants no entry, it has one there, or it has none
+abbrev pub TellsDirectory : List Kept → Place → DirectoryEntry → Type 0
+TellsDirectory entries place Unwanted = (has_parent entries place ≡ true) × IsDirectoryOf entries place None
+TellsDirectory entries place (At i) = (has_parent entries place ≡ true) × IsDirectoryOf entries place (Some i)
+TellsDirectory entries place Missing = has_parent entries place ≡ false
 
 -- where the directory of each entry has its own
 pub record AreDirectories (entries : List Kept) (places : List (Option ℕ)) : Type 0 where

@@ -2,8 +2,8 @@
 ghost use Rattle.std.specs.Prelude.{◌≡◌, ◌<◌, None, true, false, IfOk, IfSome, MatchOption, length};
 ghost use Rattle.inode_map.specs.InodeMap.{entry_of};
 ghost use Rattle.map_codec.specs.Fit.{rises, entry_follows};
-ghost use Rattle.map_codec.specs.Named.{AreDirectories, IsDirectoryOf, IsPlaceOf};
-ghost use Rattle.map_codec.specs.Raising.{has_parent, have_parents};
+ghost use Rattle.map_codec.specs.Named.{AreDirectories, IsPlaceOf, TellsDirectory};
+ghost use Rattle.map_codec.specs.Raising.{have_parents};
 
 use eden_base::{NoMemory, Number, Place};
 use inode_map::Kept;
@@ -22,26 +22,35 @@ fn place_of(entries: &[Kept], near: usize, number: Number) -> Option<usize>
         .ok()
 }
 
-/// Returns where the directory of a place has its entry, nowhere for the root and for a mark; nothing where it has none.
-fn directory_of(entries: &[Kept], near: usize, place: &Place) -> Option<Option<usize>>
+/// Where the directory of a place has its entry, as far as it wants one.
+pub(crate) enum DirectoryEntry {
+    /// The directory is the root, or the place is a mark and in none.
+    Unwanted,
+    At(usize),
+    Missing,
+}
+
+/// Returns where the directory of a place has its entry: at `near`, or where a search finds it.
+fn directory_of(entries: &[Kept], near: usize, place: &Place) -> DirectoryEntry
     requires rise { rises entry_follows None entries.now ≡ true }
-    ensures { MatchOption result (has_parent entries.now place.now ≡ false)
-        (λ at. (has_parent entries.now place.now ≡ true) × IsDirectoryOf entries.now place.now at) }
+    ensures { TellsDirectory entries.now place.now result }
 {
     match place {
         Place::Linked { parent, .. } => {
             if *parent == Number::ROOT {
-                return Some(None);
+                return DirectoryEntry::Unwanted;
             }
-            let at = place_of(entries, near, *parent)?;
-            Some(Some(at))
+            match place_of(entries, near, *parent) {
+                Some(at) => DirectoryEntry::At(at),
+                None => DirectoryEntry::Missing,
+            }
         }
-        Place::Unlinked { .. } => Some(None),
+        Place::Unlinked { .. } => DirectoryEntry::Unwanted,
     }
 }
 
-/// Returns where the directory of each entry has its own, as `directory_of` does; nothing where one has none. Entries
-/// beside each other often stand in one directory, so it looks first where the last one was found.
+/// Returns where the directory of each entry has its own, or nowhere if it wants none; nothing where one is missing.
+/// Entries beside each other often stand in one directory, so it looks first where the last one was found.
 pub(crate) fn directories(
     alloc: Global,
     entries: &[Kept],
@@ -53,8 +62,10 @@ pub(crate) fn directories(
     let mut places = Vec::with_capacity(alloc, entries.len())?;
     let mut near = 0;
     for kept in entries {
-        let Some(place) = directory_of(entries, near, &kept.place) else {
-            return Ok(None);
+        let place = match directory_of(entries, near, &kept.place) {
+            DirectoryEntry::Unwanted => None,
+            DirectoryEntry::At(at) => Some(at),
+            DirectoryEntry::Missing => return Ok(None),
         };
         near = place.unwrap_or(near);
         places.push_reserved(place);
