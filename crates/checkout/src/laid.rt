@@ -129,6 +129,7 @@ fn brought(alloc: Global, changes: &Changes) -> Result<(MadeFiles, Added), NoMem
 }
 
 /// Tells the place of a bad link, behind those of the made files.
+/// It takes the links for the proof alone: their length bounds the sum.
 fn bad_link(files: &[Made], links: &[LinkChange], i: usize) -> ChangeFault
     requires within { i < length links.now }
     ensures { result ≡ BadChange (length files.now + 1 + i) }
