@@ -70,17 +70,17 @@ impl Served {
     }
 
     /// Returns a daemon that begins to serve a tree, with numbers that were given before: nothing is loaded of them. So
-    /// many attributes may be loaded at once, and one at least.
+    /// many attributes may be loaded at once, and one at least. Numbers and tree are lost where memory is refused.
     pub fn of_entries(
         alloc: Global,
-        entries: &[Kept],
+        entries: Vec<Kept>,
         next: u64,
         limit: usize,
         tree: Tree,
     ) -> Result<Served, NoMemory>
         requires tree { IsTree tree }
-        requires sound { IsSound (served_of entries.now next limit tree) }
-        ensures served { IfOk result (λ served. served ≡ served_of entries.now next limit tree) }
+        requires sound { IsSound (served_of entries.items next limit tree) }
+        ensures served { IfOk result (λ served. served ≡ served_of entries.items next limit tree) }
     {
         let map = InodeMap::of_entries(alloc, entries, next, limit.max(1))?;
         Ok(Served { map, tree })

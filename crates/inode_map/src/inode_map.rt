@@ -109,16 +109,16 @@ impl InodeMap {
     }
 
     /// Remembers entries that were kept before, and gives `next` as the next number. So many attributes may be loaded at
-    /// once.
+    /// once. The entries are lost where memory is refused.
     pub fn of_entries(
         alloc: Global,
-        entries: &[Kept],
+        entries: Vec<Kept>,
         next: u64,
         loaded_limit: usize,
     ) -> Result<InodeMap, NoMemory>
         requires limit { 1 ≤ loaded_limit }
-        requires entries { AreEntries entries.now next }
-        ensures map { IfOk result (λ map. map ≡ map_of entries.now next loaded_limit) }
+        requires entries { AreEntries entries.items next }
+        ensures map { IfOk result (λ map. map ≡ map_of entries.items next loaded_limit) }
     {
         let loaded = Loaded::new(alloc, loaded_limit)?;
         let table = Table::of_entries(alloc, entries, next)?;

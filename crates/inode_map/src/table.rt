@@ -2,6 +2,8 @@
 ghost use Rattle.std.specs.Prelude.{◌≡◌, ℕ, ◌+◌, ◌<◌, ◌≤◌, List, [], ◌∷◌, ◌++◌, Option, Some, None, IsSome, MatchOption, IfOk, OnOk, OnErr, ◌-◌, true, false, nat_lt, vec_len, vec_capacity, length, if◌then◌else◌};
 ghost use Rattle.std.specs.Option.{option_map, option_copied, option_and_then, IfNone, IfSome, OnSome};
 ghost use Rattle.std.specs.List.{AllByRecursion, list_any, filter};
+ghost use Rattle.std.specs.BTreeMap.{insert_entry};
+ghost use Rattle.std.specs.Ordering.{nat_cmp};
 ghost use Rattle.checkout.specs.Tree.{Tree};
 ghost use Rattle.eden_base.specs.First.{changed_where, without_where};
 ghost use Rattle.eden_base.specs.Limits.{end_of_numbers, greatest_count};
@@ -48,18 +50,6 @@ pub(crate) struct Held {
 }
 
 impl Held {
-    /// Returns what an entry has beside its number, in memory of its own. No file is remembered of it.
-    fn of(alloc: Global, kept: &Kept) -> Result<Held, NoMemory>
-        ensures { IfOk result (λ held. held ≡ held_of kept.now) }
-    {
-        let place = copy_of(alloc, &kept.place)?;
-        Ok(Held {
-            place,
-            count: kept.count,
-            file: None,
-        })
-    }
-
     /// Tells whether the entry stands under a name.
     pub fn is_linked(&self) -> bool
         ensures { result ≡ is_under_name self.now.place }
@@ -127,14 +117,15 @@ impl Table {
     }
 
     /// Returns a table of these entries, of which no file is remembered.
-    pub fn of_entries(alloc: Global, entries: &[Kept], next: u64) -> Result<Table, NoMemory>
-        requires { AreEntries entries.now next }
+    pub fn of_entries(alloc: Global, entries: Vec<Kept>, next: u64) -> Result<Table, NoMemory>
+        requires { AreEntries entries.items next }
         ensures { IfOk result (λ table. table
-            ≡ record { entries = entries.now; remembered = []; next = next; spare = 0 }) }
+            ≡ record { entries = entries.items; remembered = []; next = next; spare = 0 }) }
     {
+        let given = entries.as_slice();
+        let index = Index::of_entries(alloc, given)?;
+        let way = Vec::with_capacity(alloc, given.len())?;
         let slots = slots_of(alloc, entries)?;
-        let index = Index::of_entries(alloc, entries)?;
-        let way = Vec::with_capacity(alloc, entries.len())?;
         Ok(Table {
             slots,
             index,
@@ -364,16 +355,29 @@ impl Table {
 }
 
 /// Puts entries, whose numbers rise, under their numbers.
-fn slots_of(alloc: Global, entries: &[Kept]) -> Result<BTreeMap<u64, Option<Held>>, NoMemory>
-    requires { (next : ℕ) × AreNumbers 2 next entries.now }
-    ensures { IfOk result (λ slots. slots.entries ≡ slots_of entries.now) }
+fn slots_of(alloc: Global, entries: Vec<Kept>) -> Result<BTreeMap<u64, Option<Held>>, NoMemory>
+    requires { (next : ℕ) × AreNumbers 2 next entries.items }
+    ensures { IfOk result (λ slots. slots.entries ≡ slots_of entries.items) }
 {
     let mut slots = BTreeMap::new(alloc);
     for kept in entries {
-        let held = Held::of(alloc, kept)?;
-        slots.insert(kept.number.0, Some(held))?;
+        put(&mut slots, kept)?;
     }
     Ok(slots)
+}
+
+/// Puts an entry under its number. No file is remembered of it.
+fn put(slots: &mut BTreeMap<u64, Option<Held>>, kept: Kept) -> Result<(), NoMemory>
+    ensures { OnOk result (slots.new.entries
+        ≡ insert_entry nat_cmp slots.old.entries kept.number.0 (Some (held_of kept))) }
+{
+    let held = Held {
+        place: kept.place,
+        count: kept.count,
+        file: None,
+    };
+    slots.insert(kept.number.0, Some(held))?;
+    Ok(())
 }
 
 /// Returns the entries that stand under their numbers, in memory of their own.

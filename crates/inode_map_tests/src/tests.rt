@@ -162,21 +162,58 @@ fn load(map: &mut InodeMap, number: Number) {
     }
 }
 
-/// Makes a map of one entry, whose number is the last that was given, again where memory was short.
-fn map_of_one(alloc: Global, number: Number, place: Place, count: u64) -> Result<InodeMap, NoMemory>
+/// Where an entry stands, as data: under a name of the root, or nowhere, with the mark of a file.
+#[derive(Clone, Copy)]
+enum Spot {
+    Named(&'static [u8]),
+    Marked(u64),
+}
+
+/// Makes the place of a spot, unless its bytes are no name.
+fn place_of(alloc: Global, spot: Spot) -> Option<Place> {
+    match spot {
+        Spot::Named(bytes) => Some(Place::Linked {
+            parent: Number::ROOT,
+            name: parsed(alloc, bytes)?,
+        }),
+        Spot::Marked(file) => Some(Place::Unlinked { file: FileId(file) }),
+    }
+}
+
+/// Makes a map of one entry, whose number is the last that was given.
+fn map_of_place(
+    alloc: Global,
+    number: Number,
+    place: Place,
+    count: u64,
+) -> Result<InodeMap, NoMemory>
     requires above_root { 2 ≤ number.0 }
     requires fits { number.0 < end_of_numbers }
     requires of_use { 0 < count }
 {
     let next = number.0 + 1;
-    let entries = [Kept {
+    let entry = Kept {
         number,
         place,
         count,
-    }];
-    match InodeMap::of_entries(alloc, &entries, next, 1) {
-        Err(_refused) => InodeMap::of_entries(alloc, &entries, next, 1),
-        told => told,
+    };
+    let entries = Vec::from_array(alloc, [entry])?;
+    InodeMap::of_entries(alloc, entries, next, 1)
+}
+
+/// Makes that map of a spot, and makes it again where memory was short.
+fn map_of_one(alloc: Global, number: Number, spot: Spot, count: u64) -> Option<InodeMap>
+    requires above_root { 2 ≤ number.0 }
+    requires fits { number.0 < end_of_numbers }
+    requires of_use { 0 < count }
+{
+    let place = place_of(alloc, spot)?;
+    match map_of_place(alloc, number, place, count) {
+        Ok(map) => Some(map),
+        Err(NoMemory) => {
+            let place = place_of(alloc, spot)?;
+            map_of_place(alloc, number, place, count).ok()
+        }
     }
 }
 
@@ -472,11 +509,8 @@ const AT_THE_ENDS: [Deed; 9] = [
 
 /// Returns whether the calls on that map go so.
 fn gives_up_at_the_ends(alloc: Global) -> Option<bool> {
-    let place = Place::Linked {
-        parent: Number::ROOT,
-        name: parsed(alloc, b"src")?,
-    };
-    let mut map = map_of_one(alloc, Number(9223372036854775806), place, 4294967294).ok()?;
+    let spot = Spot::Named(b"src");
+    let mut map = map_of_one(alloc, Number(9223372036854775806), spot, 4294967294)?;
     Some(each_goes_so(alloc, &mut map, &AT_THE_ENDS))
 }
 
@@ -502,13 +536,12 @@ fn names_until_forgotten(alloc: Global, map: &mut InodeMap, tree: &Tree) -> bool
 
 /// Returns that of a map in which number 5 is unlinked.
 fn names_a_mark(alloc: Global, tree: &Tree) -> bool {
-    let place = Place::Unlinked { file: FileId(7) };
-    match map_of_one(alloc, Number(5), place, 2) {
-        Ok(map) => {
+    match map_of_one(alloc, Number(5), Spot::Marked(7), 2) {
+        Some(map) => {
             let mut map = map;
             names_until_forgotten(alloc, &mut map, tree)
         }
-        Err(NoMemory) => false,
+        None => false,
     }
 }
 

@@ -68,8 +68,8 @@ pub fn raise(
         Err(ChangeFault::BadChange(place)) => return Err(RaiseFault::BadChange(place)),
         Err(ChangeFault::NoMemory) => return Err(RaiseFault::NoMemory),
     };
-    let entries = image.entries.as_slice();
-    match entry_fault(alloc, &tree, entries, image.next_number) {
+    let entries = image.entries.into_vec();
+    match entry_fault(alloc, &tree, entries.as_slice(), image.next_number) {
         Ok(None) => {}
         Ok(Some(fault)) => return Err(fault),
         Err(NoMemory) => return Err(RaiseFault::NoMemory),

@@ -299,15 +299,15 @@ fn list_chain(alloc: Global, entries: u32) -> Result<Vec<Kept>>
 }
 
 #[inline(never)]
-fn of_entries(alloc: Global, entries: &[Kept], next: u64) -> Result<InodeMap, NoMemory>
-    requires entries { AreEntries entries.now next }
+fn of_entries(alloc: Global, entries: Vec<Kept>, next: u64) -> Result<InodeMap, NoMemory>
+    requires entries { AreEntries entries.items next }
 {
     InodeMap::of_entries(alloc, entries, next, LOADED_LIMIT)
 }
 
 /// Makes a map of entries, and tells whether it knows the last.
-fn knows_last(alloc: Global, entries: &[Kept], next: u64) -> Result<bool, NoMemory>
-    requires entries { AreEntries entries.now next }
+fn knows_last(alloc: Global, entries: Vec<Kept>, next: u64) -> Result<bool, NoMemory>
+    requires entries { AreEntries entries.items next }
     requires next { 0 < next }
 {
     let map = of_entries(alloc, entries, next)?;
@@ -318,7 +318,7 @@ fn knows_last(alloc: Global, entries: &[Kept], next: u64) -> Result<bool, NoMemo
 fn knows_last_of(alloc: Global, entries: u32) -> Result<bool> {
     let list = list_chain(alloc, entries)?;
     let next = entries as u64 + 2;
-    Ok(knows_last(alloc, list.as_slice(), next)?)
+    Ok(knows_last(alloc, list, next)?)
 }
 
 /// Makes a map of given entries.

@@ -1,8 +1,6 @@
 -- The chain is fit for a map.
-use Rattle.std.proofs.Common.{◌≡◌, ◌+◌, ◌≤◌, List, length, sym, subst, arith}
+use Rattle.std.proofs.Common.{◌≡◌, ◌+◌, ◌≤◌, length, arith}
 use Rattle.eden_base.specs.Limits.{end_of_numbers}
-use Rattle.inode_map.specs.InodeMap.{AreEntries}
-use Rattle.inode_map.specs.declared.inode_map.Kept.{Kept}
 use Rattle.measure_map.proofs.ChainLemmas.{chain-entries}
 use Rattle.measure_map.proofs.knows_last_of.Goals as goal
 
@@ -12,4 +10,4 @@ knows_last-requires-clause-entries c =
     let n = c.args.entries in
     let fits : n + 2 ≤ end_of_numbers = let few = c.ranges.entries.fits in omega arith in
     let len : length list.items ≡ n = c.in_ok-list.ensures.len in
-    subst (λ (es : List Kept). AreEntries es (n + 2)) (sym c.as_slice.ensures.value) (chain-entries list.items (n + 2) c.in_ok-list.ensures.chain (omega arith) fits)
+    chain-entries list.items (n + 2) c.in_ok-list.ensures.chain (omega arith) fits

@@ -10,9 +10,12 @@ use Rattle.map_codec.proofs.raising.raise.Goals as goal
 
 pub of_entries-requires-clause-sound : goal.of_entries-requires-clause-sound
 of_entries-requires-clause-sound c =
-    let same = sym c.as_slice-entries.ensures.entries in
+    let entries = c.into_vec-entries.result.items in
+    let same = sym c.into_vec-entries.ensures.entries in
     let rise = subst (λ (es : List Kept). rises entry_follows None es ≡ true) same c.requires.fit.entries_rise in
     let of_use = subst (λ (es : List Kept). list_all (is_of_use es) es ≡ true) same c.requires.fit.each_of_use in
     let counts = subst CountsFit same c.requires.counts in
-    let may = subst (StandsAgainst c.in-Ok.tree c.as_slice-entries.result.now c.args.image.next_number) c.in-Ok-None.field-0-is c.in-Ok-None.ensures.fault in
-    raised_sound c.in-Ok.tree c.as_slice-entries.result.now c.args.image.next_number c.args.limit rise of_use counts may c.in-Ok.ensures.is_tree
+    let none = c.in-Ok-None.field-0-is in
+    let looked = subst (StandsAgainst c.in-Ok.tree c.as_slice.result.now c.args.image.next_number) none c.in-Ok-None.ensures.fault in
+    let may = subst (λ (es : List Kept). StandsAgainst c.in-Ok.tree es c.args.image.next_number None) c.as_slice.ensures.value looked in
+    raised_sound c.in-Ok.tree entries c.args.image.next_number c.args.limit rise of_use counts may c.in-Ok.ensures.is_tree

@@ -5,4 +5,4 @@ use Rattle.fuse_ops.proofs.served.Served.of_entries.Goals as goal
 
 pub of_entries-requires-clause-entries : goal.of_entries-requires-clause-entries
 of_entries-requires-clause-entries c =
-    sound-entries (served_of c.args.entries.now c.args.next c.args.limit c.args.tree) c.requires.sound
+    sound-entries (served_of c.args.entries.items c.args.next c.args.limit c.args.tree) c.requires.sound

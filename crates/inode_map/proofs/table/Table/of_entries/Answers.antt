@@ -1,5 +1,6 @@
 -- The entries are read again from their slots.
-use Rattle.std.proofs.Common.{◌≡◌, List, refl, sym, ap, ◌∙◌, subst, arith}
+use Rattle.std.proofs.Common.{◌≡◌, List, length, refl, sym, ap, ◌∙◌, subst, arith}
+use Rattle.inode_map.specs.InodeMap.{AreEntries}
 use Rattle.inode_map.specs.Links.{link_of}
 use Rattle.inode_map.specs.Table.{kept_from, IsIndexed}
 use Rattle.inode_map.specs.declared.inode_map.Kept.{Kept}
@@ -8,16 +9,20 @@ use Rattle.inode_map.proofs.table.Table.of_entries.Goals as goal
 
 pub invariant_of-result : goal.invariant_of-result
 invariant_of-result c =
-    let es = c.args.entries.now in
+    let es = c.args.entries.items in
     let same : kept_from c.in_ok-slots.slots.entries ≡ es = ap kept_from c.in_ok-slots.ensures ∙ slots-kept es in
     record {
       slots = rw c.in_ok-slots.ensures (slots-are es 2 c.args.next c.requires.numbers);
-      indexed = subst (λ (all : List Kept). IsIndexed all (link_of c.in_ok-index.index)) (sym same) c.in_ok-index.ensures;
+      indexed = subst (λ (all : List Kept). IsIndexed all (link_of c.in_ok-index.index)) (c.as_slice-given.ensures.value ∙ sym same) c.in_ok-index.ensures;
       ready = λ is. let none : ⊥ = cc in absurd none;
-      room = let e = ap Rattle.std.proofs.Common.length c.in_ok-slots.ensures ∙ slots-length es in let r = c.in_ok-way.ensures.capacity in omega arith;
+      room =
+          let e = ap length c.in_ok-slots.ensures ∙ slots-length es in
+          let given = ap length c.as_slice-given.ensures.value in
+          let r = c.in_ok-way.ensures.capacity in
+          omega arith;
     }
 
 pub returns : goal.returns
 returns c =
-    let es = c.args.entries.now in
+    let es = c.args.entries.items in
     rw (c.in_ok-slots.ensures, slots-kept es, slots-files es) refl
