@@ -19,4 +19,5 @@ pub mod SlotLemmas
 pub mod SlotWrites
 pub mod Striking
 pub mod TableLemmas
+pub mod TakingBack
 pub mod Walking

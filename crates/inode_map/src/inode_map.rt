@@ -230,9 +230,26 @@ impl InodeMap {
         ensures refused { IfErr result (IsGiveRefusal self.old parent.0 name.now) }
         ensures unchanged { OnErr result (self.new ≡ self.old) }
     {
-        if let Some(number) = self.table.find(parent, name) {
-            return self.give_again(parent, name, number);
+        match self.table.find(parent, name) {
+            Some(number) => self.give_again(parent, name, number),
+            None => self.give_next(alloc, parent, name),
         }
+    }
+
+    /// Gives the next number to a name in a directory that has none, as `give` does.
+    pub fn give_next(
+        &mut self,
+        alloc: Global,
+        parent: Number,
+        name: &Name,
+    ) -> Result<Number, GiveFault>
+        requires free { entry_at self.old.entries parent.0 name.now ≡ None }
+        ensures number { IfOk result (λ number. number ≡ number_given self.old parent.0 name.now) }
+        ensures given { OnOk result (self.new ≡ given self.old parent name.now) }
+        ensures accepted { OnOk result (give_fault self.old parent.0 name.now ≡ None) }
+        ensures refused { IfErr result (IsGiveRefusal self.old parent.0 name.now) }
+        ensures unchanged { OnErr result (self.new ≡ self.old) }
+    {
         if self.table.next() >= END_OF_NUMBERS {
             return Err(GiveFault::NoNumber);
         }
@@ -271,7 +288,7 @@ impl InodeMap {
         Ok(self.table.add(parent, name))
     }
 
-    /// Gives the number that a name in a directory has, as `give` does. It takes no memory.
+    /// Gives the number that a name in a directory has, as `give` does. It takes no memory, and a forget of one takes it back.
     pub fn give_again(
         &mut self,
         parent: Number,
@@ -283,6 +300,7 @@ impl InodeMap {
         ensures given { OnOk result (self.new ≡ given self.old parent name.now) }
         ensures accepted { OnOk result (give_fault self.old parent.0 name.now ≡ None) }
         ensures refused { IfErr result (λ fault. give_fault self.old parent.0 name.now ≡ Some fault) }
+        ensures taken_back { IfOk result (λ number. forgotten self.new number.0 1 ≡ self.old) }
         ensures unchanged { OnErr result (self.new ≡ self.old) }
     {
         if !self.table.raise(number) {

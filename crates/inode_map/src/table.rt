@@ -247,6 +247,7 @@ impl Table {
         ensures raised { self.new ≡ (if result then record self.old {
           entries = changed_where (has_number number.0) once_more self.old.entries;
         } else self.old) }
+        ensures kept { AreOfKept file_number self.old.entries self.old.remembered }
     {
         let Some(slot) = self.slots.get_mut(&number.0) else {
             unreachable!()

@@ -1,13 +1,15 @@
 -- The number that the place has is counted once more.
-use Rattle.std.proofs.Common.{◌≡◌, ◌<◌, ◌≤◌, IsSome, refl, sym, subst}
+use Rattle.std.proofs.Common.{◌≡◌, ◌<◌, ◌≤◌, Some, IsSome, refl, sym, ◌∙◌, subst}
+use Rattle.std.specs.Option.{option_map}
 use Rattle.eden_base.proofs.MemberLemmas.{some-IsSome}
 use Rattle.eden_base.specs.First.{changed_where}
 use Rattle.eden_base.specs.Limits.{greatest_count}
-use Rattle.inode_map.specs.InodeMap.{MapState, has_number, entry_of, count_of, once_more, given, loaded_number, AreNumbers}
+use Rattle.inode_map.specs.InodeMap.{MapState, has_number, entry_of, count_of, once_more, given, entry_at, number_of_kept, loaded_number, AreNumbers}
 use Rattle.inode_map.specs.Inside.{IsConsistent}
 use Rattle.inode_map.specs.Table.{TableState}
 use Rattle.inode_map.proofs.Giving.{has-entry, again-full, again-free, again-given, again-kept, is-full, is-free}
 use Rattle.inode_map.proofs.Keeping.{of-changed}
+use Rattle.inode_map.proofs.TakingBack.{taken-back}
 use Rattle.inode_map.proofs.inode_map.InodeMap.give_again.Goals as goal
 
 pub raise-requires : goal.raise-requires
@@ -48,3 +50,11 @@ returns-clause-accepted c =
     let numbers = subst (λ (m : MapState). AreNumbers 2 m.next m.entries) c.self.view_is c.self.invariant.numbers in
     let free = subst (λ (m : MapState). count_of m.entries c.args.number.0 < greatest_count) c.self.view_is (is-free _ c.if-not-raise.ensures.may) in
     again-free map c.args.parent.0 c.args.name.now c.args.number (count_of map.entries c.args.number.0) numbers c.requires.has refl free
+
+pub returns-clause-taken_back : goal.returns-clause-taken_back
+returns-clause-taken_back c =
+    let m = c.self.inside in
+    let map : MapState = record { entries = m.table.entries; next = m.table.next; bad_items = m.bad_items; loaded = m.loaded.attrs; limit = m.loaded.limit; spare = m.table.spare; remembered = m.table.remembered } in
+    let has = subst (λ (s : MapState). Some c.args.number ≡ option_map number_of_kept (entry_at s.entries c.args.parent.0 c.args.name.now)) (sym c.self.view_is) c.requires.has in
+    let h = has-entry map.entries 2 map.next c.args.parent.0 c.args.name.now c.args.number c.self.invariant.numbers has in
+    rw (c.if-not-raise.ensures.raised) (taken-back map c.args.number.0 h.kept (record { numbers = c.self.invariant.numbers; of_use = c.self.invariant.of_use }) c.self.invariant.loaded c.if-not-raise.ensures.kept h.entry ∙ c.self.view_is)

@@ -12,7 +12,7 @@ use Rattle.inode_map.specs.declared.table.Held.{Held}
 use Rattle.inode_map.proofs.Giving.{once-keeps}
 use Rattle.inode_map.proofs.IndexedLemmas.{indexed-changed}
 use Rattle.inode_map.proofs.Lowering.{count_in, count-held, slots-same}
-use Rattle.inode_map.proofs.SlotLemmas.{slot_of, slot_held}
+use Rattle.inode_map.proofs.SlotLemmas.{slot_of, slot_held, files-kept}
 use Rattle.inode_map.proofs.SlotWrites.{set-slots, set-kept, set-files}
 use Rattle.inode_map.proofs.TableLemmas.{never-none, never-reserved}
 use Rattle.inode_map.proofs.table.Table.raise.Goals as goal
@@ -89,3 +89,9 @@ returns-clause-raised c =
       set-kept t.next t.is_reserved c.args.number.0 h now t.slots.entries 2 once_more refl c.self.invariant.slots found,
       set-files t.next t.is_reserved c.args.number.0 h now t.slots.entries 2 refl c.self.invariant.slots found,
     ) refl
+
+pub returns-then-held-ge-GREATEST_COUNT-clause-kept : goal.returns-then-held-ge-GREATEST_COUNT-clause-kept
+returns-then-held-ge-GREATEST_COUNT-clause-kept c = rw (← c.self.view_is) (files-kept c.self.inside.slots.entries)
+
+pub returns-clause-kept : goal.returns-clause-kept
+returns-clause-kept c = rw (← c.self.view_is) (files-kept c.self.inside.slots.entries)

@@ -6,7 +6,7 @@ use Rattle.inode_map.specs.Table.{TableState}
 use Rattle.inode_map.specs.declared.inode_map.Kept.{Kept}
 use Rattle.inode_map.proofs.Giving.{kept-new, next-none}
 use Rattle.inode_map.proofs.Keeping.{of-added}
-use Rattle.inode_map.proofs.inode_map.InodeMap.give.Goals as goal
+use Rattle.inode_map.proofs.inode_map.InodeMap.give_next.Goals as goal
 
 pub invariant_of-self-2 : goal.invariant_of-self-2
 invariant_of-self-2 c =
