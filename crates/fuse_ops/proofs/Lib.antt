@@ -1,4 +1,5 @@
 pub mod Entering
+pub mod EnteringAgain
 pub mod Finding
 pub mod Fits
 pub mod FitsAdded

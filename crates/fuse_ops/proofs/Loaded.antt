@@ -2,7 +2,7 @@
 use Rattle.std.proofs.Common.{◌≡◌, ℕ, ◌<◌, Bool, true, false, List, [], ◌∷◌, ◌++◌, Option, Some, None, is_some, refl, sym, ap, ◌∙◌, subst, inl, inr, ◌⊎◌, arith}
 use Rattle.std.specs.List.{filter}
 use Rattle.std.specs.Option.{option_map, option_map_or}
-use Rattle.std.specs.Prelude.{◌+◌, ◌-◌, ◌==◌, ◌^◌, min, not, if◌then◌else◌}
+use Rattle.std.specs.Prelude.{◌+◌, ◌-◌, ◌==◌, ◌^◌, min, if◌then◌else◌}
 use Rattle.eden_base.proofs.MemberLemmas.{some-IsSome}
 use Rattle.eden_base.proofs.NumberTests.{eq-false, false-ne}
 use Rattle.eden_base.specs.First.{changed_where}
@@ -72,19 +72,15 @@ told-new map number attr other none =
     ∙ ap (λ (o : Option Attr). if is_some o then used map.loaded number.0 else load map.limit map.loaded number attr) none
 
 -- the attributes of a loaded number, with the count of its names
-pub loaded-attr : (served : ServedState) (n : ℕ) (file : FileId) (linked : Bool) (nlink : ℕ) (loaded : Attr) → AreLoaded served → Names served n file → is_unlinked served.tree file ≡ not linked →
-    nlink ≡ (if linked then nlink_of_kind loaded.kind else 0) → attr_of served.map.loaded n ≡ Some loaded →
+pub loaded-attr : (served : ServedState) (n : ℕ) (file : FileId) (unlinked : Bool) (nlink : ℕ) (loaded : Attr) → AreLoaded served → Names served n file → is_unlinked served.tree file ≡ unlinked →
+    nlink ≡ (if unlinked then 0 else nlink_of_kind loaded.kind) → attr_of served.map.loaded n ≡ Some loaded →
     file_attr served.tree file ≡ Some (record { kind = loaded.kind; perm = loaded.perm; size = loaded.size; nlink = nlink })
-loaded-attr served n file linked nlink loaded right names unlinked counted at =
+loaded-attr served n file unlinked nlink loaded right names is counted at =
     let was = right n loaded at in
     let same : was.0 ≡ file = IsFileOf-same served.tree served.map.entries n was.0 file was.1 names in
-    let told : nlink_of served.tree file loaded.kind ≡ nlink = ap (λ (b : Bool). if b then 0 else nlink_of_kind loaded.kind) unlinked ∙ count_in linked ∙ sym counted in
+    let told : nlink_of served.tree file loaded.kind ≡ nlink = ap (λ (b : Bool). if b then 0 else nlink_of_kind loaded.kind) is ∙ sym counted in
     ap (option_map (λ (f : Content). record { kind = f.kind; perm = f.perm; size = f.size; nlink = nlink_of served.tree file f.kind })) (sym (ap (tree_file served.tree) same) ∙ was.2)
     ∙ ap (λ (m : ℕ). Some (record { kind = loaded.kind; perm = loaded.perm; size = loaded.size; nlink = m })) told
-  where
-    count_in : (b : Bool) → (if not b then 0 else nlink_of_kind loaded.kind) ≡ (if b then nlink_of_kind loaded.kind else 0)
-    count_in true = refl
-    count_in false = refl
 
 -- a number's attributes are loaded, which are its file's
 pub load-true : (served : ServedState) (number : Number) (attr : Attr) (file : FileId) → Names served number.0 file → tree_file served.tree file ≡ Some (content_in attr) → AreLoaded served →

@@ -1,5 +1,5 @@
 -- What the code of a served state says of its answers.
-use Rattle.std.specs.Prelude.{◌≡◌, ℕ, ◌<◌, ◌≤◌, ◌⊎◌, IsSome, List, Option, Some, None, Result, Ok, Err}
+use Rattle.std.specs.Prelude.{◌≡◌, ℕ, ◌<◌, ◌≤◌, ◌⊎◌, Bool, true, false, IsSome, List, Option, Some, None, Result, Ok, Err}
 use Rattle.eden_base.specs.Limits.{end_of_numbers}
 use Rattle.eden_base.specs.Name.{IsNameText}
 use Rattle.eden_base.specs.declared.attr.Kind.{Kind}
@@ -18,12 +18,19 @@ use Rattle.inode_map.specs.declared.inode_map.GiveFault.TheVariants.{NoNumber, T
 use Rattle.fuse_ops.specs.Answers.{IsBacked, found_in, free_in, unless}
 use Rattle.fuse_ops.specs.Served.{ServedState, IsLocated, plain, name_taken}
 use Rattle.fuse_ops.specs.declared.served.Found.{Found}
+use Rattle.fuse_ops.specs.declared.served.Linkage.{Linkage}
+use Rattle.fuse_ops.specs.declared.served.Linkage.TheVariants.{Linked, Unlinked}
 
 -- the directory of a number and the file under a name in it, or the error that is told in their place
 abbrev pub IsFoundAs : Tree → Option FileId → List ℕ → Result Found Errno → Type 0
 IsFoundAs tree dir name (Ok found) =
     (dir ≡ Some found.dir) × (found_in tree dir name ≡ Ok found.file) × IsSome (file_of tree found.file)
 IsFoundAs tree dir name (Err errno) = found_in tree dir name ≡ Err errno
+
+-- no name leads to the file
+abbrev pub lacks_name : Linkage → Bool
+lacks_name Linked = false
+lacks_name Unlinked = true
 
 -- the file that the number of a directory names, and what a name in it gives
 pub record Finds (served : ServedState) (dir : ℕ) (name : List ℕ) (told : Result Found Errno) : Type 0 where

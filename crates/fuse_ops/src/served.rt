@@ -1,18 +1,18 @@
 //! The numbers and the tree that one daemon serves.
-ghost use Rattle.std.specs.Prelude.{◌≡◌, ◌<◌, true, false, not, None, Some, Ok, IsSome, IfOk, IfErr, IfSome, OnOk, OnErr};
+ghost use Rattle.std.specs.Prelude.{◌≡◌, ◌<◌, true, false, not, None, Some, Ok, IsSome, IfOk, IfErr, OnOk, OnErr, if◌then◌else◌};
 ghost use Rattle.eden_base.specs.Limits.{end_of_numbers};
 ghost use Rattle.eden_base.specs.declared.number.FileId.{FileId};
-ghost use Rattle.std.specs.Option.{option_map};
-ghost use Rattle.checkout.specs.Tree.{IsTree, child_of, attr_of, file_of as tree_file, is_full_dir, is_unlinked};
+ghost use Rattle.std.specs.Option.{option_map, IfNone, IfSome};
+ghost use Rattle.checkout.specs.Tree.{IsTree, child_of, attr_of, file_of as tree_file, is_full_dir, is_unlinked, nlink_of_kind};
 ghost use Rattle.eden_base.specs.declared.errno.Errno.TheVariants.{EIO};
 ghost use Rattle.fuse_wire.specs.declared.reply.Answer.TheVariants.{Error};
 ghost use Rattle.fuse_wire.specs.declared.ask.Request.TheVariants.{Lookup, Getattr, Create, Mkdir, Unlink, Rmdir};
-ghost use Rattle.inode_map.specs.InodeMap.{entry_at, number_of_kept, give_fault, forgotten, IsFileOf};
+ghost use Rattle.inode_map.specs.InodeMap.{entry_at, number_of_kept, attr_of as loaded_attr, forgotten, IsFileOf};
 ghost use Rattle.fuse_ops.specs.Answers.{IsBacked, against_unlink, against_rmdir};
 ghost use Rattle.fuse_ops.specs.Loading.{Backs, FailsAs, Loads, LoadsTold, LoadsNone, loaded_told};
 ghost use Rattle.fuse_ops.specs.Served.{new_served, served_of, forgotten_all, IsLocated, Replay};
 ghost use Rattle.fuse_ops.specs.Soundness.{IsSound, Names, AreRemembered, AreLoaded};
-ghost use Rattle.fuse_ops.specs.Work.{errno_of, Finds, GivesEntry, IsFree, IsNextRefusal, IsSamePlainly, LooksUp, Makes, NameIsTaken, Shows, Takes};
+ghost use Rattle.fuse_ops.specs.Work.{errno_of, Finds, GivesEntry, IsFree, IsNextRefusal, IsSamePlainly, lacks_name, LooksUp, Makes, NameIsTaken, Shows, Takes};
 
 use checkout::{Backing, BackingFault, Manifest, Tree, nlink_of_kind};
 use eden_base::{
@@ -55,6 +55,43 @@ impl Model for Served {
 struct Found {
     dir: FileId,
     file: FileId,
+}
+
+/// How a file stands: a name leads to it, or none does. The root counts as linked, though no name leads to it.
+#[derive(Clone, Copy)]
+enum Linkage {
+    Linked,
+    Unlinked,
+}
+
+/// The file that a number names, and how it stands.
+#[derive(Clone, Copy)]
+struct Located {
+    file: FileId,
+    linkage: Linkage,
+}
+
+impl Linkage {
+    /// Returns the linkage of a file that is linked, or isn't.
+    fn of(is_linked: bool) -> Linkage
+        ensures { lacks_name result ≡ not is_linked }
+    {
+        if is_linked {
+            Linkage::Linked
+        } else {
+            Linkage::Unlinked
+        }
+    }
+
+    /// Returns how many names lead to a file of a kind that stands so.
+    fn nlink(self, kind: Kind) -> u32
+        ensures { result ≡ (if lacks_name self then 0 else nlink_of_kind kind) }
+    {
+        match self {
+            Linkage::Linked => nlink_of_kind(kind),
+            Linkage::Unlinked => 0,
+        }
+    }
 }
 
 impl Served {
@@ -104,7 +141,8 @@ impl Served {
     }
 
     /// Answers an ask, or applies the items of a forget, which has no answer. A file that isn't loaded is asked of the
-    /// backing, before anything changes. An error changes no number, no place and no tree, and loads nothing.
+    /// backing, once nothing else stands against the answer. An error changes no number, no count, no place and no
+    /// tree, and loads nothing.
     pub fn apply<B: Backing>(
         &mut self,
         alloc: Global,
@@ -137,7 +175,7 @@ impl Served {
         }
     }
 
-    /// Answers a lookup. What stands against the number of the file that it finds is looked for first.
+    /// Answers a lookup. A name that has a number gives that number's file, so its directory isn't looked at.
     fn look_up<B: Backing>(
         &mut self,
         alloc: Global,
@@ -151,49 +189,52 @@ impl Served {
         ensures fails { FailsAs (Some result) (B.failed backing.old) (B.failed backing.new) }
         ensures same_content { (file : FileId) → B.content backing.new file ≡ B.content backing.old file }
     {
-        let found = match self.find(dir, name) {
-            Ok(found) => found,
-            Err(errno) => return Answer::Error(errno),
-        };
-        let kept = match self.map.number_to_give(dir, name) {
-            Ok(kept) => kept,
-            Err(fault) => return Answer::Error(errno_of(fault)),
-        };
-        match kept {
-            Some(number) => self.enter_again(backing, dir, name, number, found),
-            None => self.enter_next(alloc, backing, dir, name, found),
+        if let Some(number) = self.map.number_for(dir, name) {
+            return self.enter_again(backing, dir, name, number);
+        }
+        match self.find(dir, name) {
+            Ok(found) => self.enter_next(alloc, backing, dir, name, found),
+            Err(errno) => Answer::Error(errno),
         }
     }
 
-    /// Tells the entry of a file that was found under a name with a number, which is held once more.
+    /// Tells the entry of a name that has a number, which is held once more. The count is raised first, and taken back
+    /// where the backing fails.
     fn enter_again<B: Backing>(
         &mut self,
         backing: &mut B,
         dir: Number,
         name: &Name,
         number: Number,
-        found: Found,
     ) -> Answer
         requires backs { Backs (B.content backing.old) self.old.tree }
-        requires found { Finds self.old dir.0 name.now (Ok found) }
-        requires names { Names self.old number.0 found.file }
         requires has { Some number ≡ option_map number_of_kept (entry_at self.old.map.entries dir.0 name.now) }
-        requires clear { give_fault self.old.map dir.0 name.now ≡ None }
-        ensures entry { GivesEntry self.old dir name.now found.file result self.new }
+        ensures answer { LooksUp self.old dir name.now result self.new }
         ensures loads { Loads self.old.map (Lookup dir name.now) (Some result) self.new.map }
         ensures fails { FailsAs (Some result) (B.failed backing.old) (B.failed backing.new) }
         ensures same_content { (file : FileId) → B.content backing.new file ≡ B.content backing.old file }
     {
-        let Ok(attr) = self.load(backing, number, found.file, true) else {
-            return Answer::Error(Errno::EIO);
+        let number = match self.map.give_again(dir, name, number) {
+            Ok(number) => number,
+            Err(fault) => return Answer::Error(errno_of(fault)),
         };
-        match self.map.give_again(dir, name, number) {
-            Ok(number) => Answer::Entry { number, attr },
-            Err(_) => unreachable!(),
+        if let Some(attr) = self.loaded(number, Linkage::Linked) {
+            return Answer::Entry { number, attr };
+        }
+        let Some(file) = self.file_of(number) else {
+            unreachable!()
+        };
+        match self.load_asked(backing, number, file) {
+            Ok(attr) => Answer::Entry { number, attr },
+            Err(BackingFault) => {
+                self.map.forget(number, 1);
+                Answer::Error(Errno::EIO)
+            }
         }
     }
 
-    /// Tells the entry of a file that was found under a name without a number, which is given the next.
+    /// Tells the entry of a file that was found under a name without a number, which is given the next. What stands
+    /// against that is looked for before the backing is asked.
     fn enter_next<B: Backing>(
         &mut self,
         alloc: Global,
@@ -205,16 +246,18 @@ impl Served {
         requires backs { Backs (B.content backing.old) self.old.tree }
         requires found { Finds self.old dir.0 name.now (Ok found) }
         requires free { entry_at self.old.map.entries dir.0 name.now ≡ None }
-        requires clear { give_fault self.old.map dir.0 name.now ≡ None }
         ensures entry { GivesEntry self.old dir name.now found.file result self.new }
         ensures loads { Loads self.old.map (Lookup dir name.now) (Some result) self.new.map }
         ensures fails { FailsAs (Some result) (B.failed backing.old) (B.failed backing.new) }
         ensures same_content { (file : FileId) → B.content backing.new file ≡ B.content backing.old file }
     {
+        if self.map.next() >= END_OF_NUMBERS {
+            return Answer::Error(Errno::ENOSPC);
+        }
         let Ok(attr) = ask(&self.tree, backing, found.file) else {
             return Answer::Error(Errno::EIO);
         };
-        match self.map.give(alloc, dir, name) {
+        match self.map.give_next(alloc, dir, name) {
             Ok(number) => {
                 self.map.remember(number, found.file);
                 self.map.load(number, attr);
@@ -224,18 +267,65 @@ impl Served {
         }
     }
 
-    /// Tells the attributes of a number's file, which become the most recent that are loaded. Those that aren't loaded
-    /// are asked for. Whether a name leads to the file is not loaded, since names come and go.
+    /// Tells the attributes of a number's file. The root's are never loaded.
     fn load<B: Backing>(
         &mut self,
         backing: &mut B,
         number: Number,
+        located: Located,
+    ) -> Result<Attr, BackingFault>
+        requires backs { Backs (B.content backing.old) self.old.tree }
+        requires names { Names self.old number.0 located.file }
+        requires linkage { is_unlinked self.old.tree located.file ≡ lacks_name located.linkage }
+        ensures attr { IfOk result (λ told. attr_of self.old.tree located.file ≡ Some told) }
+        ensures loaded { IfOk result (λ told. self.new
+            ≡ record self.old { map = record self.old.map { loaded = loaded_told self.old.map number told } }) }
+        ensures unchanged { OnErr result (self.new ≡ self.old) }
+        ensures backed { OnErr result (IsBacked self.old.tree located.file) }
+        ensures answered { OnOk result (B.failed backing.new ≡ B.failed backing.old) }
+        ensures failed { OnErr result (B.failed backing.old < B.failed backing.new) }
+        ensures same_content { (file : FileId) → B.content backing.new file ≡ B.content backing.old file }
+    {
+        if number == Number::ROOT {
+            return ask(&self.tree, backing, located.file);
+        }
+        if let Some(attr) = self.loaded(number, located.linkage) {
+            return Ok(attr);
+        }
+        self.load_asked(backing, number, located.file)
+    }
+
+    /// Tells the attributes that are loaded of a number, which become the most recent. Whether a name leads to the file
+    /// is not loaded, since names come and go.
+    fn loaded(&mut self, number: Number, linkage: Linkage) -> Option<Attr>
+        requires other { number.0 ≡ 1 → ⊥ }
+        ensures attr { IfSome result (λ told. (file : FileId) → Names self.old number.0 file
+            → is_unlinked self.old.tree file ≡ lacks_name linkage → attr_of self.old.tree file ≡ Some told) }
+        ensures loaded { IfSome result (λ told. self.new
+            ≡ record self.old { map = record self.old.map { loaded = loaded_told self.old.map number told } }) }
+        ensures unloaded { IfNone result (loaded_attr self.old.map.loaded number.0 ≡ None) }
+        ensures unchanged { IfNone result (self.new ≡ self.old) }
+    {
+        let loaded = self.map.attr(number)?;
+        Some(Attr {
+            kind: loaded.kind,
+            perm: loaded.perm,
+            size: loaded.size,
+            nlink: linkage.nlink(loaded.kind),
+        })
+    }
+
+    /// Asks for the attributes of a number's file, of which none are loaded, and loads them.
+    fn load_asked<B: Backing>(
+        &mut self,
+        backing: &mut B,
+        number: Number,
         file: FileId,
-        is_linked: bool,
     ) -> Result<Attr, BackingFault>
         requires backs { Backs (B.content backing.old) self.old.tree }
         requires names { Names self.old number.0 file }
-        requires linked { is_unlinked self.old.tree file ≡ not is_linked }
+        requires other { number.0 ≡ 1 → ⊥ }
+        requires unloaded { loaded_attr self.old.map.loaded number.0 ≡ None }
         ensures attr { IfOk result (λ told. attr_of self.old.tree file ≡ Some told) }
         ensures loaded { IfOk result (λ told. self.new
             ≡ record self.old { map = record self.old.map { loaded = loaded_told self.old.map number told } }) }
@@ -245,21 +335,6 @@ impl Served {
         ensures failed { OnErr result (B.failed backing.old < B.failed backing.new) }
         ensures same_content { (file : FileId) → B.content backing.new file ≡ B.content backing.old file }
     {
-        if number == Number::ROOT {
-            return ask(&self.tree, backing, file);
-        }
-        if let Some(loaded) = self.map.attr(number) {
-            return Ok(Attr {
-                kind: loaded.kind,
-                perm: loaded.perm,
-                size: loaded.size,
-                nlink: if is_linked {
-                    nlink_of_kind(loaded.kind)
-                } else {
-                    0
-                },
-            });
-        }
         let told = ask(&self.tree, backing, file)?;
         self.map.load(number, told);
         Ok(told)
@@ -279,21 +354,29 @@ impl Served {
         }
     }
 
-    /// Returns the file that a number names, and whether a name leads to it. None leads to the root, which counts as
-    /// linked.
-    fn linked_file_of(&mut self, number: Number) -> Option<(FileId, bool)>
-        ensures located { IsLocated self.old number.0 (option_map (λ found. found.0) result) }
-        ensures linked { IfSome result (λ found. is_unlinked self.old.tree found.0 ≡ not found.1) }
+    /// Returns the file that a number names, and whether a name leads to it.
+    fn linked_file_of(&mut self, number: Number) -> Option<Located>
+        ensures located { IsLocated self.old number.0 (option_map (λ found. found.file) result) }
+        ensures linkage { IfSome result (λ found. is_unlinked self.old.tree found.file ≡ lacks_name found.linkage) }
         ensures unchanged { self.new ≡ self.old }
     {
         if number == Number::ROOT {
-            return Some((FileId::ROOT, true));
+            return Some(Located {
+                file: FileId::ROOT,
+                linkage: Linkage::Linked,
+            });
         }
-        if let Some(found) = self.map.recall_linked(number) {
-            return Some(found);
+        if let Some((file, is_linked)) = self.map.recall_linked(number) {
+            return Some(Located {
+                file,
+                linkage: Linkage::of(is_linked),
+            });
         }
         let file = self.map.locate(&self.tree, number)?;
-        Some((file, file == FileId::ROOT || self.tree.is_linked(file)))
+        Some(Located {
+            file,
+            linkage: Linkage::of(file == FileId::ROOT || self.tree.is_linked(file)),
+        })
     }
 
     /// Finds the directory of a number, and the file under a name in it.
@@ -445,10 +528,10 @@ impl Served {
         ensures fails { FailsAs (Some result) (B.failed backing.old) (B.failed backing.new) }
         ensures same_content { (file : FileId) → B.content backing.new file ≡ B.content backing.old file }
     {
-        let Some((file, is_linked)) = self.linked_file_of(node) else {
+        let Some(located) = self.linked_file_of(node) else {
             return Answer::Error(Errno::ESTALE);
         };
-        match self.load(backing, node, file, is_linked) {
+        match self.load(backing, node, located) {
             Ok(attr) => Answer::Attrs { number: node, attr },
             Err(BackingFault) => Answer::Error(Errno::EIO),
         }
