@@ -169,23 +169,29 @@ impl Outcome {
         }
     }
 
-    /// Returns that one thing happened.
-    pub fn of(happened: Happened) -> Outcome
-        ensures one { result ≡ happened ∷ [] }
+    /// Tells of nothing any more.
+    pub(crate) fn clear(&mut self)
+        ensures nothing { self.new ≡ [] }
     {
-        let mut all = ArrayVec::new();
-        all.push(happened);
-        Outcome { happened: all }
+        self.happened.clear();
     }
 
-    /// Adds what happened then, and returns whether it was made.
+    /// Tells what happened then.
+    pub(crate) fn tell(&mut self, happened: Happened)
+        requires room { length self.old < 5 }
+        ensures told { self.new ≡ self.old ++ happened ∷ [] }
+    {
+        self.happened.push(happened);
+    }
+
+    /// Tells what happened then, and returns whether it was made.
     pub(crate) fn add(&mut self, happened: Happened) -> bool
         requires room { length self.old < 5 }
         ensures added { self.new ≡ self.old ++ happened ∷ [] }
         ensures made { result ≡ is_made happened }
     {
         let is_made = happened.is_made();
-        self.happened.push(happened);
+        self.tell(happened);
         is_made
     }
 

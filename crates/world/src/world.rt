@@ -1,5 +1,5 @@
 //! All daemons and the kernel's side of their mount.
-ghost use Rattle.std.specs.Prelude.{◌≡◌, IfOk, IfSome};
+ghost use Rattle.std.specs.Prelude.{◌≡◌, [], IfOk, IfSome};
 ghost use Rattle.std.specs.Option.{option_copied};
 ghost use Rattle.world.specs.State.{started, server_of, served_of, hand_of, unposted_of};
 ghost use Rattle.world.specs.Step.{Once, Step};
@@ -109,27 +109,42 @@ impl World {
         ensures moves_on { (ideal : Ideal) → Matches ideal self.old
             → MovesOn ideal self.old event.now result self.new }
     {
-        self.decide(event)
+        let mut outcome = Outcome::nothing();
+        self.step_into(event, &mut outcome);
+        outcome
     }
 
-    /// Lets the events that an event consists of happen, until one is refused.
-    fn decide(&mut self, event: &Event) -> Outcome
-        ensures { Step self.old event.now result self.new }
+    /// Lets one event happen as `step` does, and tells what came of it in place of what the outcome told.
+    pub fn step_into(&mut self, event: &Event, outcome: &mut Outcome)
+        ensures step { Step self.old event.now outcome.new self.new }
+
+        // The same of the event's moves.
+        ensures moves_on { (ideal : Ideal) → Matches ideal self.old
+            → MovesOn ideal self.old event.now outcome.new self.new }
+    {
+        outcome.clear();
+        self.decide(event, outcome);
+    }
+
+    /// Lets the events that an event consists of happen, until one is refused, and tells of each.
+    fn decide(&mut self, event: &Event, outcome: &mut Outcome)
+        requires nothing { outcome.old ≡ [] }
+        ensures step { Step self.old event.now outcome.new self.new }
     {
         match event {
-            Event::Start => Outcome::of(self.start()),
-            Event::Mount(daemon) => Outcome::of(self.mount(*daemon)),
-            Event::Issue(request) => Outcome::of(self.issue(request)),
-            Event::Take(daemon) => Outcome::of(self.take(*daemon)),
+            Event::Start => outcome.tell(self.start()),
+            Event::Mount(daemon) => outcome.tell(self.mount(*daemon)),
+            Event::Issue(request) => outcome.tell(self.issue(request)),
+            Event::Take(daemon) => outcome.tell(self.take(*daemon)),
             Event::Work {
                 daemon,
                 place,
                 fails,
-            } => Outcome::of(self.work(*daemon, *place, *fails)),
-            Event::Post { daemon, place } => Outcome::of(self.post(*daemon, *place)),
-            Event::Deliver => Outcome::of(self.deliver()),
-            Event::Do(request) => self.carry_out(request),
-            Event::Show => Outcome::nothing(),
+            } => outcome.tell(self.work(*daemon, *place, *fails)),
+            Event::Post { daemon, place } => outcome.tell(self.post(*daemon, *place)),
+            Event::Deliver => outcome.tell(self.deliver()),
+            Event::Do(request) => self.carry_out(request, outcome),
+            Event::Show => {}
         }
     }
 
@@ -225,34 +240,34 @@ impl World {
     }
 
     /// Lets the events of a `do` happen. The room that they need in the daemon comes first.
-    fn carry_out(&mut self, request: &Request) -> Outcome
-        ensures step { Step self.old (Event.Do request.now) result self.new }
+    fn carry_out(&mut self, request: &Request, outcome: &mut Outcome)
+        requires nothing { outcome.old ≡ [] }
+        ensures step { Step self.old (Event.Do request.now) outcome.new self.new }
     {
         if let Some(refusal) = self.want_of_room(request) {
-            return Outcome::of(Happened::Refused(refusal));
+            outcome.tell(Happened::Refused(refusal));
+            return;
         }
-        let mut outcome = Outcome::nothing();
         let seat = self.broker.seat();
         if !outcome.add(self.issue(request)) {
-            return outcome;
+            return;
         }
         let Some(seat) = seat else {
-            return outcome;
+            return;
         };
         if !outcome.add(self.take(seat.daemon)) {
-            return outcome;
+            return;
         }
         if !outcome.add(self.work(seat.daemon, 1, false)) {
-            return outcome;
+            return;
         }
         if !request.is_ask() {
-            return outcome;
+            return;
         }
         if !outcome.add(self.post(seat.daemon, 1)) {
-            return outcome;
+            return;
         }
         let _is_made = outcome.add(self.deliver());
-        outcome
     }
 
     /// Returns the daemon of a number, where it serves.

@@ -10,15 +10,16 @@ use crate::script::Script;
 use crate::{Fault, RunError};
 use std::alloc::Global;
 use std::io::{self, Read, Write};
-use world::{Event, World};
+use world::{Event, Outcome, World};
 
-/// How many nodes a daemon keeps loaded where the caller has no wish of its own.
+/// How many files' attributes a daemon keeps loaded where the caller has no wish of its own.
 pub const DEFAULT_LIMIT: usize = 1024;
 
 /// Runs the script that a reader gives, and writes a line for each event that has one, in order. Nothing is run or
 /// written before the whole script is known to be good. An event that is refused is no fault: its line says so.
-/// `limit`, from 1 to 65,536, is how many nodes a daemon keeps loaded, which has no effect yet. A line is written in
-/// pieces, so the writer does well to gather them, as a `BufWriter` does; it is flushed after the last.
+/// `limit`, from 1 to 65,536, is how many files' attributes a daemon keeps loaded. It asks its backing for the others:
+/// what a `work` whose backing fails prints depends on it, and nothing else does. A line is written in pieces, so the
+/// writer does well to gather them, as a `BufWriter` does; it is flushed after the last.
 pub fn run_world<R: Read, W: Write>(
     alloc: Global,
     reader: &mut R,
@@ -61,13 +62,14 @@ pub fn run_script<R: Read, W: Write>(
     }
 }
 
-/// Lets all events happen in turn, and prints each.
+/// Lets all events happen in turn, and prints each. One outcome stands for all, since each that is returned is copied.
 fn play<W: Write>(world: &mut World, events: &[Event], out: &mut W) -> io::Result<()>
     ensures { OnOk result (RunsEvents world.old events.now
         (W.contents out.old) (W.contents out.new)) }
 {
+    let mut outcome = Outcome::nothing();
     for event in events {
-        let outcome = world.step(event);
+        world.step_into(event, &mut outcome);
         print_event(out, world, event, &outcome)?;
     }
     out.flush()

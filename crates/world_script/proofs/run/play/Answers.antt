@@ -12,7 +12,7 @@ pub loop-event-preserved : goal.loop-event-preserved
 loop-event-preserved g c =
     let i = c.loop-event.event-index in
     let rest = drop_more c.args.events.now i c.event-item.result (omega arith) ∙ ap (λ (event : Event). event ∷ drop (i + 1) c.args.events.now) (sym c.event-item.is) in
-    IsPlayed-more _ _ _ _ _ _ _ _ _ _ _ c.loop-event.invariant rest c.step-outcome.ensures.step c.in_ok-print_event.ensures.printed
+    IsPlayed-more _ _ _ _ _ _ _ _ _ _ _ c.loop-event.invariant rest c.step_into.ensures.step c.in_ok-print_event.ensures.printed
 
 pub returns : goal.returns
 returns g c = RunsEvents-on_ok c.flush.result _ _ _ _ _ _ _ c.loop-event.invariant (drop_of_length-le c.args.events.now (omega arith)) c.flush.ensures.bytes

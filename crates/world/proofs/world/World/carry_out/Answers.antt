@@ -13,14 +13,14 @@ use Rattle.world.proofs.world.World.carry_out.Goals as goal
 
 pub returns-in-Some : goal.returns-in-Some
 returns-in-Some c = record {
-  step = Step-do-refused c.args.self.now c.args.self.now c.args.request.now (Refused c.in-Some.refusal) c.of.result c.want_of_room.new.self refl
-      (subst (λ (s : State). Once c.args.self.now (Issue c.args.request.now) (Refused c.in-Some.refusal) s) (sym c.want_of_room.ensures.same) c.in-Some.ensures.refused) refl c.of.ensures.one;
+  step = Step-do-refused c.args.self.now c.args.self.now c.args.request.now (Refused c.in-Some.refusal) c.tell.new.self c.want_of_room.new.self refl
+      (subst (λ (s : State). Once c.args.self.now (Issue c.args.request.now) (Refused c.in-Some.refusal) s) (sym c.want_of_room.ensures.same) c.in-Some.ensures.refused) refl (c.tell.ensures.told ∙ ap (λ (os : List Happened). os ++ Refused c.in-Some.refusal ∷ []) c.requires.nothing);
 }
 
 pub returns-then-not-add : goal.returns-then-not-add
 returns-then-not-add c = record {
   step = Step-do-refused c.args.self.now c.want_of_room.new.self c.args.request.now c.issue.result c.add.new.self c.issue.new.self c.want_of_room.ensures.same
-      c.issue.ensures.once c.if-not-add.ensures.made (c.add.ensures.added ∙ ap (λ (os : List Happened). os ++ c.issue.result ∷ []) c.nothing-outcome.ensures.nothing);
+      c.issue.ensures.once c.if-not-add.ensures.made (c.add.ensures.added ∙ ap (λ (os : List Happened). os ++ c.issue.result ∷ []) c.requires.nothing);
 }
 
 pub returns-then-not-add-2 : goal.returns-then-not-add-2
@@ -30,8 +30,8 @@ returns-then-not-add-2 c =
     let seat = c.in-Some-seat.seat in
     let has : start.broker.seat ≡ Some seat = sym (ap (λ (s : State). s.broker.seat) c.self.view_is) ∙ sym c.seat-seat.ensures.seat ∙ c.in-Some-seat.is in
     let events : List Event = events_of_do (Some seat) request in
-    let g0 : Goes start events c.nothing-outcome.result start events = goes-nothing start events c.nothing-outcome.result c.nothing-outcome.ensures.nothing in
-    let g1 : Goes start events c.add.new.self c.issue.new.self (Take seat.daemon ∷ Work seat.daemon 1 false ∷ (if is_ask request then Post seat.daemon 1 ∷ Deliver ∷ [] else [])) = goes-on start events c.nothing-outcome.result c.add.new.self start (Issue request) c.issue.result c.issue.new.self (Take seat.daemon ∷ Work seat.daemon 1 false ∷ (if is_ask request then Post seat.daemon 1 ∷ Deliver ∷ [] else [])) g0 c.issue.ensures.once c.add.ensures.added c.if-not-add.ensures.made in
+    let g0 : Goes start events c.args.outcome.now start events = goes-nothing start events c.args.outcome.now c.requires.nothing in
+    let g1 : Goes start events c.add.new.self c.issue.new.self (Take seat.daemon ∷ Work seat.daemon 1 false ∷ (if is_ask request then Post seat.daemon 1 ∷ Deliver ∷ [] else [])) = goes-on start events c.args.outcome.now c.add.new.self start (Issue request) c.issue.result c.issue.new.self (Take seat.daemon ∷ Work seat.daemon 1 false ∷ (if is_ask request then Post seat.daemon 1 ∷ Deliver ∷ [] else [])) g0 c.issue.ensures.once c.add.ensures.added c.if-not-add.ensures.made in
     record { step = Step-do c.args.self.now start (Some seat) request c.add-2.new.self c.take.new.self c.want_of_room.ensures.same has (goes-stop start events c.add.new.self c.add-2.new.self c.issue.new.self (Take seat.daemon) c.take.result c.take.new.self (Work seat.daemon 1 false ∷ (if is_ask request then Post seat.daemon 1 ∷ Deliver ∷ [] else [])) g1 c.take.ensures.once c.add-2.ensures.added c.if-not-add-2.ensures.made) }
 
 pub returns-then-not-add-3 : goal.returns-then-not-add-3
@@ -41,8 +41,8 @@ returns-then-not-add-3 c =
     let seat = c.in-Some-seat.seat in
     let has : start.broker.seat ≡ Some seat = sym (ap (λ (s : State). s.broker.seat) c.self.view_is) ∙ sym c.seat-seat.ensures.seat ∙ c.in-Some-seat.is in
     let events : List Event = events_of_do (Some seat) request in
-    let g0 : Goes start events c.nothing-outcome.result start events = goes-nothing start events c.nothing-outcome.result c.nothing-outcome.ensures.nothing in
-    let g1 : Goes start events c.add.new.self c.issue.new.self (Take seat.daemon ∷ Work seat.daemon 1 false ∷ (if is_ask request then Post seat.daemon 1 ∷ Deliver ∷ [] else [])) = goes-on start events c.nothing-outcome.result c.add.new.self start (Issue request) c.issue.result c.issue.new.self (Take seat.daemon ∷ Work seat.daemon 1 false ∷ (if is_ask request then Post seat.daemon 1 ∷ Deliver ∷ [] else [])) g0 c.issue.ensures.once c.add.ensures.added c.if-not-add.ensures.made in
+    let g0 : Goes start events c.args.outcome.now start events = goes-nothing start events c.args.outcome.now c.requires.nothing in
+    let g1 : Goes start events c.add.new.self c.issue.new.self (Take seat.daemon ∷ Work seat.daemon 1 false ∷ (if is_ask request then Post seat.daemon 1 ∷ Deliver ∷ [] else [])) = goes-on start events c.args.outcome.now c.add.new.self start (Issue request) c.issue.result c.issue.new.self (Take seat.daemon ∷ Work seat.daemon 1 false ∷ (if is_ask request then Post seat.daemon 1 ∷ Deliver ∷ [] else [])) g0 c.issue.ensures.once c.add.ensures.added c.if-not-add.ensures.made in
     let g2 : Goes start events c.add-2.new.self c.take.new.self (Work seat.daemon 1 false ∷ (if is_ask request then Post seat.daemon 1 ∷ Deliver ∷ [] else [])) = goes-on start events c.add.new.self c.add-2.new.self c.issue.new.self (Take seat.daemon) c.take.result c.take.new.self (Work seat.daemon 1 false ∷ (if is_ask request then Post seat.daemon 1 ∷ Deliver ∷ [] else [])) g1 c.take.ensures.once c.add-2.ensures.added c.if-not-add-2.ensures.made in
     record { step = Step-do c.args.self.now start (Some seat) request c.add-3.new.self c.work.new.self c.want_of_room.ensures.same has (goes-stop start events c.add-2.new.self c.add-3.new.self c.take.new.self (Work seat.daemon 1 false) c.work.result c.work.new.self ((if is_ask request then Post seat.daemon 1 ∷ Deliver ∷ [] else [])) g2 c.work.ensures.once c.add-3.ensures.added c.if-not-add-3.ensures.made) }
 
@@ -53,8 +53,8 @@ returns-then-not-is_ask c =
     let seat = c.in-Some-seat.seat in
     let has : start.broker.seat ≡ Some seat = sym (ap (λ (s : State). s.broker.seat) c.self.view_is) ∙ sym c.seat-seat.ensures.seat ∙ c.in-Some-seat.is in
     let events : List Event = events_of_do (Some seat) request in
-    let g0 : Goes start events c.nothing-outcome.result start events = goes-nothing start events c.nothing-outcome.result c.nothing-outcome.ensures.nothing in
-    let g1 : Goes start events c.add.new.self c.issue.new.self (Take seat.daemon ∷ Work seat.daemon 1 false ∷ (if is_ask request then Post seat.daemon 1 ∷ Deliver ∷ [] else [])) = goes-on start events c.nothing-outcome.result c.add.new.self start (Issue request) c.issue.result c.issue.new.self (Take seat.daemon ∷ Work seat.daemon 1 false ∷ (if is_ask request then Post seat.daemon 1 ∷ Deliver ∷ [] else [])) g0 c.issue.ensures.once c.add.ensures.added c.if-not-add.ensures.made in
+    let g0 : Goes start events c.args.outcome.now start events = goes-nothing start events c.args.outcome.now c.requires.nothing in
+    let g1 : Goes start events c.add.new.self c.issue.new.self (Take seat.daemon ∷ Work seat.daemon 1 false ∷ (if is_ask request then Post seat.daemon 1 ∷ Deliver ∷ [] else [])) = goes-on start events c.args.outcome.now c.add.new.self start (Issue request) c.issue.result c.issue.new.self (Take seat.daemon ∷ Work seat.daemon 1 false ∷ (if is_ask request then Post seat.daemon 1 ∷ Deliver ∷ [] else [])) g0 c.issue.ensures.once c.add.ensures.added c.if-not-add.ensures.made in
     let g2 : Goes start events c.add-2.new.self c.take.new.self (Work seat.daemon 1 false ∷ (if is_ask request then Post seat.daemon 1 ∷ Deliver ∷ [] else [])) = goes-on start events c.add.new.self c.add-2.new.self c.issue.new.self (Take seat.daemon) c.take.result c.take.new.self (Work seat.daemon 1 false ∷ (if is_ask request then Post seat.daemon 1 ∷ Deliver ∷ [] else [])) g1 c.take.ensures.once c.add-2.ensures.added c.if-not-add-2.ensures.made in
     let g3 : Goes start events c.add-3.new.self c.work.new.self ((if is_ask request then Post seat.daemon 1 ∷ Deliver ∷ [] else [])) = goes-on start events c.add-2.new.self c.add-3.new.self c.take.new.self (Work seat.daemon 1 false) c.work.result c.work.new.self ((if is_ask request then Post seat.daemon 1 ∷ Deliver ∷ [] else [])) g2 c.work.ensures.once c.add-3.ensures.added c.if-not-add-3.ensures.made in
     let forgets : Goes start events c.add-3.new.self c.work.new.self ([]) = subst (λ (b : Bool). Goes start events c.add-3.new.self c.work.new.self (if b then Post seat.daemon 1 ∷ Deliver ∷ [] else [])) (sym c.if-not-is_ask.ensures.ask) g3 in
@@ -67,8 +67,8 @@ returns-then-not-add-4 c =
     let seat = c.in-Some-seat.seat in
     let has : start.broker.seat ≡ Some seat = sym (ap (λ (s : State). s.broker.seat) c.self.view_is) ∙ sym c.seat-seat.ensures.seat ∙ c.in-Some-seat.is in
     let events : List Event = events_of_do (Some seat) request in
-    let g0 : Goes start events c.nothing-outcome.result start events = goes-nothing start events c.nothing-outcome.result c.nothing-outcome.ensures.nothing in
-    let g1 : Goes start events c.add.new.self c.issue.new.self (Take seat.daemon ∷ Work seat.daemon 1 false ∷ (if is_ask request then Post seat.daemon 1 ∷ Deliver ∷ [] else [])) = goes-on start events c.nothing-outcome.result c.add.new.self start (Issue request) c.issue.result c.issue.new.self (Take seat.daemon ∷ Work seat.daemon 1 false ∷ (if is_ask request then Post seat.daemon 1 ∷ Deliver ∷ [] else [])) g0 c.issue.ensures.once c.add.ensures.added c.if-not-add.ensures.made in
+    let g0 : Goes start events c.args.outcome.now start events = goes-nothing start events c.args.outcome.now c.requires.nothing in
+    let g1 : Goes start events c.add.new.self c.issue.new.self (Take seat.daemon ∷ Work seat.daemon 1 false ∷ (if is_ask request then Post seat.daemon 1 ∷ Deliver ∷ [] else [])) = goes-on start events c.args.outcome.now c.add.new.self start (Issue request) c.issue.result c.issue.new.self (Take seat.daemon ∷ Work seat.daemon 1 false ∷ (if is_ask request then Post seat.daemon 1 ∷ Deliver ∷ [] else [])) g0 c.issue.ensures.once c.add.ensures.added c.if-not-add.ensures.made in
     let g2 : Goes start events c.add-2.new.self c.take.new.self (Work seat.daemon 1 false ∷ (if is_ask request then Post seat.daemon 1 ∷ Deliver ∷ [] else [])) = goes-on start events c.add.new.self c.add-2.new.self c.issue.new.self (Take seat.daemon) c.take.result c.take.new.self (Work seat.daemon 1 false ∷ (if is_ask request then Post seat.daemon 1 ∷ Deliver ∷ [] else [])) g1 c.take.ensures.once c.add-2.ensures.added c.if-not-add-2.ensures.made in
     let g3 : Goes start events c.add-3.new.self c.work.new.self ((if is_ask request then Post seat.daemon 1 ∷ Deliver ∷ [] else [])) = goes-on start events c.add-2.new.self c.add-3.new.self c.take.new.self (Work seat.daemon 1 false) c.work.result c.work.new.self ((if is_ask request then Post seat.daemon 1 ∷ Deliver ∷ [] else [])) g2 c.work.ensures.once c.add-3.ensures.added c.if-not-add-3.ensures.made in
     let asks : Goes start events c.add-3.new.self c.work.new.self (Post seat.daemon 1 ∷ Deliver ∷ []) = subst (λ (b : Bool). Goes start events c.add-3.new.self c.work.new.self (if b then Post seat.daemon 1 ∷ Deliver ∷ [] else [])) (sym c.if-not-is_ask.ensures.ask) g3 in
@@ -81,8 +81,8 @@ returns c =
     let seat = c.in-Some-seat.seat in
     let has : start.broker.seat ≡ Some seat = sym (ap (λ (s : State). s.broker.seat) c.self.view_is) ∙ sym c.seat-seat.ensures.seat ∙ c.in-Some-seat.is in
     let events : List Event = events_of_do (Some seat) request in
-    let g0 : Goes start events c.nothing-outcome.result start events = goes-nothing start events c.nothing-outcome.result c.nothing-outcome.ensures.nothing in
-    let g1 : Goes start events c.add.new.self c.issue.new.self (Take seat.daemon ∷ Work seat.daemon 1 false ∷ (if is_ask request then Post seat.daemon 1 ∷ Deliver ∷ [] else [])) = goes-on start events c.nothing-outcome.result c.add.new.self start (Issue request) c.issue.result c.issue.new.self (Take seat.daemon ∷ Work seat.daemon 1 false ∷ (if is_ask request then Post seat.daemon 1 ∷ Deliver ∷ [] else [])) g0 c.issue.ensures.once c.add.ensures.added c.if-not-add.ensures.made in
+    let g0 : Goes start events c.args.outcome.now start events = goes-nothing start events c.args.outcome.now c.requires.nothing in
+    let g1 : Goes start events c.add.new.self c.issue.new.self (Take seat.daemon ∷ Work seat.daemon 1 false ∷ (if is_ask request then Post seat.daemon 1 ∷ Deliver ∷ [] else [])) = goes-on start events c.args.outcome.now c.add.new.self start (Issue request) c.issue.result c.issue.new.self (Take seat.daemon ∷ Work seat.daemon 1 false ∷ (if is_ask request then Post seat.daemon 1 ∷ Deliver ∷ [] else [])) g0 c.issue.ensures.once c.add.ensures.added c.if-not-add.ensures.made in
     let g2 : Goes start events c.add-2.new.self c.take.new.self (Work seat.daemon 1 false ∷ (if is_ask request then Post seat.daemon 1 ∷ Deliver ∷ [] else [])) = goes-on start events c.add.new.self c.add-2.new.self c.issue.new.self (Take seat.daemon) c.take.result c.take.new.self (Work seat.daemon 1 false ∷ (if is_ask request then Post seat.daemon 1 ∷ Deliver ∷ [] else [])) g1 c.take.ensures.once c.add-2.ensures.added c.if-not-add-2.ensures.made in
     let g3 : Goes start events c.add-3.new.self c.work.new.self ((if is_ask request then Post seat.daemon 1 ∷ Deliver ∷ [] else [])) = goes-on start events c.add-2.new.self c.add-3.new.self c.take.new.self (Work seat.daemon 1 false) c.work.result c.work.new.self ((if is_ask request then Post seat.daemon 1 ∷ Deliver ∷ [] else [])) g2 c.work.ensures.once c.add-3.ensures.added c.if-not-add-3.ensures.made in
     let asks : Goes start events c.add-3.new.self c.work.new.self (Post seat.daemon 1 ∷ Deliver ∷ []) = subst (λ (b : Bool). Goes start events c.add-3.new.self c.work.new.self (if b then Post seat.daemon 1 ∷ Deliver ∷ [] else [])) (sym c.if-not-is_ask.ensures.ask) g3 in

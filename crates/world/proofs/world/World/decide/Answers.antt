@@ -1,35 +1,51 @@
 -- Each event by its own call.
-use Rattle.std.proofs.Common.{sym, subst, refl}
-use Rattle.world.specs.Step.{Step}
+use Rattle.std.proofs.Common.{◌≡◌, List, [], ◌∷◌, ◌++◌, sym, subst, refl, ap, ◌∙◌}
+use Rattle.world.specs.State.{State}
+use Rattle.world.specs.Step.{Once, Step, parts_of}
 use Rattle.world.specs.declared.event.Event.{Event}
 use Rattle.world.specs.declared.event.Event.TheVariants.{Start, Mount, Issue, Take, Work, Post, Deliver}
+use Rattle.world.specs.declared.outcome.Happened.{Happened}
 use Rattle.world.proofs.Carrying.{Step-alone}
 use Rattle.world.proofs.world.World.decide.Goals as goal
 
+-- an event that is no `do`, told to an outcome in which nothing stood
+alone : (old : State) (event is : Event) (told : Happened) (before after : List Happened) (new : State) → parts_of old.broker.seat is ≡ is ∷ [] →
+    event ≡ is → Once old is told new → before ≡ [] → after ≡ before ++ told ∷ [] → Step old event after new
+alone old event is told before after new parts same once nothing tells =
+    subst (λ (e : Event). Step old e after new) (sym same)
+    (Step-alone old is told after new parts once (tells ∙ ap (λ (os : List Happened). os ++ told ∷ []) nothing))
+
 pub returns-in-Start : goal.returns-in-Start
-returns-in-Start c = subst (λ (e : Event). Step c.args.self.now e c.of.result c.start.new.self) (sym c.in-Start.is)
-    (Step-alone c.args.self.now Start c.start.result c.of.result c.start.new.self refl c.start.ensures.once c.of.ensures.one)
+returns-in-Start c = record {
+  step = alone c.args.self.now c.args.event.now Start c.start.result c.args.outcome.now c.tell.new.self c.start.new.self refl c.in-Start.is c.start.ensures.once c.requires.nothing c.tell.ensures.told;
+}
 
 pub returns-in-Mount : goal.returns-in-Mount
-returns-in-Mount c = subst (λ (e : Event). Step c.args.self.now e c.of-in-Mount.result c.mount.new.self) (sym c.in-Mount.is)
-    (Step-alone c.args.self.now (Mount c.in-Mount.daemon) c.mount.result c.of-in-Mount.result c.mount.new.self refl c.mount.ensures.once c.of-in-Mount.ensures.one)
+returns-in-Mount c = record {
+  step = alone c.args.self.now c.args.event.now (Mount c.in-Mount.daemon) c.mount.result c.args.outcome.now c.tell-in-Mount.new.self c.mount.new.self refl c.in-Mount.is c.mount.ensures.once c.requires.nothing c.tell-in-Mount.ensures.told;
+}
 
 pub returns-in-Issue : goal.returns-in-Issue
-returns-in-Issue c = subst (λ (e : Event). Step c.args.self.now e c.of-in-Issue.result c.issue.new.self) (sym c.in-Issue.is)
-    (Step-alone c.args.self.now (Issue c.in-Issue.request) c.issue.result c.of-in-Issue.result c.issue.new.self refl c.issue.ensures.once c.of-in-Issue.ensures.one)
+returns-in-Issue c = record {
+  step = alone c.args.self.now c.args.event.now (Issue c.in-Issue.request) c.issue.result c.args.outcome.now c.tell-in-Issue.new.self c.issue.new.self refl c.in-Issue.is c.issue.ensures.once c.requires.nothing c.tell-in-Issue.ensures.told;
+}
 
 pub returns-in-Take : goal.returns-in-Take
-returns-in-Take c = subst (λ (e : Event). Step c.args.self.now e c.of-in-Take.result c.take.new.self) (sym c.in-Take.is)
-    (Step-alone c.args.self.now (Take c.in-Take.daemon) c.take.result c.of-in-Take.result c.take.new.self refl c.take.ensures.once c.of-in-Take.ensures.one)
+returns-in-Take c = record {
+  step = alone c.args.self.now c.args.event.now (Take c.in-Take.daemon) c.take.result c.args.outcome.now c.tell-in-Take.new.self c.take.new.self refl c.in-Take.is c.take.ensures.once c.requires.nothing c.tell-in-Take.ensures.told;
+}
 
 pub returns-in-Work : goal.returns-in-Work
-returns-in-Work c = subst (λ (e : Event). Step c.args.self.now e c.of-in-Work.result c.work.new.self) (sym c.in-Work.is)
-    (Step-alone c.args.self.now (Work c.in-Work.daemon c.in-Work.place c.in-Work.fails) c.work.result c.of-in-Work.result c.work.new.self refl c.work.ensures.once c.of-in-Work.ensures.one)
+returns-in-Work c = record {
+  step = alone c.args.self.now c.args.event.now (Work c.in-Work.daemon c.in-Work.place c.in-Work.fails) c.work.result c.args.outcome.now c.tell-in-Work.new.self c.work.new.self refl c.in-Work.is c.work.ensures.once c.requires.nothing c.tell-in-Work.ensures.told;
+}
 
 pub returns-in-Post : goal.returns-in-Post
-returns-in-Post c = subst (λ (e : Event). Step c.args.self.now e c.of-in-Post.result c.post.new.self) (sym c.in-Post.is)
-    (Step-alone c.args.self.now (Post c.in-Post.daemon c.in-Post.place) c.post.result c.of-in-Post.result c.post.new.self refl c.post.ensures.once c.of-in-Post.ensures.one)
+returns-in-Post c = record {
+  step = alone c.args.self.now c.args.event.now (Post c.in-Post.daemon c.in-Post.place) c.post.result c.args.outcome.now c.tell-in-Post.new.self c.post.new.self refl c.in-Post.is c.post.ensures.once c.requires.nothing c.tell-in-Post.ensures.told;
+}
 
 pub returns-in-Deliver : goal.returns-in-Deliver
-returns-in-Deliver c = subst (λ (e : Event). Step c.args.self.now e c.of-in-Deliver.result c.deliver.new.self) (sym c.in-Deliver.is)
-    (Step-alone c.args.self.now Deliver c.deliver.result c.of-in-Deliver.result c.deliver.new.self refl c.deliver.ensures.once c.of-in-Deliver.ensures.one)
+returns-in-Deliver c = record {
+  step = alone c.args.self.now c.args.event.now Deliver c.deliver.result c.args.outcome.now c.tell-in-Deliver.new.self c.deliver.new.self refl c.in-Deliver.is c.deliver.ensures.once c.requires.nothing c.tell-in-Deliver.ensures.told;
+}

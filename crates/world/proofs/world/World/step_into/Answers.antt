@@ -1,6 +1,6 @@
 -- One event is moves that may happen in each world that the state matches.
 use Rattle.world.proofs.InTurn.{step-matched}
-use Rattle.world.proofs.world.World.step.Goals as goal
+use Rattle.world.proofs.world.World.step_into.Goals as goal
 
 pub returns-clause-moves_on : goal.returns-clause-moves_on
-returns-clause-moves_on c = λ ideal matches. step-matched ideal _ _ _ _ matches c.decide.ensures
+returns-clause-moves_on c = λ ideal matches. step-matched ideal _ _ _ _ matches c.decide.ensures.step
