@@ -14,7 +14,7 @@ ghost use Rattle.inode_map.specs.Table.{AreOfKept, of_kept, pruned, file_number}
 use crate::loaded::Loaded;
 use crate::table::Table;
 use checkout::Tree;
-use eden_base::{Attr, END_OF_NUMBERS, FileId, GREATEST_COUNT, Name, NoMemory, Number, Place};
+use eden_base::{Attr, END_OF_NUMBERS, FileId, Name, NoMemory, Number, Place};
 use std::alloc::Global;
 use std::marker::Model;
 use thiserror::Error;
@@ -200,26 +200,6 @@ impl InodeMap {
         ensures unchanged { self.new ≡ self.old }
     {
         self.table.locate(tree, number)
-    }
-
-    /// Returns the number that a name in a directory would be given once more, or nothing where it would be given the
-    /// next one; or why it would be given none, out of memory apart.
-    pub fn number_to_give(&self, parent: Number, name: &Name) -> Result<Option<Number>, GiveFault>
-        ensures number { IfOk result (λ number. number
-            ≡ option_map number_of_kept (entry_at self.now.entries parent.0 name.now)) }
-        ensures accepted { OnOk result (give_fault self.now parent.0 name.now ≡ None) }
-        ensures refused { IfErr result (λ fault. give_fault self.now parent.0 name.now ≡ Some fault) }
-    {
-        let Some(number) = self.table.find(parent, name) else {
-            if self.table.next() >= END_OF_NUMBERS {
-                return Err(GiveFault::NoNumber);
-            }
-            return Ok(None);
-        };
-        if self.count(number) >= GREATEST_COUNT {
-            return Err(GiveFault::TooMany);
-        }
-        Ok(Some(number))
     }
 
     /// Gives the number of a name in a directory, which is then held once more: the one that it has, or the next.
