@@ -207,6 +207,16 @@ fn look_up_fresh(alloc: Global, served: &mut Hosted, request: &Request) -> Optio
 }
 
 #[inline(never)]
+fn look_up_unloaded(alloc: Global, served: &mut Hosted, request: &Request) -> Number {
+    number_told(served.apply(alloc, request))
+}
+
+#[inline(never)]
+fn look_up_loaded(alloc: Global, served: &mut Hosted, request: &Request, held: Number) -> bool {
+    number_told(served.apply(alloc, request)) == held
+}
+
+#[inline(never)]
 fn create(alloc: Global, served: &mut Hosted, request: &Request) -> Option<Number> {
     match served.apply(alloc, request) {
         Some(Answer::Opened { number, .. }) => Some(number),
@@ -251,12 +261,29 @@ fn forget_batch(alloc: Global, served: &mut Hosted, request: &Request) -> u64 {
     }
 }
 
-/// Looks half of the names up, asks for others, and counts those that are there.
+/// Looks names up that have no number.
+fn ask_others(alloc: Global, served: &mut Hosted, others: &[Request]) {
+    for request in others {
+        look_up_fresh(alloc, served, request);
+    }
+}
+
+/// Looks a name up that has a number of which nothing is loaded, and then once more. Takes both back, and tells whether
+/// they gave one number.
+fn ask_other_again(alloc: Global, served: &mut Hosted, request: &Request) -> bool {
+    let node = look_up_unloaded(alloc, served, request);
+    let same = look_up_loaded(alloc, served, request, node);
+    let back = Request::Forget(Item { node, k: 2 });
+    same && node != Number::ROOT && served.apply(alloc, &back).is_none()
+}
+
+/// Looks half of the names up, asks for others three times, and counts those that are there.
 fn ask_fresh(alloc: Global, served: &mut Hosted, lines: u64) -> Result<u64, NoMemory> {
     let others = look_half_up(alloc, served, lines)?;
+    ask_others(alloc, served, &others);
     let mut found = 0u64;
     for request in others.as_slice() {
-        if look_up_fresh(alloc, served, request).is_some() {
+        if ask_other_again(alloc, served, request) {
             found = found.wrapping_add(1);
         }
     }
