@@ -1,6 +1,6 @@
 -- What a daemon knows stays sound whatever it is asked.
 use Rattle.std.proofs.Common.{◌≡◌, ℕ, Bool, true, false, List, Option, Some, None, Ok, Err, refl, sym, ap, ◌∙◌, subst, inl, inr, ◌⊎◌}
-use Rattle.std.specs.Option.{option_map, option_map_or}
+use Rattle.std.specs.Option.{option_map_or}
 use Rattle.eden_base.specs.declared.attr.Kind.{Kind}
 use Rattle.eden_base.specs.declared.attr.Kind.TheVariants.{Dir, File}
 use Rattle.eden_base.specs.declared.errno.Errno.TheVariants.{ENOENT}
@@ -8,15 +8,13 @@ use Rattle.eden_base.specs.declared.number.FileId.{FileId}
 use Rattle.eden_base.specs.declared.number.Number.{Number}
 use Rattle.eden_base.proofs.NumberTests.{eq-or}
 use Rattle.checkout.specs.Tree.{Tree, IsTree, child_of, kind_of}
-use Rattle.inode_map.specs.InodeMap.{entry_at, forgotten, given, give_fault, is_bad_item, number_given, number_of_kept}
-use Rattle.inode_map.specs.declared.inode_map.Kept.{Kept}
+use Rattle.inode_map.specs.InodeMap.{forgotten, given, give_fault, is_bad_item, number_given}
 use Rattle.fuse_ops.specs.Answers.{found_in, found_in_dir}
 use Rattle.fuse_ops.specs.Gifts.{served_over, Gave}
 use Rattle.fuse_ops.specs.Served.{ServedState, IsLocated}
-use Rattle.fuse_ops.specs.Soundness.{IsSound, Names}
+use Rattle.fuse_ops.specs.Soundness.{IsSound}
 use Rattle.fuse_ops.specs.Work.{Finds}
 use Rattle.fuse_ops.specs.declared.served.Found.{Found}
-use Rattle.fuse_ops.proofs.Fits.{sound-fits, place-file}
 use Rattle.fuse_ops.proofs.ForgettingLaw.{forgets-well, bad-keeps}
 use Rattle.fuse_ops.proofs.GivingLaw.{gives-well}
 
@@ -52,15 +50,3 @@ found-gave served dir name told is sound finds clear = gives-well served dir nam
   at = subst (IsLocated served dir.0) finds.found.0 finds.located;
   child = found-child served.tree told.dir told.file name (ap (λ (o : Option FileId). found_in served.tree o name) (sym finds.found.0) ∙ finds.found.1);
 }) clear
-
--- the number that a name has names the file that was found under it
-pub found-names : (served : ServedState) (dir : Number) (name : List ℕ) (told : Found) (number : Number) → IsSound served → Finds served dir.0 name (Ok told) → Some number ≡ option_map number_of_kept (entry_at served.map.entries dir.0 name) →
-    Names served number.0 told.file
-found-names served dir name told number sound finds has = in_ (entry_at served.map.entries dir.0 name) refl has where
-  in_ : (o : Option Kept) → entry_at served.map.entries dir.0 name ≡ o → Some number ≡ option_map number_of_kept o → Names served number.0 told.file
-  in_ None e h = absurd (let none : ⊥ = cc in none)
-  in_ (Some kept) e h =
-      let same : kept.number ≡ number = cc in
-      subst (λ (k : Number). Names served k.0 told.file) same
-      (place-file served.tree served.map.next served.map.entries (sound-fits served sound) dir.0 kept told.dir told.file name (subst (IsLocated served dir.0) finds.found.0 finds.located)
-      (found-child served.tree told.dir told.file name (ap (λ (o : Option FileId). found_in served.tree o name) (sym finds.found.0) ∙ finds.found.1)) e)
