@@ -1,9 +1,7 @@
 -- Given entries, put into a table one after another.
 use Rattle.std.proofs.Common.{◌≡◌, ℕ, zero, suc, ◌+◌, ◌<◌, ◌≤◌, Bool, true, false, cond, List, [], ◌∷◌, ◌++◌, length, take, drop, get_or, Option, Some, None, refl, sym, ap, ◌∙◌, subst, inl, inr, ◌⊎◌, arith}
 use Rattle.std.specs.Prelude.{◌==◌, if◌then◌else◌}
-use Rattle.std.specs.Ordering.{nat_cmp}
 use Rattle.std.specs.List.{AllByRecursion}
-use Rattle.std.specs.BTreeMap.{insert_entry}
 use Rattle.std.proofs.lemmas.List.{take_more}
 use Rattle.eden_base.specs.First.{first_where}
 use Rattle.eden_base.specs.declared.number.FileId.{FileId}
@@ -20,7 +18,6 @@ use Rattle.inode_map.proofs.Changing.{append-extends, new_or_old}
 use Rattle.inode_map.proofs.EntryLemmas.{entry_of-first, numbers-bound, numbers-outside}
 use Rattle.inode_map.proofs.FileLemmas.{linked-marked}
 use Rattle.inode_map.proofs.IndexedLemmas.{indexed-added}
-use Rattle.inode_map.proofs.SlotGrowth.{cmp-greater}
 
 -- a list, cut at one of its members
 pub cut : (es : List Kept) (i : ℕ) (x : Kept) → i < length es → x ≡ get_or es i x → es ≡ take i es ++ x ∷ drop (suc i) es
@@ -84,13 +81,6 @@ module _ (done : List Kept) (x : Kept) (rest : List Kept) (next : ℕ) (are : Ar
     in_ : (n : ℕ) (kept : Kept) (dir : Number) (q : List ℕ) → kept.place ≡ Linked dir q → ((n ≡ x.number.0) × (kept ≡ x)) ⊎ (entry_of done n ≡ Some kept) → link dir.0 q ≡ Some n
     in_ n kept dir q p (inl (same, it)) = absurd (linked-marked x.place dir q file (ap (λ (k : Kept). k.place) (sym it) ∙ p) place)
     in_ n kept dir q p (inr was) = index.found n kept dir q was p
-
--- the slots with it
-pub slots-more : (done : List Kept) (x : Kept) (low : ℕ) → AreNumbers low x.number.0 done → insert_entry nat_cmp (slots_of done) x.number.0 (Some (held_of x)) ≡ slots_of (done ++ x ∷ [])
-slots-more [] x low are = refl
-slots-more (y ∷ done) x low are =
-    let b : y.number.0 + 1 ≤ x.number.0 = numbers-bound done (y.number.0 + 1) x.number.0 are.1 in
-    rw (cmp-greater x.number.0 y.number.0 (omega arith)) (ap (λ (slots : List (ℕ × Option Held)). (y.number.0, Some (held_of y)) ∷ slots) (slots-more done x (y.number.0 + 1) are.1))
 
 -- the slots of entries, read again
 pub slots-are : (es : List Kept) (low next : ℕ) → AreNumbers low next es → AreSlots low next false (slots_of es)

@@ -17,6 +17,7 @@ pub mod Removing
 pub mod SlotGrowth
 pub mod SlotLemmas
 pub mod SlotWrites
+pub mod SlotsMade
 pub mod Striking
 pub mod TableLemmas
 pub mod TakingBack

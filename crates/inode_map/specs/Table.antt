@@ -1,5 +1,5 @@
 -- How the entries stand in their map, and what its index has of them.
-use Rattle.std.specs.Prelude.{◌≡◌, ℕ, ◌+◌, ◌≤◌, ◌==◌, Bool, true, false, not, List, [], ◌∷◌, Option, Some, None, if◌then◌else◌}
+use Rattle.std.specs.Prelude.{◌≡◌, ℕ, ◌+◌, ◌≤◌, ◌==◌, Bool, true, false, not, List, [], ◌∷◌, map, Option, Some, None, if◌then◌else◌}
 use Rattle.std.specs.List.{filter, AllByRecursion}
 use Rattle.std.specs.Map.{lookup}
 use Rattle.std.specs.BTreeMap.{is_at}
@@ -27,10 +27,13 @@ kept_of n held = record { number = record { 0 = n }; place = held.place; count =
 abbrev pub held_of : Kept → Held
 held_of kept = record { place = kept.place; count = kept.count; file = None }
 
+-- an entry under its number
+abbrev pub slot_of : Kept → ℕ × Option Held
+slot_of kept = (kept.number.0, Some (held_of kept))
+
 -- the map of entries of which no file is remembered
 abbrev pub slots_of : List Kept → List (ℕ × Option Held)
-slots_of [] = []
-slots_of (kept ∷ entries) = (kept.number.0, Some (held_of kept)) ∷ slots_of entries
+slots_of entries = map slot_of entries
 
 -- the entries of the map; a number that is reserved has none yet
 abbrev pub kept_from : List (ℕ × Option Held) → List Kept

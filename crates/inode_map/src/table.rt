@@ -1,8 +1,8 @@
 //! The entries of an inode map by number, and the index of their places.
-ghost use Rattle.std.specs.Prelude.{◌≡◌, ℕ, ◌+◌, ◌<◌, ◌≤◌, List, [], ◌∷◌, ◌++◌, Option, Some, None, IsSome, MatchOption, IfOk, OnOk, OnErr, ◌-◌, true, false, nat_lt, vec_len, vec_capacity, length, if◌then◌else◌};
+ghost use Rattle.std.specs.Prelude.{◌≡◌, ℕ, ◌+◌, ◌<◌, ◌≤◌, List, [], ◌∷◌, ◌++◌, Option, Some, None, IsSome, MatchOption, IfOk, OnOk, map, OnErr, ◌-◌, true, false, nat_lt, vec_len, vec_capacity, length, if◌then◌else◌};
 ghost use Rattle.std.specs.Option.{option_map, option_copied, option_and_then, IfNone, IfSome, OnSome};
 ghost use Rattle.std.specs.List.{AllByRecursion, list_any, filter};
-ghost use Rattle.std.specs.BTreeMap.{insert_entry};
+ghost use Rattle.std.specs.BTreeMap.{IsFromIterResult};
 ghost use Rattle.std.specs.Ordering.{nat_cmp};
 ghost use Rattle.checkout.specs.Tree.{Tree};
 ghost use Rattle.eden_base.specs.First.{changed_where, without_where};
@@ -11,14 +11,14 @@ ghost use Rattle.eden_base.specs.declared.number.FileId.{FileId};
 ghost use Rattle.eden_base.specs.declared.number.Number.{Number};
 ghost use Rattle.inode_map.specs.EntryPlaces.{HasName, IsNamedEntry, is_under_name};
 ghost use Rattle.inode_map.specs.InodeMap.{has_number, entry_of, entry_at, is_kid_of, number_of_kept, place_of_kept, number_after, new_entry, marked, IsLinked, IsFileOf, file_remembered, remembered, AreNumbers, AreEntries, count_of, once_more, is_bad_item, lowered};
-ghost use Rattle.inode_map.specs.Table.{IsIn, held_of, slots_of, kept_of, kept_from, held_in, IsSlots, without_entry, AreOfKept, file_number};
+ghost use Rattle.inode_map.specs.Table.{IsIn, slot_of, slots_of, kept_of, kept_from, held_in, IsSlots, without_entry, AreOfKept, file_number};
 
 use crate::index::Index;
 use crate::inode_map::Kept;
 use crate::way::locate;
 use checkout::Tree;
 use eden_base::{FileId, GREATEST_COUNT, Name, NoMemory, Number, Place};
-use std::alloc::Global;
+use std::alloc::{AllocError, Global};
 use std::collections::BTreeMap;
 use std::marker::Model;
 use std::ops::Bound;
@@ -360,25 +360,27 @@ fn slots_of(alloc: Global, entries: Vec<Kept>) -> Result<BTreeMap<u64, Option<He
     requires { (next : ℕ) × AreNumbers 2 next entries.items }
     ensures { IfOk result (λ slots. slots.entries ≡ slots_of entries.items) }
 {
-    let mut slots = BTreeMap::new(alloc);
-    for kept in entries {
-        put(&mut slots, kept)?;
-    }
+    let slots = made_of(alloc, entries)?;
     Ok(slots)
 }
 
-/// Puts an entry under its number. No file is remembered of it.
-fn put(slots: &mut BTreeMap<u64, Option<Held>>, kept: Kept) -> Result<(), NoMemory>
-    ensures { OnOk result (slots.new.entries
-        ≡ insert_entry nat_cmp slots.old.entries kept.number.0 (Some (held_of kept))) }
+/// Makes a map of what stands under the numbers of entries. Its leaves are full, as it is made at once.
+fn made_of(alloc: Global, entries: Vec<Kept>) -> Result<BTreeMap<u64, Option<Held>>, AllocError>
+    ensures { IfOk result (IsFromIterResult nat_cmp (map slot_of entries.items)) }
+{
+    entries.into_iter().map(slot_of).collect(alloc)
+}
+
+/// Returns what stands under the number of an entry, with the number. No file is remembered of it.
+fn slot_of(kept: Kept) -> (u64, Option<Held>)
+    ensures { result ≡ slot_of kept }
 {
     let held = Held {
         place: kept.place,
         count: kept.count,
         file: None,
     };
-    slots.insert(kept.number.0, Some(held))?;
-    Ok(())
+    (kept.number.0, Some(held))
 }
 
 /// Returns the entries that stand under their numbers, in memory of their own.
