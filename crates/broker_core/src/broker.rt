@@ -341,6 +341,3 @@ impl Broker {
         self.seat
     }
 }
-
-#[cfg(test)]
-mod tests;

@@ -1,7 +1,8 @@
 //! Worked examples: what the kernel may ask and when, and the way of an ask, an item and a reply.
-use super::*;
-use eden_base::{Attr, Errno, Kind, Name, Perm};
-use fuse_wire::{Answer, Batch};
+use broker_core::{Broker, DeliverFault, IssueFault, MountFault, PostFault, Seat, TakeFault};
+use eden_base::{Attr, DaemonId, Errno, Kind, Name, Number, Perm};
+use fuse_wire::{Answer, Batch, Item, Reply, Request};
+use std::alloc::Global;
 use std::test::Fail;
 
 const DAEMON: DaemonId = DaemonId(1);
