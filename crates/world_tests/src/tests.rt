@@ -593,28 +593,45 @@ fn last_told(world: &mut World, event: &Event) -> Option<Happened> {
     told
 }
 
+/// Returns whether each deed tells what is expected last, where that is named, and daemon 1 counts then what the kernel
+/// holds.
+fn tells_last(
+    alloc: Global,
+    world: &mut World,
+    deeds: &[(Deed, Option<Happened>)],
+) -> Result<bool, Fail> {
+    for (deed, expected) in deeds {
+        let told = last_told(world, &event(alloc, *deed)?);
+        if expected.is_some() && told != *expected {
+            return Ok(false);
+        }
+    }
+    Ok(counts(world)[0] == counts(world)[1])
+}
+
+/// Returns whether deeds go on so in a new world.
+fn tells_last_from_nothing(
+    alloc: Global,
+    deeds: &[(Deed, Option<Happened>)],
+) -> Result<bool, Fail> {
+    let mut world = new_world(alloc)?;
+    tells_last(alloc, &mut world, deeds)
+}
+
 /// Passes also where one allocation is refused: a refused event changes nothing and is made when it comes again; a
 /// lookup may also be answered ENOMEM, and gives no number then.
 #[test]
 fn goes_on_after_memory_was_refused(rt: HostRuntime) -> Result<(), Fail> {
-    let alloc = rt.alloc();
-    let mut world = new_world(alloc)?;
-    let ask = event(alloc, Deed::Issue(LOOK_UP_SRC))?;
-    let _started = last_told(&mut world, &Event::Start);
-    let mounted = last_told(&mut world, &Event::Mount(DaemonId(1)));
-    assert_eq!(rt; mounted, Some(Happened::Mounted(1)));
-    let asked = last_told(&mut world, &ask);
-    assert_eq!(rt; asked, Some(Happened::Asked(Some(1))));
-    let took = last_told(&mut world, &Event::Take(DaemonId(1)));
-    assert_eq!(rt; took, Some(Happened::Took(1)));
-    let _made = last_told(&mut world, &work(1, 1, false));
-    let post = Event::Post {
-        daemon: DaemonId(1),
-        place: 1,
-    };
-    assert_eq!(rt; last_told(&mut world, &post), Some(Happened::Posted(1)));
-    let _answered = last_told(&mut world, &Event::Deliver);
-    assert_eq!(rt; counts(&world)[0], counts(&world)[1]);
+    let deeds = [
+        (Deed::Start, None),
+        (Deed::Mount(1), Some(Happened::Mounted(1))),
+        (Deed::Issue(LOOK_UP_SRC), Some(Happened::Asked(Some(1)))),
+        (Deed::Take(1), Some(Happened::Took(1))),
+        (Deed::Work(1, 1), None),
+        (Deed::Post(1, 1), Some(Happened::Posted(1))),
+        (Deed::Deliver, None),
+    ];
+    assert!(rt; tells_last_from_nothing(rt.alloc(), &deeds)?);
     Ok(())
 }
 
@@ -631,19 +648,28 @@ fn finished(world: &mut World, event: &Event) -> Option<Happened> {
     last_of(&world.step(event))
 }
 
+/// Returns whether the kernel is answered by a `do`, with nothing left under way, where daemon 1 mounts.
+fn finishes(world: &mut World, ask: &Event) -> bool {
+    let _started = last_told(world, &Event::Start);
+    let mounted = last_told(world, &Event::Mount(DaemonId(1)));
+    let told = finished(world, ask);
+    let is_answered = matches!(told, Some(Happened::Answered(_)));
+    let is_idle = world.hand(DaemonId(1)).is_empty() && world.unposted(DaemonId(1)).is_empty();
+    let is_even = counts(world)[0] == counts(world)[1];
+    mounted == Some(Happened::Mounted(1)) && is_answered && is_idle && is_even
+}
+
+/// Returns whether a lookup finishes in a new world.
+fn finishes_from_nothing(alloc: Global) -> Result<bool, Fail> {
+    let ask = event(alloc, Deed::Do(LOOK_UP_SRC))?;
+    let mut world = new_world(alloc)?;
+    Ok(finishes(&mut world, &ask))
+}
+
 /// Passes also where one allocation is refused: what a `do` made before it was refused stands, and the kernel is answered
 /// in the end.
 #[test]
 fn finishes_a_do_after_memory_was_refused(rt: HostRuntime) -> Result<(), Fail> {
-    let alloc = rt.alloc();
-    let mut world = new_world(alloc)?;
-    let ask = event(alloc, Deed::Do(LOOK_UP_SRC))?;
-    let _started = last_told(&mut world, &Event::Start);
-    let mounted = last_told(&mut world, &Event::Mount(DaemonId(1)));
-    assert_eq!(rt; mounted, Some(Happened::Mounted(1)));
-    let told = finished(&mut world, &ask);
-    assert!(rt; matches!(told, Some(Happened::Answered(_))));
-    assert!(rt; world.hand(DaemonId(1)).is_empty() && world.unposted(DaemonId(1)).is_empty());
-    assert_eq!(rt; counts(&world)[0], counts(&world)[1]);
+    assert!(rt; finishes_from_nothing(rt.alloc())?);
     Ok(())
 }
