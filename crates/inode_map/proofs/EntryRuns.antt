@@ -11,9 +11,8 @@ use Rattle.eden_base.proofs.NumberTests.{eq-true, eq-false}
 use Rattle.eden_base.proofs.MemberLemmas.{some-same, some-none}
 use Rattle.inode_map.specs.InodeMap.{stands_at, entry_of, entry_at, AreNumbers, AreEntries}
 use Rattle.inode_map.specs.Links.{is_link}
-use Rattle.inode_map.specs.Table.{held_of, slots_of, kept_from, files_from, AreSlots, IsIndexed}
+use Rattle.inode_map.specs.Table.{slots_of, kept_from, files_from, AreSlots, IsIndexed}
 use Rattle.inode_map.specs.declared.inode_map.Kept.{Kept}
-use Rattle.inode_map.specs.declared.table.Held.{Held}
 use Rattle.inode_map.proofs.Changing.{append-extends, new_or_old}
 use Rattle.inode_map.proofs.EntryLemmas.{entry_of-first, numbers-bound, numbers-outside}
 use Rattle.inode_map.proofs.FileLemmas.{linked-marked}
@@ -83,8 +82,8 @@ module _ (done : List Kept) (x : Kept) (rest : List Kept) (next : ℕ) (are : Ar
     in_ n kept dir q p (inr was) = index.found n kept dir q was p
 
 -- the slots of entries, read again
-pub slots-are : (es : List Kept) (low next : ℕ) → AreNumbers low next es → AreSlots low next false (slots_of es)
-slots-are [] low next are = (are, refl)
+pub slots-are : (es : List Kept) (low next : ℕ) → AreNumbers low next es → AreSlots low next (slots_of es)
+slots-are [] low next are = are
 slots-are (y ∷ es) low next are = (are.0, slots-are es (y.number.0 + 1) next are.1)
 
 pub slots-kept : (es : List Kept) → kept_from (slots_of es) ≡ es

@@ -16,8 +16,8 @@ pub mod Recency
 pub mod Removing
 pub mod SlotGrowth
 pub mod SlotLemmas
+pub mod SlotSearch
 pub mod SlotWrites
-pub mod SlotsMade
 pub mod Striking
 pub mod TableLemmas
 pub mod TakingBack

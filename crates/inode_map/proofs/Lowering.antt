@@ -10,7 +10,7 @@ use Rattle.std.proofs.lemmas.Bool.Decides.{nat_tests}
 use Rattle.std.proofs.lemmas.Map.Steps.{set_value_same}
 use Rattle.inode_map.specs.InodeMap.{MapState, count_of, is_bad_item, is_kid_of, lowered, forgotten, loaded_number}
 use Rattle.inode_map.specs.Inside.{IsTable, IsConsistent}
-use Rattle.inode_map.specs.Table.{TableState, kept_of, AreOfKept, file_number}
+use Rattle.inode_map.specs.Table.{TableState, kept_of, slot_at, AreOfKept, file_number}
 use Rattle.inode_map.specs.declared.inode_map.InodeMap.TheInside as map
 use Rattle.inode_map.specs.declared.inode_map.Kept.{Kept}
 use Rattle.inode_map.specs.declared.table.Held.{Held}
@@ -19,7 +19,7 @@ use Rattle.inode_map.proofs.Changing.{kids-changed}
 use Rattle.inode_map.proofs.Forgetting.{IsTold, less, less-keeps, lowered-kept, forgotten-lowered}
 use Rattle.inode_map.proofs.Giving.{AreKept}
 use Rattle.inode_map.proofs.Keeping.{of-changed}
-use Rattle.inode_map.proofs.SlotLemmas.{slot_of, slot_held, held-entry}
+use Rattle.inode_map.proofs.SlotLemmas.{slot_held, held-entry}
 use Rattle.inode_map.proofs.TableLemmas.{view_of}
 
 -- how often what stands in a slot is held
@@ -27,11 +27,11 @@ abbrev pub count_in : Option Held → ℕ
 count_in o = option_map_or (λ (h : Held). h.count) o 0
 
 -- a count stands in the slot of its number
-pub count-held : (t : Inside) (now : TableState) (n : ℕ) → view_of t ≡ now → IsTable t → count_of now.entries n ≡ count_in (slot_held (slot_of t.slots.entries n))
+pub count-held : (t : Inside) (now : TableState) (n : ℕ) → view_of t ≡ now → IsTable t → count_of now.entries n ≡ count_in (slot_held (slot_at t.slots.items n))
 count-held t now n view is =
     ap (λ (s : TableState). count_of s.entries n) (sym view)
-    ∙ ap (λ (e : Option Kept). option_map_or (λ (kept : Kept). kept.count) e 0) (sym (held-entry t.slots.entries 2 t.next t.is_reserved n is.slots))
-    ∙ in_ (slot_held (slot_of t.slots.entries n)) where
+    ∙ ap (λ (e : Option Kept). option_map_or (λ (kept : Kept). kept.count) e 0) (sym (held-entry t.slots.items 2 t.next n is.slots))
+    ∙ in_ (slot_held (slot_at t.slots.items n)) where
       in_ : (o : Option Held) → option_map_or (λ (kept : Kept). kept.count) (option_map (kept_of n) o) 0 ≡ count_in o
       in_ None = refl
       in_ (Some h) = refl
@@ -43,13 +43,13 @@ bad-more es n k few = let l : nat_lt (count_of es n) k ≡ true = grind (arith, 
   or_true true = refl
   or_true false = refl
 
-pub bad-in : (t : Inside) (now : TableState) (n k : ℕ) (s : Option (Option Held)) → view_of t ≡ now → IsTable t → slot_of t.slots.entries n ≡ s → count_in (slot_held s) < k → is_bad_item now.entries n k ≡ true
+pub bad-in : (t : Inside) (now : TableState) (n k : ℕ) (s : Option (Option Held)) → view_of t ≡ now → IsTable t → slot_at t.slots.items n ≡ s → count_in (slot_held s) < k → is_bad_item now.entries n k ≡ true
 bad-in t now n k s view is found few =
     let count : count_of now.entries n ≡ count_in (slot_held s) = count-held t now n view is ∙ ap (λ (o : Option (Option Held)). count_in (slot_held o)) found in
     bad-more now.entries n k (omega arith)
 
 -- what was found in a slot, written back, changes nothing
-pub slots-same : (es new : List (ℕ × Option Held)) (n : ℕ) (s : Option Held) → slot_of es n ≡ Some s → new ≡ set_value (is_at (nat_cmp n)) es s → new ≡ es
+pub slots-same : (es new : List (ℕ × Option Held)) (n : ℕ) (s : Option Held) → slot_at es n ≡ Some s → new ≡ set_value (is_at (nat_cmp n)) es s → new ≡ es
 slots-same es new n s found set = set ∙ set_value_same (is_at (nat_cmp n)) es s found
 
 module _ (m : map.Inside) (now : MapState) (new : TableState) (n k : ℕ) where

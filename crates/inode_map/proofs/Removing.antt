@@ -8,35 +8,34 @@ use Rattle.eden_base.specs.declared.place.Place.TheVariants.{Linked, Unlinked}
 use Rattle.inode_map.specs.InodeMap.{has_number, entry_of, place_of_kept}
 use Rattle.inode_map.specs.Inside.{IsTable}
 use Rattle.inode_map.specs.Links.{link_of, is_link}
-use Rattle.inode_map.specs.Table.{TableState, kept_of, kept_from, files_from, spare_of, AreSlots, IsIndexed, without_entry}
+use Rattle.inode_map.specs.Table.{TableState, kept_of, kept_from, slot_at, files_from, spare_of, AreSlots, IsIndexed, without_entry}
 use Rattle.inode_map.specs.declared.inode_map.Kept.{Kept}
 use Rattle.inode_map.specs.declared.table.Held.{Held}
 use Rattle.inode_map.specs.declared.table.Table.TheInside.{Inside}
 use Rattle.inode_map.proofs.IndexedLemmas.{indexed-lost, indexed-left}
-use Rattle.inode_map.proofs.SlotLemmas.{slot_of}
-use Rattle.inode_map.proofs.SlotWrites.{removed, removed-slots, removed-kept, removed-files}
+use Rattle.inode_map.proofs.SlotWrites.{set-slots, emptied, emptied-kept, emptied-files}
 use Rattle.inode_map.proofs.TableLemmas.{view_of, slot-entry, without-loses}
 use Rattle.std.specs.Prelude.{None, if◌then◌else◌}
 
-module _ (t : Inside) (n : ℕ) (h : Held) (left : List (ℕ × Option Held)) (is : IsTable t) (found : slot_of t.slots.entries n ≡ Some (Some h)) (taken : left ≡ removed t.next t.is_reserved n h t.slots.entries) where
+module _ (t : Inside) (n : ℕ) (h : Held) (left : List (ℕ × Option Held)) (is : IsTable t) (found : slot_at t.slots.items n ≡ Some (Some h)) (taken : left ≡ emptied t.next n h t.slots.items) where
   abbrev pub kept_left : List Kept
-  kept_left = without_where (has_number n) (kept_from t.slots.entries)
+  kept_left = without_where (has_number n) (kept_from t.slots.items)
 
-  pub left-slots : AreSlots 2 t.next t.is_reserved left
-  left-slots = rw taken (removed-slots t.next t.is_reserved n h t.slots.entries 2 is.slots found)
+  pub left-slots : AreSlots 2 t.next left
+  left-slots = rw taken (set-slots t.next n None t.slots.items 2 is.slots)
 
   pub left-kept : kept_from left ≡ kept_left
-  left-kept = ap kept_from taken ∙ removed-kept t.next t.is_reserved n h t.slots.entries 2 is.slots found
+  left-kept = ap kept_from taken ∙ emptied-kept t.next n h t.slots.items 2 is.slots found
 
   -- the index without its link, if it had one
   pub left-lost : (linked : ℕ → List ℕ → Option ℕ) (parent : Number) (name : List ℕ) → h.place ≡ Linked parent name →
       ((dir : ℕ) (q : List ℕ) → linked dir q ≡ (if is_link dir q parent.0 name then None else link_of t.index dir q)) → IsIndexed (kept_from left) linked
   left-lost linked parent name place after = subst (λ (es : List Kept). IsIndexed es linked) (sym left-kept)
-      (indexed-lost (kept_from t.slots.entries) kept_left n (link_of t.index) linked (kept_of n h) parent name (without-loses t n is) (slot-entry t n h is found) place is.indexed after)
+      (indexed-lost (kept_from t.slots.items) kept_left n (link_of t.index) linked (kept_of n h) parent name (without-loses t n is) (slot-entry t n h is found) place is.indexed after)
 
   pub left-marked : (file : FileId) → h.place ≡ Unlinked file → IsIndexed (kept_from left) (link_of t.index)
   left-marked file place = subst (λ (es : List Kept). IsIndexed es (link_of t.index)) (sym left-kept)
-      (indexed-left (kept_from t.slots.entries) kept_left n (link_of t.index) (kept_of n h) file (without-loses t n is) (slot-entry t n h is found) place is.indexed)
+      (indexed-left (kept_from t.slots.items) kept_left n (link_of t.index) (kept_of n h) file (without-loses t n is) (slot-entry t n h is found) place is.indexed)
 
   -- what its view says
   pub left-place : (now : TableState) → view_of t ≡ now → option_map place_of_kept (entry_of now.entries n) ≡ Some h.place
@@ -44,4 +43,4 @@ module _ (t : Inside) (n : ℕ) (h : Held) (left : List (ℕ × Option Held)) (i
 
   pub left-view : (now : TableState) → view_of t ≡ now →
       record { entries = kept_from left; remembered = files_from left; next = t.next; spare = spare_of t.is_reserved } ≡ without_entry now n (without_where (has_number n) now.entries)
-  left-view now view = rw (← view, taken, removed-kept t.next t.is_reserved n h t.slots.entries 2 is.slots found, removed-files t.next t.is_reserved n h t.slots.entries 2 is.slots found) refl
+  left-view now view = rw (← view, taken, emptied-kept t.next n h t.slots.items 2 is.slots found, emptied-files t.next n h t.slots.items 2 is.slots found) refl

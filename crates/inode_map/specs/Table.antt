@@ -1,6 +1,6 @@
 -- How the entries stand in their map, and what its index has of them.
-use Rattle.std.specs.Prelude.{◌≡◌, ℕ, ◌+◌, ◌≤◌, ◌==◌, Bool, true, false, not, List, [], ◌∷◌, map, Option, Some, None, if◌then◌else◌}
-use Rattle.std.specs.List.{filter, AllByRecursion}
+use Rattle.std.specs.Prelude.{◌≡◌, ℕ, ◌+◌, ◌<◌, ◌≤◌, ◌==◌, Bool, true, not, List, [], ◌∷◌, map, length, Option, Some, None, if◌then◌else◌}
+use Rattle.std.specs.List.{filter, AllByRecursion, HoldsAt}
 use Rattle.std.specs.Map.{lookup}
 use Rattle.std.specs.BTreeMap.{is_at}
 use Rattle.std.specs.Option.{option_and_then}
@@ -27,23 +27,36 @@ kept_of n held = record { number = record { 0 = n }; place = held.place; count =
 abbrev pub held_of : Kept → Held
 held_of kept = record { place = kept.place; count = kept.count; file = None }
 
--- an entry under its number
+-- the slot of an entry
 abbrev pub slot_of : Kept → ℕ × Option Held
 slot_of kept = (kept.number.0, Some (held_of kept))
 
--- the map of entries of which no file is remembered
+-- the slots of entries of which no file is remembered
 abbrev pub slots_of : List Kept → List (ℕ × Option Held)
 slots_of entries = map slot_of entries
 
--- the entries of the map; a number that is reserved has none yet
+-- the entries in slots; a slot whose entry has left is empty
 abbrev pub kept_from : List (ℕ × Option Held) → List Kept
 kept_from [] = []
 kept_from ((n, Some held) ∷ slots) = kept_of n held ∷ kept_from slots
 kept_from ((n, None) ∷ slots) = kept_from slots
 
--- what stands under a number
+-- the number of the first entry
+abbrev pub first_number : List Kept → Option Number
+first_number [] = None
+first_number (kept ∷ entries) = Some kept.number
+
+-- the slot of a number
+abbrev pub slot_at : List (ℕ × Option Held) → ℕ → Option (Option Held)
+slot_at slots n = lookup (is_at (nat_cmp n)) slots
+
+-- what stands in it
 abbrev pub held_in : List (ℕ × Option Held) → ℕ → Option Held
-held_in slots n = option_and_then (λ (held : Option Held). held) (lookup (is_at (nat_cmp n)) slots)
+held_in slots n = option_and_then (λ (held : Option Held). held) (slot_at slots n)
+
+-- the slot at this place is the number's
+abbrev pub IsPlaceOf : List (ℕ × Option Held) → ℕ → ℕ → Type 0
+IsPlaceOf slots n place = (place < length slots) × HoldsAt (λ (slot : ℕ × Option Held). slot.0 ≡ n) slots place
 
 -- the file of a number, if it is remembered, before others
 abbrev pub file_first : ℕ → Option FileId → List (ℕ × FileId) → List (ℕ × FileId)
@@ -60,15 +73,14 @@ files_from ((n, None) ∷ slots) = files_from slots
 abbrev pub spare_of : Bool → ℕ
 spare_of ready = if ready then 1 else 0
 
--- numbers rise from a lowest one and stay below the next, which alone may be reserved
-abbrev pub AreSlots : ℕ → ℕ → Bool → List (ℕ × Option Held) → Type 0
-AreSlots low next ready [] = (low ≤ next) × (ready ≡ false)
-AreSlots low next ready ((n, Some held) ∷ slots) = (low ≤ n) × AreSlots (n + 1) next ready slots
-AreSlots low next ready ((n, None) ∷ slots) = (low ≤ n) × (n ≡ next) × (ready ≡ true) × (slots ≡ [])
+-- numbers rise from a lowest one and stay below the next
+abbrev pub AreSlots : ℕ → ℕ → List (ℕ × Option Held) → Type 0
+AreSlots low next [] = low ≤ next
+AreSlots low next (slot ∷ slots) = (low ≤ slot.0) × AreSlots (slot.0 + 1) next slots
 
 -- the slots of a table, whichever its next number is
 abbrev pub IsSlots : List (ℕ × Option Held) → Type 0
-IsSlots slots = (next : ℕ) × (ready : Bool) × AreSlots 2 next ready slots
+IsSlots slots = (next : ℕ) × AreSlots 2 next slots
 
 -- what the index has of the entries: each linked one at its place, and nothing else
 pub record IsIndexed (entries : List Kept) (link : ℕ → List ℕ → Option ℕ) : Type 0 where

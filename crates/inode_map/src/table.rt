@@ -2,8 +2,8 @@
 ghost use Rattle.std.specs.Prelude.{◌≡◌, ℕ, ◌+◌, ◌<◌, ◌≤◌, List, [], ◌∷◌, ◌++◌, Option, Some, None, IsSome, MatchOption, IfOk, OnOk, map, OnErr, ◌-◌, true, false, nat_lt, vec_len, vec_capacity, length, if◌then◌else◌};
 ghost use Rattle.std.specs.Option.{option_map, option_copied, option_and_then, IfNone, IfSome, OnSome};
 ghost use Rattle.std.specs.List.{AllByRecursion, list_any, filter};
-ghost use Rattle.std.specs.BTreeMap.{IsFromIterResult};
-ghost use Rattle.std.specs.Ordering.{nat_cmp};
+ghost use Rattle.std.specs.List.{HoldsAt};
+ghost use Rattle.std.specs.List.Sorted.{IsPartitionPoint};
 ghost use Rattle.checkout.specs.Tree.{Tree};
 ghost use Rattle.eden_base.specs.First.{changed_where, without_where};
 ghost use Rattle.eden_base.specs.Limits.{end_of_numbers, greatest_count};
@@ -11,7 +11,7 @@ ghost use Rattle.eden_base.specs.declared.number.FileId.{FileId};
 ghost use Rattle.eden_base.specs.declared.number.Number.{Number};
 ghost use Rattle.inode_map.specs.EntryPlaces.{HasName, IsNamedEntry, is_under_name};
 ghost use Rattle.inode_map.specs.InodeMap.{has_number, entry_of, entry_at, is_kid_of, number_of_kept, place_of_kept, number_after, new_entry, marked, IsLinked, IsFileOf, file_remembered, remembered, AreNumbers, AreEntries, count_of, once_more, is_bad_item, lowered};
-ghost use Rattle.inode_map.specs.Table.{IsIn, slot_of, slots_of, kept_of, kept_from, held_in, IsSlots, without_entry, AreOfKept, file_number};
+ghost use Rattle.inode_map.specs.Table.{IsIn, slot_of, slots_of, slot_at, kept_of, kept_from, files_from, first_number, held_in, AreSlots, IsSlots, IsPlaceOf, without_entry, AreOfKept, file_number};
 
 use crate::index::Index;
 use crate::inode_map::Kept;
@@ -19,9 +19,7 @@ use crate::way::locate;
 use checkout::Tree;
 use eden_base::{FileId, GREATEST_COUNT, Name, NoMemory, Number, Place};
 use std::alloc::{AllocError, Global};
-use std::collections::BTreeMap;
 use std::marker::Model;
-use std::ops::Bound;
 
 /// Returns the same place, in memory of its own.
 fn copy_of(alloc: Global, place: &Place) -> Result<Place, NoMemory>
@@ -74,11 +72,14 @@ impl Held {
     }
 }
 
-/// The map of the entries has a place for the next number where that is reserved. The way has room for a walk past all
-/// of them.
+/// A number, and what its entry has beside it. The slot stays empty where the entry has left, until room is needed.
+pub(crate) type Slot = (u64, Option<Held>);
+
+/// The slots stand by rising number, so that a new one is the last. There is room for the next number's where that is
+/// reserved, and the way has room for a walk past all of them.
 #[derive(Drop)]
 pub(crate) struct Table {
-    slots: BTreeMap<u64, Option<Held>>,
+    slots: Vec<Slot>,
     index: Index,
     next: u64,
     is_reserved: bool,
@@ -91,8 +92,8 @@ impl Model for Table {
     ghost Value = { TableState };
 
     ghost view = { λ t. record {
-      entries = kept_from t.slots.entries;
-      remembered = files_from t.slots.entries;
+      entries = kept_from t.slots.items;
+      remembered = files_from t.slots.items;
       next = t.next;
       spare = spare_of t.is_reserved;
     } };
@@ -108,7 +109,7 @@ impl Table {
         ensures { result ≡ record { entries = []; remembered = []; next = 2; spare = 0 } }
     {
         Table {
-            slots: BTreeMap::new(alloc),
+            slots: Vec::new(alloc),
             index: Index::new(alloc),
             next: 2,
             is_reserved: false,
@@ -150,25 +151,15 @@ impl Table {
             ≡ file_remembered self.now.remembered number.0 }
         ensures kept { AreOfKept file_number self.now.entries self.now.remembered }
     {
-        held_at(&self.slots, number)
+        held_at(self.slots.as_slice(), number)
     }
 
     /// Returns the least number above another.
     pub fn after(&self, number: Number) -> Option<Number>
         ensures { result ≡ number_after self.now.entries number.0 }
     {
-        let mut above = self
-            .slots
-            .range((Bound::Excluded(number.0), Bound::Unbounded));
-        match above.next() {
-            Some((n, slot)) => {
-                if slot.is_none() {
-                    return None;
-                }
-                Some(Number(*n))
-            }
-            None => None,
-        }
+        let slots = self.slots.as_slice();
+        first_in(&slots[up_to(slots, number)..])
     }
 
     /// Returns the entries, by rising number, in memory of their own.
@@ -176,7 +167,7 @@ impl Table {
         ensures entries { IfOk result (λ kept. kept.items ≡ self.now.entries) }
         ensures named { IfOk result (λ kept. AllByRecursion IsNamedEntry kept.items) }
     {
-        entries_of(alloc, &self.slots)
+        entries_of(alloc, self.slots.as_slice())
     }
 
     /// Returns the number that stands under a name in a directory.
@@ -205,9 +196,9 @@ impl Table {
             return Ok(());
         }
         self.index.reserve(alloc)?;
+        make_room(&mut self.slots)?;
         self.way.clear();
         self.way.try_reserve(self.slots.len() + 1)?;
-        self.slots.insert(self.next, None)?;
         self.is_reserved = true;
         Ok(())
     }
@@ -231,10 +222,7 @@ impl Table {
             count: 1,
             file: None,
         };
-        let Some(slot) = self.slots.get_mut(&number.0) else {
-            unreachable!()
-        };
-        *slot = Some(held);
+        self.slots.push_reserved((number.0, Some(held)));
         self.next += 1;
         self.is_reserved = false;
         number
@@ -249,10 +237,13 @@ impl Table {
         } else self.old) }
         ensures kept { AreOfKept file_number self.old.entries self.old.remembered }
     {
-        let Some(slot) = self.slots.get_mut(&number.0) else {
+        let Some(place) = place_of(self.slots.as_slice(), number) else {
             unreachable!()
         };
-        let Some(held) = slot else { unreachable!() };
+        let slot = &mut self.slots[place];
+        let Some(held) = &mut slot.1 else {
+            unreachable!()
+        };
         if held.count >= GREATEST_COUNT {
             return false;
         }
@@ -273,10 +264,9 @@ impl Table {
         if k == 0 {
             return None;
         }
-        let Some(slot) = self.slots.get_mut(&number.0) else {
-            return None;
-        };
-        let Some(held) = slot else {
+        let place = place_of(self.slots.as_slice(), number)?;
+        let slot = &mut self.slots[place];
+        let Some(held) = &mut slot.1 else {
             return None;
         };
         if held.count < k {
@@ -293,10 +283,13 @@ impl Table {
           remembered = remembered self.old.remembered number.0 file;
         } }
     {
-        let Some(slot) = self.slots.get_mut(&number.0) else {
+        let Some(place) = place_of(self.slots.as_slice(), number) else {
             unreachable!()
         };
-        let Some(held) = slot else { unreachable!() };
+        let slot = &mut self.slots[place];
+        let Some(held) = &mut slot.1 else {
+            unreachable!()
+        };
         held.file = Some(file);
     }
 
@@ -309,13 +302,14 @@ impl Table {
         ensures dir { IsIn self.old.entries number.0 result }
         ensures kept { AreOfKept file_number self.new.entries self.new.remembered }
     {
-        let Some(slot) = self.slots.get_mut(&number.0) else {
+        let Some(place) = place_of(self.slots.as_slice(), number) else {
             unreachable!()
         };
-        let Some(held) = slot.take() else {
+        let slot = &mut self.slots[place];
+        let Some(held) = slot.1.take() else {
             unreachable!()
         };
-        *slot = Some(Held {
+        slot.1 = Some(Held {
             place: Place::Unlinked { file },
             count: held.count,
             file: held.file,
@@ -334,10 +328,12 @@ impl Table {
         ensures removed { self.new ≡ without_entry self.old number.0
             (without_where (has_number number.0) self.old.entries) }
     {
-        let Some(slot) = self.slots.remove(&number.0) else {
+        let Some(place) = place_of(self.slots.as_slice(), number) else {
             unreachable!()
         };
-        let Some(held) = slot else { unreachable!() };
+        let Some(held) = self.slots[place].1.take() else {
+            unreachable!()
+        };
         if let Place::Linked { parent, name } = &held.place {
             self.index.remove(parent.0, name);
         }
@@ -351,28 +347,20 @@ impl Table {
             (IsFileOf tree.now self.old.entries number.0) }
         ensures unchanged { self.new ≡ self.old }
     {
-        locate(&self.slots, &mut self.way, tree, number)
+        locate(self.slots.as_slice(), &mut self.way, tree, number)
     }
 }
 
-/// Puts entries, whose numbers rise, under their numbers.
-fn slots_of(alloc: Global, entries: Vec<Kept>) -> Result<BTreeMap<u64, Option<Held>>, NoMemory>
-    requires { (next : ℕ) × AreNumbers 2 next entries.items }
-    ensures { IfOk result (λ slots. slots.entries ≡ slots_of entries.items) }
-{
-    let slots = made_of(alloc, entries)?;
-    Ok(slots)
-}
-
-/// Makes a map of what stands under the numbers of entries. Its leaves are full, as it is made at once.
-fn made_of(alloc: Global, entries: Vec<Kept>) -> Result<BTreeMap<u64, Option<Held>>, AllocError>
-    ensures { IfOk result (IsFromIterResult nat_cmp (map slot_of entries.items)) }
+/// Puts entries into slots, in their order.
+fn slots_of(alloc: Global, entries: Vec<Kept>) -> Result<Vec<Slot>, AllocError>
+    ensures slots { IfOk result (λ slots. slots.items ≡ slots_of entries.items) }
+    ensures len { IfOk result (λ slots. vec_len slots ≡ length entries.items) }
 {
     entries.into_iter().map(slot_of).collect(alloc)
 }
 
-/// Returns what stands under the number of an entry, with the number. No file is remembered of it.
-fn slot_of(kept: Kept) -> (u64, Option<Held>)
+/// Returns the slot of an entry, of which no file is remembered.
+fn slot_of(kept: Kept) -> Slot
     ensures { result ≡ slot_of kept }
 {
     let held = Held {
@@ -383,9 +371,9 @@ fn slot_of(kept: Kept) -> (u64, Option<Held>)
     (kept.number.0, Some(held))
 }
 
-/// Returns the entries that stand under their numbers, in memory of their own.
-fn entries_of(alloc: Global, slots: &BTreeMap<u64, Option<Held>>) -> Result<Vec<Kept>, NoMemory>
-    ensures entries { IfOk result (λ kept. kept.items ≡ kept_from slots.now.entries) }
+/// Returns the entries that stand in the slots, in memory of their own.
+fn entries_of(alloc: Global, slots: &[Slot]) -> Result<Vec<Kept>, NoMemory>
+    ensures entries { IfOk result (λ kept. kept.items ≡ kept_from slots.now) }
     ensures named { IfOk result (λ kept. AllByRecursion IsNamedEntry kept.items) }
 {
     let mut entries = Vec::with_capacity(alloc, slots.len())?;
@@ -399,15 +387,62 @@ fn entries_of(alloc: Global, slots: &BTreeMap<u64, Option<Held>>) -> Result<Vec<
     Ok(entries)
 }
 
-/// Returns what an entry has beside its number.
-pub(crate) fn held_at(slots: &BTreeMap<u64, Option<Held>>, number: Number) -> Option<&Held>
-    requires { IsSlots slots.now.entries }
-    ensures held { option_copied result ≡ held_in slots.now.entries number.0 }
-    ensures entry { option_map (kept_of number.0) (option_copied result)
-        ≡ entry_of (kept_from slots.now.entries) number.0 }
+/// Makes room for one more slot. Where there is none, the empty slots go, and what is left has room for as many again.
+fn make_room(slots: &mut Vec<Slot>) -> Result<(), AllocError>
+    ensures entries { kept_from slots.new.items ≡ kept_from slots.old.items }
+    ensures files { files_from slots.new.items ≡ files_from slots.old.items }
+    ensures numbers { (next : ℕ) → AreSlots 2 next slots.old.items → AreSlots 2 next slots.new.items }
+    ensures len { vec_len slots.new ≤ vec_len slots.old }
+    ensures room { OnOk result (vec_len slots.new < vec_capacity slots.new) }
 {
-    match slots.get(&number.0) {
-        Some(slot) => slot.as_ref(),
-        None => None,
+    if slots.len() < slots.capacity() {
+        return Ok(());
     }
+    slots.retain(|slot| slot.1.is_some());
+    slots.try_reserve(slots.len() + 1)
+}
+
+/// Returns how many slots stand up to a number, with its own.
+fn up_to(slots: &[Slot], number: Number) -> usize
+    requires { IsSlots slots.now }
+    ensures parted { IsPartitionPoint (λ slot. slot.0 ≤ number.0) (λ slot. number.0 < slot.0) slots.now result }
+    ensures bound { result ≤ length slots.now }
+{
+    slots.partition_point(|slot| slot.0 <= number.0)
+}
+
+/// Returns the number of the first slot that isn't empty.
+fn first_in(slots: &[Slot]) -> Option<Number>
+    ensures { result ≡ first_number (kept_from slots.now) }
+{
+    for (number, slot) in slots {
+        if slot.is_some() {
+            return Some(Number(*number));
+        }
+    }
+    None
+}
+
+/// Returns where the slot of a number stands.
+fn place_of(slots: &[Slot], number: Number) -> Option<usize>
+    requires { IsSlots slots.now }
+    ensures place { IfSome result (IsPlaceOf slots.now number.0) }
+    ensures none { IfNone result (slot_at slots.now number.0 ≡ None) }
+{
+    let place = up_to(slots, number).checked_sub(1)?;
+    if slots[place].0 == number.0 {
+        Some(place)
+    } else {
+        None
+    }
+}
+
+/// Returns what an entry has beside its number.
+pub(crate) fn held_at(slots: &[Slot], number: Number) -> Option<&Held>
+    requires { IsSlots slots.now }
+    ensures held { option_copied result ≡ held_in slots.now number.0 }
+    ensures entry { option_map (kept_of number.0) (option_copied result)
+        ≡ entry_of (kept_from slots.now) number.0 }
+{
+    slots[place_of(slots, number)?].1.as_ref()
 }

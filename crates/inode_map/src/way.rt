@@ -1,29 +1,23 @@
 //! The way from a number up to the root, by which its file is found.
-ghost use Rattle.std.specs.Prelude.{◌≡◌, ◌≤◌, MatchOption, vec_capacity};
-ghost use Rattle.std.specs.BTreeMap.{btree_map_len};
+ghost use Rattle.std.specs.Prelude.{◌≡◌, ◌≤◌, MatchOption, length, vec_capacity};
 ghost use Rattle.checkout.specs.Tree.{Tree};
 ghost use Rattle.eden_base.specs.declared.number.FileId.{FileId};
 ghost use Rattle.inode_map.specs.EntryPlaces.{IsWay};
 ghost use Rattle.inode_map.specs.InodeMap.{IsFileOf};
 ghost use Rattle.inode_map.specs.Table.{kept_from, IsSlots};
 
-use crate::table::{Held, held_at};
+use crate::table::{Slot, held_at};
 use checkout::Tree;
 use eden_base::{FileId, Number, Place};
-use std::collections::BTreeMap;
 
 /// Climbs from a number to the root or to a number without a name, keeps the numbers on the way, and returns the file
 /// there. A way of more steps than there are entries goes in a circle.
-fn climb(
-    slots: &BTreeMap<u64, Option<Held>>,
-    way: &mut Vec<Number>,
-    number: Number,
-) -> Option<FileId>
-    requires slots { IsSlots slots.now.entries }
-    requires room { btree_map_len slots.now ≤ vec_capacity way.old }
+fn climb(slots: &[Slot], way: &mut Vec<Number>, number: Number) -> Option<FileId>
+    requires slots { IsSlots slots.now }
+    requires room { length slots.now ≤ vec_capacity way.old }
     ensures way { MatchOption result
-        ((tree : Tree) (file : FileId) → IsFileOf tree (kept_from slots.now.entries) number.0 file → ⊥)
-        (IsWay (kept_from slots.now.entries) number.0 way.new.items) }
+        ((tree : Tree) (file : FileId) → IsFileOf tree (kept_from slots.now) number.0 file → ⊥)
+        (IsWay (kept_from slots.now) number.0 way.new.items) }
     ensures capacity { vec_capacity way.new ≡ vec_capacity way.old }
 {
     way.clear();
@@ -45,16 +39,16 @@ fn climb(
 
 /// Finds the file of a number: climbs its way, and comes down again by the names on it.
 pub(crate) fn locate(
-    slots: &BTreeMap<u64, Option<Held>>,
+    slots: &[Slot],
     way: &mut Vec<Number>,
     tree: &Tree,
     number: Number,
 ) -> Option<FileId>
-    requires slots { IsSlots slots.now.entries }
-    requires room { btree_map_len slots.now ≤ vec_capacity way.old }
+    requires slots { IsSlots slots.now }
+    requires room { length slots.now ≤ vec_capacity way.old }
     ensures found { MatchOption result
-        ((file : FileId) → IsFileOf tree.now (kept_from slots.now.entries) number.0 file → ⊥)
-        (IsFileOf tree.now (kept_from slots.now.entries) number.0) }
+        ((file : FileId) → IsFileOf tree.now (kept_from slots.now) number.0 file → ⊥)
+        (IsFileOf tree.now (kept_from slots.now) number.0) }
     ensures capacity { vec_capacity way.new ≡ vec_capacity way.old }
 {
     let mut file = climb(slots, way, number)?;

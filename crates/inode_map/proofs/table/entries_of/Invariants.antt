@@ -1,4 +1,4 @@
-use Rattle.std.proofs.Common.{◌≡◌, ◌++◌}
+use Rattle.std.proofs.Common.{◌≡◌, ◌++◌, drop}
 use Rattle.std.specs.List.{AllByRecursion}
 use Rattle.inode_map.specs.EntryPlaces.{IsNamedEntry}
 use Rattle.inode_map.specs.Table.{kept_from}
@@ -7,5 +7,5 @@ use Rattle.inode_map.proofs.table.entries_of.Given as goal
 -- the entries so far, and those of the slots that are left; each is named
 abbrev pub invariant-loop-number : goal.invariant-loop-number
 invariant-loop-number l =
-    (l.entries.items ++ kept_from l.number-iterator ≡ kept_from l.slots.entries)
+    (l.entries.items ++ kept_from (drop l.number-index l.slots) ≡ kept_from l.slots)
     × AllByRecursion IsNamedEntry l.entries.items

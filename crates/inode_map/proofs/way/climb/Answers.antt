@@ -8,25 +8,25 @@ use Rattle.inode_map.proofs.way.climb.Goals as goal
 
 pub returns-in_err-parent-clause-way : goal.returns-in_err-parent-clause-way
 returns-in_err-parent-clause-way c = rw c.from_residual.ensures (λ tree file at.
-    unknown-way tree (kept_from c.args.slots.now.entries) c.loop-number.way.items c.args.number.0 c.loop-number.number.0 file c.loop-number.invariant.climbs
+    unknown-way tree (kept_from c.args.slots.now) c.loop-number.way.items c.args.number.0 c.loop-number.number.0 file c.loop-number.invariant.climbs
     (ne-tested _ _ c.loop-number-test.ensures) (sym c.in_err-parent.ensures.entry) at)
 
-pub returns-then-len-clause-way : goal.returns-then-len-clause-way
-returns-then-len-clause-way c = λ tree file at.
-    let es = kept_from c.args.slots.now.entries in
+pub returns-then-len-slots-clause-way : goal.returns-then-len-slots-clause-way
+returns-then-len-slots-clause-way c = λ tree file at.
+    let es = kept_from c.args.slots.now in
     let step = step-read es c.loop-number.number.0 (kept_of c.loop-number.number.0 c.in_ok-parent.field-0.now) c.in-Linked.parent c.in-Linked.name
     (ne-tested _ _ c.loop-number-test.ensures) (sym c.in_ok-parent.ensures.entry) c.in-Linked.is in
-    let few : length es ≤ length c.args.slots.now.entries = kept-len c.args.slots.now.entries in
-    long-no_file tree es c.loop-number.way.items c.args.number.0 c.loop-number.number c.in-Linked.parent.0 file c.loop-number.invariant.climbs step (let l = c.len-in-Linked.ensures.len in omega arith) at
+    let few : length es ≤ length c.args.slots.now = kept-len c.args.slots.now in
+    long-no_file tree es c.loop-number.way.items c.args.number.0 c.loop-number.number c.in-Linked.parent.0 file c.loop-number.invariant.climbs step (let l = c.len.ensures in let e = c.if-len-slots.true in let v = c.loop-number.way.ok.0 in omega arith) at
 
 pub loop-number-preserved : goal.loop-number-preserved
 loop-number-preserved c =
-    let es = kept_from c.args.slots.now.entries in
+    let es = kept_from c.args.slots.now in
     let step = step-read es c.loop-number.number.0 (kept_of c.loop-number.number.0 c.in_ok-parent.field-0.now) c.in-Linked.parent c.in-Linked.name
     (ne-tested _ _ c.loop-number-test.ensures) (sym c.in_ok-parent.ensures.entry) c.in-Linked.is in
     record {
       climbs = rw c.push_reserved.ensures.items (Climbs-append es c.loop-number.way.items c.args.number.0 c.loop-number.number c.in-Linked.parent.0 c.loop-number.invariant.climbs step);
-      long = let l = c.len-in-Linked.ensures.len in omega arith;
+      long = let l = c.len.ensures in let f = c.if-len-slots.false in let p = c.push_reserved.ensures.len in let b = c.loop-number.invariant.long in omega arith;
       capacity = c.push_reserved.ensures.capacity ∙ c.loop-number.invariant.capacity;
     }
 

@@ -9,8 +9,8 @@ use Rattle.inode_map.proofs.way.locate.Given as goal
 abbrev pub invariant-loop-number : goal.invariant-loop-number
 invariant-loop-number l = record {
   top : ℕ;
-  climbs : Climbs (kept_from l.slots.entries) l.fn.number.0 l.way.items top;
-  at : IsFileOf l.tree (kept_from l.slots.entries) top l.file;
+  climbs : Climbs (kept_from l.slots) l.fn.number.0 l.way.items top;
+  at : IsFileOf l.tree (kept_from l.slots) top l.file;
   capacity : vec_capacity l.way ≡ vec_capacity l.fn.way;
 }
 

@@ -1,22 +1,14 @@
--- The first slot behind a number tells the least entry above it.
-use Rattle.std.proofs.Common.{sym, ap, ◌∙◌}
-use Rattle.inode_map.proofs.SlotGrowth.{first-after, first_number, first-none, first-some}
+-- The first entry behind the slots up to a number is the least above it.
+use Rattle.std.proofs.Common.{ℕ, List, Option, ap, ◌∙◌}
+use Rattle.inode_map.specs.InodeMap.{number_after}
+use Rattle.inode_map.specs.Table.{kept_from, first_number}
+use Rattle.inode_map.specs.declared.table.Held.{Held}
+use Rattle.inode_map.proofs.SlotSearch.{first-after, drop-rest}
 use Rattle.inode_map.proofs.table.Table.after.Goals as goal
 
-pub returns-then-is_none : goal.returns-then-is_none
-returns-then-is_none c =
-    let t = c.self.inside in
-    let behind = ap first_number (sym (c.range-above.ensures.between tt) ∙ c.in-Some.ensures.steps) in
-    rw (← c.self.view_is) (sym (first-after t.slots.entries 2 t.next t.is_reserved c.args.number.0 c.self.invariant.slots ∙ behind ∙ first-none _ c.in-Some.slot.now _ c.if-is_none.ensures))
-
-pub returns-else-is_none : goal.returns-else-is_none
-returns-else-is_none c =
-    let t = c.self.inside in
-    let behind = ap first_number (sym (c.range-above.ensures.between tt) ∙ c.in-Some.ensures.steps) in
-    rw (← c.self.view_is) (sym (first-after t.slots.entries 2 t.next t.is_reserved c.args.number.0 c.self.invariant.slots ∙ behind ∙ first-some _ c.in-Some.slot.now _ c.if-is_none.ensures))
-
-pub returns-in-None : goal.returns-in-None
-returns-in-None c =
-    let t = c.self.inside in
-    let behind = ap first_number (sym (c.range-above.ensures.between tt) ∙ c.in-None.ensures.steps.0) in
-    rw (← c.self.view_is) (sym (first-after t.slots.entries 2 t.next t.is_reserved c.args.number.0 c.self.invariant.slots ∙ behind))
+pub returns : goal.returns
+returns c =
+    let es = c.as_slice-slots.result.now in
+    let behind = c.first_in.ensures ∙ ap (λ (rest : List (ℕ × Option Held)). first_number (kept_from rest)) (drop-rest es c.up_to.result) in
+    rw (← c.self.view_is) (behind ∙ first-after es c.args.number.0 c.up_to.result c.up_to.ensures.parted
+    ∙ ap (λ (slots : List (ℕ × Option Held)). number_after (kept_from slots) c.args.number.0) c.as_slice-slots.ensures.value)

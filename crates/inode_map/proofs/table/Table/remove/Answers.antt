@@ -1,61 +1,99 @@
 -- An entry is taken out of its slot and out of the index.
-use Rattle.std.proofs.Common.{sym, ap, ◌∙◌, Some, arith}
+use Rattle.std.proofs.Common.{◌≡◌, ℕ, List, Option, Some, None, sym, ap, ◌∙◌, subst}
+use Rattle.std.specs.Prelude.{slice_set}
 use Rattle.inode_map.specs.Links.{link_of}
+use Rattle.inode_map.specs.Table.{slot_at, IsPlaceOf}
+use Rattle.inode_map.specs.declared.table.Held.{Held}
 use Rattle.inode_map.proofs.Removing.{left-slots, left-lost, left-marked, left-place, left-view}
-use Rattle.inode_map.proofs.TableLemmas.{never-none, never-reserved}
+use Rattle.inode_map.proofs.TableLemmas.{never-none, never-empty, found-in, found-held, written}
 use Rattle.inode_map.proofs.table.Table.remove.Goals as goal
 
 pub unreachable-requires : goal.unreachable-requires
-unreachable-requires c = never-none c.self.inside c.args.self.now c.args.number.0 c.self.view_is c.self.invariant c.requires (sym c.in_default.is ∙ c.remove.ensures.value)
+unreachable-requires c =
+    never-none c.self.inside c.args.self.now c.args.number.0 c.self.view_is c.self.invariant c.requires
+    (sym (subst (λ (es : List (ℕ × Option Held)). slot_at es c.args.number.0 ≡ None) c.as_slice.ensures.value c.in_default.ensures.none))
 
-pub unreachable-requires-in_default-slot : goal.unreachable-requires-in_default-slot
-unreachable-requires-in_default-slot c =
-    never-reserved c.self.inside c.args.self.now c.args.number.0 c.self.view_is c.self.invariant c.requires (ap Some (sym c.in_default-slot.is) ∙ sym c.in-Some.is ∙ c.remove.ensures.value)
+pub unreachable-requires-in_default-take : goal.unreachable-requires-in_default-take
+unreachable-requires-in_default-take c =
+    let t = c.self.inside in
+    let n = c.args.number.0 in
+    let there = subst (λ (es : List (ℕ × Option Held)). IsPlaceOf es n c.in-Some.place) c.as_slice.ensures.value c.in-Some.ensures.place in
+    never-empty t c.args.self.now n c.self.view_is c.self.invariant c.requires (sym (found-in t n c.in-Some.place c.index_mut.result.now c.self.invariant there c.index_mut.ensures.value ∙ ap Some (sym c.take.ensures.value ∙ c.in_default-take.is)))
 
 pub invariant_of-self : goal.invariant_of-self
 invariant_of-self c =
     let t = c.self.inside in
     let n = c.args.number.0 in
-    let h = c.in-Some-slot.held in
-    let left = c.remove.new.self.entries in
-    let found = sym c.remove.ensures.value ∙ c.in-Some.is ∙ ap Some c.in-Some-slot.is in
+    let h = c.in-Some-take.held in
+    let there = subst (λ (es : List (ℕ × Option Held)). IsPlaceOf es n c.in-Some.place) c.as_slice.ensures.value c.in-Some.ensures.place in
+    let found = found-held t n c.in-Some.place c.index_mut.result.now c.self.invariant there c.index_mut.ensures.value h h (sym c.take.ensures.value ∙ c.in-Some-take.is) in
+    let left = slice_set t.slots.items c.in-Some.place (c.index_mut.result.now.0, c.take.new.self) in
+    let taken = ap (λ (w : Option Held). slice_set t.slots.items c.in-Some.place (c.index_mut.result.now.0, w)) c.take.ensures.after ∙ written t n c.in-Some.place c.index_mut.result.now c.self.invariant there c.index_mut.ensures.value None in
     record {
-      slots = left-slots t n h left c.self.invariant found c.remove.ensures.entries;
-      indexed = left-lost t n h left c.self.invariant found c.remove.ensures.entries (link_of c.remove-in-Linked.new.self) c.in-Linked.parent c.in-Linked.name c.in-Linked.is c.remove-in-Linked.ensures.links;
-      ready = λ is. c.remove-in-Linked.ensures.ready (c.self.invariant.ready is);
-      room = let r = c.self.invariant.room in let l = c.remove.ensures.len in omega arith;
+      slots = left-slots t n h left c.self.invariant found taken;
+      indexed = left-lost t n h left c.self.invariant found taken (link_of c.remove.new.self) c.in-Linked.parent c.in-Linked.name c.in-Linked.is c.remove.ensures.links;
+      ready = λ is. c.remove.ensures.ready (c.self.invariant.ready is);
+      free = c.self.invariant.free;
+      room = c.self.invariant.room;
     }
 
 pub invariant_of-self-in_default-place : goal.invariant_of-self-in_default-place
 invariant_of-self-in_default-place c =
     let t = c.self.inside in
     let n = c.args.number.0 in
-    let h = c.in-Some-slot.held in
-    let left = c.remove.new.self.entries in
-    let found = sym c.remove.ensures.value ∙ c.in-Some.is ∙ ap Some c.in-Some-slot.is in
+    let h = c.in-Some-take.held in
+    let there = subst (λ (es : List (ℕ × Option Held)). IsPlaceOf es n c.in-Some.place) c.as_slice.ensures.value c.in-Some.ensures.place in
+    let found = found-held t n c.in-Some.place c.index_mut.result.now c.self.invariant there c.index_mut.ensures.value h h (sym c.take.ensures.value ∙ c.in-Some-take.is) in
+    let left = slice_set t.slots.items c.in-Some.place (c.index_mut.result.now.0, c.take.new.self) in
+    let taken = ap (λ (w : Option Held). slice_set t.slots.items c.in-Some.place (c.index_mut.result.now.0, w)) c.take.ensures.after ∙ written t n c.in-Some.place c.index_mut.result.now c.self.invariant there c.index_mut.ensures.value None in
     record {
-      slots = left-slots t n h left c.self.invariant found c.remove.ensures.entries;
-      indexed = left-marked t n h left c.self.invariant found c.remove.ensures.entries c.in_default-place.field-0 c.in_default-place.is;
+      slots = left-slots t n h left c.self.invariant found taken;
+      indexed = left-marked t n h left c.self.invariant found taken c.in_default-place.field-0 c.in_default-place.is;
       ready = c.self.invariant.ready;
-      room = let r = c.self.invariant.room in let l = c.remove.ensures.len in omega arith;
+      free = c.self.invariant.free;
+      room = c.self.invariant.room;
     }
 
 pub returns-in-Linked-clause-place : goal.returns-in-Linked-clause-place
 returns-in-Linked-clause-place c =
-    left-place c.self.inside c.args.number.0 c.in-Some-slot.held c.remove.new.self.entries c.self.invariant
-    (sym c.remove.ensures.value ∙ c.in-Some.is ∙ ap Some c.in-Some-slot.is) c.remove.ensures.entries c.args.self.now c.self.view_is
+    let t = c.self.inside in
+    let n = c.args.number.0 in
+    let h = c.in-Some-take.held in
+    let there = subst (λ (es : List (ℕ × Option Held)). IsPlaceOf es n c.in-Some.place) c.as_slice.ensures.value c.in-Some.ensures.place in
+    let found = found-held t n c.in-Some.place c.index_mut.result.now c.self.invariant there c.index_mut.ensures.value h h (sym c.take.ensures.value ∙ c.in-Some-take.is) in
+    let left = slice_set t.slots.items c.in-Some.place (c.index_mut.result.now.0, c.take.new.self) in
+    let taken = ap (λ (w : Option Held). slice_set t.slots.items c.in-Some.place (c.index_mut.result.now.0, w)) c.take.ensures.after ∙ written t n c.in-Some.place c.index_mut.result.now c.self.invariant there c.index_mut.ensures.value None in
+    left-place t n h left c.self.invariant found taken c.args.self.now c.self.view_is
 
 pub returns-in-Linked-clause-removed : goal.returns-in-Linked-clause-removed
 returns-in-Linked-clause-removed c =
-    left-view c.self.inside c.args.number.0 c.in-Some-slot.held c.remove.new.self.entries c.self.invariant
-    (sym c.remove.ensures.value ∙ c.in-Some.is ∙ ap Some c.in-Some-slot.is) c.remove.ensures.entries c.args.self.now c.self.view_is
+    let t = c.self.inside in
+    let n = c.args.number.0 in
+    let h = c.in-Some-take.held in
+    let there = subst (λ (es : List (ℕ × Option Held)). IsPlaceOf es n c.in-Some.place) c.as_slice.ensures.value c.in-Some.ensures.place in
+    let found = found-held t n c.in-Some.place c.index_mut.result.now c.self.invariant there c.index_mut.ensures.value h h (sym c.take.ensures.value ∙ c.in-Some-take.is) in
+    let left = slice_set t.slots.items c.in-Some.place (c.index_mut.result.now.0, c.take.new.self) in
+    let taken = ap (λ (w : Option Held). slice_set t.slots.items c.in-Some.place (c.index_mut.result.now.0, w)) c.take.ensures.after ∙ written t n c.in-Some.place c.index_mut.result.now c.self.invariant there c.index_mut.ensures.value None in
+    left-view t n h left c.self.invariant found taken c.args.self.now c.self.view_is
 
 pub returns-in_default-place-clause-place : goal.returns-in_default-place-clause-place
 returns-in_default-place-clause-place c =
-    left-place c.self.inside c.args.number.0 c.in-Some-slot.held c.remove.new.self.entries c.self.invariant
-    (sym c.remove.ensures.value ∙ c.in-Some.is ∙ ap Some c.in-Some-slot.is) c.remove.ensures.entries c.args.self.now c.self.view_is
+    let t = c.self.inside in
+    let n = c.args.number.0 in
+    let h = c.in-Some-take.held in
+    let there = subst (λ (es : List (ℕ × Option Held)). IsPlaceOf es n c.in-Some.place) c.as_slice.ensures.value c.in-Some.ensures.place in
+    let found = found-held t n c.in-Some.place c.index_mut.result.now c.self.invariant there c.index_mut.ensures.value h h (sym c.take.ensures.value ∙ c.in-Some-take.is) in
+    let left = slice_set t.slots.items c.in-Some.place (c.index_mut.result.now.0, c.take.new.self) in
+    let taken = ap (λ (w : Option Held). slice_set t.slots.items c.in-Some.place (c.index_mut.result.now.0, w)) c.take.ensures.after ∙ written t n c.in-Some.place c.index_mut.result.now c.self.invariant there c.index_mut.ensures.value None in
+    left-place t n h left c.self.invariant found taken c.args.self.now c.self.view_is
 
 pub returns-in_default-place-clause-removed : goal.returns-in_default-place-clause-removed
 returns-in_default-place-clause-removed c =
-    left-view c.self.inside c.args.number.0 c.in-Some-slot.held c.remove.new.self.entries c.self.invariant
-    (sym c.remove.ensures.value ∙ c.in-Some.is ∙ ap Some c.in-Some-slot.is) c.remove.ensures.entries c.args.self.now c.self.view_is
+    let t = c.self.inside in
+    let n = c.args.number.0 in
+    let h = c.in-Some-take.held in
+    let there = subst (λ (es : List (ℕ × Option Held)). IsPlaceOf es n c.in-Some.place) c.as_slice.ensures.value c.in-Some.ensures.place in
+    let found = found-held t n c.in-Some.place c.index_mut.result.now c.self.invariant there c.index_mut.ensures.value h h (sym c.take.ensures.value ∙ c.in-Some-take.is) in
+    let left = slice_set t.slots.items c.in-Some.place (c.index_mut.result.now.0, c.take.new.self) in
+    let taken = ap (λ (w : Option Held). slice_set t.slots.items c.in-Some.place (c.index_mut.result.now.0, w)) c.take.ensures.after ∙ written t n c.in-Some.place c.index_mut.result.now c.self.invariant there c.index_mut.ensures.value None in
+    left-view t n h left c.self.invariant found taken c.args.self.now c.self.view_is

@@ -1,0 +1,21 @@
+-- Without the empty slots the entries are the same.
+use Rattle.std.proofs.Common.{ap, sym, ◌∙◌, subst, rules}
+use Rattle.std.proofs.lemmas.Fn.{filter_same}
+use Rattle.inode_map.specs.Table.{kept_from, files_from, AreSlots}
+use Rattle.inode_map.proofs.SlotGrowth.{is_full, full-slots, full-kept, full-files}
+use Rattle.inode_map.proofs.table.make_room.Goals as goal
+
+pub returns-clause-entries : goal.returns-clause-entries
+returns-clause-entries c =
+    let left = c.try_reserve.ensures.items ∙ filter_same _ is_full _ (λ x b f r. search rules) _ _ c.retain.ensures.filtered in
+    ap kept_from left ∙ full-kept c.args.slots.now.items
+
+pub returns-clause-files : goal.returns-clause-files
+returns-clause-files c =
+    let left = c.try_reserve.ensures.items ∙ filter_same _ is_full _ (λ x b f r. search rules) _ _ c.retain.ensures.filtered in
+    ap files_from left ∙ full-files c.args.slots.now.items
+
+pub returns-clause-numbers : goal.returns-clause-numbers
+returns-clause-numbers c = λ next are.
+    let left = c.try_reserve.ensures.items ∙ filter_same _ is_full _ (λ x b f r. search rules) _ _ c.retain.ensures.filtered in
+    subst (AreSlots 2 next) (sym left) (full-slots c.args.slots.now.items 2 next are)
