@@ -1,7 +1,7 @@
 -- A name that was written into the directories of the index, or taken out of them.
 use Rattle.std.proofs.Common.{◌≡◌, ℕ, Bool, true, false, cond, List, [], ◌∷◌, length, Option, Some, None, if◌then◌else◌, refl, sym, ap, ◌∙◌, subst, inl, inr, ◌⊎◌, arith}
 use Rattle.std.specs.Prelude.{◌==◌, nat_eq, not}
-use Rattle.std.specs.Option.{option_and_then}
+use Rattle.std.specs.Option.{option_and_then, unwrap_or}
 use Rattle.std.specs.Ordering.{nat_cmp, is_eq}
 use Rattle.std.specs.Cmp.{tied_itself, unsigned_ties}
 use Rattle.std.specs.Cmp.Lexicographic.{pointwise, slice_cmp, nat_list_cmp_total, same_text, texts_ties}
@@ -60,6 +60,16 @@ pub names-written : (m : BTreeMap ℕ Directory) (parent : ℕ) (name : List ℕ
     (q : List ℕ) → in_directory q new ≡ cond (is_at (slice_cmp nat_cmp name) q) v (written m parent q)
 names-written m parent name old new v found updates q =
     updates q ∙ ap (λ (o : Option Directory). cond (is_at (slice_cmp nat_cmp name) q) v (option_and_then (in_directory q) o)) (sym found)
+
+-- the directory, or one without names where there is none
+pub names-opened : (m : BTreeMap ℕ Directory) (parent : ℕ) (name : List ℕ) (empty opened new : Directory) (v : Option ℕ) → empty.numbers.entries ≡ [] → opened ≡ unwrap_or (get nat_cmp m parent) empty →
+    ((q : List ℕ) → get (slice_cmp nat_cmp) new.numbers q ≡ cond (is_at (slice_cmp nat_cmp name) q) v (get (slice_cmp nat_cmp) opened.numbers q)) →
+    (q : List ℕ) → in_directory q new ≡ cond (is_at (slice_cmp nat_cmp name) q) v (written m parent q)
+names-opened m parent name empty opened new v none is updates q =
+    updates q ∙ ap (cond (is_at (slice_cmp nat_cmp name) q) v) (ap (in_directory q) is ∙ in_ (get nat_cmp m parent)) where
+      in_ : (o : Option Directory) → in_directory q (unwrap_or o empty) ≡ option_and_then (in_directory q) o
+      in_ None = ap (lookup (is_at (slice_cmp nat_cmp q))) none
+      in_ (Some directory) = refl
 
 -- nothing is found in a directory that has no names
 pub no_names : (d : Directory) (q : List ℕ) → length d.numbers.entries ≡ 0 → in_directory q d ≡ None

@@ -170,18 +170,11 @@ fn insert(
     ensures { (dir : ℕ) (q : List ℕ) → written directories.new dir q
         ≡ (if is_ok result && is_link dir q parent name then Some number else written directories.old dir q) }
 {
-    match directories.get_mut(&parent) {
-        Some(directory) => {
-            directory.numbers.insert(name, number)?;
-        }
-        None => {
-            let mut directory = Directory {
-                numbers: BTreeMap::new(alloc),
-            };
-            directory.numbers.insert(name, number)?;
-            directories.insert(parent, directory)?;
-        }
-    }
+    let none = Directory {
+        numbers: BTreeMap::new(alloc),
+    };
+    let directory = directories.entry(parent)?.or_insert(none);
+    directory.numbers.insert(name, number)?;
     Ok(())
 }
 
