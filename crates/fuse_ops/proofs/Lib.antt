@@ -15,12 +15,12 @@ pub mod Loaded
 pub mod LoadedLists
 pub mod Making
 pub mod MakingLaw
-pub mod NoEio
 pub mod PlaceNumbers
 pub mod ReadyMaking
 pub mod Remembering
 pub mod Replays
 pub mod SameManifest
 pub mod Shapes
+pub mod Steps
 pub mod Taking
 pub mod UnnamingLaw

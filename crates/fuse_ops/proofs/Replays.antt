@@ -1,30 +1,31 @@
 -- What `apply` does is a step of the replay.
 use Rattle.std.proofs.Common.{◌≡◌, ℕ, ◌<◌, true, false, List, Option, Some, None, Result, Ok, Err, refl, sym, ap, ◌∙◌, subst, inl, inr, arith}
+use Rattle.std.specs.Prelude.{Contains}
 use Rattle.std.specs.List.{AllByRecursion}
 use Rattle.eden_base.specs.declared.attr.Attr.{Attr}
 use Rattle.eden_base.specs.declared.attr.Kind.{Kind}
-use Rattle.eden_base.specs.declared.attr.Kind.TheVariants.{Dir, File}
 use Rattle.eden_base.specs.declared.attr.Perm.{Perm}
 use Rattle.eden_base.specs.declared.errno.Errno.{Errno}
 use Rattle.eden_base.specs.declared.errno.Errno.TheVariants.{ENOSYS, ESTALE, EIO}
 use Rattle.eden_base.specs.declared.number.FileId.{FileId}
 use Rattle.eden_base.specs.declared.number.Number.{Number}
 use Rattle.checkout.specs.Tree.{Tree, IsTree, attr_of, is_full_dir, removed, created, next_file}
+use Rattle.fuse_wire.specs.Ask.{is_ask}
 use Rattle.fuse_wire.specs.declared.ask.Request.{Request}
-use Rattle.fuse_wire.specs.declared.ask.Request.TheVariants.{Lookup, Getattr, Create, Mkdir, Unlink, Rmdir, Other}
+use Rattle.fuse_wire.specs.declared.form.Form.{Form}
 use Rattle.fuse_wire.specs.declared.reply.Answer.{Answer}
 use Rattle.fuse_wire.specs.declared.reply.Answer.TheVariants.{Entry, Opened, Attrs, Done, Error}
 use Rattle.inode_map.specs.InodeMap.{IsGiveRefusal, give_fault, given, number_given}
 use Rattle.inode_map.specs.declared.inode_map.GiveFault.{GiveFault}
 use Rattle.inode_map.specs.declared.inode_map.GiveFault.TheVariants.{NoNumber, TooMany, NoMemory}
-use Rattle.fuse_ops.specs.Answers.{none_left, at_greatest, Effect, IsBacked, comes_to, found_in, free_in, enters, makes, takes, takes_from, unless, against_unlink, against_rmdir, telling, Answers, AnswersFile}
+use Rattle.fuse_ops.specs.Answers.{none_left, at_greatest, Effect, IsBacked, find_name, make_file, take_name, show_file, unserved, deed_of, looked_at, done_to, comes_to, found_in, free_in, enters, shows, makes, takes, takes_from, unless, against_taking, told_as, telling, Answers, AnswersFile}
 use Rattle.checkout.proofs.CreateLaws.{created-IsTree}
 use Rattle.checkout.proofs.RemoveLaws.{removed-IsTree}
 use Rattle.fuse_ops.proofs.Keeping.{found-child}
 use Rattle.fuse_ops.proofs.Making.{free-place}
-use Rattle.fuse_ops.specs.Served.{ServedState, PlainState, plain, IsLocated, numbers_at, number_fault, place_told, served_after, Replay}
+use Rattle.fuse_ops.specs.Served.{ServedState, PlainState, plain, IsLocated, numbers_at, number_fault, place_entered, place_left, place_told, served_after, Replay}
 use Rattle.fuse_ops.specs.Work.{errno_of, GivesEntry, GivesFound, LooksUp, Shows, ShowsFile, IsSamePlainly, MakesIn, Makes, TakesName, Takes}
-use Rattle.fuse_ops.proofs.Shapes.{GoesTo, TellsEntry, TakesPlace, lookup-goes, create-goes, mkdir-goes, unlink-goes, rmdir-goes, entered, lookup-tells, create-tells, mkdir-tells, unlink-takes, rmdir-takes, unlink-frees, rmdir-frees, unless-found, error-after, entry-after, done-after, given-bad_items, taken-bad_items}
+use Rattle.fuse_ops.proofs.Shapes.{GoesTo, TellsEntry, TakesPlace, find-form, show-form, find-goes, make-goes, take-goes, show-goes, entered, shown, find-tells, make-tells, take-takes, take-frees, unless-found, error-after, entry-after, shown-after, done-after, given-bad_items, taken-bad_items}
 
 -- an answer that the table has for what a request comes to, and what it makes
 record Legally (old : ServedState) (request : Request) (result : Result Effect Errno) (answer : Answer) (new : ServedState) : Type 0 where
@@ -33,7 +34,7 @@ record Legally (old : ServedState) (request : Request) (result : Result Effect E
   bad_items : new.map.bad_items ≡ old.map.bad_items
   keeps_tree : IsTree old.tree → IsTree new.tree
 
--- the whole of it, where a request goes to a directory
+-- the whole of it, where a request goes to a number
 replays : (old : ServedState) (request : Request) (dir : Number) (comes : Tree → Option FileId → Result Effect Errno) (above : Option FileId) (answer : Answer) (new : ServedState) →
     GoesTo request dir comes → IsLocated old dir.0 above → Legally old request (comes old.tree above) answer new → Replay old request (Some answer) new
 replays old request dir comes above answer new goes at l =
@@ -100,25 +101,27 @@ unentered-legally old request dir name tree file errno new tells refusal same = 
 same_of : (old new : ServedState) → new ≡ old → IsSamePlainly old new
 same_of old new e = record { plainly = ap plain e; bad_items = ap (λ (s : ServedState). s.map.bad_items) e }
 
-gives_in : (old : ServedState) (dir : Number) (name : List ℕ) (file : FileId) (answer : Answer) (new : ServedState) → GivesEntry old dir name file answer new → Legally old (Lookup dir name) (enters old.tree (Ok file)) answer new
-gives_in old dir name file (Entry number attr) new (clear, is, attr_is, same) =
-    entry-legally old (Lookup dir name) dir name old.tree file number attr new (lookup-tells dir name) clear is attr_is (λ was. was) same
-gives_in old dir name file (Error errno) new (inl (fault, refusal, e), same) =
-    unentered-legally old (Lookup dir name) dir name old.tree file errno new (lookup-tells dir name) (refused_in old (Lookup dir name) dir name old.tree file errno fault refusal e) (same_of old new same)
-gives_in old dir name file (Error errno) new (inr (e, clear, is), same) =
-    unentered-legally old (Lookup dir name) dir name old.tree file errno new (lookup-tells dir name) (backed_in old (Lookup dir name) dir name old.tree file errno e clear is) (same_of old new same)
-gives_in old dir name file (Opened number attr) new h = absurd h
-gives_in old dir name file (Attrs number attr) new h = absurd h
-gives_in old dir name file Done new h = absurd h
+-- a request for which a name is found
+module _ (old : ServedState) (request : Request) (dir : Number) (name : List ℕ) (does : deed_of request ≡ find_name dir name) where
+  gives_in : (file : FileId) (answer : Answer) (new : ServedState) → GivesEntry old dir name file answer new → Legally old request (enters old.tree (Ok file)) answer new
+  gives_in file (Entry number attr) new (clear, is, attr_is, same) = subst (λ (a : Answer). Legally old request (enters old.tree (Ok file)) a new) (ap (λ (f : Form). told_as f number attr) (find-form request dir name does))
+      (entry-legally old request dir name old.tree file number attr new (find-tells request dir name does) clear is attr_is (λ was. was) same)
+  gives_in file (Error errno) new (inl (fault, refusal, e), same) =
+      unentered-legally old request dir name old.tree file errno new (find-tells request dir name does) (refused_in old request dir name old.tree file errno fault refusal e) (same_of old new same)
+  gives_in file (Error errno) new (inr (e, clear, is), same) =
+      unentered-legally old request dir name old.tree file errno new (find-tells request dir name does) (backed_in old request dir name old.tree file errno e clear is) (same_of old new same)
+  gives_in file (Opened number attr) new h = absurd h
+  gives_in file (Attrs number attr) new h = absurd h
+  gives_in file Done new h = absurd h
 
-gives_found : (old : ServedState) (dir : Number) (name : List ℕ) (found : Result FileId Errno) (answer : Answer) (new : ServedState) → GivesFound old dir name found answer new → Legally old (Lookup dir name) (enters old.tree found) answer new
-gives_found old dir name (Ok file) answer new h = gives_in old dir name file answer new h
-gives_found old dir name (Err errno) answer new (e, same) = subst (λ (a : Answer). Legally old (Lookup dir name) (Err errno) a new) (sym e) (error-legally old (Lookup dir name) errno new (same_of old new same))
+  gives_found : (found : Result FileId Errno) (answer : Answer) (new : ServedState) → GivesFound old dir name found answer new → Legally old request (enters old.tree found) answer new
+  gives_found (Ok file) answer new h = gives_in file answer new h
+  gives_found (Err errno) answer new (e, same) = subst (λ (a : Answer). Legally old request (Err errno) a new) (sym e) (error-legally old request errno new (same_of old new same))
 
--- a lookup is a legal step
-pub lookup-replay : (old : ServedState) (dir : Number) (name : List ℕ) (answer : Answer) (new : ServedState) → LooksUp old dir name answer new → Replay old (Lookup dir name) (Some answer) new
-lookup-replay old dir name answer new l =
-    replays old (Lookup dir name) dir (λ tree above. enters tree (found_in tree above name)) l.dir_file answer new (lookup-goes dir name) l.located (gives_found old dir name (found_in old.tree l.dir_file name) answer new l.gives)
+  -- a name that is found is a legal step
+  pub find-replay : (answer : Answer) (new : ServedState) → LooksUp old dir name answer new → Replay old request (Some answer) new
+  find-replay answer new l =
+      replays old request dir (λ tree above. enters tree (found_in tree above name)) l.dir_file answer new (find-goes request dir name does) l.located (gives_found (found_in old.tree l.dir_file name) answer new l.gives)
 
 -- ---- a file that is made
 
@@ -137,15 +140,11 @@ makes_in old request dir name kind perm (Ok above) (Ok (number, attr)) new tells
 makes_in old request dir name kind perm (Ok above) (Err errno) new tells free ((fault, refusal, e), same) =
     unentered-legally old request dir name (created old.tree above name kind perm) (next_file old.tree) errno new tells (refused_in old request dir name (created old.tree above name kind perm) (next_file old.tree) errno fault refusal e) same
 
-pub create-replay : (old : ServedState) (dir : Number) (name : List ℕ) (perm : Perm) (told : Result (Number × Attr) Errno) (new : ServedState) → Makes old dir name File perm told new →
-    Replay old (Create dir name perm) (Some (made_answer (Create dir name perm) told)) new
-create-replay old dir name perm told new m =
-    replays old (Create dir name perm) dir _ m.dir_file _ new (create-goes dir name perm) m.located (makes_in old (Create dir name perm) dir name _ perm (free_in old.tree m.dir_file name) told new (create-tells dir name perm) (m.dir_file, refl) m.makes)
-
-pub mkdir-replay : (old : ServedState) (dir : Number) (name : List ℕ) (perm : Perm) (told : Result (Number × Attr) Errno) (new : ServedState) → Makes old dir name Dir perm told new →
-    Replay old (Mkdir dir name perm) (Some (made_answer (Mkdir dir name perm) told)) new
-mkdir-replay old dir name perm told new m =
-    replays old (Mkdir dir name perm) dir _ m.dir_file _ new (mkdir-goes dir name perm) m.located (makes_in old (Mkdir dir name perm) dir name _ perm (free_in old.tree m.dir_file name) told new (mkdir-tells dir name perm) (m.dir_file, refl) m.makes)
+-- so is a file that is made
+pub make-replay : (old : ServedState) (request : Request) (dir : Number) (name : List ℕ) (kind : Kind) (perm : Perm) (told : Result (Number × Attr) Errno) (new : ServedState) → deed_of request ≡ make_file dir name kind perm → Makes old dir name kind perm told new →
+    Replay old request (Some (made_answer request told)) new
+make-replay old request dir name kind perm told new does m =
+    replays old request dir _ m.dir_file _ new (make-goes request dir name kind perm does) m.located (makes_in old request dir name kind perm (free_in old.tree m.dir_file name) told new (make-tells request dir name kind perm does) (m.dir_file, refl) m.makes)
 
 -- ---- a name that is taken away
 
@@ -167,37 +166,52 @@ takes_in old request dir name against (Some above) answer new place frees h = in
     effect : Effect
     effect = record { tree = removed old.tree above name; file = None; counts = false; unnamed = Some file }
 
-pub unlink-replay : (old : ServedState) (dir : Number) (name : List ℕ) (answer : Answer) (new : ServedState) → Takes old dir name (against_unlink old.tree) answer new → Replay old (Unlink dir name) (Some answer) new
-unlink-replay old dir name answer new t =
-    replays old (Unlink dir name) dir (λ tree above. takes_from tree (against_unlink tree) above name) t.dir_file answer new (unlink-goes dir name) t.located (takes_in old (Unlink dir name) dir name (against_unlink old.tree) t.dir_file answer new (unlink-takes dir name) (unlink-frees old.tree) t.takes)
-
-pub rmdir-replay : (old : ServedState) (dir : Number) (name : List ℕ) (answer : Answer) (new : ServedState) → Takes old dir name (against_rmdir old.tree) answer new → Replay old (Rmdir dir name) (Some answer) new
-rmdir-replay old dir name answer new t =
-    replays old (Rmdir dir name) dir (λ tree above. takes_from tree (against_rmdir tree) above name) t.dir_file answer new (rmdir-goes dir name) t.located (takes_in old (Rmdir dir name) dir name (against_rmdir old.tree) t.dir_file answer new (rmdir-takes dir name) (rmdir-frees old.tree) t.takes)
+-- so is a name that is taken away
+pub take-replay : (old : ServedState) (request : Request) (dir : Number) (name : List ℕ) (kind : Kind) (answer : Answer) (new : ServedState) → deed_of request ≡ take_name dir name kind → Takes old dir name (against_taking kind old.tree) answer new → Replay old request (Some answer) new
+take-replay old request dir name kind answer new does t =
+    replays old request dir (λ tree above. takes_from tree (against_taking kind tree) above name) t.dir_file answer new (take-goes request dir name kind does) t.located
+    (takes_in old request dir name (against_taking kind old.tree) t.dir_file answer new (take-takes request dir name kind does) (take-frees kind old.tree) t.takes)
 
 -- ---- the others
 
 -- a request that is served by none is answered so, and changes nothing
-pub other-replay : (old : ServedState) (opcode : ℕ) (node : Number) → Replay old (Other opcode node) (Some (Error ENOSYS)) old
-other-replay old opcode node = (refl, record { files = λ n. None; locates = tt; answers = refl; makes = refl; bad_items = refl; keeps_tree = λ was. was })
+pub unserved-replay : (old : ServedState) (request : Request) → is_ask request ≡ true → deed_of request ≡ unserved → Replay old request (Some (Error ENOSYS)) old
+unserved-replay old request ask does = (
+  ask,
+  record {
+    files = λ n. None;
+    locates = subst (λ (nodes : List Number). AllByRecursion (λ (node : Number). IsLocated old node.0 None) nodes) (sym (ap looked_at does)) tt;
+    answers = subst (λ (r : Result Effect Errno). Answers (numbers_at old (place_told request)) request r (Error ENOSYS)) (sym (ap (done_to old.tree (λ n. None)) does)) refl;
+    makes = sym (ap plain (error-after old request (comes_to old.tree (λ n. None) request) ENOSYS));
+    bad_items = refl;
+    keeps_tree = λ was. was;
+  },
+)
 
--- a GETATTR is a legal step, after which there is plainly what there was
-pub getattr-replay : (old : ServedState) (node : Number) (answer : Answer) (new : ServedState) → Shows old node answer → IsSamePlainly old new → Replay old (Getattr node) (Some answer) new
-getattr-replay old node answer new s same = by_file s.file s.located s.shows where
-  by_file : (file : Option FileId) → IsLocated old node.0 file → ShowsFile old node file answer → Replay old (Getattr node) (Some answer) new
-  by_file None at e = rw e (refl, record { files = λ n. None; locates = (at, tt); answers = refl; makes = same.plainly; bad_items = same.bad_items; keeps_tree = tree-same old new same.plainly })
-  by_file (Some file) at (inl (attr, is_attr, e)) = rw e (
-    refl,
-    record {
-      files = λ n. Some file;
-      locates = (at, tt);
-      answers = inl (record { number = node; attr = attr; is = refl; is_number = (0, (let low : 0 < 1 = omega arith in low), refl); is_attr = is_attr });
-      makes = same.plainly;
-      bad_items = same.bad_items;
-      keeps_tree = tree-same old new same.plainly;
-    },
-  )
-  by_file (Some file) at (inr (e, is)) = rw e (
-    refl,
-    record { files = λ n. Some file; locates = (at, tt); answers = inr (refl, is); makes = same.plainly; bad_items = same.bad_items; keeps_tree = tree-same old new same.plainly },
-  )
+-- what is shown, where a number names this file or none
+shows_in : (old : ServedState) (request : Request) (node : Number) (o : Option FileId) (answer : Answer) (new : ServedState) → deed_of request ≡ show_file node → ShowsFile old node o answer → IsSamePlainly old new →
+    Legally old request (shows old.tree o) answer new
+shows_in old request node None answer new does e same = subst (λ (a : Answer). Legally old request (Err ESTALE) a new) (sym e) (error-legally old request ESTALE new same)
+shows_in old request node (Some file) answer new does (inr (e, is)) same = subst (λ (a : Answer). Legally old request (shows old.tree (Some file)) a new) (sym e) (record {
+  answers = inr (refl, subst (λ (p : Option (Number × List ℕ)). (numbers_at old p).MayFail file) (sym (ap place_entered does)) is);
+  makes = same.plainly ∙ sym (ap plain (error-after old request (shows old.tree (Some file)) EIO));
+  bad_items = same.bad_items;
+  keeps_tree = tree-same old new same.plainly;
+})
+shows_in old request node (Some file) answer new does (inl (attr, is_attr, e)) same = subst (λ (a : Answer). Legally old request (shows old.tree (Some file)) a new) (sym e) (record {
+  answers = inl (record {
+    number = node;
+    attr = attr;
+    is = sym (ap (λ (f : Form). told_as f node attr) (show-form request node does));
+    is_number = subst (λ (nodes : List Number). Contains nodes node) (sym (show-goes request node does).nodes) (0, (let low : 0 < 1 = omega arith in low), refl);
+    is_attr = is_attr;
+  });
+  makes = same.plainly ∙ sym (ap plain (shown-after old request (shown old.tree file) (Attrs node attr) (ap place_entered does) (ap place_left does) refl));
+  bad_items = same.bad_items;
+  keeps_tree = tree-same old new same.plainly;
+})
+
+-- a file that is shown is a legal step, after which there is plainly what there was
+pub show-replay : (old : ServedState) (request : Request) (node : Number) (answer : Answer) (new : ServedState) → deed_of request ≡ show_file node → Shows old node answer → IsSamePlainly old new → Replay old request (Some answer) new
+show-replay old request node answer new does s same =
+    replays old request node shows s.file answer new (show-goes request node does) s.located (shows_in old request node s.file answer new does s.shows same)

@@ -1,16 +1,14 @@
 -- The tree stays one of its manifest, whatever a daemon is asked.
 use Rattle.std.proofs.Common.{◌≡◌, ℕ, List, Option, Some, None, Result, Ok, Err, refl, ap, ◌∙◌}
 use Rattle.eden_base.specs.declared.attr.Kind.{Kind}
-use Rattle.eden_base.specs.declared.attr.Kind.TheVariants.{Dir, File}
 use Rattle.eden_base.specs.declared.attr.Perm.{Perm}
 use Rattle.eden_base.specs.declared.errno.Errno.{Errno}
 use Rattle.eden_base.specs.declared.number.FileId.{FileId}
 use Rattle.checkout.specs.Tree.{Tree}
 use Rattle.fuse_wire.specs.declared.ask.Request.{Request}
-use Rattle.fuse_wire.specs.declared.ask.Request.TheVariants.{Lookup, Getattr, Create, Mkdir, Unlink, Rmdir, Forget, BatchForget, Other}
 use Rattle.fuse_wire.specs.declared.reply.Answer.{Answer}
 use Rattle.fuse_wire.specs.declared.reply.Answer.TheVariants.{Entry, Opened, Attrs, Done, Error}
-use Rattle.fuse_ops.specs.Answers.{Effect, comes_to, found_in, free_in, enters, shows, makes, takes, takes_from, unless, against_unlink, against_rmdir, tree_after}
+use Rattle.fuse_ops.specs.Answers.{Effect, Deed, find_name, make_file, take_name, show_file, unserved, deed_of, done_to, comes_to, found_in, free_in, enters, shows, makes, takes, takes_from, unless, against_taking, tree_after}
 use Rattle.fuse_ops.specs.Served.{ServedState, PlainState, Replay}
 
 -- a success is over a tree of the same manifest
@@ -38,16 +36,12 @@ takes_from-over : (tree : Tree) (against : FileId → Option Errno) (o : Option 
 takes_from-over tree against (Some dir) name = takes-over tree dir name (unless against (found_in tree (Some dir) name))
 takes_from-over tree against None name = tt
 
-comes-over : (tree : Tree) (files : ℕ → Option FileId) (request : Request) → IsOver tree (comes_to tree files request)
-comes-over tree files (Lookup dir name) = enters-over tree (found_in tree (files dir.0) name)
-comes-over tree files (Getattr node) = shows-over tree (files node.0)
-comes-over tree files (Create dir name perm) = makes-over tree name File perm (free_in tree (files dir.0) name)
-comes-over tree files (Mkdir dir name perm) = makes-over tree name Dir perm (free_in tree (files dir.0) name)
-comes-over tree files (Unlink dir name) = takes_from-over tree (against_unlink tree) (files dir.0) name
-comes-over tree files (Rmdir dir name) = takes_from-over tree (against_rmdir tree) (files dir.0) name
-comes-over tree files (Forget item) = tt
-comes-over tree files (BatchForget items) = tt
-comes-over tree files (Other opcode node) = tt
+done-over : (tree : Tree) (files : ℕ → Option FileId) (deed : Deed) → IsOver tree (done_to tree files deed)
+done-over tree files (find_name dir name) = enters-over tree (found_in tree (files dir.0) name)
+done-over tree files (make_file dir name kind perm) = makes-over tree name kind perm (free_in tree (files dir.0) name)
+done-over tree files (take_name dir name kind) = takes_from-over tree (against_taking kind tree) (files dir.0) name
+done-over tree files (show_file node) = shows-over tree (files node.0)
+done-over tree files unserved = tt
 
 after-over : (tree : Tree) (r : Result Effect Errno) (answer : Answer) → IsOver tree r → (tree_after tree r answer).manifest ≡ tree.manifest
 after-over tree r (Error errno) over = refl
@@ -62,7 +56,7 @@ after-over tree (Err errno) Done over = refl
 
 -- the tree after an answer to a request
 pub answered-manifest : (tree : Tree) (files : ℕ → Option FileId) (request : Request) (answer : Answer) → (tree_after tree (comes_to tree files request) answer).manifest ≡ tree.manifest
-answered-manifest tree files request answer = after-over tree (comes_to tree files request) answer (comes-over tree files request)
+answered-manifest tree files request answer = after-over tree (comes_to tree files request) answer (done-over tree files (deed_of request))
 
 -- and after a step
 pub replay-manifest : (old : ServedState) (request : Request) (answer : Option Answer) (new : ServedState) → Replay old request answer new → new.tree.manifest ≡ old.tree.manifest

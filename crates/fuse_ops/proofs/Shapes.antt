@@ -1,10 +1,11 @@
--- Requests by what becomes of a name: those that tell an entry under it, and those that take it away. A kind of request
--- more is one more of these.
+-- Requests by their deeds: what becomes of a name by them, and which number they go to. A kind of request more whose
+-- deed is one of these needs no line here.
 use Rattle.std.proofs.Common.{◌≡◌, ℕ, ◌+◌, Bool, true, false, ◌&&◌, List, [], ◌∷◌, ◌++◌, Option, Some, None, is_some, Result, Ok, Err, refl, sym, ap, ◌∙◌}
 use Rattle.std.specs.Prelude.{if◌then◌else◌}
 use Rattle.eden_base.specs.First.{changed_where}
 use Rattle.std.specs.Option.{option_map_or}
 use Rattle.eden_base.specs.declared.attr.Attr.{Attr}
+use Rattle.eden_base.specs.declared.attr.Kind.{Kind}
 use Rattle.eden_base.specs.declared.attr.Kind.TheVariants.{Dir, File}
 use Rattle.eden_base.specs.declared.attr.Perm.{Perm}
 use Rattle.eden_base.specs.declared.errno.Errno.{Errno}
@@ -12,23 +13,24 @@ use Rattle.eden_base.specs.declared.errno.Errno.TheVariants.{EISDIR, ENOTDIR, EN
 use Rattle.eden_base.specs.declared.number.FileId.{FileId}
 use Rattle.eden_base.specs.declared.number.Number.{Number}
 use Rattle.checkout.specs.Tree.{Tree, kind_of, is_dir, has_links, is_full_dir}
-use Rattle.fuse_wire.specs.Ask.{is_ask, nodes}
+use Rattle.fuse_wire.specs.Ask.{is_ask, nodes, form_of}
 use Rattle.fuse_wire.specs.Given.{given_out}
 use Rattle.fuse_wire.specs.declared.ask.Request.{Request}
-use Rattle.fuse_wire.specs.declared.ask.Request.TheVariants.{Lookup, Create, Mkdir, Unlink, Rmdir}
+use Rattle.fuse_wire.specs.declared.ask.Request.TheVariants.{Other}
+use Rattle.fuse_wire.specs.declared.form.Form.TheVariants.{AnEntry, Attributes}
 use Rattle.fuse_wire.specs.declared.reply.Answer.{Answer}
 use Rattle.fuse_wire.specs.declared.reply.Answer.TheVariants.{Entry, Opened, Attrs, Done, Error}
 use Rattle.inode_map.specs.InodeMap.{MapState, entry_at, stands_at, once_more, new_entry, given, unlinked}
 use Rattle.inode_map.specs.declared.inode_map.Kept.{Kept}
-use Rattle.fuse_ops.specs.Answers.{Effect, looks_at, comes_to, found_in, free_in, enters, makes, takes_from, unless, against_unlink, against_rmdir, telling, tree_after, file_unnamed}
-use Rattle.fuse_ops.specs.Served.{ServedState, place_told, place_taken, name_taken, map_after, map_without, served_after}
+use Rattle.fuse_ops.specs.Answers.{Effect, find_name, make_file, take_name, show_file, deed_of, looked_at, done_to, looks_at, comes_to, found_in, free_in, enters, shows, makes, takes_from, unless, against_unlink, against_rmdir, against_taking, telling, tree_after, file_unnamed}
+use Rattle.fuse_ops.specs.Served.{ServedState, place_entered, place_left, place_told, place_taken, name_taken, map_after, map_without, served_after}
 
--- the request asks by a name in the directory of a number, and comes to something by what that directory is
-pub record GoesTo (request : Request) (dir : Number) (effect : Tree → Option FileId → Result Effect Errno) : Type 0 where
+-- the request goes to a number, and comes to something by what that number names
+pub record GoesTo (request : Request) (node : Number) (effect : Tree → Option FileId → Result Effect Errno) : Type 0 where
   pub ask : is_ask request ≡ true
-  pub looks : looks_at request ≡ dir ∷ []
-  pub nodes : nodes request ≡ dir ∷ []
-  pub comes : (tree : Tree) (files : ℕ → Option FileId) → comes_to tree files request ≡ effect tree (files dir.0)
+  pub looks : looks_at request ≡ node ∷ []
+  pub nodes : nodes request ≡ node ∷ []
+  pub comes : (tree : Tree) (files : ℕ → Option FileId) → comes_to tree files request ≡ effect tree (files node.0)
   pub stale : (tree : Tree) → effect tree None ≡ Err ESTALE
 
 -- its success tells the entry of that name
@@ -46,53 +48,99 @@ pub record TakesPlace (request : Request) (dir : Number) (name : List ℕ) : Typ
 abbrev pub entered : Tree → FileId → Effect
 entered tree file = record { tree = tree; file = Some file; counts = true; unnamed = None }
 
+-- a file of a tree that stays as it is, whose number is held as often as before
+abbrev pub shown : Tree → FileId → Effect
+shown tree file = record { tree = tree; file = Some file; counts = false; unnamed = None }
+
 -- ---- the requests
 
-pub lookup-goes : (dir : Number) (name : List ℕ) → GoesTo (Lookup dir name) dir (λ tree above. enters tree (found_in tree above name))
-lookup-goes dir name = record { ask = refl; looks = refl; nodes = refl; comes = λ tree files. refl; stale = λ tree. refl }
+-- what looks at a number is answered, and goes to that number
+looks-ask : (request : Request) (node : Number) → looks_at request ≡ node ∷ [] → is_ask request ≡ true
+looks-ask (Other opcode other) node e = refl
+looks-ask request node e = cc
 
-pub create-goes : (dir : Number) (name : List ℕ) (perm : Perm) → GoesTo (Create dir name perm) dir (λ tree above. makes tree name File perm (free_in tree above name))
-create-goes dir name perm = record { ask = refl; looks = refl; nodes = refl; comes = λ tree files. refl; stale = λ tree. refl }
+looks-nodes : (request : Request) (node : Number) → looks_at request ≡ node ∷ [] → nodes request ≡ node ∷ []
+looks-nodes (Other opcode other) node e = absurd (let none : ⊥ = cc in none)
+looks-nodes request node e = e
 
-pub mkdir-goes : (dir : Number) (name : List ℕ) (perm : Perm) → GoesTo (Mkdir dir name perm) dir (λ tree above. makes tree name Dir perm (free_in tree above name))
-mkdir-goes dir name perm = record { ask = refl; looks = refl; nodes = refl; comes = λ tree files. refl; stale = λ tree. refl }
+-- what tells an entry gives its number out
+entry-gives : (request : Request) (dir : Number) (name : List ℕ) → place_told request ≡ Some (dir, name) → (number : Number) (attr : Attr) → given_out (telling request number attr) ≡ Some number
+entry-gives (Other opcode node) dir name e number attr = absurd (let none : ⊥ = cc in none)
+entry-gives request dir name e number attr = cc
 
-pub unlink-goes : (dir : Number) (name : List ℕ) → GoesTo (Unlink dir name) dir (λ tree above. takes_from tree (against_unlink tree) above name)
-unlink-goes dir name = record { ask = refl; looks = refl; nodes = refl; comes = λ tree files. refl; stale = λ tree. refl }
+-- the form in which a name that is found is told, and a file that is shown
+pub find-form : (request : Request) (dir : Number) (name : List ℕ) → deed_of request ≡ find_name dir name → form_of request ≡ AnEntry
+find-form (Other opcode node) dir name e = absurd (let none : ⊥ = cc in none)
+find-form request dir name e = cc
 
-pub rmdir-goes : (dir : Number) (name : List ℕ) → GoesTo (Rmdir dir name) dir (λ tree above. takes_from tree (against_rmdir tree) above name)
-rmdir-goes dir name = record { ask = refl; looks = refl; nodes = refl; comes = λ tree files. refl; stale = λ tree. refl }
+pub show-form : (request : Request) (node : Number) → deed_of request ≡ show_file node → form_of request ≡ Attributes
+show-form (Other opcode other) node e = absurd (let none : ⊥ = cc in none)
+show-form request node e = cc
 
-pub lookup-tells : (dir : Number) (name : List ℕ) → TellsEntry (Lookup dir name) dir name
-lookup-tells dir name = record { told = refl; taken = refl; gives = λ number attr. refl }
+pub find-goes : (request : Request) (dir : Number) (name : List ℕ) → deed_of request ≡ find_name dir name → GoesTo request dir (λ tree above. enters tree (found_in tree above name))
+find-goes request dir name e = record {
+  ask = looks-ask request dir (ap looked_at e);
+  looks = ap looked_at e;
+  nodes = looks-nodes request dir (ap looked_at e);
+  comes = λ tree files. ap (done_to tree files) e;
+  stale = λ tree. refl;
+}
 
-pub create-tells : (dir : Number) (name : List ℕ) (perm : Perm) → TellsEntry (Create dir name perm) dir name
-create-tells dir name perm = record { told = refl; taken = refl; gives = λ number attr. refl }
+pub make-goes : (request : Request) (dir : Number) (name : List ℕ) (kind : Kind) (perm : Perm) → deed_of request ≡ make_file dir name kind perm → GoesTo request dir (λ tree above. makes tree name kind perm (free_in tree above name))
+make-goes request dir name kind perm e = record {
+  ask = looks-ask request dir (ap looked_at e);
+  looks = ap looked_at e;
+  nodes = looks-nodes request dir (ap looked_at e);
+  comes = λ tree files. ap (done_to tree files) e;
+  stale = λ tree. refl;
+}
 
-pub mkdir-tells : (dir : Number) (name : List ℕ) (perm : Perm) → TellsEntry (Mkdir dir name perm) dir name
-mkdir-tells dir name perm = record { told = refl; taken = refl; gives = λ number attr. refl }
+pub take-goes : (request : Request) (dir : Number) (name : List ℕ) (kind : Kind) → deed_of request ≡ take_name dir name kind → GoesTo request dir (λ tree above. takes_from tree (against_taking kind tree) above name)
+take-goes request dir name kind e = record {
+  ask = looks-ask request dir (ap looked_at e);
+  looks = ap looked_at e;
+  nodes = looks-nodes request dir (ap looked_at e);
+  comes = λ tree files. ap (done_to tree files) e;
+  stale = λ tree. refl;
+}
 
-pub unlink-takes : (dir : Number) (name : List ℕ) → TakesPlace (Unlink dir name) dir name
-unlink-takes dir name = record { told = refl; taken = refl }
+pub show-goes : (request : Request) (node : Number) → deed_of request ≡ show_file node → GoesTo request node shows
+show-goes request node e = record {
+  ask = looks-ask request node (ap looked_at e);
+  looks = ap looked_at e;
+  nodes = looks-nodes request node (ap looked_at e);
+  comes = λ tree files. ap (done_to tree files) e;
+  stale = λ tree. refl;
+}
 
-pub rmdir-takes : (dir : Number) (name : List ℕ) → TakesPlace (Rmdir dir name) dir name
-rmdir-takes dir name = record { told = refl; taken = refl }
+pub find-tells : (request : Request) (dir : Number) (name : List ℕ) → deed_of request ≡ find_name dir name → TellsEntry request dir name
+find-tells request dir name e = record { told = ap place_entered e; taken = ap place_left e; gives = entry-gives request dir name (ap place_entered e) }
+
+pub make-tells : (request : Request) (dir : Number) (name : List ℕ) (kind : Kind) (perm : Perm) → deed_of request ≡ make_file dir name kind perm → TellsEntry request dir name
+make-tells request dir name kind perm e = record { told = ap place_entered e; taken = ap place_left e; gives = entry-gives request dir name (ap place_entered e) }
+
+pub take-takes : (request : Request) (dir : Number) (name : List ℕ) (kind : Kind) → deed_of request ≡ take_name dir name kind → TakesPlace request dir name
+take-takes request dir name kind e = record { told = ap place_entered e; taken = ap place_left e }
 
 -- ---- what stood against a name that is taken
 
 -- no directory, or an empty one
-pub unlink-frees : (tree : Tree) (file : FileId) → against_unlink tree file ≡ None → is_full_dir tree file ≡ false
+unlink-frees : (tree : Tree) (file : FileId) → against_unlink tree file ≡ None → is_full_dir tree file ≡ false
 unlink-frees tree file e = in_ (is_dir (kind_of tree file)) e where
   in_ : (b : Bool) → (if b then Some EISDIR else None) ≡ None → (b && has_links tree file) ≡ false
   in_ true h = absurd (let none : ⊥ = cc in none)
   in_ false h = refl
 
-pub rmdir-frees : (tree : Tree) (file : FileId) → against_rmdir tree file ≡ None → is_full_dir tree file ≡ false
+rmdir-frees : (tree : Tree) (file : FileId) → against_rmdir tree file ≡ None → is_full_dir tree file ≡ false
 rmdir-frees tree file e = in_ (is_dir (kind_of tree file)) (has_links tree file) e where
   in_ : (b c : Bool) → (if b then (if c then Some ENOTEMPTY else None) else Some ENOTDIR) ≡ None → (b && c) ≡ false
   in_ true true h = absurd (let none : ⊥ = cc in none)
   in_ true false h = refl
   in_ false c h = absurd (let none : ⊥ = cc in none)
+
+pub take-frees : (kind : Kind) (tree : Tree) (file : FileId) → against_taking kind tree file ≡ None → is_full_dir tree file ≡ false
+take-frees File tree file e = unlink-frees tree file e
+take-frees Dir tree file e = rmdir-frees tree file e
 
 abbrev good : FileId → Result FileId Errno
 good file = Ok file
@@ -134,6 +182,13 @@ entry-after old request dir name effect answer number tells e = λ i. record { m
   map_is = ap (λ (p : Option (Number × List ℕ)). map_without (map_after old.map (place_told request) (given_out answer)) p (file_unnamed (Ok effect) answer)) tells.taken
       ∙ ap (λ (p : Option (Number × List ℕ)). map_after old.map p (given_out answer)) tells.told
       ∙ ap (λ (o : Option Number). map_after old.map (Some (dir, name)) o) e
+
+-- attributes that are shown change nothing
+pub shown-after : (old : ServedState) (request : Request) (effect : Effect) (answer : Answer) → place_told request ≡ None → place_taken request ≡ None → (tree_after old.tree (Ok effect) answer ≡ old.tree) → served_after old request (Ok effect) answer ≡ old
+shown-after old request effect answer told taken stays = λ i. record { map = map_is i; tree = stays i } where
+  map_is : map_without (map_after old.map (place_told request) (given_out answer)) (place_taken request) (file_unnamed (Ok effect) answer) ≡ old.map
+  map_is = ap (λ (p : Option (Number × List ℕ)). map_without (map_after old.map (place_told request) (given_out answer)) p (file_unnamed (Ok effect) answer)) taken
+      ∙ ap (λ (p : Option (Number × List ℕ)). map_after old.map p (given_out answer)) told
 
 -- the name of the file is taken
 pub done-after : (old : ServedState) (request : Request) (dir : Number) (name : List ℕ) (effect : Effect) (file : FileId) → TakesPlace request dir name → effect.unnamed ≡ Some file →

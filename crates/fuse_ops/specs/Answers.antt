@@ -13,9 +13,11 @@ use Rattle.eden_base.specs.declared.errno.Errno.TheVariants.{ESTALE, ENOTDIR, EI
 use Rattle.eden_base.specs.declared.number.FileId.{FileId}
 use Rattle.eden_base.specs.declared.number.Number.{Number}
 use Rattle.checkout.specs.Tree.{Tree, kind_of, child_of, attr_of, is_dir, has_links, is_unlinked, next_file, created, removed}
-use Rattle.fuse_wire.specs.Ask.{nodes}
+use Rattle.fuse_wire.specs.Ask.{nodes, form_of}
 use Rattle.fuse_wire.specs.declared.ask.Request.{Request}
 use Rattle.fuse_wire.specs.declared.ask.Request.TheVariants.{Lookup, Getattr, Create, Mkdir, Unlink, Rmdir}
+use Rattle.fuse_wire.specs.declared.form.Form.{Form}
+use Rattle.fuse_wire.specs.declared.form.Form.TheVariants.{AnEntry, AnOpenEntry, Attributes}
 use Rattle.fuse_wire.specs.declared.reply.Answer.{Answer}
 use Rattle.fuse_wire.specs.declared.reply.Answer.TheVariants.{Entry, Opened, Attrs, Done, Error}
 
@@ -101,33 +103,65 @@ abbrev pub takes_from : Tree → (FileId → Option Errno) → Option FileId →
 takes_from tree against (Some dir) name = takes tree dir name (unless against (found_in tree (Some dir) name))
 takes_from tree against None name = Err ESTALE
 
--- the numbers whose files a row looks at
+-- what stands against taking a name away from its file, by the kind of file that loses it
+abbrev pub against_taking : Kind → Tree → FileId → Option Errno
+against_taking File = against_unlink
+against_taking Dir = against_rmdir
+
+-- what is done for a request: a name in the directory of a number is found, is given to a file that is made, or is
+-- taken from its file; or the file of a number is shown
+pub data Deed : Type 0 where
+  find_name : (dir : Number) (name : List ℕ) → Deed
+  make_file : (dir : Number) (name : List ℕ) (kind : Kind) (perm : Perm) → Deed
+  take_name : (dir : Number) (name : List ℕ) (kind : Kind) → Deed
+  show_file : (node : Number) → Deed
+  -- nothing: the request is not served
+  unserved : Deed
+
+-- what is done for each request; one row a request
+abbrev pub deed_of : Request → Deed
+deed_of (Lookup dir name) = find_name dir name
+deed_of (Getattr node) = show_file node
+deed_of (Create dir name perm) = make_file dir name File perm
+deed_of (Mkdir dir name perm) = make_file dir name Dir perm
+deed_of (Unlink dir name) = take_name dir name File
+deed_of (Rmdir dir name) = take_name dir name Dir
+deed_of request = unserved
+
+-- the number whose file is looked at
+abbrev pub looked_at : Deed → List Number
+looked_at (find_name dir name) = dir ∷ []
+looked_at (make_file dir name kind perm) = dir ∷ []
+looked_at (take_name dir name kind) = dir ∷ []
+looked_at (show_file node) = node ∷ []
+looked_at unserved = []
+
+-- what a deed comes to, where `files` tells the file that a number names; one row a deed
+abbrev pub done_to : Tree → (ℕ → Option FileId) → Deed → Result Effect Errno
+done_to tree files (find_name dir name) = enters tree (found_in tree (files dir.0) name)
+done_to tree files (make_file dir name kind perm) = makes tree name kind perm (free_in tree (files dir.0) name)
+done_to tree files (take_name dir name kind) = takes_from tree (against_taking kind tree) (files dir.0) name
+done_to tree files (show_file node) = shows tree (files node.0)
+done_to tree files unserved = Err ENOSYS
+
+-- the numbers whose files a request's row looks at
 abbrev pub looks_at : Request → List Number
-looks_at (Lookup dir name) = dir ∷ []
-looks_at (Getattr node) = node ∷ []
-looks_at (Create dir name perm) = dir ∷ []
-looks_at (Mkdir dir name perm) = dir ∷ []
-looks_at (Unlink dir name) = dir ∷ []
-looks_at (Rmdir dir name) = dir ∷ []
-looks_at request = []
+looks_at request = looked_at (deed_of request)
 
--- what a request comes to, where `files` tells the file that a number names; one row a request
+-- what a request comes to
 abbrev pub comes_to : Tree → (ℕ → Option FileId) → Request → Result Effect Errno
-comes_to tree files (Lookup dir name) = enters tree (found_in tree (files dir.0) name)
-comes_to tree files (Getattr node) = shows tree (files node.0)
-comes_to tree files (Create dir name perm) = makes tree name File perm (free_in tree (files dir.0) name)
-comes_to tree files (Mkdir dir name perm) = makes tree name Dir perm (free_in tree (files dir.0) name)
-comes_to tree files (Unlink dir name) = takes_from tree (against_unlink tree) (files dir.0) name
-comes_to tree files (Rmdir dir name) = takes_from tree (against_rmdir tree) (files dir.0) name
-comes_to tree files request = Err ENOSYS
+comes_to tree files request = done_to tree files (deed_of request)
 
--- how a success tells a number and attributes; those of other requests tell that they were done
+-- how a number and attributes are told in a form; a form with neither tells that it was done
+abbrev pub told_as : Form → Number → Attr → Answer
+told_as AnEntry number attr = Entry number attr
+told_as AnOpenEntry number attr = Opened number attr
+told_as Attributes number attr = Attrs number attr
+told_as form number attr = Done
+
+-- how a success tells a number and attributes
 abbrev pub telling : Request → Number → Attr → Answer
-telling (Lookup dir name) number attr = Entry number attr
-telling (Getattr node) number attr = Attrs number attr
-telling (Create dir name perm) number attr = Opened number attr
-telling (Mkdir dir name perm) number attr = Entry number attr
-telling request number attr = Done
+telling request = told_as (form_of request)
 
 -- ---- by the number
 

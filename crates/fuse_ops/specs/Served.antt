@@ -10,7 +10,6 @@ use Rattle.checkout.specs.Tree.{Tree, IsTree, tree_of}
 use Rattle.fuse_wire.specs.Ask.{is_ask, items_of}
 use Rattle.fuse_wire.specs.Given.{given_out}
 use Rattle.fuse_wire.specs.declared.ask.Request.{Request}
-use Rattle.fuse_wire.specs.declared.ask.Request.TheVariants.{Lookup, Create, Mkdir, Unlink, Rmdir}
 use Rattle.fuse_wire.specs.declared.item.Item.{Item}
 use Rattle.fuse_wire.specs.declared.reply.Answer.{Answer}
 use Rattle.eden_base.specs.declared.errno.Errno.{Errno}
@@ -18,7 +17,7 @@ use Rattle.inode_map.specs.InodeMap.{MapState, IsFileOf, map_of, new_map, entry_
 use Rattle.inode_map.specs.declared.inode_map.Kept.{Kept}
 use Rattle.inode_map.specs.declared.inode_map.GiveFault.{GiveFault}
 use Rattle.inode_map.specs.declared.inode_map.GiveFault.TheVariants.{NoNumber, TooMany, NoMemory}
-use Rattle.fuse_ops.specs.Answers.{NumberFault, none_left, at_greatest, Numbers, Effect, IsBacked, looks_at, comes_to, Answers, tree_after, file_unnamed}
+use Rattle.fuse_ops.specs.Answers.{NumberFault, none_left, at_greatest, Numbers, Effect, IsBacked, Deed, find_name, make_file, take_name, deed_of, looks_at, comes_to, Answers, tree_after, file_unnamed}
 
 -- the numbers that a daemon gave, and the tree of its checkout
 pub record ServedState : Type 0 where
@@ -55,18 +54,24 @@ abbrev pub Locates : ServedState → Request → (ℕ → Option FileId) → Typ
 Locates served request files =
     AllByRecursion (λ (node : Number). IsLocated served node.0 (files node.0)) (looks_at request)
 
+-- the directory and the name whose number a success of a deed tells, where it tells an entry
+abbrev pub place_entered : Deed → Option (Number × List ℕ)
+place_entered (find_name dir name) = Some (dir, name)
+place_entered (make_file dir name kind perm) = Some (dir, name)
+place_entered deed = None
+
+-- the directory and the name that it takes away
+abbrev pub place_left : Deed → Option (Number × List ℕ)
+place_left (take_name dir name kind) = Some (dir, name)
+place_left deed = None
+
 -- the directory and the name whose number a request's success tells, where it tells an entry
 abbrev pub place_told : Request → Option (Number × List ℕ)
-place_told (Lookup dir name) = Some (dir, name)
-place_told (Create dir name perm) = Some (dir, name)
-place_told (Mkdir dir name perm) = Some (dir, name)
-place_told request = None
+place_told request = place_entered (deed_of request)
 
 -- the directory and the name that a request's success takes away
 abbrev pub place_taken : Request → Option (Number × List ℕ)
-place_taken (Unlink dir name) = Some (dir, name)
-place_taken (Rmdir dir name) = Some (dir, name)
-place_taken request = None
+place_taken request = place_left (deed_of request)
 
 -- why a place's number is not given, in the words of the table
 abbrev pub number_fault : Option GiveFault → Option NumberFault

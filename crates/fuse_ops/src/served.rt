@@ -143,6 +143,7 @@ impl Served {
     /// Answers an ask, or applies the items of a forget, which has no answer. A file that isn't loaded is asked of the
     /// backing, once nothing else stands against the answer. An error changes no number, no count, no place and no
     /// tree, and loads nothing.
+    #[tactic(auto, using(crate::proofs::Steps::steps))]
     pub fn apply<B: Backing>(
         &mut self,
         alloc: Global,
@@ -395,6 +396,7 @@ impl Served {
     }
 
     /// Answers a CREATE.
+    #[tactic(auto, using(crate::proofs::Steps::steps))]
     fn create(&mut self, alloc: Global, dir: Number, name: &Name, perm: Perm) -> Answer
         ensures replay { Replay self.old (Create dir name.now perm) (Some result) self.new }
         ensures loads { Loads self.old.map (Create dir name.now perm) (Some result) self.new.map }
@@ -407,6 +409,7 @@ impl Served {
     }
 
     /// Answers a MKDIR.
+    #[tactic(auto, using(crate::proofs::Steps::steps))]
     fn make_dir(&mut self, alloc: Global, dir: Number, name: &Name, perm: Perm) -> Answer
         ensures replay { Replay self.old (Mkdir dir name.now perm) (Some result) self.new }
         ensures loads { Loads self.old.map (Mkdir dir name.now perm) (Some result) self.new.map }
@@ -475,6 +478,7 @@ impl Served {
     /// Answers an UNLINK. It takes no memory.
     fn unlink(&mut self, dir: Number, name: &Name) -> Answer
         ensures takes { Takes self.old dir name.now (against_unlink self.old.tree) result self.new }
+        ensures loads { Loads self.old.map (Unlink dir name.now) (Some result) self.new.map }
     {
         let found = match self.find(dir, name) {
             Ok(found) => found,
@@ -490,6 +494,7 @@ impl Served {
     /// Answers an RMDIR. It takes no memory.
     fn remove_dir(&mut self, dir: Number, name: &Name) -> Answer
         ensures takes { Takes self.old dir name.now (against_rmdir self.old.tree) result self.new }
+        ensures loads { Loads self.old.map (Rmdir dir name.now) (Some result) self.new.map }
     {
         let found = match self.find(dir, name) {
             Ok(found) => found,

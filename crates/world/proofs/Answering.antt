@@ -11,14 +11,14 @@ use Rattle.eden_base.specs.declared.number.Number.{Number}
 use Rattle.checkout.specs.Tree.{Tree, IsTree, is_full_dir, next_file, created, removed}
 use Rattle.fuse_wire.specs.Ask.{nodes}
 use Rattle.fuse_wire.specs.declared.ask.Request.{Request}
-use Rattle.fuse_wire.specs.declared.ask.Request.TheVariants.{Lookup, Getattr, Create, Mkdir, Unlink, Rmdir}
+use Rattle.fuse_wire.specs.declared.form.Form.{Form}
 use Rattle.fuse_wire.specs.declared.reply.Answer.{Answer}
 use Rattle.fuse_wire.specs.declared.reply.Answer.TheVariants.{Attrs, Done, Error}
 use Rattle.inode_map.specs.InodeMap.{MapState, IsFileOf}
-use Rattle.fuse_ops.specs.Answers.{Effect, found_in, free_in, enters, makes, takes, takes_from, unless, against_unlink, against_rmdir, comes_to, shows, Answers, AnswersShown}
+use Rattle.fuse_ops.specs.Answers.{Effect, found_in, free_in, enters, makes, takes, takes_from, unless, against_taking, Deed, find_name, make_file, take_name, show_file, unserved, deed_of, done_to, comes_to, shows, told_as, telling, Answers, AnswersShown}
 use Rattle.fuse_ops.specs.Changes.{MayLose}
 use Rattle.fuse_ops.specs.Gifts.{served_over}
-use Rattle.fuse_ops.specs.Served.{ServedState, PlainState, plain, IsLocated, place_told, name_taken, numbers_at, served_after, IsLegal}
+use Rattle.fuse_ops.specs.Served.{ServedState, PlainState, plain, IsLocated, place_entered, place_left, place_told, name_taken, numbers_at, served_after, IsLegal}
 use Rattle.world.specs.World.{World, file_named, owed, numbers_of, effect_in, MayAnswer}
 use Rattle.world.specs.Agreement.{Knows}
 use Rattle.world.proofs.Entering.{Answered, backed, enters-worked}
@@ -27,7 +27,7 @@ use Rattle.world.proofs.Placed.{found-number, found-enters, made-number, made-en
 use Rattle.world.proofs.Worked.{Worked, worked-from, error-worked}
 use Rattle.fuse_ops.proofs.Keeping.{found-child}
 use Rattle.fuse_ops.proofs.Making.{free-place}
-use Rattle.fuse_ops.proofs.Shapes.{GoesTo, TellsEntry, TakesPlace, entered, lookup-goes, lookup-tells, create-goes, create-tells, mkdir-goes, mkdir-tells, unlink-goes, unlink-takes, unlink-frees, rmdir-goes, rmdir-takes, rmdir-frees, unless-found, done-after}
+use Rattle.fuse_ops.proofs.Shapes.{GoesTo, TellsEntry, TakesPlace, entered, shown, show-form, find-goes, find-tells, make-goes, make-tells, take-goes, take-takes, take-frees, show-goes, unless-found, shown-after, done-after}
 use Rattle.fuse_ops.proofs.UnnamingLaw.{unnaming-keeps}
 
 -- what a daemon knows of a world, in which it answers
@@ -59,9 +59,9 @@ stale_in w m request node s goes nobody = inl (
   },
 )
 
--- ---- a request to a directory
+-- ---- a request to a number
 
--- a success of it, over the file of its directory
+-- a success of it, over the file that its number names
 abbrev Succeeds : World → MapState → Request → Number → (Tree → Option FileId → Result Effect Errno) → Answer → ServedState → Type 0
 Succeeds w m request dir effect answer later =
     (above : FileId) → IsFileOf w.tree m.entries dir.0 above → (e : Effect) → effect w.tree (Some above) ≡ Ok e → effect_in w request ≡ Ok e → Legal w m request (Ok e) answer later → Worked w request answer later
@@ -81,16 +81,16 @@ goes_in w m request dir effect answer later s goes success (Some above) at l = i
 -- ---- its successes
 
 -- an entry of a file that was found
-lookup_in : (w : World) (m : MapState) (dir : Number) (name : List ℕ) (answer : Answer) (later : ServedState) → Serves w m → Succeeds w m (Lookup dir name) dir (λ tree above. enters tree (found_in tree above name)) answer later
-lookup_in w m dir name answer later s above at e is came l = in_ (found_in w.tree (Some above) name) refl is where
-  in_ : (r : Result FileId Errno) → found_in w.tree (Some above) name ≡ r → enters w.tree r ≡ Ok e → Worked w (Lookup dir name) answer later
+find_in : (w : World) (m : MapState) (request : Request) (dir : Number) (name : List ℕ) (answer : Answer) (later : ServedState) → Serves w m → TellsEntry request dir name → Succeeds w m request dir (λ tree above. enters tree (found_in tree above name)) answer later
+find_in w m request dir name answer later s tells above at e is came l = in_ (found_in w.tree (Some above) name) refl is where
+  in_ : (r : Result FileId Errno) → found_in w.tree (Some above) name ≡ r → enters w.tree r ≡ Ok e → Worked w request answer later
   in_ (Err errno) found h = absurd (let none : ⊥ = cc in none)
   in_ (Ok file) found h =
       let same : entered w.tree file ≡ e = cc in
       let child = found-child w.tree above file name found in
-      let legal = subst (λ (x : Effect). Legal w m (Lookup dir name) (Ok x) answer later) (sym same) l in
-      enters-worked w m (Lookup dir name) dir name w.tree file
-      (found-enters w m dir name above file s.is_tree s.of_manifest s.knows at child (Lookup dir name) (lookup-tells dir name) (came ∙ ap (λ (x : Effect). Ok x) (sym same))) answer later legal.answered
+      let legal = subst (λ (x : Effect). Legal w m request (Ok x) answer later) (sym same) l in
+      enters-worked w m request dir name w.tree file
+      (found-enters w m dir name above file s.is_tree s.of_manifest s.knows at child request tells (came ∙ ap (λ (x : Effect). Ok x) (sym same))) answer later legal.answered
       (found-number w m dir name above file s.is_tree s.of_manifest s.knows at child) legal.answers
 
 -- an entry of a file that is made
@@ -143,34 +143,38 @@ take_in w m request dir name against answer later s place frees above at e is ca
           so = (legal.answered).makes ∙ ap (λ (a : Answer). plain (served_after (served_over w.tree m) request (Ok (taken w.tree above name file)) a)) legal.answers
               ∙ ap plain (done-after (served_over w.tree m) request dir name (taken w.tree above name file) file place refl)
 
--- ---- a GETATTR
+-- attributes that are shown
+show_in : (w : World) (m : MapState) (request : Request) (node : Number) (answer : Answer) (later : ServedState) → Serves w m → deed_of request ≡ show_file node → Succeeds w m request node shows answer later
+show_in w m request node answer later s does file at e is came l =
+    let same : shown w.tree file ≡ e = cc in
+    let legal = subst (λ (x : Effect). Legal w m request (Ok x) answer later) (sym same) l in
+    by_answer legal.answered (came ∙ ap (λ (x : Effect). Ok x) (sym same))
+    (subst (λ (p : Option (Number × List ℕ)). AnswersShown (numbers_at (served_over w.tree m) p) request w.tree file answer) (ap place_entered does) legal.answers) where
+      by_answer : Answered w m request (Ok (shown w.tree file)) answer later → effect_in w request ≡ Ok (shown w.tree file) → AnswersShown (numbers_at (served_over w.tree m) None) request w.tree file answer → Worked w request answer later
+      by_answer made comes (inr (told, backs)) = subst (λ (a : Answer). Worked w request a later) (sym told)
+          (error-worked w m request (Ok (shown w.tree file)) EIO later s.is_tree s.knows
+          (made.makes ∙ ap (λ (a : Answer). plain (served_after (served_over w.tree m) request (Ok (shown w.tree file)) a)) told)
+          (inr (subst (λ (r : Result Effect Errno). Answers (numbers_of w) request r (Error EIO)) (sym comes) (inr (refl, backed w file s.of_manifest backs)))))
+      by_answer made comes (inl t) = subst (λ (a : Answer). Worked w request a later) (sym (t.is ∙ form))
+          (worked-from w request told later (Ok (shown w.tree file)) None comes refl
+          (inr (subst (λ (r : Result Effect Errno). Answers (numbers_of w) request r told) (sym comes)
+          (inl (record { number = t.number; attr = t.attr; is = sym form; is_number = t.is_number; is_attr = t.is_attr }))))
+          s.is_tree
+          (knows-plain w.tree w.names (λ n. owed w n + 0) later (served_over w.tree m) so
+          (knows-along w.tree w.names (owed w) (λ n. owed w n + 0) (served_over w.tree m) (λ n. omega arith) s.knows))) where
+            told : Answer
+            told = Attrs t.number t.attr
 
--- by what its number names: the answer is legal in the world as it is for the daemon
-getattr_in : (w : World) (m : MapState) (node : Number) (answer : Answer) (later : ServedState) → Serves w m → (o : Option FileId) → IsLocated (served_over w.tree m) node.0 o → Legal w m (Getattr node) (shows w.tree o) answer later →
-    Worked w (Getattr node) answer later
-getattr_in w m node answer later s None nobody l = error_in w m (Getattr node) ESTALE answer later s l (stale_in w m (Getattr node) node s refl nobody)
-getattr_in w m node answer later s (Some file) at l = by_answer l.answers where
-  came : effect_in w (Getattr node) ≡ shows w.tree (Some file)
-  came = ap (shows w.tree) ((s.knows).files node.0 file at)
+            form : telling request t.number t.attr ≡ told
+            form = ap (λ (f : Form). told_as f t.number t.attr) (show-form request node does)
 
-  by_answer : AnswersShown (numbers_at (served_over w.tree m) None) (Getattr node) w.tree file answer → Worked w (Getattr node) answer later
-  by_answer (inr (e, is)) = subst (λ (a : Answer). Worked w (Getattr node) a later) (sym e)
-      (error-worked w m (Getattr node) (shows w.tree (Some file)) EIO later s.is_tree s.knows
-      ((l.answered).makes ∙ ap (λ (a : Answer). plain (served_after (served_over w.tree m) (Getattr node) (shows w.tree (Some file)) a)) e)
-      (inr (subst (λ (r : Result Effect Errno). Answers (numbers_of w) (Getattr node) r (Error EIO)) (sym came) (inr (refl, backed w file s.of_manifest is)))))
-  by_answer (inl t) = subst (λ (a : Answer). Worked w (Getattr node) a later) (sym t.is)
-      (worked-from w (Getattr node) told later (shows w.tree (Some file)) None came refl
-      (inr (subst (λ (r : Result Effect Errno). Answers (numbers_of w) (Getattr node) r told) (sym came)
-      (inl (record { number = t.number; attr = t.attr; is = refl; is_number = t.is_number; is_attr = t.is_attr }))))
-      s.is_tree
-      (knows-plain w.tree w.names (λ n. owed w n + 0) later (served_over w.tree m) ((l.answered).makes ∙ ap (λ (a : Answer). plain (served_after (served_over w.tree m) (Getattr node) (shows w.tree (Some file)) a)) t.is)
-      (knows-along w.tree w.names (owed w) (λ n. owed w n + 0) (served_over w.tree m) (λ n. omega arith) s.knows))) where
-        told : Answer
-        told = Attrs t.number t.attr
+            so : plain later ≡ plain (served_over w.tree m)
+            so = made.makes ∙ ap (λ (a : Answer). plain (served_after (served_over w.tree m) request (Ok (shown w.tree file)) a)) (t.is ∙ form)
+                ∙ ap plain (shown-after (served_over w.tree m) request (shown w.tree file) told (ap place_entered does) (ap place_left does) refl)
 
 -- ---- all requests
 
--- what is legal for a request that goes to a directory
+-- what is legal for a request that goes to a number
 legal_to : (w : World) (m : MapState) (request : Request) (dir : Number) (effect : Tree → Option FileId → Result Effect Errno) (answer : Answer) (later : ServedState) → Serves w m → GoesTo request dir effect → Succeeds w m request dir effect answer later →
     IsLegal (served_over w.tree m) request answer later → Worked w request answer later
 legal_to w m request dir effect answer later s goes success l =
@@ -181,15 +185,23 @@ legal_to w m request dir effect answer later s goes success l =
       answered = record { makes = l.makes; keeps_tree = l.keeps_tree };
     }))
 
--- the same over the world's tree, a line a kind
+-- what is legal for a request that isn't served
+unserved_in : (w : World) (m : MapState) (request : Request) (answer : Answer) (later : ServedState) → Serves w m → deed_of request ≡ unserved → IsLegal (served_over w.tree m) request answer later → Worked w request answer later
+unserved_in w m request answer later s does l =
+    error_in w m request ENOSYS answer later s (subst (λ (r : Result Effect Errno). Legal w m request r answer later) (ap (done_to w.tree l.files) does) (record {
+      answers = l.answers;
+      answered = record { makes = l.makes; keeps_tree = l.keeps_tree };
+    })) (inr (subst (λ (r : Result Effect Errno). Answers (numbers_of w) request r (Error ENOSYS)) (sym (ap (done_to w.tree (file_named w.names)) does)) refl))
+
+-- the same over the world's tree, a line a deed
 legal_in : (w : World) (m : MapState) (request : Request) (answer : Answer) (later : ServedState) → Serves w m → IsLegal (served_over w.tree m) request answer later → Worked w request answer later
-legal_in w m (Lookup dir name) answer later s l = legal_to w m (Lookup dir name) dir _ answer later s (lookup-goes dir name) (lookup_in w m dir name answer later s) l
-legal_in w m (Create dir name perm) answer later s l = legal_to w m (Create dir name perm) dir _ answer later s (create-goes dir name perm) (make_in w m (Create dir name perm) dir name _ perm answer later s (create-tells dir name perm)) l
-legal_in w m (Mkdir dir name perm) answer later s l = legal_to w m (Mkdir dir name perm) dir _ answer later s (mkdir-goes dir name perm) (make_in w m (Mkdir dir name perm) dir name _ perm answer later s (mkdir-tells dir name perm)) l
-legal_in w m (Unlink dir name) answer later s l = legal_to w m (Unlink dir name) dir _ answer later s (unlink-goes dir name) (take_in w m (Unlink dir name) dir name against_unlink answer later s (unlink-takes dir name) unlink-frees) l
-legal_in w m (Rmdir dir name) answer later s l = legal_to w m (Rmdir dir name) dir _ answer later s (rmdir-goes dir name) (take_in w m (Rmdir dir name) dir name against_rmdir answer later s (rmdir-takes dir name) rmdir-frees) l
-legal_in w m (Getattr node) answer later s l = getattr_in w m node answer later s (l.files node.0) (l.locates).0 (record { answers = l.answers; answered = record { makes = l.makes; keeps_tree = l.keeps_tree } })
-legal_in w m request answer later s l = error_in w m request ENOSYS answer later s (record { answers = l.answers; answered = record { makes = l.makes; keeps_tree = l.keeps_tree } }) (inr refl)
+legal_in w m request answer later s l = by_deed (deed_of request) refl where
+  by_deed : (deed : Deed) → deed_of request ≡ deed → Worked w request answer later
+  by_deed (find_name dir name) does = legal_to w m request dir _ answer later s (find-goes request dir name does) (find_in w m request dir name answer later s (find-tells request dir name does)) l
+  by_deed (make_file dir name kind perm) does = legal_to w m request dir _ answer later s (make-goes request dir name kind perm does) (make_in w m request dir name kind perm answer later s (make-tells request dir name kind perm does)) l
+  by_deed (take_name dir name kind) does = legal_to w m request dir _ answer later s (take-goes request dir name kind does) (take_in w m request dir name (against_taking kind) answer later s (take-takes request dir name kind does) (take-frees kind)) l
+  by_deed (show_file node) does = legal_to w m request node _ answer later s (show-goes request node does) (show_in w m request node answer later s does) l
+  by_deed unserved does = unserved_in w m request answer later s does l
 
 -- A legal answer is one that the world may give, and what the daemon knows after it is what the world has then.
 pub answers-worked : (w : World) (served later : ServedState) (request : Request) (answer : Answer) → IsTree w.tree → w.tree.manifest ≡ w.manifest → Knows w.tree w.names (owed w) served → IsLegal served request answer later →
