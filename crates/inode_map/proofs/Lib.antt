@@ -17,6 +17,7 @@ pub mod Removing
 pub mod SlotGrowth
 pub mod SlotLemmas
 pub mod SlotSearch
+pub mod SlotWindow
 pub mod SlotWrites
 pub mod Striking
 pub mod TableLemmas

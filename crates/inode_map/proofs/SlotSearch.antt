@@ -1,7 +1,7 @@
 -- Where the slot of a number stands, and which entry is the first behind it.
-use Rattle.std.proofs.Common.{◌≡◌, ℕ, zero, suc, ◌+◌, ◌<◌, ◌≤◌, Bool, true, false, List, [], ◌∷◌, length, length-drop, take, drop, get_or, ◌-◌, Option, Some, None, is_some, refl, sym, ap, ◌∙◌, inl, inr, ◌⊎◌, arith}
+use Rattle.std.proofs.Common.{◌≡◌, ℕ, zero, suc, ◌+◌, ◌<◌, ◌≤◌, Bool, true, false, List, [], ◌∷◌, length, drop, get_or, ◌-◌, Option, Some, None, is_some, refl, sym, ap, ◌∙◌, inl, inr, ◌⊎◌, arith}
 use Rattle.std.specs.Prelude.{nat_lt, slice_set}
-use Rattle.std.specs.List.Sorted.{IsNonDecreasingBy, IsPartitionPoint}
+use Rattle.std.specs.List.Sorted.{IsPartitionPoint}
 use Rattle.std.specs.Map.{set_value}
 use Rattle.std.specs.Ordering.{nat_cmp}
 use Rattle.std.specs.BTreeMap.{is_at}
@@ -12,25 +12,19 @@ use Rattle.inode_map.specs.InodeMap.{number_after}
 use Rattle.inode_map.specs.Table.{kept_from, slot_at, first_number, AreSlots, IsPlaceOf}
 use Rattle.inode_map.specs.declared.table.Held.{Held}
 
--- each slot's number is at least the lowest, and greater than those before it
-pub slots-from : (es : List (ℕ × Option Held)) (low next k : ℕ) (d : ℕ × Option Held) → AreSlots low next es → k < length es → low ≤ (get_or es k d).0
+-- each slot's number is at least as far above the lowest as the slot is behind the first
+pub slots-from : (es : List (ℕ × Option Held)) (low next k : ℕ) (d : ℕ × Option Held) → AreSlots low next es → k < length es → low + k ≤ (get_or es k d).0
 slots-from [] low next k d are less = absurd (omega arith)
-slots-from (s ∷ es) low next zero d are less = are.0
-slots-from (s ∷ es) low next (suc k) d are less = let a : low ≤ s.0 = are.0 in let b : s.0 + 1 ≤ (get_or es k d).0 = slots-from es (s.0 + 1) next k d are.1 (omega arith) in omega arith
+slots-from (s ∷ es) low next zero d are less = let a : low ≤ s.0 = are.0 in omega arith
+slots-from (s ∷ es) low next (suc k) d are less = let a : low ≤ s.0 = are.0 in let b : s.0 + 1 + k ≤ (get_or es k d).0 = slots-from es (s.0 + 1) next k d are.1 (omega arith) in omega arith
 
-pub slots-rise : (es : List (ℕ × Option Held)) (low next i j : ℕ) (d : ℕ × Option Held) → AreSlots low next es → i < j → j < length es → (get_or es i d).0 < (get_or es j d).0
-slots-rise [] low next i j d are less short = absurd (omega arith)
-slots-rise (s ∷ es) low next i zero d are less short = absurd (omega arith)
-slots-rise (s ∷ es) low next zero (suc j) d are less short = let b : s.0 + 1 ≤ (get_or es j d).0 = slots-from es (s.0 + 1) next j d are.1 (omega arith) in omega arith
-slots-rise (s ∷ es) low next (suc i) (suc j) d are less short = slots-rise es (s.0 + 1) next i j d are.1 (omega arith) (omega arith)
-
-pub slots-do_not_fall : (es : List (ℕ × Option Held)) (next : ℕ) → AreSlots 2 next es → IsNonDecreasingBy (λ (slot : ℕ × Option Held). slot.0) es
-slots-do_not_fall es next are i j d le less = in_ (eq-or i j) where
-  in_ : (i ≡ j) ⊎ (i ≡ j → ⊥) → (get_or es i d).0 ≤ (get_or es j d).0
-  in_ (inl same) = ap_le (get_or es i d).0 (get_or es j d).0 (ap (λ (k : ℕ). (get_or es k d).0) same) where
-    ap_le : (a b : ℕ) → a ≡ b → a ≤ b
-    ap_le a b e = omega arith
-  in_ (inr other) = let r : (get_or es i d).0 < (get_or es j d).0 = slots-rise es 2 next i j d are (omega arith) less in omega arith
+-- of two slots the numbers lie at least as far apart as they do
+pub slots-apart : (es : List (ℕ × Option Held)) (low next i j : ℕ) (d : ℕ × Option Held) → AreSlots low next es → i ≤ j → j < length es → (get_or es i d).0 + (j - i) ≤ (get_or es j d).0
+slots-apart [] low next i j d are le short = absurd (omega arith)
+slots-apart (s ∷ es) low next zero zero d are le short = omega arith
+slots-apart (s ∷ es) low next (suc i) zero d are le short = absurd (omega arith)
+slots-apart (s ∷ es) low next zero (suc j) d are le short = let b : s.0 + 1 + j ≤ (get_or es j d).0 = slots-from es (s.0 + 1) next j d are.1 (omega arith) in omega arith
+slots-apart (s ∷ es) low next (suc i) (suc j) d are le short = let b : (get_or es i d).0 + (j - i) ≤ (get_or es j d).0 = slots-apart es (s.0 + 1) next i j d are.1 (omega arith) (omega arith) in omega arith
 
 -- a number that no slot has isn't found
 pub none-there : (es : List (ℕ × Option Held)) (n : ℕ) → ((k : ℕ) (d : ℕ × Option Held) → k < length es → (get_or es k d).0 ≡ n → ⊥) → slot_at es n ≡ None
@@ -60,7 +54,7 @@ none-up_to es next n place are bound parted e never = none-there es n (λ k d le
     last_in : (k + 1 ≡ place) ⊎ (k + 1 ≡ place → ⊥) → ⊥
     last_in (inl same) = never k (sym same) (ap (λ (s : ℕ × Option Held). s.0) (any-default es k e d less) ∙ here)
     last_in (inr other) =
-        let rise : (get_or es k d).0 < (get_or es (k + 1) d).0 = slots-rise es 2 next k (k + 1) d are (omega arith) (omega arith) in
+        let rise : (get_or es k d).0 + (k + 1 - k) ≤ (get_or es (k + 1) d).0 = slots-apart es 2 next k (k + 1) d are (omega arith) (omega arith) in
         let low : (get_or es (k + 1) d).0 ≤ n = parted.0 (k + 1) d (omega arith) (omega arith) in omega arith
 
 -- a slot that stands at a place is found, and what is written at the place is written under the number
@@ -69,7 +63,7 @@ place-found [] low next n place d are at = absurd (let a : place < 0 = at.0 in o
 place-found ((m, o) ∷ es) low next n zero d are at = rw (at-same m n (at.1 d)) refl
 place-found ((m, o) ∷ es) low next n (suc place) d are at =
     let short : place < length es = let a : suc place < length ((m, o) ∷ es) = at.0 in omega arith in
-    let above : m + 1 ≤ (get_or es place d).0 = slots-from es (m + 1) next place d are.1 short in
+    let above : m + 1 + place ≤ (get_or es place d).0 = slots-from es (m + 1) next place d are.1 short in
     let here : (get_or es place d).0 ≡ n = at.1 d in
     rw (at-other m n (λ e. omega arith)) (place-found es (m + 1) next n place d are.1 (short, λ x. at.1 x))
 
@@ -78,7 +72,7 @@ place-set [] low next n place w are at = absurd (let a : place < 0 = at.0 in ome
 place-set ((m, o) ∷ es) low next n zero w are at = let same : m ≡ n = at.1 (m, o) in rw (at-same m n same) (ap (λ (k : ℕ). (k, w) ∷ es) (sym same))
 place-set ((m, o) ∷ es) low next n (suc place) w are at =
     let short : place < length es = let a : suc place < length ((m, o) ∷ es) = at.0 in omega arith in
-    let above : m + 1 ≤ (get_or es place (m, o)).0 = slots-from es (m + 1) next place (m, o) are.1 short in
+    let above : m + 1 + place ≤ (get_or es place (m, o)).0 = slots-from es (m + 1) next place (m, o) are.1 short in
     let here : (get_or es place (m, o)).0 ≡ n = at.1 (m, o) in
     rw (at-other m n (λ e. omega arith)) (ap (λ (xs : List (ℕ × Option Held)). (m, o) ∷ xs) (place-set es (m + 1) next n place w are.1 (short, λ x. at.1 x)))
 
@@ -105,19 +99,3 @@ first-full (m, None) es full = absurd (let none : ⊥ = cc in none)
 pub first-empty : (s : ℕ × Option Held) (es : List (ℕ × Option Held)) → is_some s.1 ≡ false → kept_from (s ∷ es) ≡ kept_from es
 first-empty (m, Some h) es empty = absurd (let none : ⊥ = cc in none)
 first-empty (m, None) es empty = refl
-
--- nothing stands behind the last
-pub drop-all : (es : List (ℕ × Option Held)) (i : ℕ) → length es ≤ i → drop i es ≡ []
-drop-all [] zero long = refl
-drop-all [] (suc i) long = refl
-drop-all (s ∷ es) zero long = absurd (omega arith)
-drop-all (s ∷ es) (suc i) long = drop-all es i (omega arith)
-
--- what is left behind a place, all of it
-pub drop-rest : (es : List (ℕ × Option Held)) (place : ℕ) → take (length es - place) (drop place es) ≡ drop place es
-drop-rest es place = take_exact (drop place es) (length es - place) (length-drop place es) where
-  take_exact : (xs : List (ℕ × Option Held)) (n : ℕ) → length xs ≡ n → take n xs ≡ xs
-  take_exact [] zero e = refl
-  take_exact [] (suc n) e = refl
-  take_exact (x ∷ xs) zero e = absurd (omega arith)
-  take_exact (x ∷ xs) (suc n) e = ap (λ (ys : List (ℕ × Option Held)). x ∷ ys) (take_exact xs n (omega arith))

@@ -1,8 +1,7 @@
 //! The entries of an inode map by number, and the index of their places.
 ghost use Rattle.std.specs.Prelude.{◌≡◌, ℕ, ◌+◌, ◌<◌, ◌≤◌, List, [], ◌∷◌, ◌++◌, Option, Some, None, IsSome, MatchOption, IfOk, OnOk, map, OnErr, ◌-◌, true, false, nat_lt, vec_len, vec_capacity, length, if◌then◌else◌};
 ghost use Rattle.std.specs.Option.{option_map, option_copied, option_and_then, IfNone, IfSome, OnSome};
-ghost use Rattle.std.specs.List.{AllByRecursion, list_any, filter};
-ghost use Rattle.std.specs.List.{HoldsAt};
+ghost use Rattle.std.specs.List.{AllByRecursion, AllWithin, HoldsAt, list_any, filter};
 ghost use Rattle.std.specs.List.Sorted.{IsPartitionPoint};
 ghost use Rattle.checkout.specs.Tree.{Tree};
 ghost use Rattle.eden_base.specs.First.{changed_where, without_where};
@@ -402,13 +401,32 @@ fn make_room(slots: &mut Vec<Slot>) -> Result<(), AllocError>
     slots.try_reserve(slots.len() + 1)
 }
 
+/// Returns between which places the slots up to a number end. As numbers rise, a slot's number is at least as far above
+/// the first as the slot is, and at least as far below the last; so the places are one where no number is missing.
+fn window(slots: &[Slot], number: Number) -> (usize, usize)
+    requires { IsSlots slots.now }
+    ensures before { AllWithin (λ slot. slot.0 ≤ number.0) slots.now 0 result.0 }
+    ensures behind { AllWithin (λ slot. number.0 < slot.0) slots.now result.1 (length slots.now) }
+    ensures order { result.0 ≤ result.1 }
+    ensures bound { result.1 ≤ length slots.now }
+{
+    let (Some(first), Some(last)) = (slots.first(), slots.last()) else {
+        return (0, 0);
+    };
+    let above = number.0.saturating_sub(first.0) as usize;
+    let below = last.0.saturating_sub(number.0) as usize;
+    let len = slots.len();
+    (len.saturating_sub(below), len.min(above + 1))
+}
+
 /// Returns how many slots stand up to a number, with its own.
 fn up_to(slots: &[Slot], number: Number) -> usize
     requires { IsSlots slots.now }
     ensures parted { IsPartitionPoint (λ slot. slot.0 ≤ number.0) (λ slot. number.0 < slot.0) slots.now result }
     ensures bound { result ≤ length slots.now }
 {
-    slots.partition_point(|slot| slot.0 <= number.0)
+    let (start, end) = window(slots, number);
+    start + slots[start..end].partition_point(|slot| slot.0 <= number.0)
 }
 
 /// Returns the number of the first slot that isn't empty.

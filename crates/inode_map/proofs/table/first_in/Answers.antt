@@ -3,7 +3,8 @@ use Rattle.std.proofs.Common.{◌∷◌, ◌+◌, ℕ, List, Option, drop, refl,
 use Rattle.std.proofs.lemmas.List.{drop_more}
 use Rattle.inode_map.specs.Table.{kept_from, first_number}
 use Rattle.inode_map.specs.declared.table.Held.{Held}
-use Rattle.inode_map.proofs.SlotSearch.{first-full, first-empty, drop-all}
+use Rattle.std.proofs.lemmas.List.{drop_all}
+use Rattle.inode_map.proofs.SlotSearch.{first-full, first-empty}
 use Rattle.inode_map.proofs.table.first_in.Goals as goal
 
 pub loop-number-init : goal.loop-number-init
@@ -28,4 +29,4 @@ loop-number-preserved c =
 pub returns : goal.returns
 returns c =
     let es = c.args.slots.now in
-    ap (λ (rest : List (ℕ × Option Held)). first_number (kept_from rest)) (sym (drop-all es c.loop-number.number-index (let f = c.loop-number-test.false in omega arith))) ∙ c.loop-number.invariant
+    ap (λ (rest : List (ℕ × Option Held)). first_number (kept_from rest)) (sym (drop_all c.loop-number.number-index es (let f = c.loop-number-test.false in omega arith))) ∙ c.loop-number.invariant
