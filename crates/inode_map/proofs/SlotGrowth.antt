@@ -1,5 +1,5 @@
 -- The slots of a table where one is added, the empty ones go, or a file is remembered.
-use Rattle.std.proofs.Common.{◌≡◌, ℕ, ◌+◌, ◌<◌, ◌≤◌, Bool, true, false, List, [], ◌∷◌, ◌++◌, Option, Some, None, is_some, refl, sym, ap, ◌∙◌, inl, inr, ◌⊎◌, arith}
+use Rattle.std.proofs.Common.{◌≡◌, ℕ, suc, length, ◌+◌, ◌<◌, ◌≤◌, Bool, true, false, List, [], ◌∷◌, ◌++◌, Option, Some, None, is_some, refl, sym, ap, ◌∙◌, inl, inr, ◌⊎◌, arith}
 use Rattle.std.specs.Prelude.{nat_lt}
 use Rattle.std.specs.List.{filter}
 use Rattle.std.specs.Map.{set_value}
@@ -50,6 +50,11 @@ pub full-kept : (es : List (ℕ × Option Held)) → kept_from (filter is_full e
 full-kept [] = refl
 full-kept ((m, Some h) ∷ es) = ap (λ (xs : List Kept). kept_of m h ∷ xs) (full-kept es)
 full-kept ((m, None) ∷ es) = full-kept es
+
+pub full-length : (es : List (ℕ × Option Held)) → length (filter is_full es) ≡ length (kept_from es)
+full-length [] = refl
+full-length ((m, Some h) ∷ es) = ap suc (full-length es)
+full-length ((m, None) ∷ es) = full-length es
 
 pub full-files : (es : List (ℕ × Option Held)) → files_from (filter is_full es) ≡ files_from es
 full-files [] = refl

@@ -392,6 +392,8 @@ fn make_room(slots: &mut Vec<Slot>) -> Result<(), AllocError>
     ensures files { files_from slots.new.items ≡ files_from slots.old.items }
     ensures numbers { (next : ℕ) → AreSlots 2 next slots.old.items → AreSlots 2 next slots.new.items }
     ensures len { vec_len slots.new ≤ vec_len slots.old }
+    ensures struck { vec_capacity slots.old ≤ vec_len slots.old
+        → vec_len slots.new ≡ length (kept_from slots.old.items) }
     ensures room { OnOk result (vec_len slots.new < vec_capacity slots.new) }
 {
     if slots.len() < slots.capacity() {

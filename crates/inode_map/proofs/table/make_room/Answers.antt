@@ -1,8 +1,8 @@
 -- Without the empty slots the entries are the same.
-use Rattle.std.proofs.Common.{ap, sym, ◌∙◌, subst, rules}
+use Rattle.std.proofs.Common.{ap, sym, ◌∙◌, subst, length, rules}
 use Rattle.std.proofs.lemmas.Fn.{filter_same}
 use Rattle.inode_map.specs.Table.{kept_from, files_from, AreSlots}
-use Rattle.inode_map.proofs.SlotGrowth.{is_full, full-slots, full-kept, full-files}
+use Rattle.inode_map.proofs.SlotGrowth.{is_full, full-slots, full-kept, full-length, full-files}
 use Rattle.inode_map.proofs.table.make_room.Goals as goal
 
 pub returns-clause-entries : goal.returns-clause-entries
@@ -19,3 +19,8 @@ pub returns-clause-numbers : goal.returns-clause-numbers
 returns-clause-numbers c = λ next are.
     let left = c.try_reserve.ensures.items ∙ filter_same _ is_full _ (λ x b f r. search rules) _ _ c.retain.ensures.filtered in
     subst (AreSlots 2 next) (sym left) (full-slots c.args.slots.now.items 2 next are)
+
+pub returns-clause-struck : goal.returns-clause-struck
+returns-clause-struck c full =
+    let left = c.try_reserve.ensures.items ∙ filter_same _ is_full _ (λ x b f r. search rules) _ _ c.retain.ensures.filtered in
+    c.try_reserve.new.self.ok.0 ∙ ap length left ∙ full-length c.args.slots.now.items
