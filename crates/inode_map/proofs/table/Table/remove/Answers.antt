@@ -1,11 +1,10 @@
 -- An entry is taken out of its slot and out of the index.
 use Rattle.std.proofs.Common.{◌≡◌, ℕ, List, Option, Some, None, sym, ap, ◌∙◌, subst}
-use Rattle.std.specs.Prelude.{slice_set}
 use Rattle.inode_map.specs.Links.{link_of}
 use Rattle.inode_map.specs.Table.{slot_at, IsPlaceOf}
 use Rattle.inode_map.specs.declared.table.Held.{Held}
-use Rattle.inode_map.proofs.Removing.{left-slots, left-lost, left-marked, left-place, left-view}
-use Rattle.inode_map.proofs.TableLemmas.{never-none, never-empty, found-in, found-held, written}
+use Rattle.inode_map.proofs.Removing.{taken-at, left-slots, left-lost, left-marked, left-place, left-view}
+use Rattle.inode_map.proofs.TableLemmas.{never-none, never-empty, found-in}
 use Rattle.inode_map.proofs.table.Table.remove.Goals as goal
 
 pub unreachable-requires : goal.unreachable-requires
@@ -22,16 +21,10 @@ unreachable-requires-in_default-take c =
 
 pub invariant_of-self : goal.invariant_of-self
 invariant_of-self c =
-    let t = c.self.inside in
-    let n = c.args.number.0 in
-    let h = c.in-Some-take.held in
-    let there = subst (λ (es : List (ℕ × Option Held)). IsPlaceOf es n c.in-Some.place) c.as_slice.ensures.value c.in-Some.ensures.place in
-    let found = found-held t n c.in-Some.place c.index_mut.result.now c.self.invariant there c.index_mut.ensures.value h h (sym c.take.ensures.value ∙ c.in-Some-take.is) in
-    let left = slice_set t.slots.items c.in-Some.place (c.index_mut.result.now.0, c.take.new.self) in
-    let taken = ap (λ (w : Option Held). slice_set t.slots.items c.in-Some.place (c.index_mut.result.now.0, w)) c.take.ensures.after ∙ written t n c.in-Some.place c.index_mut.result.now c.self.invariant there c.index_mut.ensures.value None in
+    let out = taken-at c.self.inside c.args.number.0 c.in-Some.place c.index_mut.result.now c.in-Some-take.held c.take.new.self c.as_slice.result.now c.self.invariant c.as_slice.ensures.value c.in-Some.ensures.place c.index_mut.ensures.value (sym c.take.ensures.value ∙ c.in-Some-take.is) c.take.ensures.after in
     record {
-      slots = left-slots t n h left c.self.invariant found taken;
-      indexed = left-lost t n h left c.self.invariant found taken (link_of c.remove.new.self) c.in-Linked.parent c.in-Linked.name c.in-Linked.is c.remove.ensures.links;
+      slots = left-slots out;
+      indexed = left-lost out (link_of c.remove.new.self) c.in-Linked.parent c.in-Linked.name c.in-Linked.is c.remove.ensures.links;
       ready = λ is. c.remove.ensures.ready (c.self.invariant.ready is);
       free = c.self.invariant.free;
       room = c.self.invariant.room;
@@ -39,16 +32,10 @@ invariant_of-self c =
 
 pub invariant_of-self-in_default-place : goal.invariant_of-self-in_default-place
 invariant_of-self-in_default-place c =
-    let t = c.self.inside in
-    let n = c.args.number.0 in
-    let h = c.in-Some-take.held in
-    let there = subst (λ (es : List (ℕ × Option Held)). IsPlaceOf es n c.in-Some.place) c.as_slice.ensures.value c.in-Some.ensures.place in
-    let found = found-held t n c.in-Some.place c.index_mut.result.now c.self.invariant there c.index_mut.ensures.value h h (sym c.take.ensures.value ∙ c.in-Some-take.is) in
-    let left = slice_set t.slots.items c.in-Some.place (c.index_mut.result.now.0, c.take.new.self) in
-    let taken = ap (λ (w : Option Held). slice_set t.slots.items c.in-Some.place (c.index_mut.result.now.0, w)) c.take.ensures.after ∙ written t n c.in-Some.place c.index_mut.result.now c.self.invariant there c.index_mut.ensures.value None in
+    let out = taken-at c.self.inside c.args.number.0 c.in-Some.place c.index_mut.result.now c.in-Some-take.held c.take.new.self c.as_slice.result.now c.self.invariant c.as_slice.ensures.value c.in-Some.ensures.place c.index_mut.ensures.value (sym c.take.ensures.value ∙ c.in-Some-take.is) c.take.ensures.after in
     record {
-      slots = left-slots t n h left c.self.invariant found taken;
-      indexed = left-marked t n h left c.self.invariant found taken c.in_default-place.field-0 c.in_default-place.is;
+      slots = left-slots out;
+      indexed = left-marked out c.in_default-place.field-0 c.in_default-place.is;
       ready = c.self.invariant.ready;
       free = c.self.invariant.free;
       room = c.self.invariant.room;
@@ -56,44 +43,20 @@ invariant_of-self-in_default-place c =
 
 pub returns-in-Linked-clause-place : goal.returns-in-Linked-clause-place
 returns-in-Linked-clause-place c =
-    let t = c.self.inside in
-    let n = c.args.number.0 in
-    let h = c.in-Some-take.held in
-    let there = subst (λ (es : List (ℕ × Option Held)). IsPlaceOf es n c.in-Some.place) c.as_slice.ensures.value c.in-Some.ensures.place in
-    let found = found-held t n c.in-Some.place c.index_mut.result.now c.self.invariant there c.index_mut.ensures.value h h (sym c.take.ensures.value ∙ c.in-Some-take.is) in
-    let left = slice_set t.slots.items c.in-Some.place (c.index_mut.result.now.0, c.take.new.self) in
-    let taken = ap (λ (w : Option Held). slice_set t.slots.items c.in-Some.place (c.index_mut.result.now.0, w)) c.take.ensures.after ∙ written t n c.in-Some.place c.index_mut.result.now c.self.invariant there c.index_mut.ensures.value None in
-    left-place t n h left c.self.invariant found taken c.args.self.now c.self.view_is
+    let out = taken-at c.self.inside c.args.number.0 c.in-Some.place c.index_mut.result.now c.in-Some-take.held c.take.new.self c.as_slice.result.now c.self.invariant c.as_slice.ensures.value c.in-Some.ensures.place c.index_mut.ensures.value (sym c.take.ensures.value ∙ c.in-Some-take.is) c.take.ensures.after in
+    left-place out c.args.self.now c.self.view_is
 
 pub returns-in-Linked-clause-removed : goal.returns-in-Linked-clause-removed
 returns-in-Linked-clause-removed c =
-    let t = c.self.inside in
-    let n = c.args.number.0 in
-    let h = c.in-Some-take.held in
-    let there = subst (λ (es : List (ℕ × Option Held)). IsPlaceOf es n c.in-Some.place) c.as_slice.ensures.value c.in-Some.ensures.place in
-    let found = found-held t n c.in-Some.place c.index_mut.result.now c.self.invariant there c.index_mut.ensures.value h h (sym c.take.ensures.value ∙ c.in-Some-take.is) in
-    let left = slice_set t.slots.items c.in-Some.place (c.index_mut.result.now.0, c.take.new.self) in
-    let taken = ap (λ (w : Option Held). slice_set t.slots.items c.in-Some.place (c.index_mut.result.now.0, w)) c.take.ensures.after ∙ written t n c.in-Some.place c.index_mut.result.now c.self.invariant there c.index_mut.ensures.value None in
-    left-view t n h left c.self.invariant found taken c.args.self.now c.self.view_is
+    let out = taken-at c.self.inside c.args.number.0 c.in-Some.place c.index_mut.result.now c.in-Some-take.held c.take.new.self c.as_slice.result.now c.self.invariant c.as_slice.ensures.value c.in-Some.ensures.place c.index_mut.ensures.value (sym c.take.ensures.value ∙ c.in-Some-take.is) c.take.ensures.after in
+    left-view out c.args.self.now c.self.view_is
 
 pub returns-in_default-place-clause-place : goal.returns-in_default-place-clause-place
 returns-in_default-place-clause-place c =
-    let t = c.self.inside in
-    let n = c.args.number.0 in
-    let h = c.in-Some-take.held in
-    let there = subst (λ (es : List (ℕ × Option Held)). IsPlaceOf es n c.in-Some.place) c.as_slice.ensures.value c.in-Some.ensures.place in
-    let found = found-held t n c.in-Some.place c.index_mut.result.now c.self.invariant there c.index_mut.ensures.value h h (sym c.take.ensures.value ∙ c.in-Some-take.is) in
-    let left = slice_set t.slots.items c.in-Some.place (c.index_mut.result.now.0, c.take.new.self) in
-    let taken = ap (λ (w : Option Held). slice_set t.slots.items c.in-Some.place (c.index_mut.result.now.0, w)) c.take.ensures.after ∙ written t n c.in-Some.place c.index_mut.result.now c.self.invariant there c.index_mut.ensures.value None in
-    left-place t n h left c.self.invariant found taken c.args.self.now c.self.view_is
+    let out = taken-at c.self.inside c.args.number.0 c.in-Some.place c.index_mut.result.now c.in-Some-take.held c.take.new.self c.as_slice.result.now c.self.invariant c.as_slice.ensures.value c.in-Some.ensures.place c.index_mut.ensures.value (sym c.take.ensures.value ∙ c.in-Some-take.is) c.take.ensures.after in
+    left-place out c.args.self.now c.self.view_is
 
 pub returns-in_default-place-clause-removed : goal.returns-in_default-place-clause-removed
 returns-in_default-place-clause-removed c =
-    let t = c.self.inside in
-    let n = c.args.number.0 in
-    let h = c.in-Some-take.held in
-    let there = subst (λ (es : List (ℕ × Option Held)). IsPlaceOf es n c.in-Some.place) c.as_slice.ensures.value c.in-Some.ensures.place in
-    let found = found-held t n c.in-Some.place c.index_mut.result.now c.self.invariant there c.index_mut.ensures.value h h (sym c.take.ensures.value ∙ c.in-Some-take.is) in
-    let left = slice_set t.slots.items c.in-Some.place (c.index_mut.result.now.0, c.take.new.self) in
-    let taken = ap (λ (w : Option Held). slice_set t.slots.items c.in-Some.place (c.index_mut.result.now.0, w)) c.take.ensures.after ∙ written t n c.in-Some.place c.index_mut.result.now c.self.invariant there c.index_mut.ensures.value None in
-    left-view t n h left c.self.invariant found taken c.args.self.now c.self.view_is
+    let out = taken-at c.self.inside c.args.number.0 c.in-Some.place c.index_mut.result.now c.in-Some-take.held c.take.new.self c.as_slice.result.now c.self.invariant c.as_slice.ensures.value c.in-Some.ensures.place c.index_mut.ensures.value (sym c.take.ensures.value ∙ c.in-Some-take.is) c.take.ensures.after in
+    left-view out c.args.self.now c.self.view_is
