@@ -1,6 +1,7 @@
 //! Makes maps and each call on a thousand of their numbers, so that the instructions of a call can be counted:
-//! `measure_map ENTRIES`. Without words it goes through 1,000, 8,000 and 64,000 entries. A second word has it make a map of
-//! so many given entries in place of that.
+//! `measure_map ENTRIES`. Without words it goes through 1,000, 8,000 and 64,000 entries. `measure_map ENTRIES holes` does
+//! so with a map in which every second number was forgotten; `measure_map ENTRIES given` makes a map of so many given
+//! entries in place of that.
 #![tactic(auto)]
 
 ghost use Rattle.std.specs.Prelude.{◌≡◌, ◌<◌, IfOk, None, IsSome, false, length};
@@ -50,26 +51,29 @@ fn name_of(alloc: Global, i: u64) -> Result<Name> {
     Ok(Name::parse(alloc, text.as_bytes())?)
 }
 
-/// Gives an entry, by its place, a number.
-fn give_entry(alloc: Global, map: &mut InodeMap, i: u64) -> Result<()> {
+/// Gives an entry, by its place, a number, and forgets it where it is none of every so many.
+fn give_entry(alloc: Global, map: &mut InodeMap, i: u64, every: u64) -> Result<()> {
     let name = name_of(alloc, i)?;
-    map.give(alloc, parent_of(i), &name)?;
+    let number = map.give(alloc, parent_of(i), &name)?;
+    if every == 2 && i % 2 == 1 {
+        map.forget(number, 1);
+    }
     Ok(())
 }
 
-/// Gives so many entries numbers, in directories of 63 files each.
-fn fill(alloc: Global, map: &mut InodeMap, entries: u64) -> Result<()> {
-    for i in 0..entries {
-        give_entry(alloc, map, i)?;
+/// Gives entries numbers, in directories of 63 files each, until so many of them are left.
+fn fill(alloc: Global, map: &mut InodeMap, entries: u64, every: u64) -> Result<()> {
+    for i in 0..entries.wrapping_mul(every) {
+        give_entry(alloc, map, i, every)?;
     }
     Ok(())
 }
 
 /// Lists numbers that lie evenly over those of a map.
-fn list_sought(alloc: Global, entries: u64) -> Result<Vec<Sought>> {
+fn list_sought(alloc: Global, entries: u64, every: u64) -> Result<Vec<Sought>> {
     let mut list = Vec::new(alloc);
     for j in 0..SOUGHT {
-        let i = j.wrapping_mul(entries / SOUGHT);
+        let i = j.wrapping_mul(entries / SOUGHT).wrapping_mul(every);
         let fresh = format!(in alloc; "fresh{j}.txt")?;
         list.push(Sought {
             number: Number(i.wrapping_add(2)),
@@ -257,20 +261,21 @@ fn call_all(alloc: Global, map: &mut InodeMap, list: &[Sought]) -> Result<Told> 
 }
 
 /// Fills a map, and makes each call on it.
-fn fill_and_call(alloc: Global, map: &mut InodeMap, entries: u64) -> Result<Told> {
-    fill(alloc, map, entries)?;
-    let list = list_sought(alloc, entries)?;
+fn fill_and_call(alloc: Global, map: &mut InodeMap, entries: u64, every: u64) -> Result<Told> {
+    fill(alloc, map, entries, every)?;
+    let list = list_sought(alloc, entries, every)?;
     call_all(alloc, map, list.as_slice())
 }
 
 /// Makes a map of so many entries, and each call on it.
-fn told_of(alloc: Global, entries: u64) -> Result<Told> {
+fn told_of(alloc: Global, entries: u64, every: u64) -> Result<Told> {
     let mut map = InodeMap::new(alloc, LOADED_LIMIT)?;
-    fill_and_call(alloc, &mut map, entries)
+    fill_and_call(alloc, &mut map, entries, every)
 }
 
-fn measure(rt: &HostRuntime, entries: u64) -> Result<()> {
-    let (loaded, sum, lowered, dropped) = told_of(rt.alloc(), entries)?;
+/// Makes each call on a map of so many entries, which are each, or every second, of those that were given.
+fn measure(rt: &HostRuntime, entries: u64, every: u64) -> Result<()> {
+    let (loaded, sum, lowered, dropped) = told_of(rt.alloc(), entries, every)?;
     println!(rt;
         "{entries} entries: {loaded} loaded, {lowered} lowered, {dropped} dropped, sum {sum}"
     )?;
@@ -328,20 +333,26 @@ fn measure_given(rt: &HostRuntime, entries: u32) -> Result<()> {
     Ok(())
 }
 
-fn main(rt: HostRuntime) -> Result<()> {
-    let mut words = env::args(&rt)?.skip(1);
-    if let Some(word) = words.next() {
-        let entries = word.as_str().parse::<u32>().unwrap_or(1000);
-        if words.next().is_some() {
-            return measure_given(&rt, entries);
-        }
-        return measure(&rt, entries as u64);
-    }
+/// Goes through all sizes.
+fn measure_all(rt: &HostRuntime) -> Result<()> {
     for entries in [1000, 8000, 64000] {
-        measure(&rt, entries)?;
+        measure(rt, entries, 1)?;
     }
     for entries in [1000, 8000, 65536] {
-        measure_given(&rt, entries)?;
+        measure_given(rt, entries)?;
     }
     Ok(())
+}
+
+fn main(rt: HostRuntime) -> Result<()> {
+    let mut words = env::args(&rt)?.skip(1);
+    let Some(word) = words.next() else {
+        return measure_all(&rt);
+    };
+    let entries = word.as_str().parse::<u32>().unwrap_or(1000);
+    match words.next() {
+        None => measure(&rt, entries as u64, 1),
+        Some(word) if word.as_str() == "holes" => measure(&rt, entries as u64, 2),
+        Some(_) => measure_given(&rt, entries),
+    }
 }
