@@ -117,13 +117,15 @@ fn number_told(answer: Option<Answer>) -> Number {
     }
 }
 
-/// Looks a name up, and returns its number.
-fn look_up(alloc: Global, served: &mut Hosted, dir: Number, name: Name) -> Number {
+/// Looks a name up twice, and returns its number.
+fn look_up_twice(alloc: Global, served: &mut Hosted, dir: Number, name: Name) -> Number {
     let request = Request::Lookup { dir, name };
-    number_told(served.apply(alloc, &request))
+    let number = number_told(served.apply(alloc, &request));
+    served.apply(alloc, &request);
+    number
 }
 
-/// Looks every second file up, and every directory. Lists the requests for each of the others, as far as they are
+/// Looks every second file up twice, and every directory. Lists the requests for each of the others, as far as they are
 /// wanted.
 fn look_half_up(alloc: Global, served: &mut Hosted, lines: u64) -> Result<Vec<Request>, NoMemory> {
     let mut others = Vec::new(alloc);
@@ -132,11 +134,11 @@ fn look_half_up(alloc: Global, served: &mut Hosted, lines: u64) -> Result<Vec<Re
     for i in 0..lines {
         let name = name_of(alloc, i)?;
         if i % EACH == 0 {
-            dir = look_up(alloc, served, Number::ROOT, name);
+            dir = look_up_twice(alloc, served, Number::ROOT, name);
         } else if i % every == 1 {
             others.push(Request::Lookup { dir, name })?;
         } else {
-            look_up(alloc, served, dir, name);
+            look_up_twice(alloc, served, dir, name);
         }
     }
     Ok(others)
@@ -254,6 +256,14 @@ fn forget_last(alloc: Global, served: &mut Hosted, request: &Request) -> u8 {
 }
 
 #[inline(never)]
+fn lower_batch(alloc: Global, served: &mut Hosted, request: &Request) -> u64 {
+    match served.apply(alloc, request) {
+        Some(_) => 1,
+        None => 0,
+    }
+}
+
+#[inline(never)]
 fn forget_batch(alloc: Global, served: &mut Hosted, request: &Request) -> u64 {
     match served.apply(alloc, request) {
         Some(_) => 0,
@@ -268,12 +278,12 @@ fn ask_others(alloc: Global, served: &mut Hosted, others: &[Request]) {
     }
 }
 
-/// Looks a name up that has a number of which nothing is loaded, and then once more. Takes both back, and tells whether
-/// they gave one number.
+/// Looks a name up that has a number of which nothing is loaded, and then once more. Takes one back, so that it is held
+/// twice as the others are, and tells whether both gave one number.
 fn ask_other_again(alloc: Global, served: &mut Hosted, request: &Request) -> bool {
     let node = look_up_unloaded(alloc, served, request);
     let same = look_up_loaded(alloc, served, request, node);
-    let back = Request::Forget(Item { node, k: 2 });
+    let back = Request::Forget(Item { node, k: 1 });
     same && node != Number::ROOT && served.apply(alloc, &back).is_none()
 }
 
@@ -357,12 +367,14 @@ fn batch_from(alloc: Global, first: u64) -> Result<Batch, NoMemory> {
     Batch::of(alloc, &items)
 }
 
-/// Forgets the first numbers once, in batches.
+/// Forgets the first numbers twice, once each in a batch, so that they are lowered and then dropped.
 fn ask_batches(alloc: Global, served: &mut Hosted) -> Result<u64, NoMemory> {
     let mut batches = 0u64;
     for first in [2, 258, 514, 770] {
         let request = Request::BatchForget(batch_from(alloc, first)?);
-        batches = batches.wrapping_add(forget_batch(alloc, served, &request));
+        if lower_batch(alloc, served, &request) == 0 {
+            batches = batches.wrapping_add(forget_batch(alloc, served, &request));
+        }
     }
     Ok(batches)
 }
