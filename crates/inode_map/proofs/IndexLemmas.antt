@@ -5,7 +5,9 @@ use Rattle.std.specs.Option.{option_and_then, unwrap_or}
 use Rattle.std.specs.Ordering.{nat_cmp, is_eq}
 use Rattle.std.specs.Cmp.{tied_itself, unsigned_ties}
 use Rattle.std.specs.Cmp.Lexicographic.{pointwise, slice_cmp, nat_list_cmp_total, same_text, texts_ties}
-use Rattle.std.specs.BTreeMap.{BTreeMap, get, is_at}
+use Rattle.std.specs.BTreeMap.{get, is_at}
+use Rattle.std.specs.HashMap.{HashMap}
+use Rattle.std.specs.HashMap as hash
 use Rattle.std.specs.Map.{lookup}
 use Rattle.eden_base.proofs.NumberTests.{eq-true, eq-false, eq-or, true-eq}
 use Rattle.inode_map.specs.Links.{is_link, in_directory, is_latest_in, written, with_latest, link_of, Has}
@@ -40,33 +42,33 @@ pub at-name : (q name : List ℕ) → is_at (slice_cmp nat_cmp name) q ≡ point
 at-name q name = sym (texts_ties name q) ∙ names-sym name q
 
 -- what one directory has was changed for one name
-pub directory-written : (m n : BTreeMap ℕ Directory) (parent : ℕ) (name : List ℕ) (w : Option Directory) (v : Option ℕ) →
-    ((d : ℕ) → get nat_cmp n d ≡ cond (is_at (nat_cmp parent) d) w (get nat_cmp m d)) →
+pub directory-written : {S : Type 0} (m n : HashMap ℕ Directory S) (parent : ℕ) (name : List ℕ) (w : Option Directory) (v : Option ℕ) →
+    ((d : ℕ) → hash.get nat_eq n d ≡ cond (nat_eq parent d) w (hash.get nat_eq m d)) →
     ((q : List ℕ) → option_and_then (in_directory q) w ≡ cond (is_at (slice_cmp nat_cmp name) q) v (written m parent q)) →
     (dir : ℕ) (q : List ℕ) → written n dir q ≡ (if is_link dir q parent name then v else written m dir q)
 directory-written m n parent name w v after at dir q = dir_in (eq-or dir parent) where
   dir_in : (dir ≡ parent) ⊎ (dir ≡ parent → ⊥) → written n dir q ≡ (if is_link dir q parent name then v else written m dir q)
   dir_in (inl same) =
       let t : (dir == parent) ≡ true = eq-true dir parent same in
-      rw t (ap (option_and_then (in_directory q)) (after dir ∙ ap (λ b. cond b w (get nat_cmp m dir)) (at-same dir parent same))
+      rw t (ap (option_and_then (in_directory q)) (after dir ∙ ap (λ b. cond b w (hash.get nat_eq m dir)) (eq-true parent dir (sym same)))
       ∙ at q ∙ ap (λ b. cond b v (written m parent q)) (at-name q name) ∙ ap (λ (d : ℕ). cond (pointwise nat_eq q name) v (written m d q)) (sym same))
   dir_in (inr other) =
       let f : (dir == parent) ≡ false = eq-false dir parent other in
-      rw f (ap (option_and_then (in_directory q)) (after dir ∙ ap (λ b. cond b w (get nat_cmp m dir)) (at-other dir parent other)))
+      rw f (ap (option_and_then (in_directory q)) (after dir ∙ ap (λ b. cond b w (hash.get nat_eq m dir)) (eq-false parent dir (λ e. other (sym e)))))
 
 -- a directory of which one name was changed
-pub names-written : (m : BTreeMap ℕ Directory) (parent : ℕ) (name : List ℕ) (old new : Directory) (v : Option ℕ) → get nat_cmp m parent ≡ Some old →
+pub names-written : {S : Type 0} (m : HashMap ℕ Directory S) (parent : ℕ) (name : List ℕ) (old new : Directory) (v : Option ℕ) → hash.get nat_eq m parent ≡ Some old →
     ((q : List ℕ) → get (slice_cmp nat_cmp) new.numbers q ≡ cond (is_at (slice_cmp nat_cmp name) q) v (get (slice_cmp nat_cmp) old.numbers q)) →
     (q : List ℕ) → in_directory q new ≡ cond (is_at (slice_cmp nat_cmp name) q) v (written m parent q)
 names-written m parent name old new v found updates q =
     updates q ∙ ap (λ (o : Option Directory). cond (is_at (slice_cmp nat_cmp name) q) v (option_and_then (in_directory q) o)) (sym found)
 
 -- the directory, or one without names where there is none
-pub names-opened : (m : BTreeMap ℕ Directory) (parent : ℕ) (name : List ℕ) (empty opened new : Directory) (v : Option ℕ) → empty.numbers.entries ≡ [] → opened ≡ unwrap_or (get nat_cmp m parent) empty →
+pub names-opened : {S : Type 0} (m : HashMap ℕ Directory S) (parent : ℕ) (name : List ℕ) (empty opened new : Directory) (v : Option ℕ) → empty.numbers.entries ≡ [] → opened ≡ unwrap_or (hash.get nat_eq m parent) empty →
     ((q : List ℕ) → get (slice_cmp nat_cmp) new.numbers q ≡ cond (is_at (slice_cmp nat_cmp name) q) v (get (slice_cmp nat_cmp) opened.numbers q)) →
     (q : List ℕ) → in_directory q new ≡ cond (is_at (slice_cmp nat_cmp name) q) v (written m parent q)
 names-opened m parent name empty opened new v none is updates q =
-    updates q ∙ ap (cond (is_at (slice_cmp nat_cmp name) q) v) (ap (in_directory q) is ∙ in_ (get nat_cmp m parent)) where
+    updates q ∙ ap (cond (is_at (slice_cmp nat_cmp name) q) v) (ap (in_directory q) is ∙ in_ (hash.get nat_eq m parent)) where
       in_ : (o : Option Directory) → in_directory q (unwrap_or o empty) ≡ option_and_then (in_directory q) o
       in_ None = ap (lookup (is_at (slice_cmp nat_cmp q))) none
       in_ (Some directory) = refl
@@ -106,7 +108,7 @@ maps-tell index parent q h = in_ index.latest h where
   in_ (Some link) e = let f : (parent == link.parent) ≡ false = eq-false parent link.parent (λ s. let t : (link.parent == parent) ≡ true = eq-true link.parent parent (sym s) in absurd (let none : ⊥ = cc in none)) in rw f refl
 
 -- a directory in the maps tells whether a name stands in it
-pub has-directory : (index : Index) (parent : ℕ) (d : Directory) (empty : Bool) → false ≡ is_latest_in index.latest parent → get nat_cmp index.directories parent ≡ Some d →
+pub has-directory : (index : Index) (parent : ℕ) (d : Directory) (empty : Bool) → false ≡ is_latest_in index.latest parent → hash.get nat_eq index.directories parent ≡ Some d →
     (empty ≡ true → length d.numbers.entries ≡ 0) → (length d.numbers.entries ≡ 0 → empty ≡ true) → Has index parent (not empty)
 has-directory index parent d true other found is_empty empty_is = λ q.
     maps-tell index parent q other ∙ ap (option_and_then (in_directory q)) found ∙ no_names d q (is_empty refl)
@@ -115,7 +117,7 @@ has-directory index parent d false other found is_empty empty_is =
     (s.0, s.1, maps-tell index parent s.0 other ∙ ap (option_and_then (in_directory s.0)) found ∙ s.2)
 
 -- a directory that the maps lack
-pub no-directory : (index : Index) (parent : ℕ) → false ≡ is_latest_in index.latest parent → get nat_cmp index.directories parent ≡ None → Has index parent false
+pub no-directory : (index : Index) (parent : ℕ) → false ≡ is_latest_in index.latest parent → hash.get nat_eq index.directories parent ≡ None → Has index parent false
 no-directory index parent other none = λ q. maps-tell index parent q other ∙ ap (option_and_then (in_directory q)) none
 
 -- a key that was changed and then taken out

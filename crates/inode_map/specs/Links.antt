@@ -3,7 +3,9 @@ use Rattle.std.specs.Prelude.{◌≡◌, ℕ, ◌==◌, ◌&&◌, Bool, true, fa
 use Rattle.std.specs.Option.{option_and_then, option_map_or}
 use Rattle.std.specs.Ordering.{nat_cmp}
 use Rattle.std.specs.Cmp.Lexicographic.{pointwise, slice_cmp}
-use Rattle.std.specs.BTreeMap.{BTreeMap, get}
+use Rattle.std.specs.BTreeMap.{get}
+use Rattle.std.specs.HashMap.{HashMap}
+use Rattle.std.specs.HashMap as hash
 use Rattle.inode_map.specs.declared.index.Directory.{Directory}
 use Rattle.inode_map.specs.declared.index.Index.{Index}
 use Rattle.inode_map.specs.declared.index.Link.{Link}
@@ -17,8 +19,8 @@ abbrev pub in_directory : List ℕ → Directory → Option ℕ
 in_directory q directory = get (slice_cmp nat_cmp) directory.numbers q
 
 -- what the maps have for a name
-abbrev pub written : BTreeMap ℕ Directory → ℕ → List ℕ → Option ℕ
-written directories dir q = option_and_then (in_directory q) (get nat_cmp directories dir)
+abbrev pub written : {S : Type 0} → HashMap ℕ Directory S → ℕ → List ℕ → Option ℕ
+written directories dir q = option_and_then (in_directory q) (hash.get nat_eq directories dir)
 
 -- the link beside the maps, or else what they have
 abbrev pub with_latest : Option Link → ℕ → List ℕ → Option ℕ → Option ℕ

@@ -7,7 +7,7 @@ ghost use Rattle.inode_map.specs.Links.{link_of, is_ready, Has, is_latest_in, is
 use crate::inode_map::Kept;
 use eden_base::{Name, NameRoom, NoMemory, Place};
 use std::alloc::Global;
-use std::collections::BTreeMap;
+use std::collections::{BTreeMap, HashMap};
 
 /// The numbers of the names in one directory.
 #[derive(Drop)]
@@ -27,7 +27,7 @@ pub(crate) struct Link {
 /// `reserve` makes it one of them, so that a link is added without memory.
 #[derive(Drop)]
 pub(crate) struct Index {
-    directories: BTreeMap<u64, Directory>,
+    directories: HashMap<u64, Directory>,
     latest: Option<Link>,
     room: Option<NameRoom>,
 }
@@ -38,7 +38,7 @@ impl Index {
         ensures { (parent : ℕ) (name : List ℕ) → link_of result parent name ≡ None }
     {
         Index {
-            directories: BTreeMap::new(alloc),
+            directories: HashMap::new(alloc),
             latest: None,
             room: None,
         }
@@ -49,7 +49,7 @@ impl Index {
         requires { (next : ℕ) × AreEntries entries.now next }
         ensures { IfOk result (λ index. IsIndexed entries.now (link_of index)) }
     {
-        let mut directories = BTreeMap::new(alloc);
+        let mut directories = HashMap::new(alloc);
         for kept in entries {
             let Place::Linked { parent, name } = &kept.place else {
                 continue;
@@ -161,7 +161,7 @@ fn is_latest_in(latest: &Option<Link>, parent: u64) -> bool
 
 /// Lets a name in a directory have a number.
 fn insert(
-    directories: &mut BTreeMap<u64, Directory>,
+    directories: &mut HashMap<u64, Directory>,
     alloc: Global,
     parent: u64,
     name: Name,
@@ -179,7 +179,7 @@ fn insert(
 }
 
 /// Removes a name from its directory, and the directory with its last name.
-fn remove(directories: &mut BTreeMap<u64, Directory>, parent: u64, name: &Name)
+fn remove(directories: &mut HashMap<u64, Directory>, parent: u64, name: &Name)
     ensures { (dir : ℕ) (q : List ℕ) → written directories.new dir q
         ≡ (if is_link dir q parent name.now then None else written directories.old dir q) }
 {

@@ -1,6 +1,6 @@
 -- A name that is written into its directory is written into the index.
 use Rattle.std.proofs.Common.{Some, ap, ◌∙◌, unwrap_or, arith}
-use Rattle.std.specs.BTreeMap.Entry.{map_with_value}
+use Rattle.std.specs.HashMap.Entry.{map_with_value}
 use Rattle.inode_map.proofs.IndexLemmas.{directory-written, names-opened}
 use Rattle.inode_map.specs.declared.index.Directory.{Directory}
 use Rattle.inode_map.proofs.index.insert.Goals as goal
