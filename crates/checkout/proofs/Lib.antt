@@ -55,6 +55,7 @@ pub mod MoreLines
 pub mod NameLemmas
 pub mod NoneBadLaws
 pub mod OneList
+pub mod OpenedDirectories
 pub mod OverlayCreate
 pub mod OverlayLaws
 pub mod OverlayRemove

@@ -12,7 +12,7 @@ use std::alloc::Global;
 use std::collections::BTreeMap;
 use std::marker::Model;
 
-/// A directory that has had no names is not there.
+/// A directory in which no name was to stand is not there.
 #[derive(Drop)]
 pub struct Links {
     directories: BTreeMap<u64, Directory>,
@@ -86,15 +86,9 @@ impl Links {
         ensures ok { OnOk result (self.new ≡ insert self.old (dir.0, name.now) file) }
         ensures err { OnErr result (self.new ≡ self.old) }
     {
-        match self.directories.get_mut(&dir.0) {
-            Some(directory) => directory.insert(alloc, name, file),
-            None => {
-                let mut directory = Directory::new(alloc);
-                directory.insert(alloc, name, file)?;
-                self.directories.insert(dir.0, directory)?;
-                Ok(())
-            }
-        }
+        let none = Directory::new(alloc);
+        let directory = self.directories.entry(dir.0)?.or_insert(none);
+        directory.insert(alloc, name, file)
     }
 
     /// Takes a name out of a directory, and returns the file that it gave. Takes no memory.
