@@ -1,6 +1,6 @@
 -- The directories of links that were added, as links come and go.
-use Rattle.std.proofs.Common.{◌≡◌, ℕ, true, false, cond, List, Option, Some, None, MatchOption, refl, sym, ap, ◌∙◌, inl, inr, ◌⊎◌}
-use Rattle.std.specs.Cmp.{nat_cmp_total, tied_itself}
+use Rattle.std.proofs.Common.{◌≡◌, ◌==◌, ℕ, true, false, cond, List, Option, Some, None, MatchOption, refl, sym, ap, ◌∙◌, inl, inr, ◌⊎◌}
+use Rattle.std.specs.Cmp.{nat_cmp_total, tied_itself, unsigned_ties}
 use Rattle.std.specs.FinMap.{FinMap, empty, get, get-empty, insert, remove, nat_cmp-IsAntisymmetric}
 use Rattle.std.specs.Ordering.{nat_cmp, eq_by_cmp, is_eq}
 use Rattle.eden_base.specs.declared.number.FileId.{FileId}
@@ -18,6 +18,11 @@ none-AreDirsOf dirs none = record {
   once = λ d n o g h k. let e = get-empty {X = FileId} link_cmp (d.0, n) in absurd (cc (e, h));
   no_others = λ g d h. let e = none g.0 in absurd (cc (e, h));
 }
+
+-- a map by numbers that changed at one of them, as numbers are compared
+pub at_id : (now was : ℕ → Option FileId) (id : ℕ) (w : Option FileId) → ((q : ℕ) → now q ≡ cond (id == q) w (was q)) →
+    (q : ℕ) → now q ≡ cond (eq_by_cmp nat_cmp id q) w (was q)
+at_id now was id w updated q = updated q ∙ ap (λ b. cond b w (was q)) (unsigned_ties id q)
 
 itself : (q : ℕ) → eq_by_cmp nat_cmp q q ≡ true
 itself q = ap is_eq (tied_itself nat_cmp_total q)

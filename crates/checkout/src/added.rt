@@ -6,20 +6,21 @@ ghost use Rattle.checkout.specs.Added.{gives};
 use crate::links::Links;
 use eden_base::{FileId, NoMemory};
 use std::alloc::Global;
-use std::collections::BTreeMap;
+use std::collections::HashMap;
 use std::marker::Model;
 
 /// Each gives a file that no other gives: one that was made, or one of the manifest that stands elsewhere now.
 #[derive(Drop)]
 pub struct Added {
     links: Links,
-    /// The directory in which the link of a file stands.
-    dirs: BTreeMap<u64, FileId>,
+    /// The directory in which the link of a file stands. Ids are the tree's own to give, so a hash with a fixed seed
+    /// serves.
+    dirs: HashMap<u64, FileId>,
 }
 
 impl Model for Added {
-    ghost use Rattle.std.specs.Ordering.{nat_cmp};
-    ghost use Rattle.std.specs.BTreeMap.{IsOrdered, get as dir_at};
+    ghost use Rattle.std.specs.Prelude.{nat_eq};
+    ghost use Rattle.std.specs.HashMap.{get as dir_at};
     ghost use Rattle.std.specs.FinMap.{FinMap};
     ghost use Rattle.eden_base.specs.declared.number.FileId.{FileId};
     ghost use Rattle.checkout.specs.Added.{AreDirsOf};
@@ -32,7 +33,7 @@ impl Model for Added {
 
     ghost view = { λ a. a.links };
 
-    ghost invariant = { λ a. IsOrdered nat_cmp a.dirs × AreDirsOf a.links (dir_at nat_cmp a.dirs) };
+    ghost invariant = { λ a. AreDirsOf a.links (dir_at nat_eq a.dirs) };
 }
 
 impl Added {
@@ -42,7 +43,7 @@ impl Added {
     {
         Added {
             links: Links::new(alloc),
-            dirs: BTreeMap::new(alloc),
+            dirs: HashMap::new(alloc),
         }
     }
 
