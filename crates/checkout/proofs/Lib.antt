@@ -43,6 +43,7 @@ pub mod LinkChanges
 pub mod LinkLaws
 pub mod LinkPlaces
 pub mod ListLemmas
+pub mod ListedLinks
 pub mod MadeChanges
 pub mod MadeLemmas
 pub mod MadeRise

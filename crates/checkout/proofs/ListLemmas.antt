@@ -2,12 +2,12 @@
 use Rattle.std.proofs.Common.{◌≡◌, ℕ, Bool, true, false, ◌&&◌, T, List, [], ◌∷◌, ◌++◌, refl, sym, ap, subst, ◌∙◌}
 use Rattle.std.proofs.lemmas.List.{append_assoc}
 use Rattle.std.proofs.lemmas.Map.Keys.{sorted_head, sorted_tail}
-use Rattle.std.specs.Ordering.{nat_cmp, is_lt, ordering_then}
+use Rattle.std.specs.Ordering.{nat_cmp, is_lt}
 use Rattle.std.specs.declared.cmp.Ordering.{Ordering}
 use Rattle.std.specs.declared.cmp.Ordering.TheVariants.{Less}
-use Rattle.std.specs.Cmp.{IsTotalOrder, nat_cmp_total, tied_itself}
+use Rattle.std.specs.Cmp.{IsTotalOrder, nat_cmp_total}
 use Rattle.std.specs.Cmp.Lexicographic.{nat_list_cmp_total}
-use Rattle.std.specs.FinMap.{FinMap, entries, entries_sorted, from_entries, is_sorted, get-entries, get-from_entries, IsAntisymmetric, nat_cmp-IsAntisymmetric}
+use Rattle.std.specs.FinMap.{entries, entries_sorted, from_entries, is_sorted, get-entries, get-from_entries, IsAntisymmetric, nat_cmp-IsAntisymmetric}
 use Rattle.std.specs.FinMap.Entries.{below_all, same_entries}
 use Rattle.std.specs.List.{AllByRecursion}
 use Rattle.std.specs.List.Sorted.{IsStrictlySortedBy}
@@ -17,9 +17,8 @@ use Rattle.std.specs.declared.vec.Vec.{Vec}
 use Rattle.eden_base.specs.Name.{IsNameText}
 use Rattle.eden_base.specs.declared.number.FileId.{FileId}
 use Rattle.checkout.specs.declared.made.MadeFile.{MadeFile}
-use Rattle.checkout.specs.Flat.{vec_cmp, by_bytes, in_directory, in_directories}
-use Rattle.checkout.specs.Tree.{link_cmp}
-use Rattle.checkout.proofs.FlatLemmas.{name_cmp, name_cmp-same, link_cmp_total, link_cmp-same}
+use Rattle.checkout.specs.Flat.{vec_cmp, by_bytes, in_directory}
+use Rattle.checkout.proofs.FlatLemmas.{name_cmp, name_cmp-same}
 
 -- one that is listed is no longer left
 pub listed_one_more : {X : Type 0} (old new rest all : List X) (x : X) → old ++ x ∷ rest ≡ all → new ≡ old ++ x ∷ [] → new ++ rest ≡ all
@@ -76,40 +75,9 @@ files_rise (e ∷ es) h = both _ _ (files_above e.0 es (sorted_head nat_cmp e.0 
 pub entries-made : (es : List (ℕ × MadeFile)) → IsStrictlySortedBy nat_cmp (keys_of es) → entries (from_entries {R = nat_cmp} es) ≡ es
 entries-made es h = entries-rising nat_cmp_total nat_cmp-IsAntisymmetric es (files_rise es h)
 
--- the names of one directory before those of all later ones
+-- names, with their directories
 abbrev Links : Type 0
 Links = List ((ℕ × List ℕ) × FileId)
-
-above-append : (k : ℕ × List ℕ) (es fs : Links) → T (below_all link_cmp k es) → T (below_all link_cmp k fs) → T (below_all link_cmp k (es ++ fs))
-above-append k [] fs g h = h
-above-append k (e ∷ es) fs g h = both _ _ (first _ _ g) (above-append k es fs (second _ _ g) h)
-
-above-in_directory : (dir : ℕ) (name : List ℕ) (es : List (List ℕ × FileId)) → T (below_all name_cmp name es) → T (below_all link_cmp (dir, name) (in_directory dir es))
-above-in_directory dir name [] h = tt
-above-in_directory dir name (e ∷ es) h =
-    let same = tied_itself nat_cmp_total dir in
-    both _ _ (subst (λ o. T (is_lt (ordering_then o (name_cmp name e.0)))) (sym same) (first _ _ h)) (above-in_directory dir name es (second _ _ h))
-
-above-other : (dir other : ℕ) (name : List ℕ) (es : List (List ℕ × FileId)) → nat_cmp dir other ≡ Less → T (below_all link_cmp (dir, name) (in_directory other es))
-above-other dir other name [] h = tt
-above-other dir other name (e ∷ es) h = both _ _ (is_less _ (ap (λ o. ordering_then o (name_cmp name e.0)) h)) (above-other dir other name es h)
-
-above-all_others : (dir : ℕ) (name : List ℕ) (ds : List (ℕ × FinMap name_cmp FileId)) → AllByRecursion (λ y. nat_cmp dir y ≡ Less) (keys_of ds) → T (below_all link_cmp (dir, name) (in_directories ds))
-above-all_others dir name [] h = tt
-above-all_others dir name (d ∷ ds) h = above-append (dir, name) (in_directory d.0 (entries d.1)) (in_directories ds) (above-other dir d.0 name (entries d.1) h.0) (above-all_others dir name ds h.1)
-
-rising-append : (dir : ℕ) (es : List (List ℕ × FileId)) (fs : Links) → T (is_sorted name_cmp es) → ((name : List ℕ) → T (below_all link_cmp (dir, name) fs)) → T (is_sorted link_cmp fs) → T (is_sorted link_cmp (in_directory dir es ++ fs))
-rising-append dir [] fs g above h = h
-rising-append dir (e ∷ es) fs g above h =
-    both _ _ (above-append (dir, e.0) (in_directory dir es) fs (above-in_directory dir e.0 es (first _ _ g)) (above e.0)) (rising-append dir es fs (second _ _ g) above h)
-
-links_rise : (ds : List (ℕ × FinMap name_cmp FileId)) → IsStrictlySortedBy nat_cmp (keys_of ds) → T (is_sorted link_cmp (in_directories ds))
-links_rise [] h = tt
-links_rise (d ∷ ds) h =
-    rising-append d.0 (entries d.1) (in_directories ds) (entries_sorted d.1) (λ name. above-all_others d.0 name ds (sorted_head nat_cmp d.0 (keys_of ds) h)) (links_rise ds (sorted_tail nat_cmp d.0 (keys_of ds) h))
-
-pub entries-in_directories : (ds : List (ℕ × FinMap name_cmp FileId)) → IsStrictlySortedBy nat_cmp (keys_of ds) → entries (from_entries {R = link_cmp} (in_directories ds)) ≡ in_directories ds
-entries-in_directories ds h = entries-rising link_cmp_total link_cmp-same (in_directories ds) (links_rise ds h)
 
 -- names of one directory and of later ones
 pub names_here : (dir : ℕ) (es : List (List ℕ × FileId)) (fs : Links) → AllByRecursion (λ link. IsNameText link.0.1) (in_directory dir es ++ fs) → AllByRecursion (λ e. IsNameText e.0) es

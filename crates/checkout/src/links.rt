@@ -2,6 +2,7 @@
 ghost use Rattle.std.specs.Prelude.{◌≡◌, ◌==◌, ◌++◌, map, OnOk, OnErr};
 ghost use Rattle.std.specs.FinMap.{FinMap, empty, entries, get, insert, remove};
 ghost use Rattle.std.specs.List.{AllByRecursion, list_any};
+ghost use Rattle.std.specs.List.Sorted.{IsPermutation};
 ghost use Rattle.eden_base.specs.Name.{IsNameText};
 ghost use Rattle.checkout.specs.Listing.{added_change};
 
@@ -9,19 +10,19 @@ use crate::LinkChange;
 use crate::directory::Directory;
 use eden_base::{FileId, NoMemory};
 use std::alloc::Global;
-use std::collections::BTreeMap;
+use std::collections::HashMap;
 use std::marker::Model;
 
 /// A directory in which no name was to stand is not there.
 #[derive(Drop)]
 pub struct Links {
-    directories: BTreeMap<u64, Directory>,
+    /// By their ids, which the tree gives itself, so a hash with a fixed seed serves.
+    directories: HashMap<u64, Directory>,
 }
 
 impl Model for Links {
-    ghost use Rattle.std.specs.Prelude.{ℕ};
-    ghost use Rattle.std.specs.Ordering.{nat_cmp};
-    ghost use Rattle.std.specs.BTreeMap.{IsOrdered};
+    ghost use Rattle.std.specs.Prelude.{ℕ, nat_eq};
+    ghost use Rattle.std.specs.HashMap.{IsUnique};
     ghost use Rattle.std.specs.FinMap.{FinMap, from_entries};
     ghost use Rattle.eden_base.specs.declared.number.FileId.{FileId};
     ghost use Rattle.checkout.specs.Tree.{link_cmp};
@@ -34,7 +35,7 @@ impl Model for Links {
 
     ghost view = { λ a. from_entries (in_directories a.directories.entries) };
 
-    ghost invariant = { λ a. IsOrdered nat_cmp a.directories };
+    ghost invariant = { λ a. IsUnique nat_eq a.directories };
 }
 
 impl Links {
@@ -43,7 +44,7 @@ impl Links {
         ensures { result ≡ empty }
     {
         Links {
-            directories: BTreeMap::new(alloc),
+            directories: HashMap::new(alloc),
         }
     }
 
@@ -64,10 +65,10 @@ impl Links {
         }
     }
 
-    /// Writes the names, by directory and then by their bytes, behind those that are listed.
+    /// Writes the names, those of one directory together, behind those that are listed.
     pub fn list(&self, alloc: Global, links: &mut Vec<LinkChange>) -> Result<(), NoMemory>
         requires names { AllByRecursion (λ link. IsNameText link.0.1) (entries self.now) }
-        ensures { OnOk result (links.new.items ≡ links.old.items ++ map added_change (entries self.now)) }
+        ensures { OnOk result (IsPermutation (links.old.items ++ map added_change (entries self.now)) links.new.items) }
     {
         for (dir, directory) in &self.directories {
             directory.list(alloc, FileId(*dir), links)?;

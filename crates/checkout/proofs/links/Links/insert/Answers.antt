@@ -1,9 +1,7 @@
 -- A name that is inserted into its directory is inserted into all links.
-use Rattle.std.proofs.Common.{◌≡◌, OnOk, OnErr, Some, cond, ap, ◌∙◌, unwrap_or, arith}
-use Rattle.std.specs.Ordering.{nat_cmp}
+use Rattle.std.proofs.Common.{◌≡◌, nat_eq, OnOk, OnErr, Some, cond, ap, ◌∙◌, unwrap_or, arith}
 use Rattle.std.specs.FinMap.{from_entries, insert}
-use Rattle.std.specs.BTreeMap.{is_at}
-use Rattle.std.specs.BTreeMap.Entry.{map_with_value}
+use Rattle.std.specs.HashMap.Entry.{map_with_value}
 use Rattle.std.specs.Map.{lookup}
 use Rattle.std.proofs.lemmas.Result.{on_ok_weaker, on_err_weaker}
 use Rattle.checkout.specs.Flat.{in_directories}
@@ -22,8 +20,8 @@ returns-clause-ok c =
     let all : OnOk c.insert.result (from_entries (in_directories n) ≡ insert c.args.self.now (c.args.dir.0, c.args.name.now) c.args.file) =
     on_ok_weaker c.insert.result (λ e.
     rw (← c.self.view_is) (insert-in_directories m n c.args.dir.0 c.args.name.now c.args.file opened c.self.invariant (entry.update.2 new)
-    (λ x. opened-in_it c.args.dir.0 x (lookup (is_at (nat_cmp c.args.dir.0)) m) c.new-none.result opened c.new-none.ensures is)
-    (λ d. (entry.update.0 new).0 d ∙ ap (λ i. cond (is_at (nat_cmp c.args.dir.0) d) (Some i) (lookup (is_at (nat_cmp d)) m)) e))) c.insert.ensures.ok in
+    (λ x. opened-in_it c.args.dir.0 x (lookup (nat_eq c.args.dir.0) m) c.new-none.result opened c.new-none.ensures is)
+    (λ d. (entry.update.0 new).0 d ∙ ap (λ i. cond (nat_eq c.args.dir.0 d) (Some i) (lookup (nat_eq d) m)) e))) c.insert.ensures.ok in
     grind (arith, all)
 
 pub returns-clause-err : goal.returns-clause-err
@@ -37,6 +35,6 @@ returns-clause-err c =
     let all : OnErr c.insert.result (from_entries (in_directories n) ≡ c.args.self.now) =
     on_err_weaker c.insert.result (λ e.
     rw (← c.self.view_is) (same-in_directories m n c.args.dir.0 opened c.self.invariant (entry.update.2 new)
-    (λ x. opened-in_it c.args.dir.0 x (lookup (is_at (nat_cmp c.args.dir.0)) m) c.new-none.result opened c.new-none.ensures is)
-    (λ d. (entry.update.0 new).0 d ∙ ap (λ i. cond (is_at (nat_cmp c.args.dir.0) d) (Some i) (lookup (is_at (nat_cmp d)) m)) e))) c.insert.ensures.err in
+    (λ x. opened-in_it c.args.dir.0 x (lookup (nat_eq c.args.dir.0) m) c.new-none.result opened c.new-none.ensures is)
+    (λ d. (entry.update.0 new).0 d ∙ ap (λ i. cond (nat_eq c.args.dir.0 d) (Some i) (lookup (nat_eq d) m)) e))) c.insert.ensures.err in
     grind (arith, all)
