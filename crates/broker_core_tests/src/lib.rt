@@ -2,4 +2,6 @@
 #![tactic(auto)]
 
 #[cfg(test)]
+mod deeds;
+#[cfg(test)]
 mod tests;

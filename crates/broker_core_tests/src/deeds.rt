@@ -1,0 +1,325 @@
+//! What a test does with a broker and hears of it, as data, so that a test is a table.
+use broker_core::{Broker, DeliverFault, IssueFault, MountFault, PostFault, Seat, TakeFault};
+use eden_base::{Attr, DaemonId, Errno, Kind, Name, Number, Perm};
+use fuse_wire::{Answer, Batch, Item, Reply, Request};
+use std::alloc::Global;
+
+const DAEMON: DaemonId = DaemonId(1);
+
+const FILE: Attr = Attr {
+    kind: Kind::File,
+    perm: Perm { bits: 0o644 },
+    size: 3,
+    nlink: 1,
+};
+
+/// A request of the kernel as data. A look-up is of a name of the root, and a batch is of one item.
+#[derive(Clone, Copy)]
+pub enum Wish {
+    LookUp,
+    Getattr(u64),
+    Forget(u64, u64),
+    ForgetBatch(u64, u64),
+}
+
+/// An answer of a daemon as data. What it tells of a number is always the same.
+#[derive(Clone, Copy)]
+pub enum Said {
+    Entry(u64),
+    Attrs(u64),
+    Done,
+    Error(Errno),
+}
+
+/// A call and what it answers. Where no daemon is named it is daemon 1 at generation 1.
+#[derive(Clone, Copy)]
+pub enum Deed {
+    Seat(Option<Seat>),
+    /// Tells why no daemon can mount.
+    MayMount(Option<MountFault>),
+    /// Mounts where nothing refuses it, at this generation.
+    Mount(u64, u64),
+    TryMount(u64, Result<u64, MountFault>),
+    Issue(Wish, Result<Option<u64>, IssueFault>),
+    /// Issues so many times, and is taken each time.
+    IssueEach(Wish, u64),
+    /// Tells why nothing is taken.
+    MayTake(Option<TakeFault>),
+    /// Takes an ask with this unique.
+    Take(u64),
+    /// Takes so many items, none of an ask, or nothing.
+    TakeItems(Option<usize>),
+    /// Takes a batch of these items.
+    TakeBatch(&'static [Item]),
+    /// A daemon at a generation takes nothing, for this cause, and may not.
+    TakeNothing(u64, u64, TakeFault),
+    /// Posts the answer to the ask of a unique.
+    Post(u64, Said, Result<(), PostFault>),
+    /// A daemon at a generation posts it, and is refused.
+    PostNothing(u64, u64, u64, Said, PostFault),
+    /// Delivers the answer to the ask of a unique.
+    Deliver(u64, Said),
+    DeliverNothing(DeliverFault),
+    /// Sends a look-up its whole way so many times, and this answer reaches the kernel each time.
+    LookUpEach(u64, Said),
+    Held(u64, u64),
+    /// Tells the least held number above a number.
+    HeldAfter(u64, Option<u64>),
+    /// A number is held so often, and so many posted replies and waiting items tell of it.
+    Stand(u64, [u64; 3]),
+}
+
+/// Makes a name, and once more where memory was refused.
+fn name(alloc: Global) -> Option<Name> {
+    match Name::parse(alloc, b"name") {
+        Ok(name) => Some(name),
+        Err(_refused) => Name::parse(alloc, b"name").ok(),
+    }
+}
+
+/// Makes a batch of one item, and once more where memory was refused.
+fn batch(alloc: Global, item: Item) -> Option<Batch> {
+    let items = [item];
+    match Batch::of(alloc, &items) {
+        Ok(batch) => Some(batch),
+        Err(_refused) => Batch::of(alloc, &items).ok(),
+    }
+}
+
+fn item(node: u64, k: u64) -> Item {
+    Item {
+        node: Number(node),
+        k,
+    }
+}
+
+/// Makes the request of a wish.
+fn request(alloc: Global, wish: Wish) -> Option<Request> {
+    match wish {
+        Wish::LookUp => Some(Request::Lookup {
+            dir: Number::ROOT,
+            name: name(alloc)?,
+        }),
+        Wish::Getattr(node) => Some(Request::Getattr { node: Number(node) }),
+        Wish::Forget(node, k) => Some(Request::Forget(item(node, k))),
+        Wish::ForgetBatch(node, k) => Some(Request::BatchForget(batch(alloc, item(node, k))?)),
+    }
+}
+
+/// Makes the reply to the ask of a unique.
+fn reply(unique: u64, said: Said) -> Reply {
+    let answer = match said {
+        Said::Entry(number) => Answer::Entry {
+            number: Number(number),
+            attr: FILE,
+        },
+        Said::Attrs(number) => Answer::Attrs {
+            number: Number(number),
+            attr: FILE,
+        },
+        Said::Done => Answer::Done,
+        Said::Error(errno) => Answer::Error(errno),
+    };
+    Reply { unique, answer }
+}
+
+/// Issues a request, and once more where memory was refused.
+fn issue(broker: &mut Broker, request: &Request) -> Result<Option<u64>, IssueFault> {
+    match broker.issue(request) {
+        Err(IssueFault::NoMemory) => broker.issue(request),
+        issued => issued,
+    }
+}
+
+/// Issues a wish, and returns whether it is answered so.
+fn is_issued(
+    alloc: Global,
+    broker: &mut Broker,
+    wish: Wish,
+    issued: Result<Option<u64>, IssueFault>,
+) -> bool {
+    match request(alloc, wish) {
+        Some(request) => issue(broker, &request) == issued,
+        None => false,
+    }
+}
+
+/// Issues a request so many times, and returns whether it was taken each time.
+fn issues(broker: &mut Broker, request: &Request, times: u64) -> bool {
+    for _ in 0..times {
+        if issue(broker, request).is_err() {
+            return false;
+        }
+    }
+    true
+}
+
+/// Issues a wish so many times, and returns whether it was taken each time.
+fn is_issued_each(alloc: Global, broker: &mut Broker, wish: Wish, times: u64) -> bool {
+    match request(alloc, wish) {
+        Some(request) => issues(broker, &request, times),
+        None => false,
+    }
+}
+
+/// Mounts where nothing refuses it, and returns the generation.
+fn mounted(broker: &mut Broker, daemon: DaemonId) -> Option<u64> {
+    match broker.mount_refusal() {
+        Some(_fault) => None,
+        None => Some(broker.mount(daemon)),
+    }
+}
+
+/// Delivers a reply, and tries once more where memory was refused.
+fn deliver(broker: &mut Broker) -> Result<Reply, DeliverFault> {
+    match broker.deliver() {
+        Err(DeliverFault::NoMemory) => broker.deliver(),
+        delivered => delivered,
+    }
+}
+
+/// Takes, and returns the unique of what came, 0 of items and where nothing waits.
+fn unique_taken(broker: &mut Broker) -> u64 {
+    match broker.take(DAEMON, 1) {
+        Ok(ask) => ask.unique,
+        Err(_) => 0,
+    }
+}
+
+/// Returns how many items a request has, 0 of an ask.
+fn items_of(request: &Request) -> usize {
+    match request {
+        Request::Forget(_) => 1,
+        Request::BatchForget(batch) => batch.len(),
+        _ => 0,
+    }
+}
+
+/// Takes, and returns how many items came, 0 for an ask.
+fn items_taken(broker: &mut Broker) -> Option<usize> {
+    match broker.take(DAEMON, 1) {
+        Ok(ask) => Some(items_of(&ask.what)),
+        Err(_) => None,
+    }
+}
+
+/// Returns whether a request is a batch of these items.
+fn is_batch(request: &Request, items: &[Item]) -> bool {
+    match request {
+        Request::BatchForget(batch) => batch.as_slice() == items,
+        _ => false,
+    }
+}
+
+/// Takes, and returns whether a batch of these items came.
+fn is_batch_taken(broker: &mut Broker, items: &[Item]) -> bool {
+    match broker.take(DAEMON, 1) {
+        Ok(ask) => is_batch(&ask.what, items),
+        Err(_) => false,
+    }
+}
+
+/// Returns whether a daemon takes nothing, for this cause, and may not.
+fn is_refused(broker: &mut Broker, daemon: DaemonId, generation: u64, fault: TakeFault) -> bool {
+    if broker.take_refusal(daemon, generation) != Some(fault) {
+        return false;
+    }
+    match broker.take(daemon, generation) {
+        Ok(_) => false,
+        Err(told) => told == fault,
+    }
+}
+
+/// Sends an ask its whole way, and returns whether this answer reached the kernel.
+fn answers(broker: &mut Broker, request: &Request, said: Said) -> bool {
+    let Ok(Some(unique)) = issue(broker, request) else {
+        return false;
+    };
+    let reply = reply(unique, said);
+    unique_taken(broker) == unique
+        && broker.post(DAEMON, 1, reply).is_ok()
+        && deliver(broker) == Ok(reply)
+}
+
+/// Sends an ask its whole way so many times, and returns whether this answer reached the kernel each time.
+fn answers_each(broker: &mut Broker, request: &Request, times: u64, said: Said) -> bool {
+    for _ in 0..times {
+        if !answers(broker, request, said) {
+            return false;
+        }
+    }
+    true
+}
+
+/// Does that with a look-up.
+fn is_found_each(alloc: Global, broker: &mut Broker, times: u64, said: Said) -> bool {
+    match request(alloc, Wish::LookUp) {
+        Some(request) => answers_each(broker, &request, times, said),
+        None => false,
+    }
+}
+
+/// Returns whether a number is held so often, and so many posted replies and waiting items tell of it.
+fn stands(broker: &Broker, number: Number, counts: [u64; 3]) -> bool {
+    broker.held(number) == counts[0]
+        && broker.entries_posted(number) == counts[1]
+        && broker.forgets_waiting(number) == counts[2]
+}
+
+/// Makes a call, and returns whether it answers what it says.
+fn goes_so(alloc: Global, broker: &mut Broker, deed: Deed) -> bool {
+    match deed {
+        Deed::Seat(seat) => broker.seat() == seat,
+        Deed::MayMount(fault) => broker.mount_refusal() == fault,
+        Deed::Mount(daemon, generation) => mounted(broker, DaemonId(daemon)) == Some(generation),
+        Deed::TryMount(daemon, mounted) => broker.try_mount(DaemonId(daemon)) == mounted,
+        Deed::Issue(wish, issued) => is_issued(alloc, broker, wish, issued),
+        Deed::IssueEach(wish, times) => is_issued_each(alloc, broker, wish, times),
+        Deed::MayTake(fault) => broker.take_refusal(DAEMON, 1) == fault,
+        Deed::Take(unique) => unique_taken(broker) == unique,
+        Deed::TakeItems(items) => items_taken(broker) == items,
+        Deed::TakeBatch(items) => is_batch_taken(broker, items),
+        Deed::TakeNothing(daemon, generation, fault) => {
+            is_refused(broker, DaemonId(daemon), generation, fault)
+        }
+        Deed::Post(unique, said, posted) => broker.post(DAEMON, 1, reply(unique, said)) == posted,
+        Deed::PostNothing(daemon, generation, unique, said, fault) => {
+            broker.post(DaemonId(daemon), generation, reply(unique, said)) == Err(fault)
+        }
+        Deed::Deliver(unique, said) => deliver(broker) == Ok(reply(unique, said)),
+        Deed::DeliverNothing(fault) => deliver(broker) == Err(fault),
+        Deed::LookUpEach(times, said) => is_found_each(alloc, broker, times, said),
+        Deed::Held(number, count) => broker.held(Number(number)) == count,
+        Deed::HeldAfter(number, after) => broker.held_after(Number(number)) == after.map(Number),
+        Deed::Stand(number, counts) => stands(broker, Number(number), counts),
+    }
+}
+
+/// Makes the calls of a table, and returns whether each answers what it says.
+fn each_goes_so(alloc: Global, broker: &mut Broker, deeds: &[Deed]) -> bool {
+    for deed in deeds {
+        if !goes_so(alloc, broker, *deed) {
+            return false;
+        }
+    }
+    true
+}
+
+/// Makes a broker, and once more where memory was refused.
+fn new_broker(alloc: Global) -> Option<Broker> {
+    match Broker::new(alloc) {
+        Ok(broker) => Some(broker),
+        Err(_refused) => Broker::new(alloc).ok(),
+    }
+}
+
+/// Makes the calls of a table on a broker that begins, and returns whether each answers what it says.
+pub(crate) fn all_go_so(alloc: Global, deeds: &[Deed]) -> bool {
+    match new_broker(alloc) {
+        Some(broker) => {
+            let mut broker = broker;
+            each_goes_so(alloc, &mut broker, deeds)
+        }
+        None => false,
+    }
+}
