@@ -1,0 +1,134 @@
+//! How a world goes on where an event's allocation was refused.
+use crate::deeds::{Deed, Wish, counts, event, new_world};
+use eden_base::DaemonId;
+use std::alloc::Global;
+use world::{Event, Happened, Outcome, Refusal, World};
+
+const LOOK_UP_SRC: Wish = Wish::LookUp(1, b"src");
+
+/// Returns what an event told last.
+fn last_of(outcome: &Outcome) -> Option<Happened> {
+    outcome.happened().last().copied()
+}
+
+/// Lets an event happen, and returns what it told last.
+fn told_by(world: &mut World, event: &Event) -> Option<Happened> {
+    let outcome = world.step(event);
+    last_of(&outcome)
+}
+
+const REFUSED: Option<Happened> = Some(Happened::Refused(Refusal::NoMemory));
+
+/// Returns the last that an event told, or, where memory ran out, the last that it told when it came again.
+fn last_told(world: &mut World, event: &Event) -> Option<Happened> {
+    let told = told_by(world, event);
+    if told == REFUSED {
+        return told_by(world, event);
+    }
+    told
+}
+
+/// Returns whether a deed tells this last, or whatever it tells where that is not named.
+fn is_last(alloc: Global, world: &mut World, deed: Deed, expected: Option<Happened>) -> bool {
+    match event(alloc, deed) {
+        Some(event) => {
+            let told = last_told(world, &event);
+            expected.is_none() || told == expected
+        }
+        None => false,
+    }
+}
+
+/// Returns whether daemon 1 counts what the kernel holds.
+fn is_even(world: &World) -> bool {
+    let counts = counts(world);
+    counts[0] == counts[1]
+}
+
+/// Returns whether each deed tells what is expected last, where that is named, and daemon 1 counts then what the kernel
+/// holds.
+fn tells_last(alloc: Global, world: &mut World, deeds: &[(Deed, Option<Happened>)]) -> bool {
+    for (deed, expected) in deeds {
+        if !is_last(alloc, world, *deed, *expected) {
+            return false;
+        }
+    }
+    is_even(world)
+}
+
+/// Returns that of a new world.
+fn tells_last_from_nothing(alloc: Global, deeds: &[(Deed, Option<Happened>)]) -> bool {
+    match new_world(alloc) {
+        Some(world) => {
+            let mut world = world;
+            tells_last(alloc, &mut world, deeds)
+        }
+        None => false,
+    }
+}
+
+const IN_STEPS: [(Deed, Option<Happened>); 7] = [
+    (Deed::Start, None),
+    (Deed::Mount(1), Some(Happened::Mounted(1))),
+    (Deed::Issue(LOOK_UP_SRC), Some(Happened::Asked(Some(1)))),
+    (Deed::Take(1), Some(Happened::Took(1))),
+    (Deed::Work(1, 1), None),
+    (Deed::Post(1, 1), Some(Happened::Posted(1))),
+    (Deed::Deliver, None),
+];
+
+/// Passes also where one allocation is refused: a refused event changes nothing and is made when it comes again; a
+/// lookup may also be answered ENOMEM, and gives no number then.
+#[test]
+fn goes_on_after_memory_was_refused(rt: HostRuntime) {
+    assert!(rt; tells_last_from_nothing(rt.alloc(), &IN_STEPS));
+}
+
+/// Returns what a `do` told last, or, where memory ran out, what was told last then: when its reply, which waited, was
+/// delivered, or when it came again.
+fn finished(world: &mut World, event: &Event) -> Option<Happened> {
+    let told = told_by(world, event);
+    if told != REFUSED {
+        return told;
+    }
+    if counts(world)[2] == 1 {
+        return told_by(world, &Event::Deliver);
+    }
+    told_by(world, event)
+}
+
+/// Returns whether the kernel is answered by a `do`, with nothing left under way, where daemon 1 mounts.
+fn finishes(world: &mut World, ask: &Event) -> bool {
+    let _started = last_told(world, &Event::Start);
+    let mounted = last_told(world, &Event::Mount(DaemonId(1)));
+    let told = finished(world, ask);
+    let is_answered = matches!(told, Some(Happened::Answered(_)));
+    let is_idle = world.hand(DaemonId(1)).is_empty() && world.unposted(DaemonId(1)).is_empty();
+    mounted == Some(Happened::Mounted(1)) && is_answered && is_idle && is_even(world)
+}
+
+/// Returns that of a new world.
+fn finishes_in_new(alloc: Global, ask: &Event) -> bool {
+    match new_world(alloc) {
+        Some(world) => {
+            let mut world = world;
+            finishes(&mut world, ask)
+        }
+        None => false,
+    }
+}
+
+/// Returns whether a lookup finishes in a new world.
+fn finishes_from_nothing(alloc: Global) -> bool {
+    match event(alloc, Deed::Do(LOOK_UP_SRC)) {
+        Some(ask) => finishes_in_new(alloc, &ask),
+        None => false,
+    }
+}
+
+/// Passes also where one allocation is refused: what a `do` made before it was refused stands, and the kernel is answered
+/// in the end.
+#[test]
+fn finishes_a_do_after_memory_was_refused(rt: HostRuntime) {
+    assert!(rt; finishes_from_nothing(rt.alloc()));
+}
