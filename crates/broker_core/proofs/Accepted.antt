@@ -3,9 +3,9 @@ use Rattle.std.proofs.Common.{◌≡◌, ◌<◌, ◌≤◌, Bool, true, false, 
 use Rattle.std.specs.Prelude.{◌==◌, ◌≢◌, nat_le, nat_lt}
 use Rattle.std.specs.List.{list_all}
 use Rattle.std.proofs.lemmas.Bool.Decides.{nat_tests}
-use Rattle.fuse_wire.specs.declared.ask.Request.{Request}
+use Rattle.fuse_wire.specs.declared.request.Request.{Request}
 use Rattle.fuse_wire.specs.declared.item.Item.{Item}
-use Rattle.fuse_wire.specs.Ask.{is_ask, nodes, item_of}
+use Rattle.fuse_wire.specs.Request.{is_ask, nodes, item_of}
 use Rattle.broker_core.specs.Held.{held_count}
 use Rattle.broker_core.specs.Broker.{BrokerState, last_generation, last_unique, mount_fault, may_be_asked, is_bad_forget, ask_fault, forget_fault, issue_fault}
 use Rattle.broker_core.specs.declared.seat.Seat.{Seat}

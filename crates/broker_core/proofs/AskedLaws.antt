@@ -12,7 +12,7 @@ use Rattle.std.proofs.lemmas.List.Elements.{All-nil, All-cons, All-head, All-tai
 use Rattle.std.proofs.lemmas.Map.Keys.{sorted_head, sorted_tail}
 use Rattle.eden_base.specs.First.{first_where, without_where}
 use Rattle.eden_base.proofs.FirstLemmas.{first_where-append, without_where-none}
-use Rattle.fuse_wire.specs.declared.ask.Ask.{Ask}
+use Rattle.fuse_wire.specs.declared.request.Ask.{Ask}
 use Rattle.broker_core.specs.Traffic.{asked_of, is_of}
 use Rattle.broker_core.specs.Rising.{IsRising}
 use Rattle.broker_core.specs.Roomy.{taken_among}

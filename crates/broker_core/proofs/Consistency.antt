@@ -9,7 +9,7 @@ use Rattle.eden_base.specs.First.{first_where}
 use Rattle.eden_base.specs.declared.number.Number.{Number}
 use Rattle.eden_base.proofs.MemberLemmas.{length-without_where}
 use Rattle.fuse_wire.specs.Given.{given_out}
-use Rattle.fuse_wire.specs.declared.ask.Ask.{Ask}
+use Rattle.fuse_wire.specs.declared.request.Ask.{Ask}
 use Rattle.fuse_wire.specs.declared.item.Item.{Item}
 use Rattle.fuse_wire.specs.declared.reply.Reply.{Reply}
 use Rattle.broker_core.specs.Broker.{held_with}

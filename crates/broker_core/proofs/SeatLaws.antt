@@ -1,8 +1,8 @@
 -- The seat stays where it is, whatever is issued. That a take, a post and a delivery leave it is seen by computation.
 use Rattle.std.proofs.Common.{◌≡◌, Bool, true, false, if◌then◌else◌, Option, Some, None, refl}
 use Rattle.std.specs.Option.{option_map_or}
-use Rattle.fuse_wire.specs.Ask.{is_ask, item_of}
-use Rattle.fuse_wire.specs.declared.ask.Request.{Request}
+use Rattle.fuse_wire.specs.Request.{is_ask, item_of}
+use Rattle.fuse_wire.specs.declared.request.Request.{Request}
 use Rattle.fuse_wire.specs.declared.item.Item.{Item}
 use Rattle.broker_core.specs.Broker.{BrokerState, asked, forgot, issued}
 

@@ -2,9 +2,9 @@
 use Rattle.std.proofs.Common.{◌≡◌, Bool, true, false, List, [], ◌∷◌, ◌++◌, Some, refl, sym, ap, ◌∙◌, if◌then◌else◌, inl, inr, ◌⊎◌, take, drop}
 use Rattle.std.specs.Option.{option_map}
 use Rattle.std.proofs.lemmas.List.{take-append-drop}
-use Rattle.fuse_wire.specs.Ask.{is_ask, items_of}
-use Rattle.fuse_wire.specs.declared.ask.Ask.{Ask}
-use Rattle.fuse_wire.specs.declared.ask.Request.TheVariants.{Forget, BatchForget}
+use Rattle.fuse_wire.specs.Request.{is_ask, items_of}
+use Rattle.fuse_wire.specs.declared.request.Ask.{Ask}
+use Rattle.fuse_wire.specs.declared.request.Request.TheVariants.{Forget, BatchForget}
 use Rattle.fuse_wire.specs.declared.item.Item.{Item}
 use Rattle.broker_core.specs.Traffic.{TrafficState, front, forget_of, without_unique, items_go_first, next_taken, left_by_take, ask_taken}
 

@@ -7,10 +7,10 @@ use Rattle.std.specs.Option.{option_map_or}
 use Rattle.std.specs.Coded.{Coded, code_by, coded×, coded_option, coded_ℕ}
 use Rattle.eden_base.specs.declared.number.Number.{Number}
 use Rattle.eden_base.specs.declared.number.DaemonId.{DaemonId}
-use Rattle.fuse_wire.specs.declared.ask.Request.{Request}
+use Rattle.fuse_wire.specs.declared.request.Request.{Request}
 use Rattle.fuse_wire.specs.declared.item.Item.{Item}
 use Rattle.fuse_wire.specs.declared.reply.Reply.{Reply}
-use Rattle.fuse_wire.specs.Ask.{is_ask, nodes, item_of}
+use Rattle.fuse_wire.specs.Request.{is_ask, nodes, item_of}
 use Rattle.fuse_wire.specs.Given.{given_out}
 use Rattle.broker_core.specs.Held.{HeldMap, held_map_code, held_count, none_held, raised, lowered}
 use Rattle.broker_core.specs.Traffic.{TrafficState, traffic_state_code, no_traffic, front, ask_refusal, item_refusal, ask_issued, item_issued, next_taken, left_by_take, is_asked, reply_posted, reply_delivered}

@@ -2,7 +2,7 @@
 use Rattle.std.specs.Prelude.{◌≡◌, ℕ, ◌+◌, ◌-◌, ◌*◌, ◌≤◌, Bool, false, nat_le, List, length, take, map, ◌++◌, vec_len}
 use Rattle.std.specs.Option.{option_map_or}
 use Rattle.std.specs.VecDeque.{deque_len, deque_capacity}
-use Rattle.fuse_wire.specs.declared.ask.Ask.{Ask}
+use Rattle.fuse_wire.specs.declared.request.Ask.{Ask}
 use Rattle.broker_core.specs.Rising.{IsRising}
 use Rattle.broker_core.specs.Traffic.{front, asked_of}
 use Rattle.fuse_wire.specs.declared.form.Form.{Form}

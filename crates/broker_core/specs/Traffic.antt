@@ -4,17 +4,17 @@ use Rattle.std.specs.Prelude.{ℕ, ◌+◌, ◌<◌, Bool, true, false, ◌||◌
 use Rattle.std.specs.Option.{option_map, option_map_or}
 use Rattle.std.specs.Coded.{Coded, code_by, coded×, coded_list, coded_ℕ}
 use Rattle.eden_base.specs.First.{first_where, without_where}
-use Rattle.fuse_wire.specs.declared.ask.Request.{Request}
-use Rattle.fuse_wire.specs.declared.ask.Request.TheVariants.{Forget, BatchForget}
-use Rattle.fuse_wire.specs.declared.ask.Ask.{Ask}
+use Rattle.fuse_wire.specs.declared.request.Request.{Request}
+use Rattle.fuse_wire.specs.declared.request.Request.TheVariants.{Forget, BatchForget}
+use Rattle.fuse_wire.specs.declared.request.Ask.{Ask}
 use Rattle.fuse_wire.specs.declared.item.Item.{Item}
 use Rattle.fuse_wire.specs.declared.reply.Answer.{Answer}
 use Rattle.fuse_wire.specs.declared.reply.Reply.{Reply}
-use Rattle.fuse_wire.specs.contracts.ask.Ask.{the_row as ask_row}
+use Rattle.fuse_wire.specs.contracts.request.Ask.{the_row as ask_row}
 use Rattle.fuse_wire.specs.contracts.item.Item.{the_row as item_row}
 use Rattle.fuse_wire.specs.contracts.reply.Reply.{the_row as reply_row}
 use Rattle.fuse_wire.specs.Given.{given_out}
-use Rattle.fuse_wire.specs.Ask.{form_of}
+use Rattle.fuse_wire.specs.Request.{form_of}
 use Rattle.fuse_wire.specs.Form.{belongs}
 use Rattle.fuse_wire.specs.declared.form.Form.{Form}
 use Rattle.fuse_wire.specs.contracts.form.Form.{the_row as form_row}

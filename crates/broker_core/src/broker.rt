@@ -1,7 +1,7 @@
 //! The kernel's side of a mount.
 ghost use Rattle.std.specs.Prelude.{◌≡◌, ◌+◌, ◌≤◌, Bool, true, Some, None, IfOk, IfErr, OnOk, OnErr};
 ghost use Rattle.std.specs.List.{list_all};
-ghost use Rattle.fuse_wire.specs.Ask.{is_ask};
+ghost use Rattle.fuse_wire.specs.Request.{is_ask};
 ghost use Rattle.broker_core.specs.Held.{held_count, IsLeastHeldAfter};
 ghost use Rattle.broker_core.specs.Traffic.{front, next_taken, forgets_on, entries_of};
 ghost use Rattle.broker_core.specs.Broker.{mount_fault, issue_fault, ask_fault, forget_fault, may_be_asked, seat_fault, take_fault, post_fault, mounted, asked, forgot, issued, unique_of, taken, posted, delivered, new_broker, IsIssueRefusal, IsDeliverRefusal};

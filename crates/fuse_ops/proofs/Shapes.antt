@@ -13,10 +13,10 @@ use Rattle.eden_base.specs.declared.errno.Errno.TheVariants.{EISDIR, ENOTDIR, EN
 use Rattle.eden_base.specs.declared.number.FileId.{FileId}
 use Rattle.eden_base.specs.declared.number.Number.{Number}
 use Rattle.checkout.specs.Tree.{Tree, kind_of, is_dir, has_links, is_full_dir}
-use Rattle.fuse_wire.specs.Ask.{is_ask, nodes, form_of}
+use Rattle.fuse_wire.specs.Request.{is_ask, nodes, form_of}
 use Rattle.fuse_wire.specs.Given.{given_out}
-use Rattle.fuse_wire.specs.declared.ask.Request.{Request}
-use Rattle.fuse_wire.specs.declared.ask.Request.TheVariants.{Other}
+use Rattle.fuse_wire.specs.declared.request.Request.{Request}
+use Rattle.fuse_wire.specs.declared.request.Request.TheVariants.{Other}
 use Rattle.fuse_wire.specs.declared.form.Form.TheVariants.{AnEntry, Attributes}
 use Rattle.fuse_wire.specs.declared.reply.Answer.{Answer}
 use Rattle.fuse_wire.specs.declared.reply.Answer.TheVariants.{Entry, Opened, Attrs, Done, Error}

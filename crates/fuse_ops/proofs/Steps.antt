@@ -4,8 +4,8 @@ use Rattle.eden_base.specs.declared.attr.Attr.{Attr}
 use Rattle.eden_base.specs.declared.errno.Errno.{Errno}
 use Rattle.eden_base.specs.declared.errno.Errno.TheVariants.{ENOSYS}
 use Rattle.eden_base.specs.declared.number.Number.{Number}
-use Rattle.fuse_wire.specs.Ask.{is_ask}
-use Rattle.fuse_wire.specs.declared.ask.Request.{Request}
+use Rattle.fuse_wire.specs.Request.{is_ask}
+use Rattle.fuse_wire.specs.declared.request.Request.{Request}
 use Rattle.fuse_wire.specs.declared.reply.Answer.{Answer}
 use Rattle.fuse_wire.specs.declared.reply.Answer.TheVariants.{Error}
 use Rattle.fuse_ops.specs.Answers.{Deed, find_name, make_file, take_name, show_file, unserved, deed_of, against_taking}

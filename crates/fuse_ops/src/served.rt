@@ -6,7 +6,7 @@ ghost use Rattle.std.specs.Option.{option_map, IfNone, IfSome};
 ghost use Rattle.checkout.specs.Tree.{IsTree, child_of, attr_of, file_of as tree_file, is_full_dir, is_unlinked, nlink_of_kind};
 ghost use Rattle.eden_base.specs.declared.errno.Errno.TheVariants.{EIO};
 ghost use Rattle.fuse_wire.specs.declared.reply.Answer.TheVariants.{Error};
-ghost use Rattle.fuse_wire.specs.declared.ask.Request.TheVariants.{Lookup, Getattr, Create, Mkdir, Unlink, Rmdir};
+ghost use Rattle.fuse_wire.specs.declared.request.Request.TheVariants.{Lookup, Getattr, Create, Mkdir, Unlink, Rmdir};
 ghost use Rattle.inode_map.specs.InodeMap.{entry_at, number_of_kept, attr_of as loaded_attr, forgotten, IsFileOf};
 ghost use Rattle.fuse_ops.specs.Answers.{IsBacked, against_unlink, against_rmdir};
 ghost use Rattle.fuse_ops.specs.Loading.{Backs, FailsAs, Loads, LoadsTold, LoadsNone, loaded_told};

@@ -15,9 +15,9 @@ use Rattle.fuse_wire.specs.declared.fault.WireFault.{WireFault}
 use Rattle.fuse_wire.specs.declared.fault.WireFault.TheVariants.{BadBody, BadCount}
 use Rattle.fuse_wire.specs.declared.item.Item.{Item}
 use Rattle.fuse_wire.specs.Field.{u32_bytes, u64_bytes, u32_at, u64_at}
+use Rattle.fuse_wire.specs.Reading.{◌>>=◌}
+use Rattle.fuse_wire.specs.RequestBody.{checked, name_of, made_of, items_at, batch_of, forget_of, name_text, item_text, IsCreateBody, IsMkdirBody, IsBatchBody, FitsItem}
 use Rattle.fuse_wire.specs.Mode.{perm_of}
-use Rattle.fuse_wire.specs.RequestReading.{◌>>=◌, checked, name_of, made_of, items_at, batch_of, forget_of}
-use Rattle.fuse_wire.specs.RequestText.{name_text, item_text, IsCreateBody, IsMkdirBody, IsBatchBody, FitsItem}
 use Rattle.fuse_wire.proofs.Fields.{AreBytes, AreBytes-drop, u32_again, u64_again, u32_below, u32_front, u64_front}
 use Rattle.fuse_wire.proofs.Lengths.{length-u32_bytes, length-u64_bytes, length-items}
 use Rattle.fuse_wire.proofs.ReplyLaws.{behind}

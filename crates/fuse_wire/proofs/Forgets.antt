@@ -2,22 +2,23 @@
 use Rattle.std.proofs.Common.{◌≡◌, ℕ, true, false, List, [], ◌∷◌, Result, Ok, Err, refl, sym, ap, ◌∙◌}
 use Rattle.std.specs.Prelude.{IfOk}
 use Rattle.eden_base.specs.declared.number.Number.{Number}
-use Rattle.fuse_wire.specs.declared.ask.Ask.{Ask}
-use Rattle.fuse_wire.specs.declared.ask.Request.{Request}
-use Rattle.fuse_wire.specs.declared.ask.Request.TheVariants as requests
+use Rattle.fuse_wire.specs.declared.request.Ask.{Ask}
+use Rattle.fuse_wire.specs.declared.request.Request.{Request}
+use Rattle.fuse_wire.specs.declared.request.Request.TheVariants as requests
 use Rattle.fuse_wire.specs.declared.fault.WireFault.{WireFault}
 use Rattle.fuse_wire.specs.declared.fault.WireFault.TheVariants.{BadBody}
 use Rattle.fuse_wire.specs.declared.header.Header.{Header}
 use Rattle.fuse_wire.specs.declared.item.Item.{Item}
-use Rattle.fuse_wire.specs.declared.opcode.Opcode.{Opcode}
-use Rattle.fuse_wire.specs.declared.opcode.Opcode.TheVariants.{Forget, BatchForget}
+use Rattle.fuse_wire.specs.declared.request.Opcode.{Opcode}
+use Rattle.fuse_wire.specs.declared.request.Opcode.TheVariants.{Forget, BatchForget}
 use Rattle.fuse_wire.specs.FaultReply.{is_forget}
-use Rattle.fuse_wire.specs.Opcode.{code, opcode_of}
-use Rattle.fuse_wire.specs.RequestReading.{◌>>=◌, asked, body_of, header_of, batch_of, forget_of, what_of, forgotten_of, request_of, items_of, items_told, IsForgetOf}
-use Rattle.fuse_wire.specs.RequestText.{opcode}
+use Rattle.fuse_wire.specs.Reading.{◌>>=◌}
+use Rattle.fuse_wire.specs.Request.{code, opcode_of, opcode}
+use Rattle.fuse_wire.specs.RequestBody.{batch_of, forget_of, what_of, forgotten_of, items_told}
+use Rattle.fuse_wire.specs.RequestReading.{asked, body_of, header_of, request_of, items_of, IsForgetOf}
 use Rattle.fuse_wire.proofs.Bodies.{bind_ok, done, ok_is}
 use Rattle.fuse_wire.proofs.Fields.{AreBytes, AreBytes-drop}
-use Rattle.fuse_wire.proofs.Requests.{code-opcode_of, what_found}
+use Rattle.fuse_wire.proofs.RequestKinds.{code-opcode_of, what_found}
 
 -- another request has no items
 none_told : (o : Opcode) (what : Request) → is_forget o ≡ false → opcode what ≡ o → Err BadBody ≡ items_told what

@@ -2,7 +2,7 @@
 use Rattle.std.proofs.Common.{◌≡◌, ℕ, suc, ◌+◌, ◌-◌, ◌*◌, ◌<◌, ◌≤◌, List, [], ◌∷◌, ◌++◌, length, drop, sym, ap, ◌∙◌, append_assoc, length-append, arith}
 use Rattle.std.proofs.lemmas.List.{append-nil, drop-drop}
 use Rattle.fuse_wire.specs.declared.item.Item.{Item}
-use Rattle.fuse_wire.specs.RequestReading.{item_at, items_at}
+use Rattle.fuse_wire.specs.RequestBody.{item_at, items_at}
 
 -- so many items of all are read, and the others follow
 pub record AreRead (items : List Item) (done count : ℕ) (lines : List ℕ) : Type 0 where

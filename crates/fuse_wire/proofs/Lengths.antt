@@ -6,9 +6,9 @@ use Rattle.std.proofs.lemmas.List.{length-replicate}
 use Rattle.std.proofs.lemmas.List.Concat.{flat_map-cons}
 use Rattle.eden_base.specs.Name.{IsNameText}
 use Rattle.fuse_wire.specs.declared.item.Item.{Item}
-use Rattle.fuse_wire.specs.Field.{i32_bytes, u32_bytes, u64_bytes}
+use Rattle.fuse_wire.specs.Field.{i32_bytes, u32_bytes, u64_bytes, zeros}
+use Rattle.fuse_wire.specs.RequestBody.{item_text}
 use Rattle.fuse_wire.specs.ReplyText.{reply_header}
-use Rattle.fuse_wire.specs.RequestText.{zeros, item_text}
 
 pub length-u32_bytes : (n : ℕ) → length (u32_bytes n) ≡ 4
 unfolding u32_bytes

@@ -8,6 +8,7 @@ pub mod ItemsRead
 pub mod OwnTexts
 pub mod Replies
 pub mod ReplyLaws
+pub mod RequestKinds
 pub mod Requests
 pub mod Written
 pub mod ItemLaws

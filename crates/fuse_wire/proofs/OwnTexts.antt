@@ -2,13 +2,16 @@
 use Rattle.std.proofs.Common.{◌≡◌, ℕ, ◌+◌, ◌≤◌, List, length, Ok, refl, arith}
 use Rattle.eden_base.specs.declared.attr.Perm.{Perm}
 use Rattle.eden_base.specs.Name.{IsNameText}
-use Rattle.fuse_wire.specs.declared.ask.Ask.{Ask}
-use Rattle.fuse_wire.specs.declared.ask.Request.{Request}
-use Rattle.fuse_wire.specs.declared.ask.Request.TheVariants.{BatchForget}
+use Rattle.fuse_wire.specs.declared.request.Ask.{Ask}
+use Rattle.fuse_wire.specs.declared.request.Request.{Request}
+use Rattle.fuse_wire.specs.declared.request.Request.TheVariants.{BatchForget}
 use Rattle.fuse_wire.specs.declared.item.Item.{Item}
 use Rattle.fuse_wire.specs.Mode.{S_IFREG}
+use Rattle.fuse_wire.specs.Field.{zeros}
+use Rattle.fuse_wire.specs.Request.{nodeid, IsNodeid}
+use Rattle.fuse_wire.specs.RequestBody.{create_body, mkdir_body, batch_body, body, IsBody, IsCreateBody, IsMkdirBody, IsBatchBody}
 use Rattle.fuse_wire.specs.RequestReading.{request_of}
-use Rattle.fuse_wire.specs.RequestText.{zeros, nodeid, create_body, mkdir_body, batch_body, body, IsBody, IsNodeid, IsCreateBody, IsMkdirBody, IsBatchBody, IsRequestText, request_text, FitsAsk}
+use Rattle.fuse_wire.specs.RequestText.{IsRequestText, request_text, FitsAsk}
 use Rattle.fuse_wire.proofs.Lengths.{length-zeros}
 use Rattle.fuse_wire.proofs.Requests.{request_again}
 

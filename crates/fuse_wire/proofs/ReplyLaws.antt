@@ -10,11 +10,10 @@ use Rattle.eden_base.specs.declared.number.Number.{Number}
 use Rattle.fuse_wire.specs.declared.reply.Answer.{Answer}
 use Rattle.fuse_wire.specs.declared.reply.Answer.TheVariants.{Entry, Opened, Attrs, Done, Error}
 use Rattle.fuse_wire.specs.declared.reply.Reply.{Reply}
-use Rattle.fuse_wire.specs.Field.{i32_bytes, u32_bytes, u64_bytes, i32_at, u32_at, u64_at}
+use Rattle.fuse_wire.specs.Field.{i32_bytes, u32_bytes, u64_bytes, i32_at, u32_at, u64_at, zeros}
 use Rattle.fuse_wire.specs.Mode.{perm_of, type_bits}
 use Rattle.fuse_wire.specs.ReplyReading.{kind_of, number_at, attr_at, answer_at}
 use Rattle.fuse_wire.specs.ReplyText.{error_field, mode, attributes, entry, payload, reply_header, reply_text, FitsAttr, FitsAnswer, FitsReply}
-use Rattle.fuse_wire.specs.RequestText.{zeros}
 use Rattle.fuse_wire.proofs.Errors.{error_fits, failure_is}
 use Rattle.eden_base.proofs.PermLemmas.{same_perm}
 use Rattle.fuse_wire.proofs.Fields.{i32_again, u32_again, u64_again}

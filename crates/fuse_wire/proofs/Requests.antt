@@ -1,99 +1,25 @@
 -- Whole requests: what is read is a text of what is told, and what is a text is read.
-use Rattle.std.proofs.Common.{◌≡◌, ℕ, ◌+◌, ◌^◌, ◌<◌, ◌≤◌, true, false, cond, eqb, ltb, List, [], ◌∷◌, ◌++◌, length, take, drop, Result, Ok, Err, refl, sym, ap, subst, ◌∙◌, append_assoc, length-append, length-take, length-drop, arith}
+use Rattle.std.proofs.Common.{◌≡◌, ℕ, ◌+◌, ◌≤◌, true, false, cond, eqb, ltb, List, ◌++◌, length, take, drop, Result, Ok, Err, refl, sym, ap, subst, ◌∙◌, append_assoc, length-append, length-take, length-drop, arith}
 use Rattle.std.specs.Prelude.{IfOk}
 use Rattle.std.proofs.lemmas.Bool.{ltb-false, le-ltb, eqb-true}
-use Rattle.std.proofs.lemmas.Bool.Decides.{nat_tests}
 use Rattle.std.proofs.lemmas.List.{drop-drop}
-use Rattle.eden_base.specs.declared.attr.Perm.{Perm}
 use Rattle.eden_base.specs.declared.number.Number.{Number}
-use Rattle.eden_base.specs.Name.{IsNameText}
-use Rattle.fuse_wire.specs.declared.ask.Ask.{Ask}
-use Rattle.fuse_wire.specs.declared.ask.Request.{Request}
-use Rattle.fuse_wire.specs.declared.ask.Request.TheVariants as requests
+use Rattle.fuse_wire.specs.declared.request.Ask.{Ask}
 use Rattle.fuse_wire.specs.declared.fault.WireFault.{WireFault}
-use Rattle.fuse_wire.specs.declared.fault.WireFault.TheVariants.{Short, BadLength, BadBody}
+use Rattle.fuse_wire.specs.declared.fault.WireFault.TheVariants.{Short, BadLength}
 use Rattle.fuse_wire.specs.declared.header.Header.{Header}
-use Rattle.fuse_wire.specs.declared.opcode.Opcode.{Opcode}
-use Rattle.fuse_wire.specs.declared.opcode.Opcode.TheVariants.{Lookup, Forget, Getattr, Mkdir, Unlink, Rmdir, Create, BatchForget, Other}
+use Rattle.fuse_wire.specs.declared.request.Opcode.{Opcode}
 use Rattle.fuse_wire.specs.Field.{u32_bytes, u64_bytes, u32_at, u64_at}
-use Rattle.fuse_wire.specs.Opcode.{code, opcode_of}
-use Rattle.fuse_wire.specs.RequestReading.{◌>>=◌, Gives, WantsMemory, body_of, fields_of, header_of, name_of, made_of, batch_of, forget_of, what_of, request_of}
-use Rattle.fuse_wire.specs.RequestText.{opcode, nodeid, header, IsBody, IsNodeid, IsRequestText, IsSendable, FitsBody, FitsAsk}
-use Rattle.fuse_wire.proofs.Bodies.{bind_ok, guard_ok, test_ok, ok_is, yes_eq, parted, name_found, name_again, made_found, made_again, create_found, create_again, mkdir_found, mkdir_again, forget_found, forget_again, batch_found, batch_again}
+use Rattle.fuse_wire.specs.Reading.{◌>>=◌, Gives}
+use Rattle.fuse_wire.specs.Request.{code, opcode_of, opcode, IsNodeid, IsSendable}
+use Rattle.fuse_wire.specs.RequestBody.{what_of}
+use Rattle.fuse_wire.specs.RequestReading.{WantsMemory, body_of, fields_of, header_of, request_of}
+use Rattle.fuse_wire.specs.RequestText.{header, IsRequestText, FitsAsk}
+use Rattle.fuse_wire.proofs.Bodies.{bind_ok, guard_ok, test_ok, ok_is, yes_eq, parted}
 use Rattle.fuse_wire.proofs.Fields.{AreBytes, AreBytes-drop, u32_again, u64_again, u32_below, u32_front, u64_front}
+use Rattle.fuse_wire.proofs.RequestKinds.{code-opcode_of, opcode_again, what_found, what_again, nodeid_read, is_sendable}
 use Rattle.fuse_wire.proofs.Lengths.{length-u32_bytes, length-u64_bytes}
 use Rattle.fuse_wire.proofs.ReplyLaws.{behind}
-
--- ---- opcodes
-
--- the opcode of a number has that number
-pub code-opcode_of : (n : ℕ) → code (opcode_of n) ≡ n
-unfolding opcode_of
-code-opcode_of n = grind (arith, nat_tests)
-
--- the opcode of its number, unless it is another's
-pub opcode_again : (request : Request) (body : List ℕ) → IsBody request body → opcode_of (code (opcode request)) ≡ opcode request
-unfolding opcode_of
-opcode_again (requests.Other n node) body is = is
-opcode_again request body is = refl
-
--- ---- bodies
-
-pub record WhatIs (o : Opcode) (node : Number) (body : List ℕ) (what : Request) : Type 0 where
-  pub opcode_is : opcode what ≡ o
-  pub nodeid_is : IsNodeid what node.0
-  pub body_is : IsBody what body
-
-named : (o : Opcode) (node : Number) (body : List ℕ) (what : Request) (make : List ℕ → Request) → (name_of body >>= λ name. Ok (make name)) ≡ Ok what
-    → ((name : List ℕ) → IsNameText name → body ≡ name ++ 0 ∷ [] → WhatIs o node body (make name)) → WhatIs o node body what
-named o node body what make e then =
-    let b = bind_ok (name_of body) (λ name. Ok (make name)) what e in
-    let found = name_found body b.0 b.1 in
-    subst (WhatIs o node body) (ok_is (make b.0) what b.2) (then b.0 found.0 found.1)
-
-pub what_found : (o : Opcode) (node : Number) (body : List ℕ) (what : Request) → AreBytes body → opcode_of (code o) ≡ o → what_of o node body ≡ Ok what → WhatIs o node body what
-unfolding what_of
-what_found Lookup node body what are known e = named Lookup node body what (requests.Lookup node) e (λ name is parts. record { opcode_is = refl; nodeid_is = refl; body_is = (is, parts) })
-what_found Unlink node body what are known e = named Unlink node body what (requests.Unlink node) e (λ name is parts. record { opcode_is = refl; nodeid_is = refl; body_is = (is, parts) })
-what_found Rmdir node body what are known e = named Rmdir node body what (requests.Rmdir node) e (λ name is parts. record { opcode_is = refl; nodeid_is = refl; body_is = (is, parts) })
-what_found Create node body what are known e =
-    let make : List ℕ × Perm → Request = λ made. requests.Create node made.0 made.1 in
-    let b = bind_ok (made_of 16 4 body) (λ made. Ok (make made)) what e in
-    let found = create_found body b.0.0 b.0.1 are (made_found 16 4 body b.0.0 b.0.1 b.1) in
-    subst (WhatIs Create node body) (ok_is (make b.0) what b.2) (record { opcode_is = refl; nodeid_is = refl; body_is = found })
-what_found Mkdir node body what are known e =
-    let make : List ℕ × Perm → Request = λ made. requests.Mkdir node made.0 made.1 in
-    let b = bind_ok (made_of 8 0 body) (λ made. Ok (make made)) what e in
-    let found = mkdir_found body b.0.0 b.0.1 are (made_found 8 0 body b.0.0 b.0.1 b.1) in
-    subst (WhatIs Mkdir node body) (ok_is (make b.0) what b.2) (record { opcode_is = refl; nodeid_is = refl; body_is = found })
-what_found Getattr node body what are known e =
-    let t = test_ok (eqb (length body) 16) BadBody (Ok (requests.Getattr node)) what e in
-    subst (WhatIs Getattr node body) (ok_is (requests.Getattr node) what t.1) (record { opcode_is = refl; nodeid_is = refl; body_is = eqb-true _ _ t.0 })
-what_found Forget node body what are known e =
-    let b = bind_ok (forget_of node body) (λ item. Ok (requests.Forget item)) what e in
-    let found = forget_found node body b.0 are b.1 in
-    subst (WhatIs Forget node body) (ok_is (requests.Forget b.0) what b.2) (record { opcode_is = refl; nodeid_is = ap (λ (n : Number). n.0) (sym found.0); body_is = found.1 })
-what_found BatchForget node body what are known e =
-    let b = bind_ok (batch_of body) (λ items. Ok (requests.BatchForget items)) what e in
-    subst (WhatIs BatchForget node body) (ok_is (requests.BatchForget b.0) what b.2) (record { opcode_is = refl; nodeid_is = tt; body_is = batch_found body b.0 are b.1 })
-what_found (Other n) node body what are known e =
-    subst (WhatIs (Other n) node body) (ok_is (requests.Other n node) what e) (record { opcode_is = refl; nodeid_is = refl; body_is = known })
-
--- a number by its value
-number_is : (m n : Number) → m.0 ≡ n.0 → m ≡ n
-number_is m n e = ap (λ (k : ℕ). let r : Number = record { 0 = k } in r) e
-
-pub what_again : (what : Request) (node : Number) (body : List ℕ) → FitsBody what → IsNodeid what node.0 → IsBody what body → what_of (opcode what) node body ≡ Ok what
-unfolding what_of
-what_again (requests.Lookup dir name) node body fits n is = rw (number_is node dir n, is.1, name_again name is.0) refl
-what_again (requests.Unlink dir name) node body fits n is = rw (number_is node dir n, is.1, name_again name is.0) refl
-what_again (requests.Rmdir dir name) node body fits n is = rw (number_is node dir n, is.1, name_again name is.0) refl
-what_again (requests.Create dir name perm) node body fits n is = rw (number_is node dir n, made_again 16 4 body name perm (create_again body name perm is)) refl
-what_again (requests.Mkdir dir name perm) node body fits n is = rw (number_is node dir n, made_again 8 0 body name perm (mkdir_again body name perm is)) refl
-what_again (requests.Getattr m) node body fits n is = rw (number_is node m n, is) refl
-what_again (requests.Forget item) node body fits n is = rw (number_is node item.node n, is, forget_again item fits) refl
-what_again (requests.BatchForget items) node body fits n is = rw (batch_again body items fits is) refl
-what_again (requests.Other k m) node body fits n is = rw (number_is node m n) refl
 
 -- ---- headers
 
@@ -154,11 +80,6 @@ request_found bytes ask are e =
     } in
     subst (λ (r : Ask). IsRequestText r bytes) (ok_is made ask b.2) text
 
--- the nodeid that is read is that of the request; before a batch it is any
-nodeid_read : (what : Request) (n m : ℕ) (rest : List ℕ) → nodeid what < 2 ^ 64 → IsNodeid what n → m ≡ u64_at (u64_bytes n ++ rest) → IsNodeid what m
-nodeid_read (requests.BatchForget items) n m rest fits is e = tt
-nodeid_read request n m rest fits is e = e ∙ u64_again n rest (rw is fits) ∙ is
-
 pub request_again : (ask : Ask) (bytes : List ℕ) → FitsAsk ask → IsRequestText ask bytes → request_of bytes ≡ Ok ask
 unfolding request_of header_of fields_of
 request_again ask bytes fits is =
@@ -190,11 +111,6 @@ request_again ask bytes fits is =
 pub is_text : (bytes : List ℕ) (r : Result Ask WireFault) → AreBytes bytes → Gives WantsMemory r (request_of bytes) → IfOk r (λ ask. IsRequestText ask bytes)
 is_text bytes (Ok ask) are given = request_found bytes ask are given
 is_text bytes (Err fault) are given = tt
-
--- what has a body may be sent
-is_sendable : (what : Request) (body : List ℕ) → IsBody what body → IsSendable what
-is_sendable (requests.Other n node) body is = is
-is_sendable request body is = tt
 
 pub may_be_sent : (bytes : List ℕ) (r : Result Ask WireFault) → IfOk r (λ ask. IsRequestText ask bytes) → IfOk r (λ ask. IsSendable ask.what)
 may_be_sent bytes (Ok ask) text = is_sendable ask.what text.rest text.is_body

@@ -7,7 +7,7 @@ use Rattle.std.proofs.lemmas.List.Concat.{flat_map-cons, flat_map-append}
 use Rattle.std.proofs.lemmas.List.Elements.{All-push}
 use Rattle.fuse_wire.specs.declared.item.Item.{Item}
 use Rattle.fuse_wire.specs.declared.writer.Writer.{Writer}
-use Rattle.fuse_wire.specs.RequestText.{item_text, FitsItem}
+use Rattle.fuse_wire.specs.RequestBody.{item_text, FitsItem}
 use Rattle.fuse_wire.specs.Writing.{Writes, Puts}
 use Rattle.fuse_wire.proofs.Lengths.{lengths}
 

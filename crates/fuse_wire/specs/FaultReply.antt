@@ -6,11 +6,11 @@ use Rattle.eden_base.specs.declared.name.NameFault.TheVariants.{TooLong}
 use Rattle.fuse_wire.specs.declared.fault.WireFault.{WireFault}
 use Rattle.fuse_wire.specs.declared.fault.WireFault.TheVariants.{BadName, NoMemory}
 use Rattle.fuse_wire.specs.declared.header.Header.{Header}
-use Rattle.fuse_wire.specs.declared.opcode.Opcode.{Opcode}
-use Rattle.fuse_wire.specs.declared.opcode.Opcode.TheVariants.{Forget, BatchForget}
+use Rattle.fuse_wire.specs.declared.request.Opcode.{Opcode}
+use Rattle.fuse_wire.specs.declared.request.Opcode.TheVariants.{Forget, BatchForget}
 use Rattle.fuse_wire.specs.declared.reply.Answer.TheVariants.{Error}
 use Rattle.fuse_wire.specs.declared.reply.Reply.{Reply}
-use Rattle.fuse_wire.specs.Opcode.{opcode_of}
+use Rattle.fuse_wire.specs.Request.{opcode_of}
 use Rattle.fuse_wire.specs.RequestReading.{fields_of}
 
 -- the kernel waits for no reply to a forget

@@ -1,7 +1,11 @@
 -- Numbers as the structs of linux/fuse.h hold them on a machine that is little endian: the lowest byte first.
-use Rattle.std.specs.Prelude.{ℕ, ℤ, List}
+use Rattle.std.specs.Prelude.{ℕ, ℤ, List, replicate}
 use Rattle.std.specs.Int.{w32, cast_unsigned, cast_signed}
 use Rattle.byteorder.specs.Endian.{little_bytes, little_number}
+
+-- so many bytes that are 0
+unfoldable pub zeros : ℕ → List ℕ
+zeros n = replicate n 0
 
 -- a number of four bytes, and one of eight
 unfoldable pub u32_bytes : ℕ → List ℕ

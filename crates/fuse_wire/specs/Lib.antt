@@ -1,13 +1,14 @@
-pub mod Ask
 pub mod FaultReply
 pub mod Field
 pub mod Form
 pub mod Given
 pub mod Item
 pub mod Mode
-pub mod Opcode
+pub mod Reading
+pub mod Request
+pub mod RequestBody
 pub mod RequestReading
+pub mod RequestText
 pub mod ReplyReading
 pub mod ReplyText
-pub mod RequestText
 pub mod Writing

@@ -8,9 +8,8 @@ use Rattle.eden_base.specs.declared.number.Number.{Number}
 use Rattle.fuse_wire.specs.declared.reply.Answer.{Answer}
 use Rattle.fuse_wire.specs.declared.reply.Answer.TheVariants.{Entry, Opened, Attrs, Done, Error}
 use Rattle.fuse_wire.specs.declared.reply.Reply.{Reply}
-use Rattle.fuse_wire.specs.Field.{i32_bytes, u32_bytes, u64_bytes}
+use Rattle.fuse_wire.specs.Field.{i32_bytes, u32_bytes, u64_bytes, zeros}
 use Rattle.fuse_wire.specs.Mode.{type_bits}
-use Rattle.fuse_wire.specs.RequestText.{zeros}
 
 -- the numbers of errno.h on Linux
 abbrev pub errno_number : Errno → ℕ

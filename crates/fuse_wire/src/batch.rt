@@ -1,6 +1,6 @@
 //! What the kernel forgets at once, out of line.
 ghost use Rattle.std.specs.Prelude.{◌≡◌, ◌≤◌, ◌*◌, ◌==◌, List, length, vec_len, vec_capacity, IfOk};
-ghost use Rattle.fuse_wire.specs.RequestReading.{items_at};
+ghost use Rattle.fuse_wire.specs.RequestBody.{items_at};
 
 use crate::reader::Reader;
 use crate::{Item, Items};

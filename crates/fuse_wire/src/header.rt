@@ -1,6 +1,7 @@
 //! The first 40 bytes of a request.
 ghost use Rattle.std.specs.Prelude.{◌≡◌, ◌≤◌, length, OnOk, ◌==◌};
-ghost use Rattle.fuse_wire.specs.RequestReading.{Gives, TakesNone, asked, fields_of, header_of};
+ghost use Rattle.fuse_wire.specs.Reading.{Gives, TakesNone};
+ghost use Rattle.fuse_wire.specs.RequestReading.{asked, fields_of, header_of};
 
 use crate::reader::Reader;
 use crate::{Ask, Request, WireFault};

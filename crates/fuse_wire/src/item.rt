@@ -1,6 +1,6 @@
 //! What the kernel forgets.
 ghost use Rattle.std.specs.Prelude.{◌≡◌, ◌<◌, ◌≤◌, ◌+◌, ◌*◌, List, [], ◌∷◌, ◌++◌, length, drop, ◌==◌, nat_eq};
-ghost use Rattle.fuse_wire.specs.RequestReading.{item_at, items_at};
+ghost use Rattle.fuse_wire.specs.RequestBody.{item_at, items_at};
 
 use crate::reader::Reader;
 use arrayvec::ArrayVec;

@@ -1,7 +1,6 @@
 //! The bytes of the Linux FUSE protocol, both ways: what the kernel asks of a daemon, and what the daemon answers.
 #![tactic(auto)]
 
-mod ask;
 mod batch;
 mod errno;
 mod fault;
@@ -13,17 +12,16 @@ mod layout;
 mod memory;
 mod mode;
 mod nodes;
-mod opcode;
 mod reader;
 mod reply;
 mod reply_reader;
 mod reply_to_fault;
 mod reply_writer;
+mod request;
 mod request_reader;
 mod request_writer;
 mod writer;
 
-pub use ask::{Ask, Request};
 pub use batch::{Batch, BatchRoom};
 pub use fault::WireFault;
 pub use form::Form;
@@ -33,5 +31,6 @@ pub use reply::{Answer, Reply};
 pub use reply_reader::read_reply;
 pub use reply_to_fault::fault_reply;
 pub use reply_writer::{MAX_REPLY_LEN, write_reply};
+pub use request::{Ask, Request};
 pub use request_reader::{read_items, read_request, read_request_to};
 pub use request_writer::write_request;

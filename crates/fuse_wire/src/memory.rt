@@ -1,7 +1,7 @@
 //! Where the name or the batch of a request that is read gets its memory.
 ghost use Rattle.std.specs.Prelude.{◌≡◌, ◌≤◌, ◌*◌, Bool, true, false, IsTrue, length, IfOk, OnErr};
 ghost use Rattle.eden_base.specs.Name.{IsNameText};
-ghost use Rattle.fuse_wire.specs.RequestReading.{items_at};
+ghost use Rattle.fuse_wire.specs.RequestBody.{items_at};
 
 use crate::{Batch, BatchRoom};
 use eden_base::{Name, NameRoom, NoMemory};

@@ -3,7 +3,7 @@ ghost use Rattle.std.specs.Prelude.{◌≡◌};
 ghost use Rattle.fuse_wire.specs.FaultReply.{errno_of_fault, is_forget, fault_reply_of};
 
 use crate::header::Header;
-use crate::opcode::Opcode;
+use crate::request::Opcode;
 use crate::{Answer, Reply, WireFault};
 use eden_base::{Errno, NameFault};
 

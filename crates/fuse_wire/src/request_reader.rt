@@ -1,22 +1,24 @@
 //! Requests read from their bytes.
 ghost use Rattle.std.specs.Prelude.{◌≡◌, ◌≤◌, ◌+◌, ◌*◌, length, IfOk, IfErr, Ok, Err};
-ghost use Rattle.fuse_wire.specs.Opcode.{opcode_of};
-ghost use Rattle.fuse_wire.specs.RequestReading.{Gives, TakesMemory, WantsMemory, TakesSome, TakesNone, MayLack, name_of, named_with, made_of, forget_of, batch_of, items_at, asked_of, request_of, items_of, items_told, IsForgetOf};
-ghost use Rattle.fuse_wire.specs.RequestText.{IsRequestText, IsSendable, FitsAsk};
+ghost use Rattle.fuse_wire.specs.Reading.{Gives, TakesSome, TakesNone, MayLack};
+ghost use Rattle.fuse_wire.specs.Request.{opcode_of, IsSendable};
+ghost use Rattle.fuse_wire.specs.RequestBody.{TakesMemory, name_of, named_with, made_of, forget_of, batch_of, items_at, items_told};
+ghost use Rattle.fuse_wire.specs.RequestReading.{WantsMemory, asked_of, request_of, items_of, IsForgetOf};
+ghost use Rattle.fuse_wire.specs.RequestText.{IsRequestText, FitsAsk};
 
 use crate::header::{Header, read_header};
 use crate::layout::{
     BATCH_FIXED, CREATE_FIXED, CREATE_MODE, FORGET_LEN, GETATTR_LEN, MKDIR_FIXED, MKDIR_MODE,
 };
 use crate::memory::{Memory, Rooms};
-use crate::opcode::Opcode;
 use crate::reader::Reader;
+use crate::request::Opcode;
 use crate::{Ask, Batch, BatchRoom, Item, Items, Request, WireFault, mode};
 use eden_base::{Name, NameRoom, NoMemory, Number, Perm};
 use std::alloc::Global;
 
 /// Reads a name, and NUL.
-#[tactic(auto, unfolding(crate::specs::RequestReading::name_of))]
+#[tactic(auto, unfolding(crate::specs::RequestBody::name_of))]
 fn read_name<M: Memory>(memory: M, body: &[u8]) -> Result<Name, WireFault>
     ensures { Gives (MayLack M.may_lack TakesSome) result (name_of body.now) }
 {
@@ -38,7 +40,7 @@ fn read_name<M: Memory>(memory: M, body: &[u8]) -> Result<Name, WireFault>
 }
 
 /// Returns the permissions of the mode that stands at a place in a fixed part, and what follows that part.
-#[tactic(auto, unfolding(crate::specs::RequestReading::made_of))]
+#[tactic(auto, unfolding(crate::specs::RequestBody::made_of))]
 fn mode_part(fixed: usize, place: usize, body: &[u8]) -> Result<(Perm, &[u8]), WireFault>
     requires { place + 4 ≤ fixed }
     ensures rest { IfOk result (λ part. made_of fixed place body.now ≡ named_with part.0 part.1.now) }
@@ -69,7 +71,7 @@ fn read_made<M: Memory>(
 }
 
 /// Reads the item of a FORGET (`struct fuse_forget_in`).
-#[tactic(auto, unfolding(crate::specs::RequestReading::forget_of))]
+#[tactic(auto, unfolding(crate::specs::RequestBody::forget_of))]
 fn read_forget(node: Number, body: &[u8]) -> Result<Item, WireFault>
     ensures value { result ≡ forget_of node body.now }
     ensures never_out_of_memory { Gives TakesNone result (forget_of node body.now) }
@@ -82,7 +84,7 @@ fn read_forget(node: Number, body: &[u8]) -> Result<Item, WireFault>
 }
 
 /// Returns how many items a BATCH_FORGET has, and their bytes (`struct fuse_batch_forget_in`).
-#[tactic(auto, unfolding(crate::specs::RequestReading::batch_of))]
+#[tactic(auto, unfolding(crate::specs::RequestBody::batch_of))]
 fn items_part(body: &[u8]) -> Result<(usize, &[u8]), WireFault>
     ensures items { IfOk result (λ part. batch_of body.now ≡ Ok (items_at part.0 part.1.now)) }
     ensures whole { IfOk result (λ part. length part.1.now ≡ 16 * part.0) }
@@ -112,7 +114,7 @@ fn read_batch<M: Memory>(memory: M, body: &[u8]) -> Result<Batch, WireFault>
 }
 
 /// Reads the request of a header and a body.
-#[tactic(auto, unfolding(crate::specs::RequestReading::what_of))]
+#[tactic(auto, unfolding(crate::specs::RequestBody::what_of))]
 fn read_body<M: Memory>(memory: M, header: Header, body: &[u8]) -> Result<Ask, WireFault>
     ensures { Gives (MayLack M.may_lack WantsMemory) result (asked_of header body.now) }
 {
@@ -214,7 +216,7 @@ pub fn read_items(bytes: &[u8]) -> Result<Items, WireFault>
 }
 
 /// Reads the header first, then the items of its body.
-#[tactic(auto, unfolding(crate::specs::RequestReading::items_of, crate::specs::RequestReading::forgotten_of))]
+#[tactic(auto, unfolding(crate::specs::RequestReading::items_of, crate::specs::RequestBody::forgotten_of))]
 fn read_forgotten(bytes: &[u8]) -> Result<Items, WireFault>
     ensures { result ≡ items_of bytes.now }
 {

@@ -1,10 +1,12 @@
 //! Requests as bytes, on the broker's side.
 ghost use Rattle.std.specs.Prelude.{All, ◌<◌, ◌^◌, ◌≡◌, ◌≤◌, ◌+◌, ◌++◌, IfOk, Ok, length};
 ghost use Rattle.std.specs.List.{flat_map};
-ghost use Rattle.fuse_wire.specs.Opcode.{code};
-ghost use Rattle.fuse_wire.specs.RequestText.{zeros, opcode, nodeid, IsSendable, name_text, create_body, mkdir_body, batch_body, item_text, body, header, request_text, IsBody, IsRequestText, FitsAsk, FitsBody, FitsItem};
-ghost use Rattle.eden_base.specs.Name.{IsNameText};
+ghost use Rattle.fuse_wire.specs.Field.{zeros};
+ghost use Rattle.fuse_wire.specs.Request.{code, opcode, nodeid, IsSendable};
+ghost use Rattle.fuse_wire.specs.RequestBody.{name_text, create_body, mkdir_body, batch_body, item_text, body, IsBody, FitsBody, FitsItem};
 ghost use Rattle.fuse_wire.specs.RequestReading.{request_of};
+ghost use Rattle.fuse_wire.specs.RequestText.{header, request_text, IsRequestText, FitsAsk};
+ghost use Rattle.eden_base.specs.Name.{IsNameText};
 ghost use Rattle.fuse_wire.specs.Writing.{HasRoom, Puts};
 
 use crate::header::Header;
@@ -13,7 +15,7 @@ use crate::layout::{
     GETATTR_LEN, ITEM_LEN, MKDIR_FIXED, MKDIR_REST_LEN, SENDER_LEN,
 };
 use crate::mode::mode_of;
-use crate::opcode::Opcode;
+use crate::request::Opcode;
 use crate::writer::Writer;
 use crate::{Ask, Item, Request};
 use eden_base::{Kind, Name, NoMemory, Perm};

@@ -1,7 +1,6 @@
 //! The fields of a message, written one after the other.
 ghost use Rattle.std.specs.Prelude.{◌≡◌, length};
-ghost use Rattle.fuse_wire.specs.Field.{i32_bytes, u32_bytes, u64_bytes};
-ghost use Rattle.fuse_wire.specs.RequestText.{zeros};
+ghost use Rattle.fuse_wire.specs.Field.{i32_bytes, u32_bytes, u64_bytes, zeros};
 ghost use Rattle.fuse_wire.specs.Writing.{Puts, HasRoom};
 
 use byteorder::{ByteOrder, LittleEndian};
@@ -54,7 +53,7 @@ impl<'a> Writer<'a> {
     }
 
     /// Writes bytes that are 0.
-    #[tactic(auto, unfolding(crate::specs::RequestText::zeros))]
+    #[tactic(auto, unfolding(crate::specs::Field::zeros))]
     pub(crate) fn put_zeros(&mut self, count: usize)
         requires { HasRoom self.old count }
         ensures { Puts self.old self.new (zeros count) }

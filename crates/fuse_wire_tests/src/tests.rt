@@ -1,7 +1,7 @@
 //! Vectors from outside, limits, and that calls succeed: where one allocation is refused, those that take memory tell
 //! so, and succeed when they are made once more. So every test passes under `rt try --test --fail-alloc N`, for each N.
 ghost use Rattle.std.specs.Prelude.{◌≡◌, ◌<◌, ◌^◌, IfOk};
-ghost use Rattle.fuse_wire.specs.RequestText.{IsSendable};
+ghost use Rattle.fuse_wire.specs.Request.{IsSendable};
 
 use crate::vectors::*;
 use eden_base::{Attr, Errno, Kind, NameFault, NameRoom, NoMemory, Number, Perm};

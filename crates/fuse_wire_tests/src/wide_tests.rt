@@ -1,5 +1,5 @@
 //! Each field of a message has its place and its width.
-ghost use Rattle.fuse_wire.specs.RequestText.{IsSendable};
+ghost use Rattle.fuse_wire.specs.Request.{IsSendable};
 
 use crate::wide_vectors::*;
 use eden_base::{Attr, Errno, Kind, Name, Number, Perm};
@@ -70,7 +70,7 @@ fn keeps_modes(alloc: Global) -> Option<bool> {
     Some(mkdir && create)
 }
 
-#[tactic(auto, unfolding(fuse_wire::specs::Opcode::opcode_of))]
+#[tactic(auto, unfolding(fuse_wire::specs::Request::opcode_of))]
 fn keeps_nodes(alloc: Global) -> Option<bool> {
     let node = NODE;
     let getattr = is_kept(alloc, Request::Getattr { node }, &GETATTR, &GETATTR_FILLED)?;

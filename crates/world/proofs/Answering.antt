@@ -9,8 +9,8 @@ use Rattle.eden_base.specs.declared.errno.Errno.TheVariants.{ESTALE, EIO, ENOSYS
 use Rattle.eden_base.specs.declared.number.FileId.{FileId}
 use Rattle.eden_base.specs.declared.number.Number.{Number}
 use Rattle.checkout.specs.Tree.{Tree, IsTree, is_full_dir, next_file, created, removed}
-use Rattle.fuse_wire.specs.Ask.{nodes}
-use Rattle.fuse_wire.specs.declared.ask.Request.{Request}
+use Rattle.fuse_wire.specs.Request.{nodes}
+use Rattle.fuse_wire.specs.declared.request.Request.{Request}
 use Rattle.fuse_wire.specs.declared.form.Form.{Form}
 use Rattle.fuse_wire.specs.declared.reply.Answer.{Answer}
 use Rattle.fuse_wire.specs.declared.reply.Answer.TheVariants.{Attrs, Done, Error}

@@ -4,8 +4,8 @@ use Rattle.std.proofs.lemmas.List.{append-nil}
 use Rattle.std.proofs.Common.{append_assoc}
 use Rattle.std.specs.Prelude.{if◌then◌else◌}
 use Rattle.broker_core.specs.declared.seat.Seat.{Seat}
-use Rattle.fuse_wire.specs.Ask.{is_ask}
-use Rattle.fuse_wire.specs.declared.ask.Request.{Request}
+use Rattle.fuse_wire.specs.Request.{is_ask}
+use Rattle.fuse_wire.specs.declared.request.Request.{Request}
 use Rattle.world.specs.State.{State}
 use Rattle.world.specs.Step.{Once, Carries, IfMade, is_made, Step, parts_of, events_of_do}
 use Rattle.world.specs.declared.event.Event.{Event}

@@ -13,7 +13,7 @@ use Rattle.checkout.specs.Manifest.{Manifest}
 use Rattle.eden_base.specs.declared.attr.Kind.TheVariants.{File}
 use Rattle.checkout.specs.Tree.{Tree, IsTree, kind_of}
 use Rattle.fuse_wire.specs.Given.{given_out}
-use Rattle.fuse_wire.specs.declared.ask.Request.{Request}
+use Rattle.fuse_wire.specs.declared.request.Request.{Request}
 use Rattle.fuse_wire.specs.declared.reply.Answer.{Answer}
 use Rattle.fuse_wire.specs.declared.reply.Answer.TheVariants.{Error}
 use Rattle.inode_map.specs.InodeMap.{MapState, count_of, give_fault, given, number_given}

@@ -5,7 +5,7 @@ use Rattle.std.specs.Option.{option_map}
 use Rattle.eden_base.specs.declared.number.DaemonId.{DaemonId}
 use Rattle.checkout.specs.Manifest.{Manifest}
 use Rattle.checkout.specs.Tree.{IsTree, tree_of}
-use Rattle.fuse_wire.specs.declared.ask.Request.{Request}
+use Rattle.fuse_wire.specs.declared.request.Request.{Request}
 use Rattle.broker_core.specs.Broker.{issue_fault, mounted}
 use Rattle.broker_core.specs.Traffic.{TrafficState, no_traffic}
 use Rattle.broker_core.specs.declared.broker.IssueFault.{IssueFault}

@@ -4,10 +4,10 @@ use Rattle.std.specs.Prelude.{◌==◌, sum_by, count_by, slice_get, remove, if�
 use Rattle.std.proofs.lemmas.List.Sums.{sum_by-append}
 use Rattle.eden_base.proofs.NumberTests.{eq-true}
 use Rattle.eden_base.specs.First.{first_where, without_where}
-use Rattle.fuse_wire.specs.Ask.{is_ask, item_of, items_of}
-use Rattle.fuse_wire.specs.declared.ask.Ask.{Ask}
-use Rattle.fuse_wire.specs.declared.ask.Request.{Request}
-use Rattle.fuse_wire.specs.declared.ask.Request.TheVariants.{Forget, BatchForget}
+use Rattle.fuse_wire.specs.Request.{is_ask, item_of, items_of}
+use Rattle.fuse_wire.specs.declared.request.Ask.{Ask}
+use Rattle.fuse_wire.specs.declared.request.Request.{Request}
+use Rattle.fuse_wire.specs.declared.request.Request.TheVariants.{Forget, BatchForget}
 use Rattle.fuse_wire.specs.declared.item.Item.{Item}
 use Rattle.std.specs.List.{AllByRecursion}
 use Rattle.world.specs.Server.{single, handed, is_single}

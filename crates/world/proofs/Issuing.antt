@@ -4,9 +4,9 @@ use Rattle.std.specs.Prelude.{◌==◌, sum_by, count_by, if◌then◌else◌}
 use Rattle.std.specs.Option.{option_map_or}
 use Rattle.std.proofs.lemmas.List.Sums.{sum_by_push}
 use Rattle.eden_base.proofs.NumberTests.{eq-false, true-eq}
-use Rattle.fuse_wire.specs.Ask.{is_ask, nodes, item_of}
-use Rattle.fuse_wire.specs.declared.ask.Ask.{Ask}
-use Rattle.fuse_wire.specs.declared.ask.Request.{Request}
+use Rattle.fuse_wire.specs.Request.{is_ask, nodes, item_of}
+use Rattle.fuse_wire.specs.declared.request.Ask.{Ask}
+use Rattle.fuse_wire.specs.declared.request.Request.{Request}
 use Rattle.fuse_wire.specs.declared.item.Item.{Item}
 use Rattle.broker_core.specs.Broker.{issue_fault, asked, forgot, unique_of}
 use Rattle.broker_core.specs.declared.seat.Seat.{Seat}

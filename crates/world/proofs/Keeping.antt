@@ -8,8 +8,8 @@ use Rattle.eden_base.proofs.NumberTests.{true-eq}
 use Rattle.eden_base.specs.declared.number.DaemonId.{DaemonId}
 use Rattle.eden_base.specs.declared.number.Number.{Number}
 use Rattle.fuse_wire.specs.Given.{given_out}
-use Rattle.fuse_wire.specs.declared.ask.Ask.{Ask}
-use Rattle.fuse_wire.specs.declared.ask.Request.{Request}
+use Rattle.fuse_wire.specs.declared.request.Ask.{Ask}
+use Rattle.fuse_wire.specs.declared.request.Request.{Request}
 use Rattle.fuse_wire.specs.declared.item.Item.{Item}
 use Rattle.fuse_wire.specs.declared.reply.Answer.{Answer}
 use Rattle.fuse_wire.specs.declared.reply.Reply.{Reply}

@@ -3,7 +3,7 @@ use Rattle.std.proofs.Common.{◌≡◌, ◌+◌, ◌≤◌, Bool, Option, Some,
 use Rattle.std.specs.Prelude.{sum_by, if◌then◌else◌}
 use Rattle.eden_base.specs.First.{without_where}
 use Rattle.eden_base.proofs.NumberTests.{eq-true}
-use Rattle.fuse_wire.specs.declared.ask.Ask.{Ask}
+use Rattle.fuse_wire.specs.declared.request.Ask.{Ask}
 use Rattle.inode_map.specs.InodeMap.{forgotten}
 use Rattle.fuse_ops.specs.Served.{ServedState}
 use Rattle.fuse_ops.proofs.SameManifest.{answered-manifest}

@@ -5,8 +5,8 @@ use Rattle.std.specs.List.{AllByRecursion}
 use Rattle.eden_base.proofs.FirstLemmas.{Each-append, Each-without_where}
 use Rattle.eden_base.proofs.NumberTests.{eq-false, true-eq}
 use Rattle.eden_base.specs.First.{first_where, without_where}
-use Rattle.fuse_wire.specs.Ask.{is_ask}
-use Rattle.fuse_wire.specs.declared.ask.Ask.{Ask}
+use Rattle.fuse_wire.specs.Request.{is_ask}
+use Rattle.fuse_wire.specs.declared.request.Ask.{Ask}
 use Rattle.fuse_wire.specs.declared.item.Item.{Item}
 use Rattle.fuse_wire.specs.declared.reply.Reply.{Reply}
 use Rattle.world.specs.World.{World, is_asked, is_replied, is_item}

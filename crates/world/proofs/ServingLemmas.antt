@@ -6,8 +6,8 @@ use Rattle.std.specs.Prelude.{slice_get, remove, map, take, ◌≢◌, true, fal
 use Rattle.std.specs.List.{AllByRecursion}
 use Rattle.eden_base.specs.declared.number.DaemonId.{DaemonId}
 use Rattle.eden_base.specs.declared.errno.Errno.TheVariants.{EIO}
-use Rattle.fuse_wire.specs.Ask.{is_ask, item_of, items_of}
-use Rattle.fuse_wire.specs.declared.ask.Ask.{Ask}
+use Rattle.fuse_wire.specs.Request.{is_ask, item_of, items_of}
+use Rattle.fuse_wire.specs.declared.request.Ask.{Ask}
 use Rattle.fuse_wire.specs.declared.item.Item.{Item}
 use Rattle.fuse_wire.specs.declared.reply.Answer.{Answer}
 use Rattle.fuse_wire.specs.declared.reply.Answer.TheVariants.{Error}

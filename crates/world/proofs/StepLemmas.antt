@@ -4,7 +4,7 @@ use Rattle.std.proofs.lemmas.Option.{slice_get_read}
 use Rattle.std.specs.Prelude.{slice_get, is_none}
 use Rattle.std.specs.Option.{option_map}
 use Rattle.eden_base.specs.declared.number.DaemonId.{DaemonId}
-use Rattle.fuse_wire.specs.declared.ask.Ask.{Ask}
+use Rattle.fuse_wire.specs.declared.request.Ask.{Ask}
 use Rattle.fuse_wire.specs.declared.reply.Reply.{Reply}
 use Rattle.broker_core.specs.Broker.{BrokerState, mount_fault, mounted, take_fault, post_fault}
 use Rattle.broker_core.specs.declared.fault.TakeFault.{TakeFault}

@@ -6,10 +6,10 @@ use Rattle.std.proofs.lemmas.List.{append_assoc, append-nil}
 use Rattle.std.proofs.lemmas.List.Sums.{sum_by-cons, sum_by-append, sum_by_push}
 use Rattle.eden_base.proofs.NumberTests.{eq-true, true-eq}
 use Rattle.eden_base.specs.First.{first_where, without_where}
-use Rattle.fuse_wire.specs.Ask.{is_ask, item_of, items_of}
+use Rattle.fuse_wire.specs.Request.{is_ask, item_of, items_of}
 use Rattle.fuse_wire.proofs.ItemLaws.{items-one}
-use Rattle.fuse_wire.specs.declared.ask.Ask.{Ask}
-use Rattle.fuse_wire.specs.declared.ask.Request.{Request}
+use Rattle.fuse_wire.specs.declared.request.Ask.{Ask}
+use Rattle.fuse_wire.specs.declared.request.Request.{Request}
 use Rattle.fuse_wire.specs.declared.item.Item.{Item}
 use Rattle.fuse_wire.specs.declared.reply.Reply.{Reply}
 use Rattle.broker_core.specs.Traffic.{TrafficState, front, ask_issued, item_issued, left_by_take, reply_posted, reply_delivered}

@@ -5,9 +5,9 @@ use Rattle.std.proofs.lemmas.List.{append-nil}
 use Rattle.eden_base.specs.First.{first_where, without_where}
 use Rattle.eden_base.specs.declared.number.DaemonId.{DaemonId}
 use Rattle.eden_base.proofs.NumberTests.{eq-true, false-ne}
-use Rattle.fuse_wire.specs.Ask.{is_ask, item_of}
+use Rattle.fuse_wire.specs.Request.{is_ask, item_of}
 use Rattle.fuse_wire.proofs.ItemLaws.{items-one}
-use Rattle.fuse_wire.specs.declared.ask.Ask.{Ask}
+use Rattle.fuse_wire.specs.declared.request.Ask.{Ask}
 use Rattle.fuse_wire.specs.declared.item.Item.{Item}
 use Rattle.fuse_wire.specs.declared.reply.Answer.{Answer}
 use Rattle.fuse_wire.specs.declared.reply.Reply.{Reply}

@@ -7,8 +7,8 @@ use Rattle.eden_base.specs.declared.number.DaemonId.{DaemonId}
 use Rattle.eden_base.specs.declared.number.FileId.{FileId}
 use Rattle.checkout.specs.Manifest.{Manifest}
 use Rattle.checkout.specs.Tree.{Tree, IsTree, tree_of}
-use Rattle.fuse_wire.specs.Ask.{is_ask, item_of, items_of}
-use Rattle.fuse_wire.specs.declared.ask.Ask.{Ask}
+use Rattle.fuse_wire.specs.Request.{is_ask, item_of, items_of}
+use Rattle.fuse_wire.specs.declared.request.Ask.{Ask}
 use Rattle.fuse_wire.specs.declared.item.Item.{Item}
 use Rattle.broker_core.specs.Broker.{BrokerState}
 use Rattle.broker_core.specs.Held.{held_count}

@@ -6,9 +6,9 @@ use Rattle.eden_base.specs.declared.number.DaemonId.{DaemonId}
 use Rattle.broker_core.specs.Broker.{mounted, issued, unique_of, taken, posted, delivered}
 use Rattle.broker_core.specs.Traffic.{front, next_taken}
 use Rattle.broker_core.specs.declared.seat.Seat.{Seat}
-use Rattle.fuse_wire.specs.Ask.{is_ask}
-use Rattle.fuse_wire.specs.declared.ask.Ask.{Ask}
-use Rattle.fuse_wire.specs.declared.ask.Request.{Request}
+use Rattle.fuse_wire.specs.Request.{is_ask}
+use Rattle.fuse_wire.specs.declared.request.Ask.{Ask}
+use Rattle.fuse_wire.specs.declared.request.Request.{Request}
 use Rattle.fuse_wire.specs.declared.reply.Answer.{Answer}
 use Rattle.fuse_wire.specs.declared.reply.Answer.TheVariants.{Error}
 use Rattle.fuse_wire.specs.declared.reply.Reply.{Reply}

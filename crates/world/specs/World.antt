@@ -14,10 +14,10 @@ use Rattle.eden_base.specs.declared.number.FileId.{FileId}
 use Rattle.eden_base.specs.declared.number.Number.{Number}
 use Rattle.checkout.specs.Manifest.{Manifest}
 use Rattle.checkout.specs.Tree.{Tree, tree_of, kind_of, root}
-use Rattle.fuse_wire.specs.Ask.{is_ask, nodes}
+use Rattle.fuse_wire.specs.Request.{is_ask, nodes}
 use Rattle.fuse_wire.specs.Given.{given_out}
-use Rattle.fuse_wire.specs.declared.ask.Ask.{Ask}
-use Rattle.fuse_wire.specs.declared.ask.Request.{Request}
+use Rattle.fuse_wire.specs.declared.request.Ask.{Ask}
+use Rattle.fuse_wire.specs.declared.request.Request.{Request}
 use Rattle.fuse_wire.specs.declared.item.Item.{Item}
 use Rattle.fuse_wire.specs.declared.reply.Answer.{Answer}
 use Rattle.fuse_wire.specs.declared.reply.Answer.TheVariants.{Error}

@@ -1,7 +1,7 @@
 //! A daemon that mounted.
 ghost use Rattle.std.specs.Prelude.{◌≡◌, ◌++◌, ◌+◌, ◌≤◌, false, map, length, vec_len, vec_capacity};
 ghost use Rattle.broker_core.specs.Broker.{take_fault};
-ghost use Rattle.fuse_wire.specs.Ask.{is_ask, items_of};
+ghost use Rattle.fuse_wire.specs.Request.{is_ask, items_of};
 ghost use Rattle.world.specs.Server.{at_place, handed, single, told_taken, told_item};
 ghost use Rattle.world.specs.Serving.{beginning, TakesBy, WorksBy, PostsBy};
 

@@ -1,9 +1,9 @@
 -- The lines of a script that say what happens: a command, and its words, parted by one space each. A name is the last
 -- word, and runs to the end of the line. (This project's own.)
 use Rattle.std.specs.Prelude.{ℕ, ◌^◌, Bool, true, false, nat_lt, List, Option, Some, None, codes, option_map, option_and_then, is_none, if◌then◌else◌}
-use Rattle.fuse_wire.specs.declared.ask.Request.{Request}
-use Rattle.fuse_wire.specs.declared.ask.Request.TheVariants.{Lookup, Getattr, Create, Mkdir, Unlink, Rmdir, Forget}
-use Rattle.fuse_wire.specs.RequestText.{other_of}
+use Rattle.fuse_wire.specs.declared.request.Request.{Request}
+use Rattle.fuse_wire.specs.declared.request.Request.TheVariants.{Lookup, Getattr, Create, Mkdir, Unlink, Rmdir, Forget}
+use Rattle.fuse_wire.specs.Request.{other_of}
 use Rattle.world.specs.declared.event.Event.{Event}
 use Rattle.world.specs.declared.event.Event.TheVariants.{Start, Mount, Issue, Take, Work, Post, Deliver, Do, Show}
 use Rattle.eden_base.specs.Name.{name_fault}

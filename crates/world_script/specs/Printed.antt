@@ -12,8 +12,8 @@ use Rattle.broker_core.specs.Held.{held_count}
 use Rattle.broker_core.specs.Traffic.{taken_back, forgets_on, gives, entries_of}
 use Rattle.broker_core.specs.declared.seat.Seat.{Seat}
 use Rattle.fuse_ops.specs.Served.{ServedState}
-use Rattle.fuse_wire.specs.Ask.{item_of}
-use Rattle.fuse_wire.specs.declared.ask.Ask.{Ask}
+use Rattle.fuse_wire.specs.Request.{item_of}
+use Rattle.fuse_wire.specs.declared.request.Ask.{Ask}
 use Rattle.fuse_wire.specs.declared.reply.Answer.{Answer}
 use Rattle.fuse_wire.specs.declared.reply.Answer.TheVariants.{Entry, Opened, Attrs, Done, Error}
 use Rattle.fuse_wire.specs.declared.reply.Reply.{Reply}

@@ -2,7 +2,8 @@
 use Rattle.std.proofs.Common.{◌≡◌, ℕ, List, Result, Err, subst, sym, rules}
 use Rattle.eden_base.specs.declared.attr.Perm.{Perm}
 use Rattle.fuse_wire.specs.declared.fault.WireFault.{WireFault}
-use Rattle.fuse_wire.specs.RequestReading.{Gives, MayLack, TakesSome, name_of, made_of}
+use Rattle.fuse_wire.specs.Reading.{Gives, MayLack, TakesSome}
+use Rattle.fuse_wire.specs.RequestBody.{name_of, made_of}
 use Rattle.fuse_wire.proofs.Lacking.{fault_beside}
 use Rattle.fuse_wire.proofs.request_reader.read_made.Goals as goal
 

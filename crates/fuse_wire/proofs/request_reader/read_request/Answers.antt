@@ -1,5 +1,6 @@
 use Rattle.std.proofs.Common.{subst, arith, true}
-use Rattle.fuse_wire.specs.RequestReading.{Gives, WantsMemory, request_of}
+use Rattle.fuse_wire.specs.Reading.{Gives}
+use Rattle.fuse_wire.specs.RequestReading.{WantsMemory, request_of}
 use Rattle.fuse_wire.proofs.Lacking.{as_given}
 use Rattle.fuse_wire.proofs.Requests.{is_text, may_be_sent, request_again}
 use Rattle.fuse_wire.proofs.request_reader.read_request.Goals as goal

@@ -1,7 +1,8 @@
 use Rattle.std.proofs.Common.{◌≤◌, length, sym, ap, subst, ◌∙◌, arith}
 use Rattle.std.proofs.lemmas.Grind.{common_steps}
+use Rattle.fuse_wire.specs.RequestBody.{body}
 use Rattle.fuse_wire.specs.RequestReading.{request_of}
-use Rattle.fuse_wire.specs.RequestText.{body, IsRequestText}
+use Rattle.fuse_wire.specs.RequestText.{IsRequestText}
 use Rattle.fuse_wire.proofs.OwnTexts.{own_text, own_text_again}
 use Rattle.fuse_wire.proofs.request_writer.write_request.Goals as goal
 

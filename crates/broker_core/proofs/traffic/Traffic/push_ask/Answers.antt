@@ -1,6 +1,6 @@
 use Rattle.std.proofs.Common.{◌++◌, ◌∷◌, [], sym, ap, ◌∙◌, subst, arith}
-use Rattle.fuse_wire.specs.declared.ask.Ask.{Ask}
-use Rattle.fuse_wire.specs.declared.ask.Request.{Request}
+use Rattle.fuse_wire.specs.declared.request.Ask.{Ask}
+use Rattle.fuse_wire.specs.declared.request.Request.{Request}
 use Rattle.broker_core.specs.Traffic.{TrafficState, IsLater}
 use Rattle.broker_core.specs.Roomy.{taken_among}
 use Rattle.broker_core.proofs.AskedLaws.{taken-before}

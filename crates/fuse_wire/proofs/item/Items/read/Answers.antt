@@ -1,6 +1,6 @@
 use Rattle.std.proofs.Common.{◌≡◌, ◌+◌, ◌*◌, List, [], ◌∷◌, ◌++◌, drop, sym, subst, arith}
 use Rattle.fuse_wire.specs.declared.item.Item.{Item}
-use Rattle.fuse_wire.specs.RequestReading.{item_at}
+use Rattle.fuse_wire.specs.RequestBody.{item_at}
 use Rattle.fuse_wire.proofs.ItemsRead.{AreRead, goes_on, is_done}
 use Rattle.fuse_wire.proofs.item.Items.read.Goals as goal
 

@@ -1,7 +1,7 @@
 -- The events of a `do`, until one is refused.
 use Rattle.std.proofs.Common.{◌≡◌, Bool, false, List, [], ◌∷◌, ◌++◌, Some, refl, sym, ap, ◌∙◌, subst}
 use Rattle.std.specs.Prelude.{if◌then◌else◌}
-use Rattle.fuse_wire.specs.Ask.{is_ask}
+use Rattle.fuse_wire.specs.Request.{is_ask}
 use Rattle.world.specs.State.{State}
 use Rattle.world.specs.Step.{Once, events_of_do}
 use Rattle.world.specs.declared.event.Event.{Event}

@@ -1,9 +1,7 @@
-//! What the kernel asks.
+//! What the kernel asks, and by which opcode.
 ghost use Rattle.std.specs.Prelude.{◌≡◌, IfOk};
-ghost use Rattle.fuse_wire.specs.Ask.{form_of, is_ask, nodes, item_of};
-ghost use Rattle.fuse_wire.specs.RequestText.{other_of};
+ghost use Rattle.fuse_wire.specs.Request.{code, opcode_of, form_of, is_ask, nodes, item_of, other_of};
 
-use crate::opcode::Opcode;
 use crate::{Batch, BatchRoom, Form, Item, Nodes};
 use eden_base::{Name, NameRoom, NoMemory, Number, Perm};
 use std::alloc::Global;
@@ -30,6 +28,21 @@ pub enum Request {
 pub struct Ask {
     pub unique: u64,
     pub what: Request,
+}
+
+/// What a request asks for (`enum fuse_opcode` of `linux/fuse.h`).
+#[derive(Clone, Copy)]
+pub(crate) enum Opcode {
+    Lookup,
+    Forget,
+    Getattr,
+    Mkdir,
+    Unlink,
+    Rmdir,
+    Create,
+    BatchForget,
+    /// Any other, which is answered without a look at its body.
+    Other(u32),
 }
 
 impl Request {
@@ -171,6 +184,43 @@ impl Request {
         match self {
             Request::Forget(item) => Some(*item),
             _ => None,
+        }
+    }
+}
+
+impl Opcode {
+    /// Returns the operation of a header's opcode.
+    #[tactic(auto, unfolding(crate::specs::Request::opcode_of))]
+    pub(crate) fn of(code: u32) -> Opcode
+        ensures { result ≡ opcode_of code }
+    {
+        match code {
+            1 => Opcode::Lookup,
+            2 => Opcode::Forget,
+            3 => Opcode::Getattr,
+            9 => Opcode::Mkdir,
+            10 => Opcode::Unlink,
+            11 => Opcode::Rmdir,
+            35 => Opcode::Create,
+            42 => Opcode::BatchForget,
+            other => Opcode::Other(other),
+        }
+    }
+
+    /// Returns the opcode, as `linux/fuse.h` numbers it.
+    pub(crate) fn code(self) -> u32
+        ensures { result ≡ code self }
+    {
+        match self {
+            Opcode::Lookup => 1,
+            Opcode::Forget => 2,
+            Opcode::Getattr => 3,
+            Opcode::Mkdir => 9,
+            Opcode::Unlink => 10,
+            Opcode::Rmdir => 11,
+            Opcode::Create => 35,
+            Opcode::BatchForget => 42,
+            Opcode::Other(other) => other,
         }
     }
 }

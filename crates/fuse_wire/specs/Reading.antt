@@ -1,0 +1,28 @@
+-- What a reader gives: a value or the first fault, and out of memory in place of some values alone.
+use Rattle.std.specs.Prelude.{◌≡◌, Bool, IsTrue, IsOkAnd, Result, Ok, Err}
+use Rattle.fuse_wire.specs.declared.fault.WireFault.{WireFault}
+use Rattle.fuse_wire.specs.declared.fault.WireFault.TheVariants.{NoMemory}
+
+-- what follows from a value that was read, unless there was a fault
+infixl 10 ◌>>=◌
+abbrev pub ◌>>=◌ : {A B : Type 0} → Result A WireFault → (A → Result B WireFault) → Result B WireFault
+(Ok x) >>= f = f x
+(Err fault) >>= f = Err fault
+
+-- what a call gave that takes memory for some values: out of memory comes in place of one of them alone
+abbrev pub Gives : {X : Type 0} → (X → Type 0) → Result X WireFault → Result X WireFault → Type 0
+Gives Takes (Ok x) read = read ≡ Ok x
+Gives Takes (Err NoMemory) read = IsOkAnd read Takes
+Gives Takes (Err fault) read = read ≡ Err fault
+
+-- every value takes memory, as a name does
+abbrev pub TakesSome : {X : Type 0} → X → Type 0
+TakesSome x = Unit {0}
+
+-- no value takes memory
+abbrev pub TakesNone : {X : Type 0} → X → Type 0
+TakesNone x = ⊥
+
+-- memory may be refused, and the value takes some
+abbrev pub MayLack : {X : Type 0} → Bool → (X → Type 0) → X → Type 0
+MayLack may_lack Takes x = IsTrue may_lack × Takes x

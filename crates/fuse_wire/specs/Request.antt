@@ -1,0 +1,126 @@
+-- What a request is, by its kind: its opcode and the nodeid in its header (linux/fuse.h, enum fuse_opcode and
+-- fuse_in_header), and what a layer above has to know of it: the kernel waits for no reply to a forget, asks only on
+-- numbers that it holds, and is answered in a form by the kind (libfuse's `fuse_lowlevel.h`). A kind of request is a row
+-- in each table.
+use Rattle.std.specs.Prelude.{◌≡◌, ℕ, ◌==◌, Bool, true, false, List, [], ◌∷◌, Option, Some, None, if◌then◌else◌}
+use Rattle.eden_base.specs.declared.number.Number.{Number}
+use Rattle.fuse_wire.specs.declared.form.Form.{Form}
+use Rattle.fuse_wire.specs.declared.form.Form.TheVariants.{AnEntry, AnOpenEntry, Attributes, NoValue, OnlyAnError}
+use Rattle.fuse_wire.specs.declared.item.Item.{Item}
+use Rattle.fuse_wire.specs.declared.request.Opcode.{Opcode}
+use Rattle.fuse_wire.specs.declared.request.Opcode.TheVariants as opcodes
+use Rattle.fuse_wire.specs.declared.request.Request.{Request}
+use Rattle.fuse_wire.specs.declared.request.Request.TheVariants.{Lookup, Getattr, Create, Mkdir, Unlink, Rmdir, Forget, BatchForget, Other}
+
+-- ---- opcodes: RENAME, 12, is none of those that are served
+
+-- the number of an opcode
+abbrev pub code : Opcode → ℕ
+code opcodes.Lookup = 1
+code opcodes.Forget = 2
+code opcodes.Getattr = 3
+code opcodes.Mkdir = 9
+code opcodes.Unlink = 10
+code opcodes.Rmdir = 11
+code opcodes.Create = 35
+code opcodes.BatchForget = 42
+code (opcodes.Other n) = n
+
+-- the opcode of a number
+unfoldable pub opcode_of : ℕ → Opcode
+opcode_of n =
+    if n == 1 then opcodes.Lookup
+    else if n == 2 then opcodes.Forget
+    else if n == 3 then opcodes.Getattr
+    else if n == 9 then opcodes.Mkdir
+    else if n == 10 then opcodes.Unlink
+    else if n == 11 then opcodes.Rmdir
+    else if n == 35 then opcodes.Create
+    else if n == 42 then opcodes.BatchForget
+    else opcodes.Other n
+
+-- the opcode that a request goes by
+abbrev pub opcode : Request → Opcode
+opcode (Lookup dir name) = opcodes.Lookup
+opcode (Getattr node) = opcodes.Getattr
+opcode (Create dir name perm) = opcodes.Create
+opcode (Mkdir dir name perm) = opcodes.Mkdir
+opcode (Unlink dir name) = opcodes.Unlink
+opcode (Rmdir dir name) = opcodes.Rmdir
+opcode (Forget item) = opcodes.Forget
+opcode (BatchForget items) = opcodes.BatchForget
+opcode (Other n node) = opcodes.Other n
+
+-- a request of another opcode than those that have a form of their own
+abbrev pub IsSendable : Request → Type 0
+IsSendable (Other n node) = opcode_of n ≡ opcodes.Other n
+IsSendable request = Unit {0}
+
+-- a request of an operation that has no form of its own
+abbrev pub other_by : Opcode → Number → Option Request
+other_by (opcodes.Other n) node = Some (Other n node)
+other_by opcode node = None
+
+-- the request of an opcode for a number, where no request of another form has that opcode
+abbrev pub other_of : ℕ → Number → Option Request
+other_of n node = other_by (opcode_of n) node
+
+-- ---- the nodeid
+
+-- the nodeid in the header; a batch is of many
+abbrev pub nodeid : Request → ℕ
+nodeid (Lookup dir name) = dir.0
+nodeid (Getattr node) = node.0
+nodeid (Create dir name perm) = dir.0
+nodeid (Mkdir dir name perm) = dir.0
+nodeid (Unlink dir name) = dir.0
+nodeid (Rmdir dir name) = dir.0
+nodeid (Forget item) = item.node.0
+nodeid (BatchForget items) = 0
+nodeid (Other n node) = node.0
+
+-- the nodeid in the header, which is any number before a batch
+abbrev pub IsNodeid : Request → ℕ → Type 0
+IsNodeid (BatchForget items) n = Unit {0}
+IsNodeid request n = n ≡ nodeid request
+
+-- ---- what a layer above has to know
+
+-- the request is answered
+abbrev pub is_ask : Request → Bool
+is_ask (Forget item) = false
+is_ask (BatchForget items) = false
+is_ask request = true
+
+-- the numbers that a request goes to; those of a forget are in its items
+abbrev pub nodes : Request → List Number
+nodes (Lookup dir name) = dir ∷ []
+nodes (Getattr node) = node ∷ []
+nodes (Create dir name perm) = dir ∷ []
+nodes (Mkdir dir name perm) = dir ∷ []
+nodes (Unlink dir name) = dir ∷ []
+nodes (Rmdir dir name) = dir ∷ []
+nodes (Forget item) = []
+nodes (BatchForget items) = []
+nodes (Other n node) = node ∷ []
+
+-- the form in which a request is answered where it does not fail
+abbrev pub form_of : Request → Form
+form_of (Lookup dir name) = AnEntry
+form_of (Mkdir dir name perm) = AnEntry
+form_of (Create dir name perm) = AnOpenEntry
+form_of (Getattr node) = Attributes
+form_of (Unlink dir name) = NoValue
+form_of (Rmdir dir name) = NoValue
+form_of request = OnlyAnError
+
+-- the item of a FORGET; a batch has none of its own
+abbrev pub item_of : Request → Option Item
+item_of (Forget item) = Some item
+item_of request = None
+
+-- the items of a forget of either form
+abbrev pub items_of : Request → List Item
+items_of (Forget item) = item ∷ []
+items_of (BatchForget items) = items
+items_of request = []

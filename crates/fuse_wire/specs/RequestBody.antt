@@ -1,0 +1,193 @@
+-- The body of a request, by its kind (linux/fuse.h: the struct of each opcode): how it is written, where what no reader
+-- looks at is 0; all the bytes that are read as it; and what bytes are read as, or which fault is the first. A kind of
+-- request is a row in each table.
+use Rattle.std.specs.Prelude.{All, ◌≡◌, ◌<◌, ◌≤◌, ◌^◌, ◌+◌, ◌-◌, ◌*◌, ◌%◌, ℕ, zero, suc, not, ◌||◌, ◌&&◌, ◌==◌, nat_lt, List, [], ◌∷◌, ◌++◌, length, take, drop, slice_index, Option, Some, None, Result, Ok, Err, if◌then◌else◌}
+use Rattle.std.specs.List.{flat_map}
+use Rattle.eden_base.specs.declared.attr.Perm.{Perm}
+use Rattle.eden_base.specs.declared.name.NameFault.{NameFault}
+use Rattle.eden_base.specs.declared.number.Number.{Number}
+use Rattle.eden_base.specs.Name.{IsNameText, name_fault}
+use Rattle.fuse_wire.specs.declared.fault.WireFault.{WireFault}
+use Rattle.fuse_wire.specs.declared.fault.WireFault.TheVariants.{BadBody, BadCount, BadName}
+use Rattle.fuse_wire.specs.declared.item.Item.{Item}
+use Rattle.fuse_wire.specs.declared.request.Opcode.{Opcode}
+use Rattle.fuse_wire.specs.declared.request.Opcode.TheVariants as opcodes
+use Rattle.fuse_wire.specs.declared.request.Request.{Request}
+use Rattle.fuse_wire.specs.declared.request.Request.TheVariants.{Lookup, Getattr, Create, Mkdir, Unlink, Rmdir, Forget, BatchForget, Other}
+use Rattle.fuse_wire.specs.Field.{zeros, u32_bytes, u64_bytes, u32_at, u64_at}
+use Rattle.fuse_wire.specs.Mode.{S_IFREG, perm_of}
+use Rattle.fuse_wire.specs.Reading.{◌>>=◌}
+use Rattle.fuse_wire.specs.Request.{opcode_of}
+
+-- ---- as written
+
+-- a name, and NUL
+abbrev pub name_text : List ℕ → List ℕ
+name_text name = name ++ 0 ∷ []
+
+-- one item of a batch
+abbrev pub item_text : Item → List ℕ
+item_text item = u64_bytes item.node.0 ++ u64_bytes item.k
+
+-- flags, mode, umask and one more word, then the name
+abbrev pub create_body : List ℕ → Perm → List ℕ
+create_body name perm = (zeros 4 ++ u32_bytes (S_IFREG + perm.bits) ++ zeros 8) ++ name_text name
+
+-- mode and umask, then the name
+abbrev pub mkdir_body : List ℕ → Perm → List ℕ
+mkdir_body name perm = (u32_bytes perm.bits ++ zeros 4) ++ name_text name
+
+-- the count and four bytes, then the items
+abbrev pub batch_body : List Item → List ℕ
+batch_body items = (u32_bytes (length items) ++ zeros 4) ++ flat_map item_text items
+
+-- what follows the header
+abbrev pub body : Request → List ℕ
+body (Lookup dir name) = name_text name
+body (Unlink dir name) = name_text name
+body (Rmdir dir name) = name_text name
+body (Create dir name perm) = create_body name perm
+body (Mkdir dir name perm) = mkdir_body name perm
+body (Getattr node) = zeros 16
+body (Forget item) = u64_bytes item.k
+body (BatchForget items) = batch_body items
+body (Other n node) = []
+
+-- ---- as read: what is ignored is any bytes
+
+-- bytes whose mode has these permissions; the bits above them are ignored
+pub record IsMode (perm : Perm) (mode : ℕ) : Type 0 where
+  pub in_range : mode < 2 ^ 32
+  pub low : mode % 4096 ≡ perm.bits
+
+-- CREATE: flags, mode, umask and one more word, of which the mode is looked at
+pub record IsCreateBody (name : List ℕ) (perm : Perm) (bytes : List ℕ) : Type 0 where
+  pub flags : List ℕ
+  pub mode : ℕ
+  pub others : List ℕ
+  pub four : length flags ≡ 4
+  pub is_mode : IsMode perm mode
+  pub eight : length others ≡ 8
+  pub is_name : IsNameText name
+  pub parts : bytes ≡ (flags ++ u32_bytes mode ++ others) ++ name_text name
+
+-- MKDIR: mode and umask, of which the mode is looked at
+pub record IsMkdirBody (name : List ℕ) (perm : Perm) (bytes : List ℕ) : Type 0 where
+  pub mode : ℕ
+  pub others : List ℕ
+  pub is_mode : IsMode perm mode
+  pub four : length others ≡ 4
+  pub is_name : IsNameText name
+  pub parts : bytes ≡ (u32_bytes mode ++ others) ++ name_text name
+
+-- BATCH_FORGET: the count, four bytes that are ignored, the items
+pub record IsBatchBody (items : List Item) (bytes : List ℕ) : Type 0 where
+  pub others : List ℕ
+  pub four : length others ≡ 4
+  pub at_most : length items ≤ 256
+  pub parts : bytes ≡ (u32_bytes (length items) ++ others) ++ flat_map item_text items
+
+-- the bytes behind the header are of this request
+abbrev pub IsBody : Request → List ℕ → Type 0
+IsBody (Lookup dir name) bytes = IsNameText name × (bytes ≡ name_text name)
+IsBody (Unlink dir name) bytes = IsNameText name × (bytes ≡ name_text name)
+IsBody (Rmdir dir name) bytes = IsNameText name × (bytes ≡ name_text name)
+IsBody (Create dir name perm) bytes = IsCreateBody name perm bytes
+IsBody (Mkdir dir name perm) bytes = IsMkdirBody name perm bytes
+IsBody (Getattr node) bytes = length bytes ≡ 16
+IsBody (Forget item) bytes = bytes ≡ u64_bytes item.k
+IsBody (BatchForget items) bytes = IsBatchBody items bytes
+IsBody (Other n node) bytes = opcode_of n ≡ opcodes.Other n
+
+-- ---- numbers of the sizes that their fields have
+
+-- those of an item
+pub record FitsItem (item : Item) : Type 0 where
+  pub node_fits : item.node.0 < 2 ^ 64
+  pub k_fits : item.k < 2 ^ 64
+
+-- those of a body
+abbrev pub FitsBody : Request → Type 0
+FitsBody (Forget item) = item.k < 2 ^ 64
+FitsBody (BatchForget items) = All FitsItem items
+FitsBody request = Unit {0}
+
+-- ---- what is read, or the first fault
+
+-- a name that was cut out of a body
+abbrev pub checked : List ℕ → Option NameFault → Result (List ℕ) WireFault
+checked name None = Ok name
+checked name (Some fault) = Err (BadName fault)
+
+-- a name, and NUL
+unfoldable pub name_of : List ℕ → Result (List ℕ) WireFault
+name_of body =
+    if nat_lt 0 (length body) && slice_index body (length body - 1) == 0
+    then checked (take (length body - 1) body) (name_fault (take (length body - 1) body))
+    else Err BadBody
+
+-- a name beside permissions
+abbrev pub named_with : Perm → List ℕ → Result (List ℕ × Perm) WireFault
+named_with perm rest = name_of rest >>= λ name. Ok (name, perm)
+
+-- the name behind so many bytes, and the permissions of the mode, which is the word at a place in them
+unfoldable pub made_of : ℕ → ℕ → List ℕ → Result (List ℕ × Perm) WireFault
+made_of fixed place body =
+    if nat_lt (length body) fixed then Err BadBody
+    else named_with (perm_of (u32_at (drop place body))) (drop fixed body)
+
+-- the item in the first sixteen bytes
+abbrev pub item_at : List ℕ → Item
+item_at bytes = record { node = record { 0 = u64_at bytes }; k = u64_at (drop 8 bytes) }
+
+-- the items of a batch, one after the other
+unfoldable pub items_at : ℕ → List ℕ → List Item
+items_at zero bytes = []
+items_at (suc n) bytes = item_at bytes ∷ items_at n (drop 16 bytes)
+
+-- the items of a BATCH_FORGET: a count, four bytes that are ignored, the items, at most 256
+unfoldable pub batch_of : List ℕ → Result (List Item) WireFault
+batch_of body =
+    if nat_lt (length body) 8 then Err BadBody
+    else if nat_lt 256 (u32_at body) || not (length body == 8 + 16 * u32_at body) then Err BadCount
+    else Ok (items_at (u32_at body) (drop 8 body))
+
+-- the item of a FORGET, on the number in the header
+unfoldable pub forget_of : Number → List ℕ → Result Item WireFault
+forget_of node body = if length body == 8 then Ok (record { node = node; k = u64_at body }) else Err BadBody
+
+-- the request of an opcode, a nodeid and a body
+unfoldable pub what_of : Opcode → Number → List ℕ → Result Request WireFault
+what_of opcodes.Lookup node body = name_of body >>= λ name. Ok (Lookup node name)
+what_of opcodes.Unlink node body = name_of body >>= λ name. Ok (Unlink node name)
+what_of opcodes.Rmdir node body = name_of body >>= λ name. Ok (Rmdir node name)
+what_of opcodes.Create node body = made_of 16 4 body >>= λ made. Ok (Create node made.0 made.1)
+what_of opcodes.Mkdir node body = made_of 8 0 body >>= λ made. Ok (Mkdir node made.0 made.1)
+what_of opcodes.Getattr node body = if length body == 16 then Ok (Getattr node) else Err BadBody
+what_of opcodes.Forget node body = forget_of node body >>= λ item. Ok (Forget item)
+what_of opcodes.BatchForget node body = batch_of body >>= λ items. Ok (BatchForget items)
+what_of (opcodes.Other opcode) node body = Ok (Other opcode node)
+
+-- the items of a forget; another request has none
+unfoldable pub forgotten_of : Opcode → Number → List ℕ → Result (List Item) WireFault
+forgotten_of opcodes.Forget node body = forget_of node body >>= λ item. Ok (item ∷ [])
+forgotten_of opcodes.BatchForget node body = batch_of body
+forgotten_of opcode node body = Err BadBody
+
+-- the items of a request that is a forget
+abbrev pub items_told : Request → Result (List Item) WireFault
+items_told (Forget item) = Ok (item ∷ [])
+items_told (BatchForget items) = Ok items
+items_told request = Err BadBody
+
+-- ---- what takes memory
+
+-- a name takes memory, and so does a batch
+abbrev pub TakesMemory : Request → Type 0
+TakesMemory (Lookup dir name) = Unit {0}
+TakesMemory (Create dir name perm) = Unit {0}
+TakesMemory (Mkdir dir name perm) = Unit {0}
+TakesMemory (Unlink dir name) = Unit {0}
+TakesMemory (Rmdir dir name) = Unit {0}
+TakesMemory (BatchForget items) = Unit {0}
+TakesMemory request = ⊥
