@@ -79,16 +79,19 @@ impl Tally {
     }
 }
 
-/// Lengthens the counts to this many, by zeros.
+/// Lengthens the counts to this many, by zeros, in the room that there is.
 fn fill(counts: &mut Vec<u32>, len: usize)
     requires { len ≤ vec_capacity counts.old }
     ensures same { (q : ℕ) → slice_index counts.new.items q ≡ slice_index counts.old.items q }
     ensures filled { len ≤ vec_len counts.new }
-    ensures capacity { vec_capacity counts.new ≡ vec_capacity counts.old }
+    ensures capacity { vec_capacity counts.old ≤ vec_capacity counts.new }
     ensures len { vec_len counts.old ≤ len → vec_len counts.new ≡ len }
     ensures longer { len < vec_len counts.old → vec_len counts.new ≡ vec_len counts.old }
 {
-    while counts.len() < len {
-        counts.push_reserved(0);
+    if counts.len() >= len {
+        return;
     }
+    let Ok(()) = counts.resize(len, 0) else {
+        unreachable!()
+    };
 }
