@@ -1,16 +1,141 @@
 //! Vectors from outside, limits, and that calls succeed: where one allocation is refused, those that take memory tell
 //! so, and succeed when they are made once more. So every test passes under `rt try --test --fail-alloc N`, for each N.
-ghost use Rattle.std.specs.Prelude.{◌≡◌, ◌<◌, ◌^◌, IfOk};
-ghost use Rattle.fuse_wire.specs.Request.{IsSendable};
+ghost use Rattle.std.specs.Prelude.{◌<◌, ◌^◌};
 
+use crate::calls::{
+    are_items_kept, is_kept, is_refused, is_reply_kept, is_spelled, is_written_again, read,
+};
 use crate::vectors::*;
-use eden_base::{Attr, Errno, Kind, NameFault, NameRoom, NoMemory, Number, Perm};
+use eden_base::{Attr, Errno, Kind, NameFault, NoMemory, Number, Perm};
 use fuse_wire::{
-    Answer, Ask, Batch, BatchRoom, Item, Items, Reply, Request, WireFault, fault_reply, read_items,
-    read_reply, read_request, read_request_to, write_reply, write_request,
+    Answer, Ask, Item, Reply, Request, WireFault, fault_reply, read_items, read_reply, read_request,
 };
 use std::alloc::Global;
-use std::test::Fail;
+
+const KINDS: [&[u8]; 9] = [
+    &LOOKUP,
+    &FORGET,
+    &GETATTR,
+    &MKDIR,
+    &UNLINK,
+    &RMDIR,
+    &CREATE,
+    &BATCH_FORGET,
+    &OPEN,
+];
+
+/// Returns whether each of these requests is kept.
+fn are_kept(alloc: Global, requests: &[&[u8]]) -> bool {
+    for bytes in requests {
+        if !is_kept(alloc, bytes) {
+            return false;
+        }
+    }
+    true
+}
+
+#[test]
+fn keeps_each_kind(rt: HostRuntime) {
+    assert!(rt; are_kept(rt.alloc(), &KINDS));
+}
+
+const OF_KERNEL: [(&[u8], &[u8]); 3] = [
+    (&GETATTR_OF_KERNEL, &GETATTR),
+    (&MKDIR_OF_KERNEL, &MKDIR),
+    (&CREATE_OF_KERNEL, &CREATE),
+];
+
+/// Returns whether each of these requests is written as the bytes beside it.
+fn are_written_again(alloc: Global, requests: &[(&[u8], &[u8])]) -> bool {
+    for (bytes, written) in requests {
+        if !is_written_again(alloc, bytes, written) {
+            return false;
+        }
+    }
+    true
+}
+
+#[test]
+fn ignores_what_only_the_kernel_fills_in(rt: HostRuntime) {
+    assert!(rt; are_written_again(rt.alloc(), &OF_KERNEL));
+}
+
+/// Returns whether an ask of this unique looks this name up.
+fn is_lookup(ask: &Ask, unique: u64, node: u64, bytes: &[u8]) -> bool {
+    match &ask.what {
+        Request::Lookup { dir, name } => {
+            ask.unique == unique && dir.0 == node && name.bytes() == bytes
+        }
+        _ => false,
+    }
+}
+
+/// Returns whether an ask of this unique creates this name.
+fn is_create(ask: &Ask, unique: u64, node: u64, bytes: &[u8], bits: u16) -> bool {
+    match &ask.what {
+        Request::Create { dir, name, perm } => {
+            ask.unique == unique && dir.0 == node && name.bytes() == bytes && perm.bits() == bits
+        }
+        _ => false,
+    }
+}
+
+/// Returns whether the bytes are a lookup of `src` in 1, of unique 3.
+fn reads_src(alloc: Global, bytes: &[u8]) -> bool {
+    match read(alloc, bytes) {
+        Ok(ask) => is_lookup(&ask, 3, 1, b"src"),
+        Err(_) => false,
+    }
+}
+
+#[test]
+fn reads_a_lookup(rt: HostRuntime) {
+    assert!(rt; reads_src(rt.alloc(), &LOOKUP));
+}
+
+/// Returns whether the bytes are a create of `a` in 1 with 0o644, of unique 8.
+fn reads_a(alloc: Global, bytes: &[u8]) -> bool {
+    match read(alloc, bytes) {
+        Ok(ask) => is_create(&ask, 8, 1, b"a", 0o644),
+        Err(_) => false,
+    }
+}
+
+#[test]
+fn reads_a_create(rt: HostRuntime) {
+    assert!(rt; reads_a(rt.alloc(), &CREATE_OF_KERNEL));
+}
+
+const TWO: Number = Number(2);
+
+const ONE_ITEM: [Item; 1] = [Item { node: TWO, k: 2 }];
+
+const THREE: Number = Number(3);
+
+const TWO_ITEMS: [Item; 2] = [Item { node: TWO, k: 1 }, Item { node: THREE, k: 2 }];
+
+/// Returns whether the bytes have these items.
+pub(crate) fn has_items(bytes: &[u8], items: &[Item]) -> bool {
+    match read_items(bytes) {
+        Ok(read) => read.as_slice() == items,
+        Err(_) => false,
+    }
+}
+
+/// Returns how many items the bytes have, or why they have none.
+fn items_read(bytes: &[u8]) -> Result<usize, WireFault> {
+    match read_items(bytes) {
+        Ok(items) => Ok(items.len()),
+        Err(fault) => Err(fault),
+    }
+}
+
+#[test]
+fn reads_the_items_of_forgets(rt: HostRuntime) {
+    assert!(rt; has_items(&FORGET, &ONE_ITEM));
+    assert!(rt; has_items(&BATCH_FORGET, &TWO_ITEMS));
+    assert!(rt; items_read(&LOOKUP) == Err(WireFault::BadBody));
+}
 
 const FILE: Attr = Attr {
     kind: Kind::File,
@@ -19,323 +144,181 @@ const FILE: Attr = Attr {
     nlink: 1,
 };
 
-/// Calls `read_request`, and once more where memory was refused.
-fn read(alloc: Global, bytes: &[u8]) -> Result<Ask, WireFault>
-    ensures sendable { IfOk result (λ ask. IsSendable ask.what) }
-{
-    match read_request(alloc, bytes) {
-        Ok(ask) => Ok(ask),
-        Err(WireFault::NoMemory) => read_request(alloc, bytes),
-        Err(fault) => Err(fault),
-    }
-}
+const TWELVE: Attr = Attr {
+    kind: Kind::File,
+    perm: Perm { bits: 0o644 },
+    size: 12,
+    nlink: 1,
+};
 
-/// Calls `write_request`, and once more where memory was refused.
-fn write(alloc: Global, ask: &Ask) -> Result<Vec<u8>, NoMemory>
-    requires { IsSendable ask.now.what }
-{
-    match write_request(alloc, ask) {
-        Ok(bytes) => Ok(bytes),
-        Err(NoMemory) => write_request(alloc, ask),
-    }
-}
+const DIR: Attr = Attr {
+    kind: Kind::Dir,
+    perm: Perm::DIRECTORY,
+    size: 0,
+    nlink: 2,
+};
 
-/// Calls `Request::copy`, and once more where memory was refused.
-fn copy(alloc: Global, request: &Request) -> Result<Request, NoMemory>
-    ensures copy { IfOk result (λ copy. copy ≡ request.now) }
-{
-    match request.copy(alloc) {
-        Ok(copy) => Ok(copy),
-        Err(NoMemory) => request.copy(alloc),
-    }
-}
+const FOUR: Number = Number(4);
 
-/// Calls `NameRoom::new`, and once more where memory was refused.
-fn room(alloc: Global) -> Result<NameRoom, NoMemory> {
-    match NameRoom::new(alloc) {
-        Ok(room) => Ok(room),
-        Err(NoMemory) => NameRoom::new(alloc),
-    }
-}
+/// The answer to an ask of a unique, and its bytes.
+pub type Spelled = (u64, Answer, &'static [u8]);
 
-/// Calls `BatchRoom::new`, and once more where memory was refused.
-fn batch_room(alloc: Global) -> Result<BatchRoom, NoMemory> {
-    match BatchRoom::new(alloc) {
-        Ok(room) => Ok(room),
-        Err(NoMemory) => BatchRoom::new(alloc),
-    }
-}
-
-/// Calls `Batch::of`, and once more where memory was refused.
-fn batch_of(alloc: Global, items: &Items) -> Result<Batch, NoMemory>
-    ensures items { IfOk result (λ batch. batch ≡ items.now) }
-{
-    match Batch::of(alloc, items.as_slice()) {
-        Ok(batch) => Ok(batch),
-        Err(NoMemory) => Batch::of(alloc, items.as_slice()),
-    }
-}
-
-/// Calls `Batch::copy`, and once more where memory was refused.
-fn copy_of(alloc: Global, batch: &Batch) -> Result<Batch, NoMemory> {
-    match batch.copy(alloc) {
-        Ok(copy) => Ok(copy),
-        Err(NoMemory) => batch.copy(alloc),
-    }
-}
-
-/// Takes room for the names and the batch of a request.
-fn rooms(alloc: Global) -> Result<(NameRoom, NameRoom, BatchRoom), NoMemory> {
-    Ok((room(alloc)?, room(alloc)?, batch_room(alloc)?))
-}
-
-/// Reads a request to rooms.
-fn read_to_rooms(alloc: Global, bytes: &[u8]) -> Result<Ask, WireFault> {
-    match rooms(alloc) {
-        Ok((first, second, batch)) => read_request_to(first, second, batch, bytes),
-        Err(NoMemory) => Err(WireFault::NoMemory),
-    }
-}
-
-/// Returns whether both copies of a request are it.
-fn is_copied(alloc: Global, request: &Request) -> Result<bool, NoMemory> {
-    let (first, second, batch) = rooms(alloc)?;
-    if request.copy_to(first, second, batch) != *request {
-        return Ok(false);
-    }
-    Ok(copy(alloc, request)? == *request)
-}
-
-/// Returns whether an ask is written as these bytes.
-fn is_written(alloc: Global, ask: &Ask, written: &[u8]) -> Result<bool, NoMemory>
-    requires { IsSendable ask.now.what }
-{
-    Ok(write(alloc, ask)?.as_slice() == written)
-}
-
-/// Returns whether the request of the bytes is written as these, each copy of it is it, and so is what is read to
-/// rooms.
-fn is_kept(alloc: Global, bytes: &[u8], written: &[u8]) -> Result<bool, WireFault> {
-    let ask = read(alloc, bytes)?;
-    if read_to_rooms(alloc, bytes)? != ask {
-        return Ok(false);
-    }
-    match (
-        is_written(alloc, &ask, written),
-        is_copied(alloc, &ask.what),
-    ) {
-        (Ok(is_written), Ok(is_copied)) => Ok(is_written && is_copied),
-        (_, _) => Err(WireFault::NoMemory),
-    }
-}
-
-#[test]
-fn keeps_each_kind(rt: HostRuntime) -> Result<(), Fail> {
-    for bytes in [
-        LOOKUP.as_slice(),
-        FORGET.as_slice(),
-        GETATTR.as_slice(),
-        MKDIR.as_slice(),
-        UNLINK.as_slice(),
-        RMDIR.as_slice(),
-        CREATE.as_slice(),
-        BATCH_FORGET.as_slice(),
-        OPEN.as_slice(),
-    ] {
-        assert!(rt; is_kept(rt.alloc(), bytes, bytes)?);
-    }
-    Ok(())
-}
-
-#[test]
-fn ignores_what_only_the_kernel_fills_in(rt: HostRuntime) -> Result<(), Fail> {
-    let alloc = rt.alloc();
-    for (bytes, written) in [
-        (GETATTR_OF_KERNEL.as_slice(), GETATTR.as_slice()),
-        (MKDIR_OF_KERNEL.as_slice(), MKDIR.as_slice()),
-        (CREATE_OF_KERNEL.as_slice(), CREATE.as_slice()),
-    ] {
-        let ask = read(alloc, bytes)?;
-        assert_eq!(rt; write(alloc, &ask)?.as_slice(), written);
-    }
-    Ok(())
-}
-
-#[test]
-fn reads_a_lookup(rt: HostRuntime) -> Result<(), Fail> {
-    let ask = read(rt.alloc(), &LOOKUP)?;
-    assert_eq!(rt; ask.unique, 3);
-    if let Request::Lookup { dir, name } = &ask.what {
-        assert_eq!(rt; dir.0, 1);
-        assert_eq!(rt; name.bytes(), b"src".as_slice());
-        return Ok(());
-    }
-    panic!(rt; "another request")
-}
-
-#[test]
-fn reads_a_create(rt: HostRuntime) -> Result<(), Fail> {
-    let ask = read(rt.alloc(), &CREATE_OF_KERNEL)?;
-    assert_eq!(rt; ask.unique, 8);
-    if let Request::Create { dir, name, perm } = &ask.what {
-        assert_eq!(rt; dir.0, 1);
-        assert_eq!(rt; name.bytes(), b"a".as_slice());
-        assert_eq!(rt; perm.bits(), 0o644);
-        return Ok(());
-    }
-    panic!(rt; "another request")
-}
-
-#[test]
-fn reads_the_items_of_forgets(rt: HostRuntime) -> Result<(), Fail> {
-    let one = read_items(&FORGET)?;
-    assert_eq!(rt;
-        one.as_slice(),
-        [Item {
-            node: Number(2),
-            k: 2
-        }]
-        .as_slice()
-    );
-    let two = read_items(&BATCH_FORGET)?;
-    let items = [
-        Item {
-            node: Number(2),
-            k: 1,
+const ANSWERS: [Spelled; 4] = [
+    (
+        3,
+        Answer::Entry {
+            number: TWO,
+            attr: DIR,
         },
-        Item {
-            node: Number(3),
-            k: 2,
+        &ENTRY,
+    ),
+    (
+        8,
+        Answer::Opened {
+            number: FOUR,
+            attr: FILE,
         },
-    ];
-    assert_eq!(rt; two.as_slice(), items.as_slice());
-    assert!(rt; matches!(read_items(&LOOKUP), Err(WireFault::BadBody)));
-    Ok(())
-}
+        &OPENED,
+    ),
+    (
+        4,
+        Answer::Attrs {
+            number: TWO,
+            attr: TWELVE,
+        },
+        &ATTRS,
+    ),
+    (6, Answer::Done, &DONE),
+];
 
-/// Returns whether the reply is written as these bytes.
-fn is_spelled(reply: &Reply, bytes: &[u8]) -> bool {
-    let mut out = [7u8; 160];
-    let len = write_reply(reply, &mut out);
-    &out[..len] == bytes
-}
-
-/// Returns whether the reply is written as these bytes, and these are read as one that is.
-fn is_written_as(reply: &Reply, bytes: &[u8]) -> bool {
-    match read_reply(bytes) {
-        Ok(again) => is_spelled(reply, bytes) && is_spelled(&again, bytes),
-        Err(_) => false,
+/// Returns whether each of these replies is written and read so.
+pub(crate) fn are_replies_kept(replies: &[Spelled]) -> bool {
+    for (unique, answer, bytes) in replies {
+        let reply = Reply {
+            unique: *unique,
+            answer: *answer,
+        };
+        if !is_reply_kept(&reply, bytes) {
+            return false;
+        }
     }
+    true
 }
 
 #[test]
 fn writes_and_reads_each_answer(rt: HostRuntime) {
-    let dir = Attr {
-        kind: Kind::Dir,
-        perm: Perm::DIRECTORY,
-        size: 0,
-        nlink: 2,
-    };
-    let twelve = Attr {
-        kind: Kind::File,
-        perm: Perm { bits: 0o644 },
-        size: 12,
-        nlink: 1,
-    };
-    let entry = Answer::Entry {
-        number: Number(2),
-        attr: dir,
-    };
-    let opened = Answer::Opened {
-        number: Number(4),
-        attr: FILE,
-    };
-    let attrs = Answer::Attrs {
-        number: Number(2),
-        attr: twelve,
-    };
-    for (unique, answer, bytes) in [
-        (3, entry, ENTRY.as_slice()),
-        (8, opened, OPENED.as_slice()),
-        (4, attrs, ATTRS.as_slice()),
-        (6, Answer::Done, DONE.as_slice()),
-    ] {
-        assert!(rt; is_written_as(&Reply { unique, answer }, bytes));
+    assert!(rt; are_replies_kept(&ANSWERS));
+}
+
+/// Each error, and the lowest byte of it in a reply.
+const ERRORS: [(Errno, u8); 13] = [
+    (Errno::ENOENT, 0xfe),
+    (Errno::EIO, 0xfb),
+    (Errno::ENOMEM, 0xf4),
+    (Errno::EEXIST, 0xef),
+    (Errno::ENOTDIR, 0xec),
+    (Errno::EISDIR, 0xeb),
+    (Errno::EINVAL, 0xea),
+    (Errno::ENOSPC, 0xe4),
+    (Errno::ENAMETOOLONG, 0xdc),
+    (Errno::ENOSYS, 0xda),
+    (Errno::ENOTEMPTY, 0xd9),
+    (Errno::EOVERFLOW, 0xb5),
+    (Errno::ESTALE, 0x8c),
+];
+
+/// Returns the bytes of an error for unique 7.
+fn error_bytes(low: u8) -> [u8; 16] {
+    [16, 0, 0, 0, low, 0xff, 0xff, 0xff, 7, 0, 0, 0, 0, 0, 0, 0]
+}
+
+/// Returns whether each of these errors is written and read so.
+fn are_errors_kept(errors: &[(Errno, u8)]) -> bool {
+    for (errno, low) in errors {
+        let reply = Reply {
+            unique: 7,
+            answer: Answer::Error(*errno),
+        };
+        if !is_reply_kept(&reply, &error_bytes(*low)) {
+            return false;
+        }
     }
+    true
 }
 
 #[test]
 fn writes_and_reads_each_error(rt: HostRuntime) {
-    for (errno, low) in [
-        (Errno::ENOENT, 0xfe),
-        (Errno::EIO, 0xfb),
-        (Errno::ENOMEM, 0xf4),
-        (Errno::EEXIST, 0xef),
-        (Errno::ENOTDIR, 0xec),
-        (Errno::EISDIR, 0xeb),
-        (Errno::EINVAL, 0xea),
-        (Errno::ENOSPC, 0xe4),
-        (Errno::ENAMETOOLONG, 0xdc),
-        (Errno::ENOSYS, 0xda),
-        (Errno::ENOTEMPTY, 0xd9),
-        (Errno::EOVERFLOW, 0xb5),
-        (Errno::ESTALE, 0x8c),
-    ] {
-        let reply = Reply {
-            unique: 7,
-            answer: Answer::Error(errno),
-        };
-        let bytes = [16, 0, 0, 0, low, 0xff, 0xff, 0xff, 7, 0, 0, 0, 0, 0, 0, 0];
-        assert!(rt; is_written_as(&reply, &bytes));
+    assert!(rt; are_errors_kept(&ERRORS));
+}
+
+/// Returns whether the bytes are no reply, for this cause.
+fn is_no_reply(bytes: &[u8], fault: WireFault) -> bool {
+    read_reply(bytes) == Err(fault)
+}
+
+/// Returns the entry with one byte set.
+fn entry_with(at: usize, byte: u8) -> [u8; 144] {
+    let mut bytes = ENTRY;
+    if let Some(place) = bytes.get_mut(at) {
+        *place = byte;
     }
+    bytes
+}
+
+/// Returns whether other replies are refused: another error, a cut header, a cut body, a byte that is kept, a link.
+fn refuses_each() -> bool {
+    is_no_reply(&error_bytes(0xff), WireFault::BadBody)
+        && is_no_reply(&DONE[..15], WireFault::Short)
+        && is_no_reply(&ENTRY[..143], WireFault::BadLength)
+        && is_no_reply(&entry_with(24, 1), WireFault::BadBody)
+        && is_no_reply(&entry_with(117, 0xa1), WireFault::BadBody)
 }
 
 #[test]
 fn refuses_other_replies(rt: HostRuntime) {
-    let other_error = [16, 0, 0, 0, 0xff, 0xff, 0xff, 0xff, 7, 0, 0, 0, 0, 0, 0, 0];
-    let mut kept = ENTRY;
-    kept[24] = 1;
-    let mut link = ENTRY;
-    link[117] = 0xa1;
-    for (bytes, fault) in [
-        (other_error.as_slice(), WireFault::BadBody),
-        (&DONE[..15], WireFault::Short),
-        (&ENTRY[..143], WireFault::BadLength),
-        (kept.as_slice(), WireFault::BadBody),
-        (link.as_slice(), WireFault::BadBody),
-    ] {
-        assert!(rt; read_reply(bytes) == Err(fault));
-    }
+    assert!(rt; refuses_each());
 }
 
-/// Returns whether the bytes are no request, for this cause.
-fn is_refused(alloc: Global, bytes: &[u8], fault: WireFault) -> bool {
-    match read_request(alloc, bytes) {
-        Ok(_) => false,
-        Err(told) => told == fault,
+/// Returns the lookup with one byte set.
+fn lookup_with(at: usize, byte: u8) -> [u8; 44] {
+    let mut bytes = LOOKUP;
+    if let Some(place) = bytes.get_mut(at) {
+        *place = byte;
     }
+    bytes
+}
+
+/// Returns an OPEN that says it is one byte longer.
+fn longer_open() -> [u8; 40] {
+    let mut bytes = OPEN;
+    bytes[0] = 41;
+    bytes
+}
+
+/// Returns a lookup of no byte but the NUL.
+fn lone() -> [u8; 41] {
+    let mut bytes = [0u8; 41];
+    bytes[0] = 41;
+    bytes[4] = 1;
+    bytes
+}
+
+/// Returns whether another length, a cut header, a name without its end, with a NUL and with nothing else are refused.
+fn refuses_broken(alloc: Global) -> bool {
+    is_refused(alloc, &longer_open(), WireFault::BadLength)
+        && is_refused(alloc, &OPEN[..39], WireFault::Short)
+        && is_refused(alloc, &lookup_with(43, b'x'), WireFault::BadBody)
+        && is_refused(
+            alloc,
+            &lookup_with(41, 0),
+            WireFault::BadName(NameFault::BadByte),
+        )
+        && is_refused(alloc, &lone(), WireFault::BadName(NameFault::Empty))
 }
 
 #[test]
 fn refuses_broken_headers_and_bodies(rt: HostRuntime) {
-    let mut long = OPEN;
-    long[0] = 41;
-    let mut open_end = LOOKUP;
-    open_end[43] = b'x';
-    let mut inner = LOOKUP;
-    inner[41] = 0;
-    let mut lone = [0u8; 41];
-    lone[0] = 41;
-    lone[4] = 1;
-    for (bytes, fault) in [
-        (long.as_slice(), WireFault::BadLength),
-        (&OPEN[..39], WireFault::Short),
-        (open_end.as_slice(), WireFault::BadBody),
-        (inner.as_slice(), WireFault::BadName(NameFault::BadByte)),
-        (lone.as_slice(), WireFault::BadName(NameFault::Empty)),
-    ] {
-        assert!(rt; is_refused(rt.alloc(), bytes, fault));
-    }
+    assert!(rt; refuses_broken(rt.alloc()));
 }
 
 /// Makes a request whose body begins with these bytes, goes on with one byte repeated, and ends with NUL.
@@ -378,22 +361,52 @@ fn batch_text(alloc: Global, count: u16) -> Result<Vec<u8>, NoMemory> {
     }
 }
 
-#[test]
-fn keeps_names_of_all_lengths(rt: HostRuntime) -> Result<(), Fail> {
-    for len in 1..256u16 {
-        let text = lookup_of(rt.alloc(), len)?;
-        assert!(rt; is_kept(rt.alloc(), text.as_slice(), text.as_slice())?);
+/// Returns whether a lookup of a name of so many bytes is kept.
+fn is_name_kept(alloc: Global, len: u16) -> bool {
+    match lookup_of(alloc, len) {
+        Ok(text) => is_kept(alloc, text.as_slice()),
+        Err(NoMemory) => false,
     }
-    Ok(())
+}
+
+/// Returns that of each name that is not too long.
+fn is_each_name_kept(alloc: Global) -> bool {
+    for len in 1..256u16 {
+        if !is_name_kept(alloc, len) {
+            return false;
+        }
+    }
+    true
 }
 
 #[test]
-fn keeps_batches_of_many_lengths(rt: HostRuntime) -> Result<(), Fail> {
-    for count in [0, 1, 2, 3, 8, 28, 29, 30, 64, 100, 255, 256u16] {
-        let text = batch_text(rt.alloc(), count)?;
-        assert!(rt; is_kept(rt.alloc(), text.as_slice(), text.as_slice())?);
+fn keeps_names_of_all_lengths(rt: HostRuntime) {
+    assert!(rt; is_each_name_kept(rt.alloc()));
+}
+
+const COUNTS: [u16; 12] = [0, 1, 2, 3, 8, 28, 29, 30, 64, 100, 255, 256];
+
+/// Returns whether a batch of so many items is kept.
+fn is_count_kept(alloc: Global, count: u16) -> bool {
+    match batch_text(alloc, count) {
+        Ok(text) => is_kept(alloc, text.as_slice()),
+        Err(NoMemory) => false,
     }
-    Ok(())
+}
+
+/// Returns that of each of these counts.
+fn is_each_count_kept(alloc: Global, counts: &[u16]) -> bool {
+    for count in counts {
+        if !is_count_kept(alloc, *count) {
+            return false;
+        }
+    }
+    true
+}
+
+#[test]
+fn keeps_batches_of_many_lengths(rt: HostRuntime) {
+    assert!(rt; is_each_count_kept(rt.alloc(), &COUNTS));
 }
 
 #[test]
@@ -401,100 +414,155 @@ fn takes_memory_once_for_a_name(rt: HostRuntime) {
     assert!(rt; read_request(rt.alloc(), &LOOKUP).is_ok());
 }
 
-#[test]
-fn reads_no_name_of_256_bytes(rt: HostRuntime) -> Result<(), Fail> {
-    let longer = lookup_of(rt.alloc(), 256)?;
-    let too_long = WireFault::BadName(NameFault::TooLong);
-    assert!(rt; is_refused(rt.alloc(), longer.as_slice(), too_long));
-    let reply = fault_reply(longer.as_slice(), &too_long).ok_or("a reply")?;
-    let bytes = [16, 0, 0, 0, 0xdc, 0xff, 0xff, 0xff, 7, 0, 0, 0, 0, 0, 0, 0];
-    assert!(rt; is_spelled(&reply, &bytes));
-    Ok(())
+const TOO_LONG: WireFault = WireFault::BadName(NameFault::TooLong);
+
+/// Returns whether a fault of a request is answered by these bytes.
+fn is_answered(request: &[u8], fault: &WireFault, bytes: &[u8]) -> bool {
+    match fault_reply(request, fault) {
+        Some(reply) => is_spelled(&reply, bytes),
+        None => false,
+    }
+}
+
+/// Returns whether a name of 256 bytes is refused, and answered ENAMETOOLONG.
+fn refuses_a_longer_name(alloc: Global) -> bool {
+    match lookup_of(alloc, 256) {
+        Ok(longer) => {
+            is_refused(alloc, longer.as_slice(), TOO_LONG)
+                && is_answered(longer.as_slice(), &TOO_LONG, &error_bytes(0xdc))
+        }
+        Err(NoMemory) => false,
+    }
 }
 
 #[test]
-fn reads_256_items_and_no_more(rt: HostRuntime) -> Result<(), Fail> {
-    let full = batch_text(rt.alloc(), 256)?;
-    assert_eq!(rt; full.len(), 4144);
-    assert_eq!(rt; read_items(full.as_slice())?.len(), 256);
-    let over = batch_text(rt.alloc(), 257)?;
-    assert!(rt; matches!(read_items(over.as_slice()), Err(WireFault::BadCount)));
-    assert!(rt; is_refused(rt.alloc(), over.as_slice(), WireFault::BadCount));
-    Ok(())
+fn reads_no_name_of_256_bytes(rt: HostRuntime) {
+    assert!(rt; refuses_a_longer_name(rt.alloc()));
+}
+
+/// Returns whether 256 items are read, of so many bytes.
+fn reads_all_items(alloc: Global) -> bool {
+    match batch_text(alloc, 256) {
+        Ok(full) => full.len() == 4144 && items_read(full.as_slice()) == Ok(256),
+        Err(NoMemory) => false,
+    }
+}
+
+/// Returns whether one more is refused.
+fn refuses_an_item_more(alloc: Global) -> bool {
+    match batch_text(alloc, 257) {
+        Ok(over) => {
+            items_read(over.as_slice()) == Err(WireFault::BadCount)
+                && is_refused(alloc, over.as_slice(), WireFault::BadCount)
+        }
+        Err(NoMemory) => false,
+    }
 }
 
 #[test]
-fn copies_a_batch(rt: HostRuntime) -> Result<(), Fail> {
-    let items = read_items(&BATCH_FORGET)?;
-    let batch = batch_of(rt.alloc(), &items)?;
-    assert!(rt; batch.as_slice() == items.as_slice());
-    assert!(rt; copy_of(rt.alloc(), &batch)? == batch);
-    assert!(rt; batch.copy_to(batch_room(rt.alloc())?) == batch);
-    Ok(())
+fn reads_256_items_and_no_more(rt: HostRuntime) {
+    assert!(rt; reads_all_items(rt.alloc()));
+    assert!(rt; refuses_an_item_more(rt.alloc()));
 }
 
-/// Returns whether the bytes are an ask that goes to one number, 0 for a forget, which goes to none.
-fn goes_to(alloc: Global, bytes: &[u8], node: u64) -> Result<bool, WireFault> {
-    let ask = read(alloc, bytes)?;
-    let nodes = ask.what.nodes();
+#[test]
+fn copies_a_batch(rt: HostRuntime) {
+    assert!(rt; are_items_kept(rt.alloc(), &BATCH_FORGET));
+}
+
+/// Returns whether a request is an ask that goes to one number, 0 for a forget, which goes to none.
+fn goes_to(request: &Request, node: u64) -> bool {
+    let nodes = request.nodes();
     match nodes.as_slice().first() {
-        Some(first) => Ok(ask.what.is_ask() && first.0 == node && nodes.as_slice().len() == 1),
-        None => Ok(!ask.what.is_ask() && node == 0),
+        Some(first) => request.is_ask() && first.0 == node && nodes.as_slice().len() == 1,
+        None => !request.is_ask() && node == 0,
     }
 }
 
-#[test]
-fn tells_asks_and_their_numbers(rt: HostRuntime) -> Result<(), Fail> {
-    for (bytes, node) in [
-        (LOOKUP.as_slice(), 1),
-        (UNLINK.as_slice(), 1),
-        (RMDIR.as_slice(), 1),
-        (MKDIR.as_slice(), 1),
-        (CREATE.as_slice(), 1),
-        (GETATTR.as_slice(), 2),
-        (OPEN.as_slice(), 2),
-        (FORGET.as_slice(), 0),
-        (BATCH_FORGET.as_slice(), 0),
-    ] {
-        assert!(rt; goes_to(rt.alloc(), bytes, node)?);
+/// Returns that of the request of these bytes.
+fn is_read_to_go_to(alloc: Global, bytes: &[u8], node: u64) -> bool {
+    match read(alloc, bytes) {
+        Ok(ask) => goes_to(&ask.what, node),
+        Err(_) => false,
     }
-    Ok(())
+}
+
+const NODES: [(&[u8], u64); 9] = [
+    (&LOOKUP, 1),
+    (&UNLINK, 1),
+    (&RMDIR, 1),
+    (&MKDIR, 1),
+    (&CREATE, 1),
+    (&GETATTR, 2),
+    (&OPEN, 2),
+    (&FORGET, 0),
+    (&BATCH_FORGET, 0),
+];
+
+/// Returns that of each of these.
+fn each_goes_to(alloc: Global, requests: &[(&[u8], u64)]) -> bool {
+    for (bytes, node) in requests {
+        if !is_read_to_go_to(alloc, bytes, *node) {
+            return false;
+        }
+    }
+    true
+}
+
+#[test]
+fn tells_asks_and_their_numbers(rt: HostRuntime) {
+    assert!(rt; each_goes_to(rt.alloc(), &NODES));
+}
+
+const SERVED: [u32; 8] = [1, 2, 3, 9, 10, 11, 35, 42];
+
+const OTHERS: [u32; 6] = [0, 12, 14, 15, 43, 0xffff_ffff];
+
+/// Returns whether a request of an opcode is made just where that is one of the others.
+fn is_made(opcode: u32, other: bool) -> bool {
+    let node = Number(7);
+    match Request::other(opcode, node) {
+        Some(request) => other && request == Request::Other { opcode, node },
+        None => !other,
+    }
+}
+
+/// Returns that of each of these opcodes.
+fn are_made(opcodes: &[u32], other: bool) -> bool {
+    for opcode in opcodes {
+        if !is_made(*opcode, other) {
+            return false;
+        }
+    }
+    true
 }
 
 #[test]
 fn makes_a_request_of_another_opcode_alone(rt: HostRuntime) {
-    let node = Number(7);
-    for served in [1, 2, 3, 9, 10, 11, 35, 42u32] {
-        assert!(rt; Request::other(served, node).is_none());
-    }
-    for opcode in [0, 12, 14, 15, 43, 0xffff_ffffu32] {
-        assert!(rt; Request::other(opcode, node) == Some(Request::Other { opcode, node }));
-    }
+    assert!(rt; are_made(&SERVED, false));
+    assert!(rt; are_made(&OTHERS, true));
 }
 
-/// Returns an error's reply.
-fn error_of(unique: u64, errno: Errno) -> Option<Reply> {
-    let answer = Answer::Error(errno);
-    Some(Reply { unique, answer })
+const ENOMEM: Reply = Reply {
+    unique: 3,
+    answer: Answer::Error(Errno::ENOMEM),
+};
+
+const EINVAL: Reply = Reply {
+    unique: 9,
+    answer: Answer::Error(Errno::EINVAL),
+};
+
+/// Returns whether forgets and a cut header are not answered, and asks are.
+fn answers_asks_alone() -> bool {
+    fault_reply(&FORGET, &WireFault::BadBody).is_none()
+        && fault_reply(&BATCH_FORGET, &WireFault::BadCount).is_none()
+        && fault_reply(&LOOKUP[..39], &WireFault::Short).is_none()
+        && fault_reply(&LOOKUP, &WireFault::NoMemory) == Some(ENOMEM)
+        && fault_reply(&OPEN, &WireFault::BadBody) == Some(EINVAL)
 }
 
 #[test]
 fn answers_no_forget(rt: HostRuntime) {
-    for (bytes, fault, reply) in [
-        (FORGET.as_slice(), WireFault::BadBody, None),
-        (BATCH_FORGET.as_slice(), WireFault::BadCount, None),
-        (&LOOKUP[..39], WireFault::Short, None),
-        (
-            LOOKUP.as_slice(),
-            WireFault::NoMemory,
-            error_of(3, Errno::ENOMEM),
-        ),
-        (
-            OPEN.as_slice(),
-            WireFault::BadBody,
-            error_of(9, Errno::EINVAL),
-        ),
-    ] {
-        assert!(rt; fault_reply(bytes, &fault) == reply);
-    }
+    assert!(rt; answers_asks_alone());
 }

@@ -1,14 +1,13 @@
 //! Each field of a message has its place and its width.
+ghost use Rattle.std.specs.Prelude.{IfSome};
 ghost use Rattle.fuse_wire.specs.Request.{IsSendable};
 
+use crate::calls::{is_written, is_written_again};
+use crate::tests::{Spelled, are_replies_kept, has_items};
 use crate::wide_vectors::*;
-use eden_base::{Attr, Errno, Kind, Name, Number, Perm};
-use fuse_wire::{
-    Answer, Ask, Item, Reply, Request, read_items, read_reply, read_request, write_reply,
-    write_request,
-};
+use eden_base::{Attr, Errno, Kind, Name, NameFault, Number, Perm};
+use fuse_wire::{Answer, Ask, Item, Request};
 use std::alloc::Global;
-use std::test::Fail;
 
 const UNIQUE: u64 = 0x1817161514131211;
 
@@ -16,147 +15,171 @@ const NODE: Number = Number(0x201f1e1d1c1b1a19);
 
 const PERM: Perm = Perm { bits: 0o7777 };
 
-/// Returns whether a request is written as these bytes, and so is what is read of the filled ones. `None` is out of memory.
-fn is_kept(alloc: Global, what: Request, written: &[u8], filled: &[u8]) -> Option<bool>
-    requires { IsSendable what }
+/// Which request is made. Its name, where it has one, is `name`.
+#[derive(Clone, Copy)]
+enum Wish {
+    Lookup,
+    Unlink,
+    Rmdir,
+    Mkdir,
+    Create,
+    Getattr,
+    Open,
+    Forget,
+}
+
+/// Makes the name, and once more where memory was refused.
+fn name(alloc: Global) -> Result<Name, NameFault> {
+    match Name::parse(alloc, b"name") {
+        Ok(name) => Ok(name),
+        Err(_refused) => Name::parse(alloc, b"name"),
+    }
+}
+
+/// Makes a request that goes to a name.
+fn named(wish: Wish, name: Name) -> Option<Request>
+    ensures sendable { IfSome result IsSendable }
 {
-    let ask = Ask {
-        unique: UNIQUE,
-        what,
-    };
-    let own = write_request(alloc, &ask).ok()?;
-    let read = read_request(alloc, filled).ok()?;
-    let again = write_request(alloc, &read).ok()?;
-    Some(own.as_slice() == written && again.as_slice() == written)
-}
-
-fn keeps_names(alloc: Global) -> Option<bool> {
-    let dir = NODE;
-    let name = Name::parse(alloc, b"name").ok()?;
-    let lookup = is_kept(
-        alloc,
-        Request::Lookup { dir, name },
-        &LOOKUP,
-        &LOOKUP_FILLED,
-    )?;
-    let name = Name::parse(alloc, b"name").ok()?;
-    let unlink = is_kept(
-        alloc,
-        Request::Unlink { dir, name },
-        &UNLINK,
-        &UNLINK_FILLED,
-    )?;
-    let name = Name::parse(alloc, b"name").ok()?;
-    let rmdir = is_kept(alloc, Request::Rmdir { dir, name }, &RMDIR, &RMDIR_FILLED)?;
-    Some(lookup && unlink && rmdir)
-}
-
-fn keeps_modes(alloc: Global) -> Option<bool> {
     let (dir, perm) = (NODE, PERM);
-    let name = Name::parse(alloc, b"name").ok()?;
-    let mkdir = is_kept(
-        alloc,
-        Request::Mkdir { dir, name, perm },
-        &MKDIR,
-        &MKDIR_FILLED,
-    )?;
-    let name = Name::parse(alloc, b"name").ok()?;
-    let create = is_kept(
-        alloc,
-        Request::Create { dir, name, perm },
-        &CREATE,
-        &CREATE_FILLED,
-    )?;
-    Some(mkdir && create)
+    match wish {
+        Wish::Lookup => Some(Request::Lookup { dir, name }),
+        Wish::Unlink => Some(Request::Unlink { dir, name }),
+        Wish::Rmdir => Some(Request::Rmdir { dir, name }),
+        Wish::Mkdir => Some(Request::Mkdir { dir, name, perm }),
+        Wish::Create => Some(Request::Create { dir, name, perm }),
+        _ => None,
+    }
 }
 
+const ITEM: Item = Item {
+    node: NODE,
+    k: 0x4847464544434241,
+};
+
+/// Makes a request.
 #[tactic(auto, unfolding(fuse_wire::specs::Request::opcode_of))]
-fn keeps_nodes(alloc: Global) -> Option<bool> {
+fn request(alloc: Global, wish: Wish) -> Option<Request>
+    ensures sendable { IfSome result IsSendable }
+{
     let node = NODE;
-    let getattr = is_kept(alloc, Request::Getattr { node }, &GETATTR, &GETATTR_FILLED)?;
-    let open = is_kept(
-        alloc,
-        Request::Other { opcode: 14, node },
-        &OPEN,
-        &OPEN_FILLED,
-    )?;
-    let item = Item {
-        node,
-        k: 0x4847464544434241,
-    };
-    let forget = is_kept(alloc, Request::Forget(item), &FORGET, &FORGET_FILLED)?;
-    Some(getattr && open && forget)
+    match wish {
+        Wish::Getattr => Some(Request::Getattr { node }),
+        Wish::Open => Some(Request::Other { opcode: 14, node }),
+        Wish::Forget => Some(Request::Forget(ITEM)),
+        _ => named(wish, name(alloc).ok()?),
+    }
 }
 
-fn keeps_batches(alloc: Global) -> Option<bool> {
-    let read = read_request(alloc, &BATCH_FORGET_FILLED).ok()?;
-    let own = write_request(alloc, &read).ok()?;
-    Some(own.as_slice() == BATCH_FORGET.as_slice())
+/// Returns whether a request is written as these bytes.
+fn is_sent(alloc: Global, wish: Wish, written: &[u8]) -> bool {
+    match request(alloc, wish) {
+        Some(what) => {
+            let ask = Ask {
+                unique: UNIQUE,
+                what,
+            };
+            is_written(alloc, &ask, written)
+        }
+        None => false,
+    }
 }
 
-fn keeps_all(alloc: Global) -> Option<bool> {
-    Some(keeps_names(alloc)? && keeps_modes(alloc)? && keeps_nodes(alloc)? && keeps_batches(alloc)?)
+/// A request, its bytes, and the same with what is ignored filled in.
+type Sent = (Wish, &'static [u8], &'static [u8]);
+
+const SENT: [Sent; 8] = [
+    (Wish::Lookup, &LOOKUP, &LOOKUP_FILLED),
+    (Wish::Unlink, &UNLINK, &UNLINK_FILLED),
+    (Wish::Rmdir, &RMDIR, &RMDIR_FILLED),
+    (Wish::Mkdir, &MKDIR, &MKDIR_FILLED),
+    (Wish::Create, &CREATE, &CREATE_FILLED),
+    (Wish::Getattr, &GETATTR, &GETATTR_FILLED),
+    (Wish::Open, &OPEN, &OPEN_FILLED),
+    (Wish::Forget, &FORGET, &FORGET_FILLED),
+];
+
+/// Returns whether each request is written as its bytes, and so is what is read of the filled ones.
+fn are_kept(alloc: Global, sent: &[Sent]) -> bool {
+    for (wish, written, filled) in sent {
+        if !is_sent(alloc, *wish, written) || !is_written_again(alloc, filled, written) {
+            return false;
+        }
+    }
+    true
 }
 
 #[test]
-fn keeps_each_byte_of_requests(rt: HostRuntime) -> Result<(), Fail> {
-    let alloc = rt.alloc();
-    let kept = keeps_all(alloc).or_else(|| keeps_all(alloc));
-    assert!(rt; kept.ok_or("out of memory")?);
-    Ok(())
+fn keeps_each_byte_of_requests(rt: HostRuntime) {
+    assert!(rt; are_kept(rt.alloc(), &SENT));
+    assert!(rt; is_written_again(rt.alloc(), &BATCH_FORGET_FILLED, &BATCH_FORGET));
 }
+
+const FIRST: Number = Number(0x5857565554535251);
+
+const SECOND: Number = Number(0x6867666564636261);
+
+const ITEMS: [Item; 2] = [
+    Item {
+        node: FIRST,
+        k: 0x605f5e5d5c5b5a59,
+    },
+    Item {
+        node: SECOND,
+        k: 0x706f6e6d6c6b6a69,
+    },
+];
 
 #[test]
-fn reads_each_byte_of_items(rt: HostRuntime) -> Result<(), Fail> {
-    let items = [
-        Item {
-            node: Number(0x5857565554535251),
-            k: 0x605f5e5d5c5b5a59,
-        },
-        Item {
-            node: Number(0x6867666564636261),
-            k: 0x706f6e6d6c6b6a69,
-        },
-    ];
-    assert_eq!(rt;
-        read_items(&BATCH_FORGET_FILLED)?.as_slice(),
-        items.as_slice()
-    );
-    Ok(())
+fn reads_each_byte_of_items(rt: HostRuntime) {
+    assert!(rt; has_items(&BATCH_FORGET_FILLED, &ITEMS));
 }
 
-/// Returns whether an answer is written as these bytes, and so is what is read of them.
-fn is_written_as(answer: Answer, bytes: &[u8]) -> bool {
-    let mut own = [7u8; 160];
-    let reply = Reply {
-        unique: UNIQUE,
-        answer,
-    };
-    let len = write_reply(&reply, &mut own);
-    let Ok(read) = read_reply(bytes) else {
-        return false;
-    };
-    let mut again = [7u8; 160];
-    let again_len = write_reply(&read, &mut again);
-    &own[..len] == bytes && &again[..again_len] == bytes
-}
+const NUMBER: Number = Number(0x2827262524232221);
+
+const FILE: Attr = Attr {
+    kind: Kind::File,
+    perm: PERM,
+    size: 0x302f2e2d2c2b2a29,
+    nlink: 0x34333231,
+};
+
+const DIR: Attr = Attr {
+    kind: Kind::Dir,
+    perm: PERM,
+    size: 0x302f2e2d2c2b2a29,
+    nlink: 0x34333231,
+};
+
+const ANSWERS: [Spelled; 5] = [
+    (
+        UNIQUE,
+        Answer::Entry {
+            number: NUMBER,
+            attr: DIR,
+        },
+        &ENTRY,
+    ),
+    (
+        UNIQUE,
+        Answer::Opened {
+            number: NUMBER,
+            attr: FILE,
+        },
+        &OPENED,
+    ),
+    (
+        UNIQUE,
+        Answer::Attrs {
+            number: NUMBER,
+            attr: FILE,
+        },
+        &ATTRS,
+    ),
+    (UNIQUE, Answer::Done, &DONE),
+    (UNIQUE, Answer::Error(Errno::ESTALE), &STALE),
+];
 
 #[test]
 fn keeps_each_byte_of_replies(rt: HostRuntime) {
-    let number = Number(0x2827262524232221);
-    let file = Attr {
-        kind: Kind::File,
-        perm: PERM,
-        size: 0x302f2e2d2c2b2a29,
-        nlink: 0x34333231,
-    };
-    let dir = Attr {
-        kind: Kind::Dir,
-        ..file
-    };
-    assert!(rt; is_written_as(Answer::Entry { number, attr: dir }, &ENTRY));
-    assert!(rt; is_written_as(Answer::Opened { number, attr: file }, &OPENED));
-    assert!(rt; is_written_as(Answer::Attrs { number, attr: file }, &ATTRS));
-    assert!(rt; is_written_as(Answer::Done, &DONE));
-    assert!(rt; is_written_as(Answer::Error(Errno::ESTALE), &STALE));
+    assert!(rt; are_replies_kept(&ANSWERS));
 }

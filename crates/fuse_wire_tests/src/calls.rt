@@ -1,0 +1,203 @@
+//! The calls that take memory, each made once more where it was refused, and what they come to.
+ghost use Rattle.std.specs.Prelude.{◌≡◌, IfOk};
+ghost use Rattle.fuse_wire.specs.Request.{IsSendable};
+
+use eden_base::{NameRoom, NoMemory};
+use fuse_wire::{
+    Ask, Batch, BatchRoom, Items, Reply, Request, WireFault, read_items, read_reply, read_request,
+    read_request_to, write_reply, write_request,
+};
+use std::alloc::Global;
+
+/// Calls `read_request`, and once more where memory was refused.
+pub(crate) fn read(alloc: Global, bytes: &[u8]) -> Result<Ask, WireFault>
+    ensures sendable { IfOk result (λ ask. IsSendable ask.what) }
+{
+    match read_request(alloc, bytes) {
+        Ok(ask) => Ok(ask),
+        Err(WireFault::NoMemory) => read_request(alloc, bytes),
+        Err(fault) => Err(fault),
+    }
+}
+
+/// Calls `write_request`, and once more where memory was refused.
+fn write(alloc: Global, ask: &Ask) -> Result<Vec<u8>, NoMemory>
+    requires { IsSendable ask.now.what }
+{
+    match write_request(alloc, ask) {
+        Ok(bytes) => Ok(bytes),
+        Err(NoMemory) => write_request(alloc, ask),
+    }
+}
+
+/// Calls `Request::copy`, and once more where memory was refused.
+fn copy(alloc: Global, request: &Request) -> Result<Request, NoMemory>
+    ensures copy { IfOk result (λ copy. copy ≡ request.now) }
+{
+    match request.copy(alloc) {
+        Ok(copy) => Ok(copy),
+        Err(NoMemory) => request.copy(alloc),
+    }
+}
+
+/// Calls `NameRoom::new`, and once more where memory was refused.
+fn room(alloc: Global) -> Result<NameRoom, NoMemory> {
+    match NameRoom::new(alloc) {
+        Ok(room) => Ok(room),
+        Err(NoMemory) => NameRoom::new(alloc),
+    }
+}
+
+/// Calls `BatchRoom::new`, and once more where memory was refused.
+fn batch_room(alloc: Global) -> Result<BatchRoom, NoMemory> {
+    match BatchRoom::new(alloc) {
+        Ok(room) => Ok(room),
+        Err(NoMemory) => BatchRoom::new(alloc),
+    }
+}
+
+/// Calls `Batch::of`, and once more where memory was refused.
+fn batch_of(alloc: Global, items: &Items) -> Result<Batch, NoMemory>
+    ensures items { IfOk result (λ batch. batch ≡ items.now) }
+{
+    match Batch::of(alloc, items.as_slice()) {
+        Ok(batch) => Ok(batch),
+        Err(NoMemory) => Batch::of(alloc, items.as_slice()),
+    }
+}
+
+/// Calls `Batch::copy`, and once more where memory was refused.
+fn copy_of(alloc: Global, batch: &Batch) -> Result<Batch, NoMemory> {
+    match batch.copy(alloc) {
+        Ok(copy) => Ok(copy),
+        Err(NoMemory) => batch.copy(alloc),
+    }
+}
+
+/// Takes room for the names and the batch of a request.
+fn rooms(alloc: Global) -> Result<(NameRoom, NameRoom, BatchRoom), NoMemory> {
+    Ok((room(alloc)?, room(alloc)?, batch_room(alloc)?))
+}
+
+/// Returns whether an ask is written as these bytes.
+pub(crate) fn is_written(alloc: Global, ask: &Ask, written: &[u8]) -> bool
+    requires { IsSendable ask.now.what }
+{
+    match write(alloc, ask) {
+        Ok(bytes) => bytes.as_slice() == written,
+        Err(NoMemory) => false,
+    }
+}
+
+/// Returns whether the request of the bytes is written as these.
+pub(crate) fn is_written_again(alloc: Global, bytes: &[u8], written: &[u8]) -> bool {
+    match read(alloc, bytes) {
+        Ok(ask) => is_written(alloc, &ask, written),
+        Err(_) => false,
+    }
+}
+
+/// Returns whether the copy of a request is it.
+fn is_copied(alloc: Global, request: &Request) -> bool {
+    match copy(alloc, request) {
+        Ok(copy) => copy == *request,
+        Err(NoMemory) => false,
+    }
+}
+
+/// Returns whether the copy of a request to rooms is it.
+fn is_copied_to_rooms(alloc: Global, request: &Request) -> bool {
+    match rooms(alloc) {
+        Ok((first, second, batch)) => request.copy_to(first, second, batch) == *request,
+        Err(NoMemory) => false,
+    }
+}
+
+/// Reads a request to rooms; memory was refused where nothing is told.
+fn read_to_rooms(alloc: Global, bytes: &[u8]) -> Result<Ask, WireFault> {
+    match rooms(alloc) {
+        Ok((first, second, batch)) => read_request_to(first, second, batch, bytes),
+        Err(NoMemory) => Err(WireFault::NoMemory),
+    }
+}
+
+/// Returns whether what is read to rooms is an ask.
+fn is_read_to_rooms(alloc: Global, bytes: &[u8], ask: &Ask) -> bool {
+    match read_to_rooms(alloc, bytes) {
+        Ok(read) => read == *ask,
+        Err(_) => false,
+    }
+}
+
+/// Returns whether the request of the bytes is written as these bytes, each copy of it is it, and so is what is read to
+/// rooms.
+pub(crate) fn is_kept(alloc: Global, bytes: &[u8]) -> bool {
+    match read(alloc, bytes) {
+        Ok(ask) => {
+            is_read_to_rooms(alloc, bytes, &ask)
+                && is_written(alloc, &ask, bytes)
+                && is_copied_to_rooms(alloc, &ask.what)
+                && is_copied(alloc, &ask.what)
+        }
+        Err(_) => false,
+    }
+}
+
+/// Returns whether the bytes are no request, for this cause.
+pub(crate) fn is_refused(alloc: Global, bytes: &[u8], fault: WireFault) -> bool {
+    match read_request(alloc, bytes) {
+        Ok(_) => false,
+        Err(told) => told == fault,
+    }
+}
+
+/// Returns whether the copies of a batch are it.
+fn is_batch_copied(alloc: Global, batch: &Batch) -> bool {
+    match copy_of(alloc, batch) {
+        Ok(copy) => copy == *batch,
+        Err(NoMemory) => false,
+    }
+}
+
+/// Returns whether the copy of a batch to room is it.
+fn is_batch_copied_to_room(alloc: Global, batch: &Batch) -> bool {
+    match batch_room(alloc) {
+        Ok(room) => batch.copy_to(room) == *batch,
+        Err(NoMemory) => false,
+    }
+}
+
+/// Returns whether a batch of items has just these, and each copy of it is it.
+fn is_batch_kept(alloc: Global, items: &Items) -> bool {
+    match batch_of(alloc, items) {
+        Ok(batch) => {
+            batch.as_slice() == items.as_slice()
+                && is_batch_copied(alloc, &batch)
+                && is_batch_copied_to_room(alloc, &batch)
+        }
+        Err(NoMemory) => false,
+    }
+}
+
+/// Returns that of the items of these bytes.
+pub(crate) fn are_items_kept(alloc: Global, bytes: &[u8]) -> bool {
+    match read_items(bytes) {
+        Ok(items) => is_batch_kept(alloc, &items),
+        Err(_) => false,
+    }
+}
+
+/// Returns whether the reply is written as these bytes.
+pub(crate) fn is_spelled(reply: &Reply, bytes: &[u8]) -> bool {
+    let mut out = [7u8; 160];
+    let len = write_reply(reply, &mut out);
+    &out[..len] == bytes
+}
+
+/// Returns whether the reply is written as these bytes, and these are read as one that is.
+pub(crate) fn is_reply_kept(reply: &Reply, bytes: &[u8]) -> bool {
+    match read_reply(bytes) {
+        Ok(again) => is_spelled(reply, bytes) && is_spelled(&again, bytes),
+        Err(_) => false,
+    }
+}
