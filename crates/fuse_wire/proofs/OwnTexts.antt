@@ -3,16 +3,15 @@ use Rattle.std.proofs.Common.{◌≡◌, ℕ, ◌+◌, ◌≤◌, List, length, 
 use Rattle.eden_base.specs.declared.attr.Perm.{Perm}
 use Rattle.eden_base.specs.Name.{IsNameText}
 use Rattle.fuse_wire.specs.declared.request.Ask.{Ask}
-use Rattle.fuse_wire.specs.declared.request.Request.{Request}
-use Rattle.fuse_wire.specs.declared.request.Request.TheVariants.{BatchForget}
 use Rattle.fuse_wire.specs.declared.item.Item.{Item}
 use Rattle.fuse_wire.specs.Mode.{S_IFREG}
 use Rattle.fuse_wire.specs.Field.{zeros}
-use Rattle.fuse_wire.specs.Request.{nodeid, IsNodeid}
+use Rattle.fuse_wire.specs.Request.{nodeid}
 use Rattle.fuse_wire.specs.RequestBody.{create_body, mkdir_body, batch_body, body, IsBody, IsCreateBody, IsMkdirBody, IsBatchBody}
 use Rattle.fuse_wire.specs.RequestReading.{request_of}
 use Rattle.fuse_wire.specs.RequestText.{IsRequestText, request_text, FitsAsk}
 use Rattle.fuse_wire.proofs.Lengths.{length-zeros}
+use Rattle.fuse_wire.proofs.RequestKinds.{own_nodeid}
 use Rattle.fuse_wire.proofs.Requests.{request_again}
 
 pub create_is_body : (name : List ℕ) (perm : Perm) → IsNameText name → IsCreateBody name perm (create_body name perm)
@@ -41,10 +40,6 @@ pub batch_is_body : (items : List Item) → length items ≤ 256 → IsBatchBody
 batch_is_body items le = record { others = zeros 4; four = length-zeros 4; at_most = le; parts = refl }
 
 pub ruleset own_bodies = (create_is_body, mkdir_is_body, batch_is_body, length-zeros)
-
-own_nodeid : (request : Request) → IsNodeid request (nodeid request)
-own_nodeid (BatchForget items) = tt
-own_nodeid request = refl
 
 pub own_text : (ask : Ask) → length (body ask.what) ≤ 4104 → IsBody ask.what (body ask.what) → IsRequestText ask (request_text ask)
 own_text ask short is = record {

@@ -90,6 +90,11 @@ what_again (requests.Other k m) node body fits n is = rw (number_is node m n) re
 
 -- ---- nodeids
 
+-- the nodeid that is written
+pub own_nodeid : (request : Request) → IsNodeid request (nodeid request)
+own_nodeid (requests.BatchForget items) = tt
+own_nodeid request = refl
+
 -- the nodeid that is read is that of the request; before a batch it is any
 pub nodeid_read : (what : Request) (n m : ℕ) (rest : List ℕ) → nodeid what < 2 ^ 64 → IsNodeid what n → m ≡ u64_at (u64_bytes n ++ rest) → IsNodeid what m
 nodeid_read (requests.BatchForget items) n m rest fits is e = tt

@@ -1,24 +1,17 @@
 -- What a refused request is answered.
-use Rattle.std.specs.Prelude.{ℕ, Bool, true, false, nat_lt, List, length, Option, Some, None, if◌then◌else◌}
+use Rattle.std.specs.Prelude.{ℕ, nat_lt, List, length, Option, Some, None, if◌then◌else◌}
 use Rattle.eden_base.specs.declared.errno.Errno.{Errno}
 use Rattle.eden_base.specs.declared.errno.Errno.TheVariants.{ENOMEM, EINVAL, ENAMETOOLONG}
 use Rattle.eden_base.specs.declared.name.NameFault.TheVariants.{TooLong}
 use Rattle.fuse_wire.specs.declared.fault.WireFault.{WireFault}
 use Rattle.fuse_wire.specs.declared.fault.WireFault.TheVariants.{BadName, NoMemory}
 use Rattle.fuse_wire.specs.declared.header.Header.{Header}
-use Rattle.fuse_wire.specs.declared.request.Opcode.{Opcode}
-use Rattle.fuse_wire.specs.declared.request.Opcode.TheVariants.{Forget, BatchForget}
 use Rattle.fuse_wire.specs.declared.reply.Answer.TheVariants.{Error}
 use Rattle.fuse_wire.specs.declared.reply.Reply.{Reply}
-use Rattle.fuse_wire.specs.Request.{opcode_of}
+use Rattle.fuse_wire.specs.Request.{opcode_of, is_forget}
 use Rattle.fuse_wire.specs.RequestReading.{fields_of}
 
--- the kernel waits for no reply to a forget
-abbrev pub is_forget : Opcode → Bool
-is_forget Forget = true
-is_forget BatchForget = true
-is_forget opcode = false
-
+-- the error that the program which asked is told
 abbrev pub errno_of_fault : WireFault → Errno
 errno_of_fault (BadName TooLong) = ENAMETOOLONG
 errno_of_fault NoMemory = ENOMEM

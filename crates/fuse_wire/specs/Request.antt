@@ -39,6 +39,12 @@ opcode_of n =
     else if n == 42 then opcodes.BatchForget
     else opcodes.Other n
 
+-- the kernel waits for no reply to a forget
+abbrev pub is_forget : Opcode → Bool
+is_forget opcodes.Forget = true
+is_forget opcodes.BatchForget = true
+is_forget opcode = false
+
 -- the opcode that a request goes by
 abbrev pub opcode : Request → Opcode
 opcode (Lookup dir name) = opcodes.Lookup

@@ -1,6 +1,6 @@
 //! What a refused request is answered.
 ghost use Rattle.std.specs.Prelude.{◌≡◌};
-ghost use Rattle.fuse_wire.specs.FaultReply.{errno_of_fault, is_forget, fault_reply_of};
+ghost use Rattle.fuse_wire.specs.FaultReply.{errno_of_fault, fault_reply_of};
 
 use crate::header::Header;
 use crate::request::Opcode;
@@ -16,20 +16,13 @@ pub fn fault_reply(bytes: &[u8], fault: &WireFault) -> Option<Reply>
         return None;
     }
     let header = Header::of(bytes);
-    if is_forget(Opcode::of(header.opcode)) {
+    if Opcode::of(header.opcode).is_forget() {
         return None;
     }
     Some(Reply {
         unique: header.unique,
         answer: Answer::Error(errno_of_fault(fault)),
     })
-}
-
-/// Returns whether the request is a forget, to which the kernel waits for no reply.
-fn is_forget(opcode: Opcode) -> bool
-    ensures { result ≡ is_forget opcode }
-{
-    matches!(opcode, Opcode::Forget | Opcode::BatchForget)
 }
 
 /// Returns the error that the program which asked is told.

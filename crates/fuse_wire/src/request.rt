@@ -1,6 +1,6 @@
 //! What the kernel asks, and by which opcode.
 ghost use Rattle.std.specs.Prelude.{◌≡◌, IfOk};
-ghost use Rattle.fuse_wire.specs.Request.{code, opcode_of, form_of, is_ask, nodes, item_of, other_of};
+ghost use Rattle.fuse_wire.specs.Request.{code, opcode_of, is_forget, form_of, is_ask, nodes, item_of, other_of};
 
 use crate::{Batch, BatchRoom, Form, Item, Nodes};
 use eden_base::{Name, NameRoom, NoMemory, Number, Perm};
@@ -222,6 +222,13 @@ impl Opcode {
             Opcode::BatchForget => 42,
             Opcode::Other(other) => other,
         }
+    }
+
+    /// Returns whether it is a forget's, to which the kernel waits for no reply.
+    pub(crate) fn is_forget(self) -> bool
+        ensures { result ≡ is_forget self }
+    {
+        matches!(self, Opcode::Forget | Opcode::BatchForget)
     }
 }
 
