@@ -1,10 +1,11 @@
 //! What the kernel asks, and by which opcode.
-ghost use Rattle.std.specs.Prelude.{◌≡◌, IfOk};
-ghost use Rattle.fuse_wire.specs.Request.{code, opcode_of, is_forget, form_of, is_ask, nodes, item_of, other_of};
+ghost use Rattle.std.specs.Prelude.{◌≡◌, ◌≤◌, length, IfOk};
+ghost use Rattle.fuse_wire.specs.Request.{code, opcode_of, is_forget, form_of, is_ask, nodes, item_of, items_of, other_of};
 
 use crate::{Batch, BatchRoom, Form, Item, Nodes};
 use eden_base::{Name, NameRoom, NoMemory, Number, Perm};
 use std::alloc::Global;
+use std::array;
 
 /// A request without the number that its reply goes by. `dir` is the nodeid of the header, a directory's.
 #[derive(Debug, PartialEq, Eq, Drop)]
@@ -184,6 +185,18 @@ impl Request {
         match self {
             Request::Forget(item) => Some(*item),
             _ => None,
+        }
+    }
+
+    /// Returns the items of a forget of either form; another request has none.
+    pub fn items(&self) -> &[Item]
+        ensures items { result.now ≡ items_of self.now }
+        ensures at_most { length result.now ≤ 256 }
+    {
+        match self {
+            Request::Forget(item) => array::from_ref(item),
+            Request::BatchForget(batch) => batch.as_slice(),
+            _ => &[],
         }
     }
 }

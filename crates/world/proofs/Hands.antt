@@ -6,13 +6,12 @@ use Rattle.eden_base.proofs.NumberTests.{eq-true}
 use Rattle.eden_base.specs.First.{first_where, without_where}
 use Rattle.fuse_wire.specs.Request.{is_ask, item_of, items_of}
 use Rattle.fuse_wire.specs.declared.request.Ask.{Ask}
-use Rattle.fuse_wire.specs.declared.request.Request.{Request}
-use Rattle.fuse_wire.specs.declared.request.Request.TheVariants.{Forget, BatchForget}
 use Rattle.fuse_wire.specs.declared.item.Item.{Item}
 use Rattle.std.specs.List.{AllByRecursion}
 use Rattle.world.specs.Server.{single, handed, is_single}
 use Rattle.world.specs.World.{is_asked}
 use Rattle.world.specs.Agreement.{asks_in, items_in}
+use Rattle.fuse_wire.proofs.ItemLaws.{ask-items}
 use Rattle.world.proofs.Bags.{mark, count-cons, sum-without}
 
 -- ---- what joins it
@@ -39,12 +38,6 @@ asks_in-singles (item ∷ items) = asks_in-singles items
 items_in-singles : (items : List Item) → items_in (map single items) ≡ items
 items_in-singles [] = refl
 items_in-singles (item ∷ items) = ap (λ (is : List Item). item ∷ is) (items_in-singles items)
-
--- an ask has no items
-pub ask-items : (request : Request) → is_ask request ≡ true → items_of request ≡ []
-ask-items (Forget item) e = absurd (let none : ⊥ = cc in none)
-ask-items (BatchForget items) e = absurd (let none : ⊥ = cc in none)
-ask-items request e = refl
 
 -- what an ask brings into the hand, and what items do
 pub handed-ask : (ask : Ask) → is_ask ask.what ≡ true → (asks_in (handed ask) ≡ ask ∷ []) × (items_in (handed ask) ≡ [])

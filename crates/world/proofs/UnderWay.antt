@@ -7,7 +7,7 @@ use Rattle.std.proofs.lemmas.List.Sums.{sum_by-cons, sum_by-append, sum_by_push}
 use Rattle.eden_base.proofs.NumberTests.{eq-true, true-eq}
 use Rattle.eden_base.specs.First.{first_where, without_where}
 use Rattle.fuse_wire.specs.Request.{is_ask, item_of, items_of}
-use Rattle.fuse_wire.proofs.ItemLaws.{items-one}
+use Rattle.fuse_wire.proofs.ItemLaws.{items-one, ask-items}
 use Rattle.fuse_wire.specs.declared.request.Ask.{Ask}
 use Rattle.fuse_wire.specs.declared.request.Request.{Request}
 use Rattle.fuse_wire.specs.declared.item.Item.{Item}
@@ -20,7 +20,7 @@ use Rattle.world.specs.World.{World, is_asked, is_replied, is_item}
 use Rattle.world.specs.Agreement.{IsSameBag, asks_in, items_in, IsUnderWay}
 use Rattle.world.proofs.Bags.{mark, counted-first, first-passes, sum-without, same-measure, sum-at, first-append}
 use Rattle.eden_base.proofs.FirstLemmas.{Each-append}
-use Rattle.world.proofs.Hands.{handed-single, asks_in-append, items_in-append, ask-items, handed-ask, handed-items, asks-worked, asks-forgot, items-worked}
+use Rattle.world.proofs.Hands.{handed-single, asks_in-append, items_in-append, handed-ask, handed-items, asks-worked, asks-forgot, items-worked}
 
 -- ---- issue
 

@@ -1,7 +1,6 @@
 //! A daemon that mounted.
-ghost use Rattle.std.specs.Prelude.{◌≡◌, ◌++◌, ◌+◌, ◌≤◌, false, map, length, vec_len, vec_capacity};
+ghost use Rattle.std.specs.Prelude.{◌≡◌, ◌++◌, ◌+◌, ◌≤◌, map, length, vec_len, vec_capacity};
 ghost use Rattle.broker_core.specs.Broker.{take_fault};
-ghost use Rattle.fuse_wire.specs.Request.{is_ask, items_of};
 ghost use Rattle.world.specs.Server.{at_place, handed, single, told_taken, told_item};
 ghost use Rattle.world.specs.Serving.{beginning, TakesBy, WorksBy, PostsBy};
 
@@ -179,28 +178,11 @@ fn put_in_hand(hand: &mut Vec<Ask>, taken: Ask) -> Happened
     ensures told { result ≡ told_taken taken }
 {
     if !taken.what.is_ask() {
-        return Happened::TookForgets(put_items(hand, &taken.what));
+        return Happened::TookForgets(put_each(hand, taken.what.items()));
     }
     let unique = taken.unique;
     hand.push_reserved(taken);
     Happened::Took(unique)
-}
-
-/// Puts each item of a forget into the hand by itself, and returns how many there are.
-fn put_items(hand: &mut Vec<Ask>, request: &Request) -> usize
-    requires forgets { is_ask request.now ≡ false }
-    requires room { vec_len hand.old + 256 ≤ vec_capacity hand.old }
-    ensures hand { hand.new.items ≡ hand.old.items ++ map single (items_of request.now) }
-    ensures count { result ≡ length (items_of request.now) }
-{
-    match request {
-        Request::Forget(item) => {
-            hand.push_reserved(by_itself(*item));
-            1
-        }
-        Request::BatchForget(batch) => put_each(hand, batch.as_slice()),
-        _ => unreachable!(),
-    }
 }
 
 /// Puts each item into the hand by itself, and returns how many there are.
