@@ -571,6 +571,14 @@ fn fails(alloc: Global, served: &mut Hosted, request: &Request, next: u64) -> bo
     map.next() == next && !map.known(Number(next))
 }
 
+/// Answers a request from a backing that answers once, and once more where memory was refused.
+fn answer_again(alloc: Global, served: &mut Hosted, request: &Request) -> Option<Answer> {
+    match served.apply_failing(alloc, 1, request) {
+        Some(Answer::Error(Errno::ENOMEM)) => served.apply_failing(alloc, 1, request),
+        answer => answer,
+    }
+}
+
 /// Returns that, and whether the request is answered with its number when it is made again and the backing answers.
 fn fails_once(alloc: Global, served: &mut Hosted, place: usize, next: u64) -> Option<bool> {
     let number = if place == 4 { 3 } else { next };
@@ -578,7 +586,7 @@ fn fails_once(alloc: Global, served: &mut Hosted, place: usize, next: u64) -> Op
     if !fails(alloc, served, &request, next) {
         return Some(false);
     }
-    Some(number_told(served.apply_failing(alloc, 1, &request)) == number)
+    Some(number_told(answer_again(alloc, served, &request)) == number)
 }
 
 /// Answers all requests in turn, one of them from a backing that fails at once. Returns whether that one is answered
