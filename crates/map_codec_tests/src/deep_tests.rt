@@ -1,11 +1,11 @@
 //! Entries that stand in one another, so deep that a walk up may not take stack for each, and in a circle.
+use crate::deeds::{Deed, all_go_so};
 use crate::raise_tests::comes_to;
-use crate::tests::{CHECKOUT, manifest_of, put};
+use crate::tests::put;
 use crate::vectors::CHANGED;
 use checkout::Manifest;
 use map_codec::RaiseFault;
 use std::alloc::{AllocError, Global};
-use std::test::Fail;
 
 /// The first file that the checkout doesn't have.
 const FIRST_FILE: u64 = 6;
@@ -72,30 +72,28 @@ fn put_circle(bytes: &mut Vec<u8>, count: u32) -> Result<(), AllocError> {
 }
 
 /// Returns whether a chain of so many directories is raised.
-fn is_chain_raised(alloc: Global, manifest: &Manifest, count: u32) -> bool {
+pub(crate) fn is_chain_raised(alloc: Global, manifest: &Manifest, count: u32) -> bool {
     let mut bytes = Vec::new(alloc);
     put_chain(&mut bytes, count).is_ok() && comes_to(alloc, manifest, bytes.as_slice(), None)
 }
 
 /// Returns whether a circle of so many entries is refused.
-fn is_circle_refused(alloc: Global, manifest: &Manifest, count: u32) -> bool {
+pub(crate) fn is_circle_refused(alloc: Global, manifest: &Manifest, count: u32) -> bool {
     let mut bytes = Vec::new(alloc);
     put_circle(&mut bytes, count).is_ok()
         && comes_to(alloc, manifest, bytes.as_slice(), Some(RaiseFault::NoLink))
 }
 
-#[test]
-fn raises_a_chain_of_65000_directories(rt: HostRuntime) -> Result<(), Fail> {
-    let manifest = manifest_of(rt.alloc(), CHECKOUT)?;
-    assert!(rt; is_chain_raised(rt.alloc(), &manifest, 2));
-    assert!(rt; is_chain_raised(rt.alloc(), &manifest, 65_000));
-    Ok(())
-}
+const CHAINS: [Deed; 2] = [Deed::RaiseChain(2), Deed::RaiseChain(65_000)];
 
 #[test]
-fn refuses_a_circle_of_two_and_of_65000(rt: HostRuntime) -> Result<(), Fail> {
-    let manifest = manifest_of(rt.alloc(), CHECKOUT)?;
-    assert!(rt; is_circle_refused(rt.alloc(), &manifest, 2));
-    assert!(rt; is_circle_refused(rt.alloc(), &manifest, 65_000));
-    Ok(())
+fn raises_a_chain_of_65000_directories(rt: HostRuntime) {
+    assert!(rt; all_go_so(rt.alloc(), &CHAINS));
+}
+
+const CIRCLES: [Deed; 2] = [Deed::RefuseCircle(2), Deed::RefuseCircle(65_000)];
+
+#[test]
+fn refuses_a_circle_of_two_and_of_65000(rt: HostRuntime) {
+    assert!(rt; all_go_so(rt.alloc(), &CIRCLES));
 }

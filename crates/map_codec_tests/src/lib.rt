@@ -2,6 +2,8 @@
 #![tactic(auto)]
 
 #[cfg(test)]
+mod deeds;
+#[cfg(test)]
 mod deep_tests;
 #[cfg(test)]
 mod limit_tests;

@@ -1,15 +1,15 @@
 //! What is answered where a count, or the numbers, came to their end before the image was taken.
 ghost use Rattle.std.specs.Prelude.{◌≡◌};
 
+use crate::deeds::{Deed, all_go_so};
 use crate::raise_tests::raised;
-use crate::tests::{Asking, Asks, CHECKOUT, answer_to, is_spelled, manifest_of, request_of};
+use crate::tests::{Asking, Asks, answer_to, is_spelled, request_of};
 use crate::vectors::CHANGED;
 use checkout::Manifest;
 use eden_base::{Errno, Number};
 use fuse_ops::Served;
 use fuse_wire::Answer;
 use std::alloc::Global;
-use std::test::Fail;
 
 /// Returns the changed image with eight bytes set.
 fn changed_at(at: usize, others: [u8; 8]) -> [u8; 147] {
@@ -59,27 +59,49 @@ fn finds_src(alloc: Global, served: &mut Served, manifest: &Manifest) -> bool
     }
 }
 
-/// Returns whether what is raised refuses a request so, keeps its image, and finds `src` again.
+/// Returns whether what is served refuses a request so, keeps its image, and finds `src` again.
+fn refuses_once(
+    alloc: Global,
+    served: &mut Served,
+    manifest: &Manifest,
+    asking: Asking,
+    errno: Errno,
+    bytes: &[u8],
+) -> bool
+    requires over { served.old.tree.manifest ≡ manifest.now }
+{
+    is_refused(alloc, served, manifest, asking, errno, bytes) && finds_src(alloc, served, manifest)
+}
+
+/// Returns that of what is raised.
 fn refuses(alloc: Global, manifest: &Manifest, bytes: &[u8], asking: Asking, errno: Errno) -> bool {
     match raised(alloc, manifest, bytes) {
-        Ok(mut served) => {
-            is_refused(alloc, &mut served, manifest, asking, errno, bytes)
-                && finds_src(alloc, &mut served, manifest)
-        }
+        Ok(mut served) => refuses_once(alloc, &mut served, manifest, asking, errno, bytes),
         Err(_) => false,
     }
 }
 
-/// Where the image is other, the bytes there, and what is asked then: the count of README is 2^32 - 1; the next number
-/// is 2^63 - 1, which is never given.
-const LIMITS: [(usize, [u8; 8], Asking, Errno); 2] = [
-    (
+/// Returns that of what is raised of the changed image with eight bytes set.
+pub(crate) fn is_limited(
+    alloc: Global,
+    manifest: &Manifest,
+    place: (usize, [u8; 8]),
+    asking: Asking,
+    errno: Errno,
+) -> bool {
+    let bytes = changed_at(place.0, place.1);
+    refuses(alloc, manifest, bytes.as_slice(), asking, errno)
+}
+
+/// The count of README is 2^32 - 1; the next number is 2^63 - 1, which is never given.
+const LIMITS: [Deed; 2] = [
+    Deed::Limit(
         88,
         [0xff, 0xff, 0xff, 0xff, 0, 0, 0, 0],
         (Asks::LookUp, 1, b"README"),
         Errno::EOVERFLOW,
     ),
-    (
+    Deed::Limit(
         34,
         [0x7f, 0xff, 0xff, 0xff, 0xff, 0xff, 0xff, 0xff],
         (Asks::Create(0o600), 1, b"x"),
@@ -88,13 +110,6 @@ const LIMITS: [(usize, [u8; 8], Asking, Errno); 2] = [
 ];
 
 #[test]
-fn refuses_a_count_above_the_greatest_and_a_number_behind_the_last(
-    rt: HostRuntime,
-) -> Result<(), Fail> {
-    let manifest = manifest_of(rt.alloc(), CHECKOUT)?;
-    for (at, others, asking, errno) in LIMITS {
-        let bytes = changed_at(at, others);
-        assert!(rt; refuses(rt.alloc(), &manifest, bytes.as_slice(), asking, errno));
-    }
-    Ok(())
+fn refuses_a_count_above_the_greatest_and_a_number_behind_the_last(rt: HostRuntime) {
+    assert!(rt; all_go_so(rt.alloc(), &LIMITS));
 }

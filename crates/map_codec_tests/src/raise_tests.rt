@@ -1,13 +1,13 @@
 //! What is raised from images, and the first that stands against others.
 ghost use Rattle.std.specs.Prelude.{◌≡◌, IfOk};
 
-use crate::tests::{CHECKOUT, all, image_of_bytes, is_spelled, manifest_of};
+use crate::deeds::{Deed, all_go_so};
+use crate::tests::{all, image_of_bytes, is_spelled};
 use crate::vectors::{CHANGED, LOOKED_UP, MOVED};
 use checkout::Manifest;
 use fuse_ops::Served;
 use map_codec::{RaiseFault, raise};
-use std::alloc::Global;
-use std::test::Fail;
+use std::alloc::{AllocError, Global};
 
 /// Raises an image of these bytes; no fault is told where they are none.
 fn raised_once(
@@ -51,7 +51,7 @@ pub fn comes_to(
 }
 
 /// Returns whether the changed image with one byte set is refused so.
-fn is_refused_with(
+pub(crate) fn comes_to_with(
     alloc: Global,
     manifest: &Manifest,
     at: usize,
@@ -67,60 +67,58 @@ fn is_refused_with(
 
 /// The commit; the file that was made; the directory of the first entry, which is none or itself, and the end of its
 /// name; the file in the mark of the third; the next number, twice too low and once too high.
-const FAULTS: [(usize, u8, RaiseFault); 9] = [
-    (6, 2, RaiseFault::OtherCommit),
-    (139, 5, RaiseFault::BadChange(1)),
-    (74, 9, RaiseFault::NoParent),
-    (74, 2, RaiseFault::NoLink),
-    (78, b'd', RaiseFault::NoLink),
-    (127, 5, RaiseFault::NoLink),
-    (41, 4, RaiseFault::NumberTooHigh),
-    (41, 1, RaiseFault::NumberTooHigh),
-    (34, 0x80, RaiseFault::NumberTooHigh),
+const FAULTS: [Deed; 9] = [
+    Deed::Refuse(6, 2, RaiseFault::OtherCommit),
+    Deed::Refuse(139, 5, RaiseFault::BadChange(1)),
+    Deed::Refuse(74, 9, RaiseFault::NoParent),
+    Deed::Refuse(74, 2, RaiseFault::NoLink),
+    Deed::Refuse(78, b'd', RaiseFault::NoLink),
+    Deed::Refuse(127, 5, RaiseFault::NoLink),
+    Deed::Refuse(41, 4, RaiseFault::NumberTooHigh),
+    Deed::Refuse(41, 1, RaiseFault::NumberTooHigh),
+    Deed::Refuse(34, 0x80, RaiseFault::NumberTooHigh),
 ];
 
 #[test]
-fn tells_the_first_that_stands_against_an_image(rt: HostRuntime) -> Result<(), Fail> {
-    let manifest = manifest_of(rt.alloc(), CHECKOUT)?;
-    for (at, byte, fault) in FAULTS {
-        assert!(rt; is_refused_with(rt.alloc(), &manifest, at, byte, fault));
+fn tells_the_first_that_stands_against_an_image(rt: HostRuntime) {
+    assert!(rt; all_go_so(rt.alloc(), &FAULTS));
+}
+
+/// Returns whether the changed image, whose second entry gets the name of the first, is refused.
+pub(crate) fn is_twice_refused(alloc: Global, manifest: &Manifest) -> bool {
+    let (front, rest) = CHANGED.split_at(100);
+    let (_, rest) = rest.split_at(7);
+    match all(alloc, &[front, b"\x03src".as_slice(), rest]) {
+        Ok(twice) => comes_to(
+            alloc,
+            manifest,
+            twice.as_slice(),
+            Some(RaiseFault::TwoNumbers),
+        ),
+        Err(AllocError) => false,
     }
-    Ok(())
 }
 
 #[test]
-fn refuses_two_numbers_of_one_file(rt: HostRuntime) -> Result<(), Fail> {
-    let alloc = rt.alloc();
-    let manifest = manifest_of(alloc, CHECKOUT)?;
-    // The second entry gets the name of the first.
-    let (front, rest) = CHANGED.split_at(100);
-    let (_, rest) = rest.split_at(7);
-    let twice = all(alloc, &[front, b"\x03src".as_slice(), rest])?;
-    assert!(rt;
-        comes_to(
-            alloc,
-            &manifest,
-            twice.as_slice(),
-            Some(RaiseFault::TwoNumbers)
-        )
-    );
-    Ok(())
+fn refuses_two_numbers_of_one_file(rt: HostRuntime) {
+    assert!(rt; all_go_so(rt.alloc(), &[Deed::RefuseTwice]));
 }
 
 /// Returns whether the image of what was raised is the one that it was raised from.
-fn is_raised_and_spelled(alloc: Global, manifest: &Manifest, bytes: &[u8]) -> bool {
+pub(crate) fn is_raised_and_spelled(alloc: Global, manifest: &Manifest, bytes: &[u8]) -> bool {
     match raised(alloc, manifest, bytes) {
         Ok(served) => is_spelled(alloc, &served, bytes),
         Err(_) => false,
     }
 }
 
+const RAISED: [Deed; 3] = [
+    Deed::Raise(&LOOKED_UP),
+    Deed::Raise(&CHANGED),
+    Deed::Raise(&MOVED),
+];
+
 #[test]
-fn has_the_image_that_it_was_raised_from(rt: HostRuntime) -> Result<(), Fail> {
-    let alloc = rt.alloc();
-    let manifest = manifest_of(alloc, CHECKOUT)?;
-    for bytes in [LOOKED_UP.as_slice(), CHANGED.as_slice(), MOVED.as_slice()] {
-        assert!(rt; is_raised_and_spelled(alloc, &manifest, bytes));
-    }
-    Ok(())
+fn has_the_image_that_it_was_raised_from(rt: HostRuntime) {
+    assert!(rt; all_go_so(rt.alloc(), &RAISED));
 }

@@ -3,6 +3,7 @@
 ghost use Rattle.std.specs.Prelude.{◌≡◌, IfOk, IsTrue};
 ghost use Rattle.map_codec.specs.Fit.{CountsFit, IsFit};
 
+use crate::deeds::{Deed, all_go_so};
 use crate::vectors::{CHANGED, LOOKED_UP, MOVED};
 use checkout::{Manifest, ManifestBacking, ManifestFault};
 use eden_base::{Errno, Name, NameFault, NoMemory, Number, Perm};
@@ -10,7 +11,6 @@ use fuse_ops::Served;
 use fuse_wire::{Answer, Request};
 use map_codec::{Entries, Image, ImageFault, WriteFault, image_of, read, write};
 use std::alloc::{AllocError, Global};
-use std::test::Fail;
 
 /// Calls `read`, and once more where memory was refused.
 pub fn image_of_bytes(alloc: Global, bytes: &[u8]) -> Result<Image, ImageFault>
@@ -72,29 +72,47 @@ fn fault_with(alloc: Global, at: usize, byte: u8) -> Option<ImageFault> {
 
 #[test]
 fn writes_what_it_reads(rt: HostRuntime) {
-    assert!(rt; is_written_again(rt.alloc(), LOOKED_UP.as_slice()));
-    assert!(rt; is_written_again(rt.alloc(), CHANGED.as_slice()));
+    assert!(rt; is_written_again(rt.alloc(), &LOOKED_UP));
+    assert!(rt; is_written_again(rt.alloc(), &CHANGED));
+}
+
+/// Returns whether each cut of bytes is refused.
+fn is_each_cut_refused(alloc: Global, bytes: &[u8]) -> bool {
+    for len in 0..bytes.len() {
+        let (front, _) = bytes.split_at(len);
+        if fault_of(alloc, front) != Some(ImageFault::Short) {
+            return false;
+        }
+    }
+    true
 }
 
 #[test]
 fn refuses_each_cut(rt: HostRuntime) {
-    for len in 0..CHANGED.len() {
-        let (front, _) = CHANGED.split_at(len);
-        assert_eq!(rt; fault_of(rt.alloc(), front), Some(ImageFault::Short));
+    assert!(rt; is_each_cut_refused(rt.alloc(), &CHANGED));
+}
+
+/// The first byte of the magic, the version, the first entry's mark, and its count.
+const FIRST_FAULTS: [(usize, u8, ImageFault); 4] = [
+    (0, 0x46, ImageFault::BadMagic),
+    (5, 9, ImageFault::BadVersion),
+    (62, 2, ImageFault::BadMark),
+    (66, 0, ImageFault::ZeroUse),
+];
+
+/// Returns whether each of these faults is told.
+fn are_told(alloc: Global, faults: &[(usize, u8, ImageFault)]) -> bool {
+    for (at, byte, fault) in faults {
+        if fault_with(alloc, *at, *byte) != Some(*fault) {
+            return false;
+        }
     }
+    true
 }
 
 #[test]
 fn tells_the_first_fault(rt: HostRuntime) {
-    // The first byte of the magic, the version, the first entry's mark, and its count.
-    for (at, byte, fault) in [
-        (0, 0x46, ImageFault::BadMagic),
-        (5, 9, ImageFault::BadVersion),
-        (62, 2, ImageFault::BadMark),
-        (66, 0, ImageFault::ZeroUse),
-    ] {
-        assert_eq!(rt; fault_with(rt.alloc(), at, byte), Some(fault));
-    }
+    assert!(rt; are_told(rt.alloc(), &FIRST_FAULTS));
 }
 
 /// Puts these bytes behind others.
@@ -120,33 +138,60 @@ pub fn all(alloc: Global, parts: &[&[u8]]) -> Result<Vec<u8>, AllocError> {
     }
 }
 
-#[test]
-fn refuses_what_follows_and_what_is_exchanged(rt: HostRuntime) -> Result<(), Fail> {
-    let alloc = rt.alloc();
+/// Returns whether these bytes, one behind the other, are no image, for this cause.
+fn is_refused(alloc: Global, parts: &[&[u8]], fault: ImageFault) -> bool {
+    match all(alloc, parts) {
+        Ok(bytes) => fault_of(alloc, bytes.as_slice()) == Some(fault),
+        Err(AllocError) => false,
+    }
+}
+
+/// Returns whether a byte more is refused.
+fn refuses_a_byte_more(alloc: Global) -> bool {
     let (whole, _) = CHANGED.split_at(147);
-    let longer = all(alloc, &[whole, b"\0".as_slice()])?;
-    assert_eq!(rt; fault_of(alloc, longer.as_slice()), Some(ImageFault::Rest));
-    // The first entry has 25 bytes behind the first 54, and the second has 28.
+    is_refused(alloc, &[whole, b"\0".as_slice()], ImageFault::Rest)
+}
+
+/// Returns whether the first two entries are refused in the other order: the first has 25 bytes behind the first 54,
+/// and the second has 28.
+fn refuses_exchanged(alloc: Global) -> bool {
     let (head, rest) = CHANGED.split_at(54);
     let (first, rest) = rest.split_at(25);
     let (second, rest) = rest.split_at(28);
-    let exchanged = all(alloc, &[head, second, first, rest])?;
-    assert_eq!(rt;
-        fault_of(alloc, exchanged.as_slice()),
-        Some(ImageFault::NotRising)
-    );
-    Ok(())
+    is_refused(alloc, &[head, second, first, rest], ImageFault::NotRising)
+}
+
+#[test]
+fn refuses_what_follows_and_what_is_exchanged(rt: HostRuntime) {
+    assert!(rt; refuses_a_byte_more(rt.alloc()));
+    assert!(rt; refuses_exchanged(rt.alloc()));
+}
+
+/// Returns whether the changed image with one byte set is refused, or spelled so.
+fn is_refused_or_spelled_with(alloc: Global, at: usize, byte: u8) -> bool {
+    let mut bytes = CHANGED;
+    if let Some(place) = bytes.get_mut(at) {
+        *place = byte;
+    }
+    is_refused_or_spelled_so(alloc, bytes.as_slice())
+}
+
+/// Returns that of each byte set to 00, to ff and with its lowest bit turned.
+fn are_refused_or_spelled(alloc: Global, bytes: &[u8]) -> bool {
+    for at in 0..bytes.len() {
+        if !is_refused_or_spelled_with(alloc, at, 0)
+            || !is_refused_or_spelled_with(alloc, at, 0xff)
+            || !is_refused_or_spelled_with(alloc, at, bytes[at] ^ 1)
+        {
+            return false;
+        }
+    }
+    true
 }
 
 #[test]
 fn refuses_a_changed_byte_or_spells_it_so(rt: HostRuntime) {
-    for at in 0..CHANGED.len() {
-        for other in [0u8, 0xff, CHANGED[at] ^ 1] {
-            let mut bytes = CHANGED;
-            bytes[at] = other;
-            assert!(rt; is_refused_or_spelled_so(rt.alloc(), bytes.as_slice()));
-        }
-    }
+    assert!(rt; are_refused_or_spelled(rt.alloc(), &CHANGED));
 }
 
 /// Puts the text of so many entries without names, each held once.
@@ -197,22 +242,23 @@ fn is_too_long(alloc: Global, bytes: &[u8]) -> bool {
     }
 }
 
-#[test]
-fn writes_65000_bytes_at_most(rt: HostRuntime) {
-    let most = unlinked(rt.alloc(), 3092);
-    assert_eq!(rt; most.len(), 64994);
-    assert!(rt; is_written_again(rt.alloc(), most.as_slice()));
-    let more = unlinked(rt.alloc(), 3093);
-    assert!(rt; is_too_long(rt.alloc(), more.as_slice()));
+/// Returns whether the image of 3,092 entries has so many bytes, and is written.
+fn writes_the_most(alloc: Global) -> bool {
+    let most = unlinked(alloc, 3092);
+    most.len() == 64994 && is_written_again(alloc, most.as_slice())
 }
 
-/// A checkout with a directory and three files.
-pub const CHECKOUT: &[u8] = b"commit 0123456789abcdef0123456789abcdef01234567
-dir src
-file 0644 12 src/a
-file 0755 0 src/b
-file 0644 7 README
-";
+/// Returns whether that of one more is too long.
+fn writes_no_more(alloc: Global) -> bool {
+    let more = unlinked(alloc, 3093);
+    is_too_long(alloc, more.as_slice())
+}
+
+#[test]
+fn writes_65000_bytes_at_most(rt: HostRuntime) {
+    assert!(rt; writes_the_most(rt.alloc()));
+    assert!(rt; writes_no_more(rt.alloc()));
+}
 
 /// Reads a manifest, and once more where memory was refused.
 pub fn manifest_of(alloc: Global, text: &[u8]) -> Result<Manifest, ManifestFault> {
@@ -318,12 +364,28 @@ fn asks_all(alloc: Global, served: &mut Served, manifest: &Manifest, askings: &[
     true
 }
 
-/// Returns whether the image after these requests is spelled so.
-fn is_spelled_after(alloc: Global, manifest: &Manifest, askings: &[Asking], bytes: &[u8]) -> bool {
+/// Makes requests, and returns whether the image after them is spelled so.
+fn asks_and_spells(
+    alloc: Global,
+    served: &mut Served,
+    manifest: &Manifest,
+    askings: &[Asking],
+    bytes: &[u8],
+) -> bool
+    requires over { served.old.tree.manifest ≡ manifest.now }
+{
+    asks_all(alloc, served, manifest, askings) && is_spelled(alloc, served, bytes)
+}
+
+/// Returns that of a daemon that begins.
+pub(crate) fn is_spelled_after(
+    alloc: Global,
+    manifest: &Manifest,
+    askings: &[Asking],
+    bytes: &[u8],
+) -> bool {
     match served_of(alloc, manifest) {
-        Ok(mut served) => {
-            asks_all(alloc, &mut served, manifest, askings) && is_spelled(alloc, &served, bytes)
-        }
+        Ok(mut served) => asks_and_spells(alloc, &mut served, manifest, askings, bytes),
         Err(NoMemory) => false,
     }
 }
@@ -343,20 +405,17 @@ const MOVING: [Asking; 3] = [
     (Asks::Unlink, 2, b"a"),
 ];
 
+const LOOKING: [Asking; 1] = [(Asks::LookUp, 1, b"src")];
+
+const SPELLED: [Deed; 3] = [
+    Deed::Spell(&LOOKING, &LOOKED_UP),
+    Deed::Spell(&TAKEN_OUT, &CHANGED),
+    Deed::Spell(&MOVING, &MOVED),
+];
+
 #[test]
-fn takes_the_image_of_what_was_asked(rt: HostRuntime) -> Result<(), Fail> {
-    let manifest = manifest_of(rt.alloc(), CHECKOUT)?;
-    for (askings, bytes) in [
-        (
-            [(Asks::LookUp, 1, b"src".as_slice())].as_slice(),
-            LOOKED_UP.as_slice(),
-        ),
-        (TAKEN_OUT.as_slice(), CHANGED.as_slice()),
-        (MOVING.as_slice(), MOVED.as_slice()),
-    ] {
-        assert!(rt; is_spelled_after(rt.alloc(), &manifest, askings, bytes));
-    }
-    Ok(())
+fn takes_the_image_of_what_was_asked(rt: HostRuntime) {
+    assert!(rt; all_go_so(rt.alloc(), &SPELLED));
 }
 
 /// Asks whether an image is fit, and once more where memory was refused.
@@ -369,18 +428,34 @@ fn is_fit(alloc: Global, image: &Image) -> Result<bool, NoMemory>
     }
 }
 
-#[test]
-fn refuses_a_count_of_33_bits(rt: HostRuntime) -> Result<(), Fail> {
-    let alloc = rt.alloc();
-    let mut image = image_of_bytes(alloc, CHANGED.as_slice())?;
+/// Sets the count of an image's first entry to one of 33 bits.
+fn with_great_count(image: Image) -> Image {
+    let mut image = image;
     let mut kept = image.entries.into_vec();
     if let Some(first) = kept.get_mut(0) {
         first.count = 1 << 32;
     }
     image.entries = Entries::of(kept);
-    if !is_fit(alloc, &image)? {
-        panic!(rt; "a count is no part of being fit");
+    image
+}
+
+/// Returns whether an image is fit, and refused for a count when it is written.
+fn is_count_refused(alloc: Global, image: &Image) -> bool {
+    match is_fit(alloc, image) {
+        Ok(true) => matches!(text_of(alloc, image, 1), Err(WriteFault::CountTooLarge)),
+        _ => false,
     }
-    assert!(rt; matches!(text_of(alloc, &image, 1), Err(WriteFault::CountTooLarge)));
-    Ok(())
+}
+
+/// Returns that of the changed image with such a count: a count is no part of being fit.
+fn refuses_a_great_count(alloc: Global) -> bool {
+    match image_of_bytes(alloc, &CHANGED) {
+        Ok(image) => is_count_refused(alloc, &with_great_count(image)),
+        Err(_) => false,
+    }
+}
+
+#[test]
+fn refuses_a_count_of_33_bits(rt: HostRuntime) {
+    assert!(rt; refuses_a_great_count(rt.alloc()));
 }

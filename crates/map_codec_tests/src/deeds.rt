@@ -1,0 +1,68 @@
+//! What is done over one manifest and comes of it, as data, so that a test is a table.
+use crate::deep_tests::{is_chain_raised, is_circle_refused};
+use crate::limit_tests::is_limited;
+use crate::raise_tests::{comes_to_with, is_raised_and_spelled, is_twice_refused};
+use crate::tests::{Asking, is_spelled_after, manifest_of};
+use checkout::Manifest;
+use eden_base::Errno;
+use map_codec::RaiseFault;
+use std::alloc::Global;
+
+/// A checkout with a directory and three files.
+const CHECKOUT: &[u8] = b"commit 0123456789abcdef0123456789abcdef01234567
+dir src
+file 0644 12 src/a
+file 0755 0 src/b
+file 0644 7 README
+";
+
+#[derive(Clone, Copy)]
+pub enum Deed {
+    /// After these requests the image is spelled so.
+    Spell(&'static [Asking], &'static [u8]),
+    /// What is raised of an image has that image.
+    Raise(&'static [u8]),
+    /// The changed image with a byte set is refused so.
+    Refuse(usize, u8, RaiseFault),
+    /// The changed image with the name of its first entry in the second too is refused.
+    RefuseTwice,
+    /// What is raised of the changed image with eight bytes set refuses a request so.
+    Limit(usize, [u8; 8], Asking, Errno),
+    /// The image of so many directories, each in the one before it, is raised.
+    RaiseChain(u32),
+    /// The image of so many entries in a circle is refused.
+    RefuseCircle(u32),
+}
+
+/// Does a deed, and returns whether it comes to what it says.
+fn goes_so(alloc: Global, manifest: &Manifest, deed: Deed) -> bool {
+    match deed {
+        Deed::Spell(askings, bytes) => is_spelled_after(alloc, manifest, askings, bytes),
+        Deed::Raise(bytes) => is_raised_and_spelled(alloc, manifest, bytes),
+        Deed::Refuse(at, byte, fault) => comes_to_with(alloc, manifest, at, byte, fault),
+        Deed::RefuseTwice => is_twice_refused(alloc, manifest),
+        Deed::Limit(at, others, asking, errno) => {
+            is_limited(alloc, manifest, (at, others), asking, errno)
+        }
+        Deed::RaiseChain(count) => is_chain_raised(alloc, manifest, count),
+        Deed::RefuseCircle(count) => is_circle_refused(alloc, manifest, count),
+    }
+}
+
+/// Does each deed, and returns whether all go so.
+fn each_goes_so(alloc: Global, manifest: &Manifest, deeds: &[Deed]) -> bool {
+    for deed in deeds {
+        if !goes_so(alloc, manifest, *deed) {
+            return false;
+        }
+    }
+    true
+}
+
+/// Does each deed over the manifest, and returns whether all go so.
+pub(crate) fn all_go_so(alloc: Global, deeds: &[Deed]) -> bool {
+    match manifest_of(alloc, CHECKOUT) {
+        Ok(manifest) => each_goes_so(alloc, &manifest, deeds),
+        Err(_) => false,
+    }
+}
