@@ -196,6 +196,16 @@ waiting (Serving server) e = absurd (let none : ⊥ = cc in none)
 pub waits-read : (xs : List Daemon) (index : ℕ) (x : Daemon) → index < length xs → true ≡ is_waiting x → x ≡ get_or xs index x → slice_get xs index ≡ Some Waiting
 waits-read xs index x within waits read = slice_get_read xs (length xs) index x refl within read ∙ ap (λ (y : Daemon). Some y) (waiting x waits)
 
+-- nothing stands against a daemon that waits, where the seat is free
+may-mount : (old : State) (d : DaemonId) (index : ℕ) → IsIndex (length old.daemons) d.0 index → slice_get old.daemons index ≡ Some Waiting → mount_fault old.broker ≡ None →
+    mount_refusal old (daemon_of old d) ≡ None
+may-mount old d index at there fine = ap (mount_refusal old) (daemon-there old d index Waiting at there) ∙ ap (option_map refusal_of_mount) fine
+
+-- but memory may be wanting
+pub Once-mount-lacks : (old : State) (d : DaemonId) (index : ℕ) → IsIndex (length old.daemons) d.0 index → slice_get old.daemons index ≡ Some Waiting → mount_fault old.broker ≡ None →
+    Once old (Mount d) (happened.Refused NoMemory) old
+Once-mount-lacks old d index at there fine = Once-lacks old (Mount d) (happened.Refused NoMemory) tt (may-mount old d index at there fine) refl
+
 -- a daemon that waited mounted
 pub Once-mounts : (old : State) (d : DaemonId) (index : ℕ) (server : ServerState) (broker : BrokerState) (generation : ℕ) (served : ServedState) →
     IsIndex (length old.daemons) d.0 index → slice_get old.daemons index ≡ Some Waiting → mount_fault old.broker ≡ None →
@@ -205,9 +215,7 @@ Once-mounts old d index server broker generation served at there fine begins new
     let told : happened.Mounted generation ≡ happened.Mounted (old.broker.last + 1) = ap happened.Mounted next in
     let is : Serving server ≡ Serving (new_server old.manifest old.limit (old.broker.last + 1)) =
     ap Serving (begins ∙ ap (λ (g : ℕ). beginning g served) next ∙ ap (beginning (old.broker.last + 1)) new) in
-    let waits : mount_refusal old (daemon_of old d) ≡ None =
-    ap (mount_refusal old) (daemon-there old d index Waiting at there) ∙ ap (option_map refusal_of_mount) fine in
-    Once-makes old (Mount d) (happened.Mounted generation) _ waits
+    Once-makes old (Mount d) (happened.Mounted generation) _ (may-mount old d index at there fine)
     (told, changes old d index broker (mounted old.broker d) (set old.daemons index (Serving server)) (Serving server) _ at refl is broke)
 
 -- one more event

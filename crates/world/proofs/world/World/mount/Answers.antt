@@ -5,9 +5,26 @@ use Rattle.world.specs.Serving.{IsIndex}
 use Rattle.world.specs.State.{State}
 use Rattle.world.specs.Step.{Once}
 use Rattle.world.specs.declared.outcome.Happened.TheVariants as happened
+use Rattle.world.specs.declared.outcome.Refusal.TheVariants.{NoMemory}
 use Rattle.world.specs.declared.event.Event.TheVariants.{Mount}
-use Rattle.world.proofs.StepLemmas.{none-unless, waits-read, Once-mounts}
+use Rattle.world.proofs.StepLemmas.{none-unless, waits-read, Once-mount-lacks, Once-mounts}
 use Rattle.world.proofs.world.World.mount.Goals as goal
+
+-- what was made is dropped again where the manifest can't be shared
+pub returns-in_default-share : goal.returns-in_default-share
+returns-in_default-share c =
+    let old : State = record { manifest = c.self.inside.manifest; limit = c.self.inside.limit; broker = c.self.inside.broker; daemons = c.self.inside.daemons.items } in
+    let at : IsIndex (length old.daemons) c.args.daemon.0 c.in-Some.index = record {
+      counted = c.in-Some.ensures.index.counted;
+      is = c.in-Some.ensures.index.is;
+      within = omega (arith, c.in-Some.ensures.index.within, c.len.ensures, c.self.inside.daemons.ok.0);
+    } in
+    record {
+      once = subst (λ (s : State). Once s (Mount c.args.daemon) (happened.Refused NoMemory) s) c.self.view_is
+          (Once-mount-lacks old c.args.daemon c.in-Some.index at
+          (waits-read old.daemons c.in-Some.index c.index.result.now at.within c.if-not-is_waiting.ensures.waiting c.index.ensures)
+          (sym c.mount_refusal.ensures.fault ∙ none-unless c.mount_refusal.result c.in_default-mount_refusal.not-Some));
+    }
 
 pub returns : goal.returns
 returns c =
