@@ -1,5 +1,5 @@
 //! The name of a directory entry.
-ghost use Rattle.std.specs.Prelude.{◌≡◌, ℕ, ◌≤◌, Bool, ◌↔◌, List, length, Some, IfOk, IfErr, OnOk, IsTrue, nat_eq};
+ghost use Rattle.std.specs.Prelude.{◌≡◌, ℕ, ◌≤◌, Bool, ◌↔◌, List, length, Some, IsOk, IfOk, IfErr, OnOk, IsTrue, nat_eq};
 ghost use Rattle.std.specs.List.{list_any};
 ghost use Rattle.std.specs.Ordering.{nat_cmp};
 ghost use Rattle.std.specs.Cmp.Lexicographic.{pointwise, slice_cmp, nat_list_eq_equiv, nat_list_cmp_total, texts_ties, texts_po};
@@ -8,15 +8,19 @@ ghost use Rattle.std.proofs.Common.{refl};
 ghost use Rattle.eden_base.specs.Name.{is_separator, is_dots, name_fault, IsNameText, IsNameRefusal};
 
 use crate::{NameRoom, NoMemory};
+use smallvec::SmallVec;
 use std::alloc::Global;
 use std::cmp::Ordering;
 use std::marker::Model;
 use thiserror::Error;
 
+/// How many bytes a name keeps in its value: most names of a checkout take no memory, and `Name` takes 32 bytes.
+const SHORT: usize = 16;
+
 /// A name as `path_resolution(7)` has it, in bytes that need be no text.
 #[derive(Debug, Drop)]
 pub struct Name {
-    bytes: Vec<u8>,
+    bytes: SmallVec<u8, SHORT>,
 }
 
 impl Model for Name {
@@ -26,6 +30,8 @@ impl Model for Name {
 
     ghost invariant = { λ name. IsNameText name.bytes.items };
 }
+
+const _: () = prove!(size_of::<Name>() <= 32);
 
 /// Why bytes are no name. The first that holds is told, in this order.
 #[derive(Clone, Copy, Debug, PartialEq, Eq, Error)]
@@ -51,6 +57,7 @@ impl Name {
         ensures name { IfOk result (λ name. name ≡ bytes.now) }
         ensures accepted { OnOk result (IsNameText bytes.now) }
         ensures refused { IfErr result (IsNameRefusal bytes.now) }
+        ensures short { length bytes.now ≤ 16 → ¬ (result ≡ Err NameFault.NoMemory) }
     {
         if let Some(fault) = Name::fault(bytes) {
             return Err(fault);
@@ -78,8 +85,9 @@ impl Name {
     pub fn of(alloc: Global, bytes: &[u8]) -> Result<Name, NoMemory>
         requires { IsNameText bytes.now }
         ensures name { IfOk result (λ name. name ≡ bytes.now) }
+        ensures short { length bytes.now ≤ 16 → IsOk result }
     {
-        match Vec::from_slice(alloc, bytes) {
+        match SmallVec::from_slice(alloc, bytes) {
             Ok(bytes) => Ok(Name { bytes }),
             Err(_refused) => Err(NoMemory),
         }
@@ -92,7 +100,9 @@ impl Name {
     {
         let NameRoom { bytes: mut taken } = room;
         taken.extend_from_slice(bytes).unwrap();
-        Name { bytes: taken }
+        Name {
+            bytes: SmallVec::from_vec(taken),
+        }
     }
 
     /// Returns the first fault of bytes as a name, memory apart: none where they are one.
@@ -125,6 +135,7 @@ impl Name {
     /// Returns the same name, in memory of its own.
     pub fn copy(&self, alloc: Global) -> Result<Name, NoMemory>
         ensures copy { IfOk result (λ name. name ≡ self.now) }
+        ensures short { length self.now ≤ 16 → IsOk result }
     {
         Name::of(alloc, self.bytes())
     }

@@ -70,7 +70,12 @@ fn parses_a_name_to_a_room(rt: HostRuntime) -> Result<(), Fail> {
 fn copies_a_name(rt: HostRuntime) -> Result<(), Fail> {
     let alloc = rt.alloc();
     let longest = [b'n'; 255];
-    for bytes in [b"...".as_slice(), longest.as_slice()] {
+    for bytes in [
+        b"...".as_slice(),
+        &longest[..16],
+        &longest[..17],
+        longest.as_slice(),
+    ] {
         let name = parse(alloc, bytes)?;
         assert_eq!(rt; name.bytes(), bytes);
         assert!(rt; copy(alloc, &name)?.is(&name));
