@@ -62,6 +62,30 @@ pruned-others old now later before after n place p useful useless at table =
     subst (λ (t : TableState). AreOfUseBut (dir_of place) t.entries) (sym table)
     (subst (λ (q : Place). AreOfUseBut (dir_of q) (without_where (has_number n) now.entries)) is (left-of_use now.entries 2 old.next n u.0 p.numbers u.1 useful))
 
+-- between two steps: what was struck so far, and one number alone is of no use
+pub record Going (old now : TableState) (before after : LoadedState) (n : ℕ) : Type 0 where
+  pub pruned : Pruned old now before after
+  pub useless : is_useless now.entries n ≡ true
+  pub others_of_use : AreOfUseBut (Some n) now.entries
+
+-- its step, and what it leaves of no use
+pub going-step : (old now later : TableState) (before after left : LoadedState) (n : ℕ) → Going old now before after n →
+    later ≡ without_entry now n (without_where (has_number n) now.entries) → left ≡ record after { attrs = filter (λ (l : LoadedAttr). is_other n (loaded_number l)) after.attrs } → Pruned old later before left
+going-step old now later before after left n g table loaded = pruned-step old now later before after left n g.pruned g.others_of_use g.useless table loaded
+
+pub going-others : (old now later : TableState) (before after : LoadedState) (n : ℕ) (place q : Place) → Going old now before after n → option_map place_of_kept (entry_of now.entries n) ≡ Some place → place ≡ q →
+    later ≡ without_entry now n (without_where (has_number n) now.entries) → AreOfUseBut (dir_of q) later.entries
+going-others old now later before after n place q g at is table = pruned-others old now later before after n q g.pruned g.others_of_use g.useless (at ∙ ap Some is) table
+
+-- where the directory is of no use, it is the next
+pub going-on : (old now later : TableState) (before after left : LoadedState) (n : ℕ) (place : Place) (dir : Number) (name : List ℕ) → Going old now before after n → option_map place_of_kept (entry_of now.entries n) ≡ Some place → place ≡ Linked dir name →
+    later ≡ without_entry now n (without_where (has_number n) now.entries) → left ≡ record after { attrs = filter (λ (l : LoadedAttr). is_other n (loaded_number l)) after.attrs } → is_useless later.entries dir.0 ≡ true → Going old later before left dir.0
+going-on old now later before after left n place dir name g at is table loaded useless = record {
+  pruned = going-step old now later before after left n g table loaded;
+  useless = useless;
+  others_of_use = going-others old now later before after n place (Linked dir name) g at is table;
+}
+
 pub pruned-shorter : (now later : TableState) (n : ℕ) → is_useless now.entries n ≡ true → later ≡ without_entry now n (without_where (has_number n) now.entries) → length later.entries < length now.entries
 pruned-shorter now later n useless table =
     let u = useless-entry now.entries n useless in
