@@ -410,8 +410,13 @@ fn keeps_batches_of_many_lengths(rt: HostRuntime) {
 }
 
 #[test]
-fn takes_memory_once_for_a_name(rt: HostRuntime) {
+fn takes_no_memory_for_a_short_name(rt: HostRuntime) {
     assert!(rt; read_request(rt.alloc(), &LOOKUP).is_ok());
+}
+
+#[test]
+fn takes_memory_once_for_a_long_name(rt: HostRuntime) {
+    assert!(rt; read_request(rt.alloc(), &LONG_LOOKUP).is_ok());
 }
 
 const TOO_LONG: WireFault = WireFault::BadName(NameFault::TooLong);
