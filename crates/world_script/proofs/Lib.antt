@@ -1,9 +1,7 @@
 pub mod CommandLemmas
 pub mod EndingLemmas
 pub mod LineLemmas
-pub mod NumberLemmas
-pub mod OctalLemmas
 pub mod PlainWords
-pub mod PrintLemmas
+pub mod PlayLemmas
 pub mod RunLemmas
 pub mod ScriptLemmas

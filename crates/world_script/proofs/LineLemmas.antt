@@ -3,7 +3,7 @@ use Rattle.std.proofs.Common.{◌≡◌, ℕ, ◌+◌, ◌-◌, ◌<◌, Bool, t
 use Rattle.std.specs.List.{onto_first, before_first, after_first, position_or_len}
 use Rattle.std.proofs.Math.Seq.{drop-nil}
 use Rattle.std.proofs.lemmas.Grind.{common_steps}
-use Rattle.world_script.specs.Lines.{is_lf, lines_of}
+use Rattle.script_lines.specs.Lines.{is_lf, lines_of}
 
 take_one_more : (byte m : ℕ) (rest : List ℕ) → take (1 + m) (byte ∷ rest) ≡ byte ∷ take m rest
 take_one_more byte m rest = grind (arith, common_steps)

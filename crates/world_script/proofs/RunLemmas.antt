@@ -13,7 +13,7 @@ use Rattle.world.proofs.WholeRun.{match-agrees, match-counts, match-names, steps
 use Rattle.world.specs.declared.event.Event.{Event}
 use Rattle.world_script.specs.declared.fault.Fault.{Fault}
 use Rattle.world_script.specs.declared.fault.Fault.TheVariants.{CannotWrite}
-use Rattle.world_script.specs.Lines.{SaysEvents}
+use Rattle.world_script.specs.Parts.{SaysEvents}
 use Rattle.world_script.specs.Refusal.{IsRunRefusal}
 use Rattle.world_script.specs.Script.{SaysManifest, IsGood, Prints, IsPromised, RunsEvents, Runs}
 

@@ -4,8 +4,9 @@ use Rattle.std.specs.List.{before_first, after_first, position_or_len, position}
 use Rattle.std.proofs.lemmas.List.{length-take-le, map-append, drop-drop}
 use Rattle.std.proofs.lemmas.Bool.Decides.{nat_tests}
 use Rattle.world.specs.declared.event.Event.{Event}
-use Rattle.world_script.specs.EventLine.{event_of}
-use Rattle.world_script.specs.Lines.{is_lf, lines_of, lines_behind, is_marker, first_bad, IsSplit}
+use Rattle.script_lines.specs.EventLine.{event_of}
+use Rattle.script_lines.specs.Lines.{is_lf, lines_of}
+use Rattle.world_script.specs.Parts.{lines_behind, is_marker, first_bad, IsSplit}
 use Rattle.world_script.proofs.LineLemmas.{lines_of_parts, drop-end}
 
 -- the rest is an end of the script, before which no line is a marker

@@ -6,7 +6,7 @@ use Rattle.clap.specs.Words.{App, Row, Rule, Text, first_of, new_app, new_rule, 
 use Rattle.clap.specs.Simple.{new_shape}
 use Rattle.clap.specs.declared.builder.ArgAction.TheVariants.{Set}
 use Rattle.clap.specs.declared.builder.ValueParser.TheVariants as parser
-use Rattle.world_script.specs.Number.{number_of}
+use Rattle.script_lines.specs.Number.{number_of}
 
 -- the one word of `world`, which it can't be without
 abbrev pub script_rule : Rule

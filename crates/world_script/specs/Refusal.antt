@@ -6,7 +6,8 @@ use Rattle.checkout.specs.declared.fault.ManifestFaultKind.{ManifestFaultKind}
 use Rattle.checkout.specs.declared.fault.ManifestFaultKind.TheVariants as kind
 use Rattle.world_script.specs.declared.fault.Fault.{Fault}
 use Rattle.world_script.specs.declared.fault.Fault.TheVariants.{CannotRead, TooLong, NoEvents, BadManifest, BadLine, NoMemory, CannotWrite}
-use Rattle.world_script.specs.Lines.{lines_of, lines_behind, first_bad, IsBadLine}
+use Rattle.script_lines.specs.Lines.{lines_of}
+use Rattle.world_script.specs.Parts.{lines_behind, first_bad, IsBadLine}
 use Rattle.world_script.specs.Script.{SaysManifest, IsGood}
 
 -- the fault of a manifest's, by its kind

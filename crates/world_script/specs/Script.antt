@@ -11,8 +11,8 @@ use Rattle.world.specs.World.{IsRun, first_world}
 use Rattle.world.specs.Agreement.{all_moves, world_after, Matches, IsRunOfMoves, CountsAreOwed, NumbersNameTheirFirstFile, OneDaemonForEachGeneration, RepliesAreAnswered, IsGoodForget}
 use Rattle.world.specs.declared.event.Event.{Event}
 use Rattle.world.specs.declared.outcome.Happened.{Happened}
-use Rattle.world_script.specs.Lines.{IsSplit, SaysEvents}
-use Rattle.world_script.specs.Printed.{printed}
+use Rattle.world_script.specs.Parts.{IsSplit, SaysEvents}
+use Rattle.script_lines.specs.Printed.{printed}
 
 -- what the text before the first marker says as a manifest: the manifest, or its first fault
 pub record SaysManifest (script : List ℕ) (said : Result Manifest ManifestFault) : Type 0 where

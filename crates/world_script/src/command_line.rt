@@ -5,10 +5,10 @@ ghost use Rattle.clap.specs.Words.{FailsBy, app_of, fault_of, kind_of, rule_of, 
 ghost use Rattle.world_script.specs.CommandLine.{NamesPlainly, edend_app, limit_in, limit_named, limit_of, limit_rule, script_in, script_named, script_rule};
 
 use crate::DEFAULT_LIMIT;
-use crate::number::number;
 use clap::builder::ValueParser;
 use clap::error::ErrorKind;
 use clap::{Arg, ArgAction, ArgMatches, Command, Error};
+use script_lines::number;
 use std::alloc::{AllocError, Global};
 
 const WORLD: &str = "world";

@@ -4,12 +4,8 @@
 
 mod command_line;
 mod ending;
-mod event_line;
 mod fault;
 mod input;
-mod lines;
-mod number;
-mod print;
 mod program;
 mod run;
 mod run_error;

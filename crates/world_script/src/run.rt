@@ -5,9 +5,9 @@ ghost use Rattle.world_script.specs.Refusal.{IsRunRefusal, comes_first};
 ghost use Rattle.world_script.specs.Script.{Runs, RunsEvents};
 
 use crate::input::read_whole;
-use crate::print::print_event;
 use crate::script::Script;
 use crate::{Fault, RunError};
+use script_lines::print_event;
 use std::alloc::Global;
 use std::io::{self, Read, Write};
 use world::{Event, Outcome, World};

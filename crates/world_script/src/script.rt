@@ -1,15 +1,15 @@
 //! A script: a manifest, a line `--`, and lines that say what happens.
 ghost use Rattle.std.specs.Prelude.{◌≡◌, ◌+◌, ◌≤◌, ◌<◌, ◌^◌, length, map, Some, None, IfOk, IfErr, IfSome, MatchOption, Ok};
-ghost use Rattle.world_script.specs.EventLine.{event_of};
-ghost use Rattle.world_script.specs.Lines.{lines_of, lines_behind, IsSplit, SaysEvents};
+ghost use Rattle.script_lines.specs.EventLine.{event_of};
+ghost use Rattle.script_lines.specs.Lines.{lines_of};
+ghost use Rattle.world_script.specs.Parts.{lines_behind, IsSplit, SaysEvents};
 ghost use Rattle.world_script.specs.Refusal.{IsScriptRefusal, IsEventsRefusal};
 ghost use Rattle.world_script.specs.Script.{SaysManifest};
 
 use crate::Fault;
-use crate::event_line::read_event;
-use crate::lines::first_line;
 use checkout::Manifest;
 use eden_base::NoMemory;
+use script_lines::{first_line, read_event};
 use std::alloc::Global;
 use world::Event;
 

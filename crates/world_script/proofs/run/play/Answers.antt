@@ -2,7 +2,7 @@ use Rattle.std.proofs.Common.{◌+◌, ◌∷◌, drop, ap, sym, ◌∙◌, arit
 use Rattle.std.proofs.Math.ListN.{drop_of_length-le}
 use Rattle.std.proofs.lemmas.List.{drop_more}
 use Rattle.world.specs.declared.event.Event.{Event}
-use Rattle.world_script.proofs.PrintLemmas.{IsPlayed-none, IsPlayed-more, RunsEvents-on_ok}
+use Rattle.world_script.proofs.PlayLemmas.{IsPlayed-none, IsPlayed-more, RunsEvents-on_ok}
 use Rattle.world_script.proofs.run.play.Goals as goal
 
 pub loop-event-init : goal.loop-event-init

@@ -1,5 +1,5 @@
 use Rattle.std.proofs.Common.{drop}
-use Rattle.world_script.proofs.PrintLemmas.{IsPlayed}
+use Rattle.world_script.proofs.PlayLemmas.{IsPlayed}
 use Rattle.world_script.proofs.run.play.Given as goal
 
 abbrev pub invariant-loop-event : goal.invariant-loop-event

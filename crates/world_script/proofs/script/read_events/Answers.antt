@@ -1,8 +1,8 @@
 use Rattle.std.proofs.Common.{◌≡◌, ℕ, ◌+◌, ◌++◌, ◌∷◌, [], List, map, Some, None, length, length-append, ap, subst, sym, ◌∙◌, arith, rules}
 use Rattle.std.specs.Option.{option_map}
 use Rattle.world.specs.declared.event.Event.{Event}
-use Rattle.world_script.specs.EventLine.{event_of}
-use Rattle.world_script.specs.Lines.{lines_of}
+use Rattle.script_lines.specs.EventLine.{event_of}
+use Rattle.script_lines.specs.Lines.{lines_of}
 use Rattle.world_script.proofs.ScriptLemmas.{events_more, first_bad_is}
 use Rattle.world_script.proofs.script.read_events.Goals as goal
 

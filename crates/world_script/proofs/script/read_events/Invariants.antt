@@ -1,6 +1,6 @@
 use Rattle.std.proofs.Common.{◌≡◌, ◌+◌, ◌≤◌, ◌++◌, map, Some, length}
-use Rattle.world_script.specs.EventLine.{event_of}
-use Rattle.world_script.specs.Lines.{lines_of}
+use Rattle.script_lines.specs.EventLine.{event_of}
+use Rattle.script_lines.specs.Lines.{lines_of}
 use Rattle.world_script.proofs.script.read_events.Given as goal
 
 -- the events so far, and those of the lines that are left, are those of all lines

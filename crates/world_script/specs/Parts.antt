@@ -1,18 +1,10 @@
--- The lines of a text, and the line `--` that parts a script. (This project's own.)
-use Rattle.std.specs.Prelude.{◌≡◌, ℕ, ◌+◌, ◌==◌, Bool, true, List, [], ◌∷◌, length, map, take, drop, Option, Some, None, is_none, position, codes, if◌then◌else◌}
-use Rattle.std.specs.List.{onto_first, before_first, after_first}
+-- The parts of a script: a manifest's lines, the line `--`, and lines that say events. (This project's own.)
+use Rattle.std.specs.Prelude.{◌≡◌, ℕ, ◌+◌, Bool, true, List, [], ◌∷◌, length, map, take, drop, Option, Some, None, is_none, position, codes, if◌then◌else◌}
+use Rattle.std.specs.List.{before_first, after_first}
 use Rattle.world.specs.declared.event.Event.{Event}
-use Rattle.world_script.specs.EventLine.{event_of}
-use Rattle.world_script.specs.Words.{is_word}
-
--- the byte that ends a line
-abbrev pub is_lf : ℕ → Bool
-is_lf byte = byte == 10
-
--- the lines, each ended by LF, which the last may lack
-abbrev pub lines_of : List ℕ → List (List ℕ)
-lines_of [] = []
-lines_of (byte ∷ bytes) = if is_lf byte then [] ∷ lines_of bytes else onto_first byte (lines_of bytes)
+use Rattle.script_lines.specs.EventLine.{event_of}
+use Rattle.script_lines.specs.Lines.{is_lf, lines_of}
+use Rattle.script_lines.specs.Words.{is_word}
 
 -- the line that ends a manifest
 abbrev pub is_marker : List ℕ → Bool

@@ -2,8 +2,8 @@ use Rattle.std.proofs.Common.{◌-◌, ◌^◌, false, [], rules}
 use Rattle.std.specs.Prelude.{OnOk}
 use Rattle.std.specs.Fmt.{digits, padded_integral, format_spec}
 use Rattle.std.specs.Io.KnownBytes.{Appends}
-use Rattle.world_script.proofs.OctalLemmas.{octal-written}
-use Rattle.world_script.proofs.print.print_perm.Goals as goal
+use Rattle.script_lines.proofs.OctalLemmas.{octal-written}
+use Rattle.script_lines.proofs.print.print_perm.Goals as goal
 
 pub returns : goal.returns
 returns g c =

@@ -1,7 +1,7 @@
 //! The lines of a text.
 ghost use Rattle.std.specs.Prelude.{◌≡◌, ◌<◌, length};
 ghost use Rattle.std.specs.List.{before_first, after_first};
-ghost use Rattle.world_script.specs.Lines.{is_lf};
+ghost use Rattle.script_lines.specs.Lines.{is_lf};
 
 use eden_base::cut;
 

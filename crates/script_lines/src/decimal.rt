@@ -1,6 +1,6 @@
 //! Decimal numbers.
 ghost use Rattle.std.specs.Prelude.{◌≡◌};
-ghost use Rattle.world_script.specs.Number.{number_of, with_digit};
+ghost use Rattle.script_lines.specs.Number.{number_of, with_digit};
 
 /// Reads the number that decimal digits write, where it fits 64 bits. Zeros may stand in front, and a sign may not.
 pub fn number(digits: &[u8]) -> Option<u64>

@@ -11,9 +11,9 @@ use Rattle.eden_base.specs.declared.attr.Perm.{Perm}
 use Rattle.eden_base.specs.declared.number.DaemonId.{DaemonId}
 use Rattle.eden_base.specs.declared.number.Number.{Number}
 use Rattle.checkout.specs.Text.{mode_of}
-use Rattle.world_script.specs.Number.{number_of}
+use Rattle.script_lines.specs.Number.{number_of}
 use Rattle.eden_base.specs.Text.{cut}
-use Rattle.world_script.specs.Words.{is_word}
+use Rattle.script_lines.specs.Words.{is_word}
 
 -- the name that bytes are
 abbrev pub name_of : List ℕ → Option (List ℕ)

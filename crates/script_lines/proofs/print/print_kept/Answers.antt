@@ -1,10 +1,10 @@
-use Rattle.std.proofs.Common.{List, [], ◌∷◌, rules}
+use Rattle.std.proofs.Common.{[], ◌∷◌, rules}
 use Rattle.std.specs.Prelude.{codes}
 use Rattle.std.specs.Fmt.{decimal}
 use Rattle.std.specs.Io.KnownBytes.{Appends}
-use Rattle.world_script.specs.Printed.{spaced}
-use Rattle.world_script.proofs.PrintLemmas.{kept_line_written}
-use Rattle.world_script.proofs.print.print_kept.Goals as goal
+use Rattle.script_lines.specs.Printed.{spaced}
+use Rattle.script_lines.proofs.PrintLemmas.{kept_line_written}
+use Rattle.script_lines.proofs.print.print_kept.Goals as goal
 
 pub returns : goal.returns
 returns g c = λ kept is.

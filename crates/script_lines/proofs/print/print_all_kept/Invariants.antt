@@ -1,9 +1,9 @@
 use Rattle.std.proofs.Common.{ℕ, ◌-◌, List, Option}
 use Rattle.std.specs.Io.KnownBytes.{Appends}
 use Rattle.inode_map.specs.InodeMap.{AreNumbers}
-use Rattle.world_script.specs.Printed.{kept_lines}
-use Rattle.world_script.proofs.NumberLemmas.{above}
-use Rattle.world_script.proofs.print.print_all_kept.Given as goal
+use Rattle.script_lines.specs.Printed.{kept_lines}
+use Rattle.script_lines.proofs.NumberLemmas.{above}
+use Rattle.script_lines.proofs.print.print_all_kept.Given as goal
 
 -- with the lines of the numbers above the last one, all lines are written
 abbrev pub invariant-loop-number : goal.invariant-loop-number

@@ -4,7 +4,7 @@ use Rattle.std.proofs.lemmas.Bool.Decides.{nat_tests}
 use Rattle.std.specs.Fmt.{digits, digits_onto, digit_glyph, padded_integral, char_count, format_spec}
 use Rattle.std.specs.Prelude.{OnOk}
 use Rattle.std.specs.Io.KnownBytes.{Appends}
-use Rattle.world_script.specs.Printed.{octal}
+use Rattle.script_lines.specs.Printed.{octal}
 
 -- digits as `{:04o}` writes them
 abbrev padded : List ℕ → List ℕ

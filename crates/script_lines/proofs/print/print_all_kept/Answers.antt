@@ -1,7 +1,7 @@
 use Rattle.std.proofs.Common.{sym, ◌∙◌, arith}
-use Rattle.world_script.proofs.NumberLemmas.{above-all, next-is, none-above, no_entry, kept-is}
-use Rattle.world_script.proofs.PrintLemmas.{kept_lines_same, kept_lines_none, kept_lines_more}
-use Rattle.world_script.proofs.print.print_all_kept.Goals as goal
+use Rattle.script_lines.proofs.NumberLemmas.{above-all, next-is, none-above, no_entry, kept-is}
+use Rattle.script_lines.proofs.PrintLemmas.{kept_lines_same, kept_lines_none, kept_lines_more}
+use Rattle.script_lines.proofs.print.print_all_kept.Goals as goal
 
 pub loop-number-init : goal.loop-number-init
 loop-number-init g c = λ are end more.

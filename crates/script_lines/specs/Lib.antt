@@ -1,0 +1,6 @@
+-- The definitions that the contracts of this crate cite.
+pub mod EventLine
+pub mod Lines
+pub mod Number
+pub mod Printed
+pub mod Words
