@@ -5,7 +5,7 @@ use eden_base::{FileId, Kind, Name, Perm};
 use std::marker::Model;
 
 /// A file that was made since the manifest. It has no content.
-#[derive(Clone, Copy, Debug, PartialEq, Eq)]
+#[derive(Clone, Copy, PartialEq, Eq)]
 pub struct Made {
     pub file: FileId,
     pub kind: Kind,

@@ -3,7 +3,7 @@ ghost use Rattle.std.specs.Prelude.{◌≡◌, ◌≤◌, ◌↔◌, IfSome, IsS
 ghost use Rattle.eden_base.specs.Words.{kind_name};
 
 /// Whether a file has content or entries. Links and devices are no part of a checkout here.
-#[derive(Clone, Copy, Debug, PartialEq, Eq)]
+#[derive(Clone, Copy, PartialEq, Eq)]
 pub enum Kind {
     File,
     Dir,
@@ -22,7 +22,7 @@ impl Kind {
 }
 
 /// The low twelve bits of a mode: setuid, setgid and sticky, then read, write and execute three times.
-#[derive(Clone, Copy, Debug, PartialEq, Eq)]
+#[derive(Clone, Copy, PartialEq, Eq)]
 pub struct Perm {
     pub bits: u16,
     pub ghost in_range: { bits ≤ 4095 },
@@ -57,7 +57,7 @@ impl Perm {
 }
 
 /// The attributes of a file that a daemon tells the kernel; those that are constant here are written with the reply.
-#[derive(Clone, Copy, Debug, PartialEq, Eq)]
+#[derive(Clone, Copy, PartialEq, Eq)]
 pub struct Attr {
     pub kind: Kind,
     pub perm: Perm,

@@ -3,7 +3,7 @@ ghost use Rattle.std.specs.Prelude.{◌≡◌};
 ghost use Rattle.eden_base.specs.Words.{errno_name};
 
 /// Why a request failed, as the kernel passes it on to the program that asked.
-#[derive(Clone, Copy, Debug, PartialEq, Eq)]
+#[derive(Clone, Copy, PartialEq, Eq)]
 pub enum Errno {
     /// No entry of that name.
     ENOENT,

@@ -18,7 +18,7 @@ use thiserror::Error;
 const SHORT: usize = 16;
 
 /// A name as `path_resolution(7)` has it, in bytes that need be no text.
-#[derive(Debug, Drop)]
+#[derive(Drop)]
 pub struct Name {
     bytes: SmallVec<u8, SHORT>,
 }

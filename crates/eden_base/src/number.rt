@@ -2,7 +2,7 @@
 
 /// An inode number as the kernel holds it: what `linux/fuse.h` calls a nodeid. No file has number 0, which
 /// is the default.
-#[derive(Clone, Copy, Debug, Default, PartialEq, Eq)]
+#[derive(Clone, Copy, Default, PartialEq, Eq)]
 pub struct Number(pub u64);
 
 impl Number {
@@ -11,7 +11,7 @@ impl Number {
 }
 
 /// A file of the checkout, named apart from any number that the kernel holds for it.
-#[derive(Clone, Copy, Debug, PartialEq, Eq)]
+#[derive(Clone, Copy, PartialEq, Eq)]
 pub struct FileId(pub u64);
 
 impl FileId {
@@ -20,5 +20,5 @@ impl FileId {
 }
 
 /// A daemon, numbered from 1 in the order in which daemons start.
-#[derive(Clone, Copy, Debug, PartialEq, Eq)]
+#[derive(Clone, Copy, PartialEq, Eq)]
 pub struct DaemonId(pub u64);

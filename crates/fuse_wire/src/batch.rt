@@ -9,7 +9,7 @@ use std::alloc::Global;
 use std::marker::Model;
 
 /// The items of a batch, at most 256, in order. They lie in memory of their own, so that a request stays small.
-#[derive(Debug, Drop)]
+#[derive(Drop)]
 pub struct Batch {
     items: Vec<Item>,
 }

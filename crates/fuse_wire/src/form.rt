@@ -5,7 +5,7 @@ ghost use Rattle.fuse_wire.specs.Form.{belongs};
 use crate::Answer;
 
 /// What stands in the reply to a request that does not fail.
-#[derive(Clone, Copy, Debug, PartialEq, Eq)]
+#[derive(Clone, Copy, PartialEq, Eq)]
 pub enum Form {
     /// A `fuse_entry_out`.
     AnEntry,

@@ -8,7 +8,7 @@ use eden_base::Number;
 use std::marker::Model;
 
 /// One pair of a forget: the kernel holds the number `k` times less (`nlookup` of `linux/fuse.h`).
-#[derive(Clone, Copy, Debug, PartialEq, Eq)]
+#[derive(Clone, Copy, PartialEq, Eq)]
 pub struct Item {
     pub node: Number,
     pub k: u64,
@@ -41,7 +41,7 @@ impl Default for Item {
 }
 
 /// The items of a batch, at most 256, in order. They lie in the value itself.
-#[derive(Debug, Drop)]
+#[derive(Drop)]
 pub struct Items {
     items: ArrayVec<Item, 256>,
 }

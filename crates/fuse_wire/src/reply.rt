@@ -2,7 +2,7 @@
 use eden_base::{Attr, Errno, Number};
 
 /// What became of a request.
-#[derive(Clone, Copy, Debug, PartialEq, Eq)]
+#[derive(Clone, Copy, PartialEq, Eq)]
 pub enum Answer {
     /// Of LOOKUP and MKDIR: the kernel holds the number once more.
     Entry { number: Number, attr: Attr },
@@ -16,7 +16,7 @@ pub enum Answer {
 }
 
 /// An answer, and the `unique` of the request that it goes to.
-#[derive(Clone, Copy, Debug, PartialEq, Eq)]
+#[derive(Clone, Copy, PartialEq, Eq)]
 pub struct Reply {
     pub unique: u64,
     pub answer: Answer,

@@ -8,7 +8,7 @@ use std::alloc::Global;
 use std::array;
 
 /// A request without the number that its reply goes by. `dir` is the nodeid of the header, a directory's.
-#[derive(Debug, PartialEq, Eq, Drop)]
+#[derive(PartialEq, Eq, Drop)]
 pub enum Request {
     Lookup { dir: Number, name: Name },
     Getattr { node: Number },
@@ -25,7 +25,7 @@ pub enum Request {
 }
 
 /// A request, and the `unique` that its reply goes by.
-#[derive(Debug, PartialEq, Eq, Drop)]
+#[derive(PartialEq, Eq, Drop)]
 pub struct Ask {
     pub unique: u64,
     pub what: Request,

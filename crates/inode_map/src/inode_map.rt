@@ -29,7 +29,7 @@ pub struct Kept {
 }
 
 /// What becomes of a forget.
-#[derive(Clone, Copy, Debug, PartialEq, Eq)]
+#[derive(Clone, Copy, PartialEq, Eq)]
 pub enum Forgot {
     /// The number is held less often, and is of use still.
     Lowered,

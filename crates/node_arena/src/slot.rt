@@ -1,7 +1,7 @@
 //! The name of a node.
 
 /// Names a node of a `Nodes` while the node holds a value. A slot that was removed may be given out again.
-#[derive(Clone, Copy, Debug, PartialEq, Eq)]
+#[derive(Clone, Copy, PartialEq, Eq)]
 pub struct Slot {
     pub(crate) index: usize,
 }

@@ -2,7 +2,7 @@
 use crate::Message;
 
 /// What a daemon makes of a message that it hears.
-#[derive(Debug, Drop, PartialEq, Eq)]
+#[derive(Drop, PartialEq, Eq)]
 pub enum Heard {
     /// It is not for this phase or session, and changes nothing.
     Ignored,

@@ -5,7 +5,7 @@ use std::marker::Model;
 
 /// The bytes of an image, which is an inode map as it is handed over. They are made from a `Vec` and given back as one
 /// without taking memory.
-#[derive(Debug, Drop)]
+#[derive(Drop)]
 pub struct ImageBytes {
     bytes: Vec<u8>,
 }

@@ -2,7 +2,7 @@
 use crate::{ImageBytes, Versions};
 
 /// A message of a takeover. A session is one attempt at it, numbered from 1 by the daemon that serves.
-#[derive(Debug, Drop, PartialEq, Eq)]
+#[derive(Drop, PartialEq, Eq)]
 pub enum Message {
     /// A new daemon can read images of these versions.
     Offer(Versions),

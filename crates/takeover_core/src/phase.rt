@@ -1,7 +1,7 @@
 //! How far a daemon is.
 
 /// The phase of a daemon: first those of a new daemon up to the claim, then those of one that serves and hands over.
-#[derive(Clone, Copy, Debug, PartialEq, Eq)]
+#[derive(Clone, Copy, PartialEq, Eq)]
 pub enum Phase {
     /// It was started. It may mount, or its offer may be taken.
     Waiting,

@@ -6,7 +6,7 @@ use arrayvec::ArrayVec;
 use std::marker::Model;
 
 /// At most eight versions of an image, in the order in which they were listed.
-#[derive(Debug, Drop)]
+#[derive(Drop)]
 pub struct Versions {
     versions: ArrayVec<u16, 8>,
 }

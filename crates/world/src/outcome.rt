@@ -12,7 +12,7 @@ use inode_map::Forgot;
 use std::marker::Model;
 
 /// Why an event was refused. A refusal changes nothing.
-#[derive(Clone, Copy, Debug, PartialEq, Eq)]
+#[derive(Clone, Copy, PartialEq, Eq)]
 pub enum Refusal {
     NoDaemon,
     WrongPhase,
@@ -57,7 +57,7 @@ impl Refusal {
 }
 
 /// One thing that an event made happen.
-#[derive(Clone, Copy, Debug, PartialEq, Eq)]
+#[derive(Clone, Copy, PartialEq, Eq)]
 pub enum Happened {
     Started(DaemonId),
     /// At this generation.

@@ -5,7 +5,7 @@ ghost use Rattle.world_script.specs.Ending.{is_unwritten, status_of, unwritten};
 use crate::Fault;
 
 /// The end of a run of the program.
-#[derive(Clone, Copy, Debug, PartialEq, Eq)]
+#[derive(Clone, Copy, PartialEq, Eq)]
 pub enum Ending {
     /// The script was run, and each event's lines were written.
     Ran,

@@ -15,6 +15,21 @@ fn offer(versions: &[u16]) -> Message
     Message::Offer(Versions::of(versions))
 }
 
+/// Returns whether what came of a message is this.
+pub(super) fn is(heard: Heard, expected: Heard) -> bool {
+    let same = heard == expected;
+    drop(heard);
+    drop(expected);
+    same
+}
+
+/// Returns whether this comes of a message.
+fn comes(node: &mut Node, message: Message, expected: Heard) -> bool {
+    let heard = node.hear(&message);
+    drop(message);
+    is(heard, expected)
+}
+
 /// Makes a daemon of version 1 that serves at this generation and has begun so many sessions.
 fn serving(generation: u64, sessions: u32) -> Node {
     Node {
@@ -27,14 +42,14 @@ fn serving(generation: u64, sessions: u32) -> Node {
 #[test]
 fn chooses_a_common_version_once(rt: HostRuntime) {
     let mut node = serving(1, 0);
-    assert_eq!(rt; node.hear(&offer(&[9])), Heard::Say(Message::NoCommon));
-    assert_eq!(rt; node.hear(&offer(&[])), Heard::Say(Message::NoCommon));
-    assert_eq!(rt; node.phase(), Phase::Serving { generation: 1 });
+    assert!(rt; comes(&mut node, offer(&[9]), Heard::Say(Message::NoCommon)));
+    assert!(rt; comes(&mut node, offer(&[]), Heard::Say(Message::NoCommon)));
+    assert!(rt; node.phase() == Phase::Serving { generation: 1 });
     let choice = Message::Choice {
         session: 1,
         version: 1,
     };
-    assert_eq!(rt; node.hear(&offer(&[9, 1])), Heard::Say(choice));
+    assert!(rt; comes(&mut node, offer(&[9, 1]), Heard::Say(choice)));
 }
 
 #[test]
@@ -45,7 +60,7 @@ fn chooses_the_greatest_common_version(rt: HostRuntime) {
         (&[3, 0, 3], Some(3)),
         (&[0, 9], None),
     ] {
-        assert_eq!(rt; own.greatest_common(&Versions::of(offered)), greatest);
+        assert!(rt; own.greatest_common(&Versions::of(offered)) == greatest);
     }
 }
 
@@ -82,8 +97,8 @@ fn is_busy_from_the_choice_until_the_data_is_out(rt: HostRuntime) {
                 versions: Versions::of(&[1]),
                 sessions: 1,
             };
-            assert_eq!(rt; node.hear(&offer(versions)), Heard::Say(Message::Busy));
-            assert_eq!(rt; node.phase(), phase);
+            assert!(rt; comes(&mut node, offer(versions), Heard::Say(Message::Busy)));
+            assert!(rt; node.phase() == phase);
         }
     }
 }
@@ -95,70 +110,81 @@ fn begins_the_last_session_and_none_after_it(rt: HostRuntime) {
         session: 4_294_967_295,
         version: 1,
     };
-    assert_eq!(rt; node.hear(&offer(&[1])), Heard::Say(choice));
-    assert_eq!(rt;
-        node.give_up(),
-        Heard::Say(Message::Failed {
-            session: 4_294_967_295
-        })
-    );
-    assert_eq!(rt; node.hear(&offer(&[1])), Heard::Say(Message::Busy));
-    assert_eq!(rt; node.hear(&offer(&[9])), Heard::Say(Message::NoCommon));
-    assert_eq!(rt; node.phase(), Phase::Serving { generation: 1 });
+    assert!(rt; comes(&mut node, offer(&[1]), Heard::Say(choice)));
+    let failed = Message::Failed {
+        session: 4_294_967_295,
+    };
+    assert!(rt; is(node.give_up(), Heard::Say(failed)));
+    assert!(rt; comes(&mut node, offer(&[1]), Heard::Say(Message::Busy)));
+    assert!(rt; comes(&mut node, offer(&[9]), Heard::Say(Message::NoCommon)));
+    assert!(rt; node.phase() == Phase::Serving { generation: 1 });
 }
 
 #[test]
 fn is_busy_at_the_last_generation(rt: HostRuntime) {
     let mut node = serving(9_223_372_036_854_775_807, 0);
-    assert_eq!(rt; node.hear(&offer(&[1])), Heard::Say(Message::Busy));
-    assert_eq!(rt; node.hear(&offer(&[9])), Heard::Say(Message::NoCommon));
+    assert!(rt; comes(&mut node, offer(&[1]), Heard::Say(Message::Busy)));
+    assert!(rt; comes(&mut node, offer(&[9]), Heard::Say(Message::NoCommon)));
     let mut before = serving(9_223_372_036_854_775_806, 0);
     let choice = Message::Choice {
         session: 1,
         version: 1,
     };
-    assert_eq!(rt; before.hear(&offer(&[1])), Heard::Say(choice));
+    assert!(rt; comes(&mut before, offer(&[1]), Heard::Say(choice)));
 }
 
-/// Returns what is said.
-fn said(heard: Heard) -> Result<Message, Fail> {
-    match heard {
-        Heard::Say(message) => Ok(message),
-        _ => Err("nothing is said")?,
+const CHOICE: Message = Message::Choice {
+    session: 1,
+    version: 1,
+};
+
+const READY: Message = Message::Ready {
+    session: 1,
+    generation: 1,
+};
+
+const PONG: Message = Message::Pong { session: 1 };
+
+/// Returns whether a daemon that has drained says this.
+fn drains(node: &mut Node, expected: Message) -> bool {
+    match node.drained(0, 0) {
+        Ok(message) => is(Heard::Say(message), Heard::Say(expected)),
+        Err(_fault) => false,
     }
 }
 
-/// Makes the data, of no bytes, where the daemon is about to.
-fn data_of(alloc: Global, node: &mut Node) -> Result<Message, Fail> {
-    let bytes = ImageBytes::of(Vec::new(alloc));
-    match node.phase() {
-        Phase::Making { .. } => Ok(node.data_made(bytes)),
-        _ => Err("no data is to be made")?,
+/// Returns whether this comes of the data, of no bytes, that one daemon makes and the other hears.
+fn hands_data(alloc: Global, old: &mut Node, new: &mut Node, expected: Heard) -> bool {
+    match old.phase() {
+        Phase::Making { .. } => {
+            let data = old.data_made(ImageBytes::of(Vec::new(alloc)));
+            comes(new, data, expected)
+        }
+        _ => false,
     }
 }
 
 #[test]
-fn hands_the_data_over(rt: HostRuntime) -> Result<(), Fail> {
-    let mut old = serving(1, 0);
+fn hands_the_data_over(rt: HostRuntime) {
+    let (session, generation, version) = (1, 1, 1);
+    let mut old = serving(generation, 0);
     let mut new = Node::waiting(Versions::of(&[1]));
-    let choice = said(old.hear(&new.offer()))?;
-    assert_eq!(rt; new.hear(&choice), Heard::Heard);
-    let ready = old.drained(0, 0)?;
-    let pong = said(new.hear(&ready))?;
+    assert!(rt; comes(&mut old, new.offer(), Heard::Say(CHOICE)));
+    assert!(rt; comes(&mut new, CHOICE, Heard::Heard));
+    assert!(rt; drains(&mut old, READY));
+    assert!(rt; comes(&mut new, READY, Heard::Say(PONG)));
     let make = Heard::MakeData {
-        session: 1,
-        generation: 1,
-        version: 1,
+        session,
+        generation,
+        version,
     };
-    assert_eq!(rt; old.hear(&pong), make);
-    let data = data_of(rt.alloc(), &mut old)?;
+    assert!(rt; comes(&mut old, PONG, make));
     let got = Heard::GotData {
-        session: 1,
-        generation: 1,
-        version: 1,
+        session,
+        generation,
+        version,
     };
-    assert_eq!(rt; new.hear(&data), got);
-    Ok(())
+    assert!(rt; hands_data(rt.alloc(), &mut old, &mut new, got));
 }
 
 #[test]
@@ -171,11 +197,11 @@ fn claims_what_it_raised(rt: HostRuntime) -> Result<(), Fail> {
         versions: Versions::of(&[1]),
         sessions: 0,
     };
-    assert_eq!(rt; new.raised(true), None);
-    assert_eq!(rt; new.claim_wanted(), Some(1));
+    assert!(rt; new.raised(true) == None);
+    assert!(rt; new.claim_wanted() == Some(1));
     assert!(rt; !new.may_take());
     new.claimed(Ok(2));
-    assert_eq!(rt; new.claim_wanted(), None);
+    assert!(rt; new.claim_wanted() == None);
     assert!(rt; new.may_take());
     Ok(())
 }
@@ -183,7 +209,7 @@ fn claims_what_it_raised(rt: HostRuntime) -> Result<(), Fail> {
 #[test]
 fn tells_what_is_left_to_drain(rt: HostRuntime) {
     let mut waiting = Node::waiting(Versions::of(&[1]));
-    assert_eq!(rt; waiting.drained(1, 1), Err(DrainFault::WrongPhase));
+    assert!(rt; waiting.drained(1, 1) == Err(DrainFault::WrongPhase));
     let mut node = Node {
         phase: Phase::Draining {
             generation: 1,
@@ -195,7 +221,7 @@ fn tells_what_is_left_to_drain(rt: HostRuntime) {
     };
     for (in_hand, unposted) in [(1, 0), (0, 1), (2, 3)] {
         let fault = DrainFault::Undrained { in_hand, unposted };
-        assert_eq!(rt; node.drained(in_hand, unposted), Err(fault));
+        assert!(rt; node.drained(in_hand, unposted) == Err(fault));
     }
 }
 
@@ -216,6 +242,6 @@ fn has_words_for_each_refusal(rt: HostRuntime) -> Result<(), Fail> {
     write!(words, "{}, ", ClaimFault::Unanswered { asks: 1 })?;
     write!(words, "{}", ClaimFault::LastGeneration)?;
     let printed = "WrongPhase, Undrained 1 0, Ended, Stale 2, Unanswered 1, LastGeneration";
-    assert_eq!(rt; words.as_str(), printed);
+    assert!(rt; words.as_str() == printed);
     Ok(())
 }
