@@ -24,6 +24,3 @@ pub use name_room::NameRoom;
 pub use number::{DaemonId, FileId, Number};
 pub use place::Place;
 pub use text::cut;
-
-#[cfg(test)]
-mod tests;

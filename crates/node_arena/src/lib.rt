@@ -6,8 +6,6 @@ mod links;
 mod nodes;
 mod region;
 mod slot;
-#[cfg(test)]
-mod tests;
 
 pub use nodes::Nodes;
 pub use slot::Slot;

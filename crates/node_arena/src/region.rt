@@ -6,6 +6,7 @@ ghost use Rattle.node_arena.specs.Links.{updated, next_without, prev_without, ne
 use crate::item::Item;
 use crate::links::{Link, Stride, address, follow, follow_mut};
 use std::alloc::{AllocError, Global};
+use std::mem::size_of;
 
 /// A node: its two neighbours in the list that it stands in, and the value that it holds.
 #[derive(Drop)]
@@ -14,6 +15,9 @@ pub struct Node<T> {
     next: Link,
     item: Item<T>,
 }
+
+/// A node takes 24 bytes beside its value.
+const _: () = prove!(size_of::<Node<u64>>() == 24 + 8);
 
 /// The nodes, side by side in one block. A link to one of them stays good, since none is added later.
 #[derive(Drop)]

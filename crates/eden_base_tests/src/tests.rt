@@ -1,6 +1,6 @@
 //! Names of all kinds, limits, and that calls succeed: where one allocation is refused, those that take memory tell so,
 //! and succeed when they are made once more. So every test passes under `rt try --test --fail-alloc N`, for each N.
-use super::*;
+use eden_base::{Name, NameFault, NameRoom, NoMemory, Perm};
 use std::alloc::Global;
 use std::test::Fail;
 
@@ -49,7 +49,7 @@ fn refuses_what_is_no_name(rt: HostRuntime) {
         (b".".as_slice(), NameFault::Dots),
         (b"..".as_slice(), NameFault::Dots),
     ] {
-        assert_eq!(rt; fault_of(alloc, bytes), Some(fault));
+        assert!(rt; fault_of(alloc, bytes) == Some(fault));
     }
 }
 
@@ -57,12 +57,12 @@ fn refuses_what_is_no_name(rt: HostRuntime) {
 fn parses_a_name_to_a_room(rt: HostRuntime) -> Result<(), Fail> {
     let alloc = rt.alloc();
     let name = Name::parse_to(room(alloc)?, b"src")?;
-    assert_eq!(rt; name.bytes(), b"src".as_slice());
+    assert!(rt; name.bytes() == b"src".as_slice());
     let fault = match Name::parse_to(room(alloc)?, b"a/b") {
         Ok(_) => panic!(rt; "a name with a slash"),
         Err(fault) => fault,
     };
-    assert_eq!(rt; fault, NameFault::BadByte);
+    assert!(rt; fault == NameFault::BadByte);
     Ok(())
 }
 
@@ -77,7 +77,7 @@ fn copies_a_name(rt: HostRuntime) -> Result<(), Fail> {
         longest.as_slice(),
     ] {
         let name = parse(alloc, bytes)?;
-        assert_eq!(rt; name.bytes(), bytes);
+        assert!(rt; name.bytes() == bytes);
         assert!(rt; copy(alloc, &name)?.is(&name));
         assert!(rt; name.copy_to(room(alloc)?) == name);
     }
@@ -96,6 +96,6 @@ fn orders_names_by_bytes(rt: HostRuntime) -> Result<(), Fail> {
 
 #[test]
 fn takes_permissions_of_twelve_bits(rt: HostRuntime) {
-    assert_eq!(rt; Perm::of(0o7777).map(Perm::bits), Some(0o7777));
+    assert!(rt; Perm::of(0o7777).map(Perm::bits) == Some(0o7777));
     assert!(rt; Perm::of(0o10000).is_none());
 }

@@ -1,10 +1,9 @@
+//! Orders, values and drops of the arena, at capacities from 1 to 65,536.
 ghost use Rattle.std.specs.Prelude.{◌<◌, vec_len};
 
-use crate::region::Node;
-use crate::{Nodes, Slot};
+use node_arena::{Nodes, Slot};
 use std::alloc::Global;
 use std::cell::Cell;
-use std::mem::size_of;
 use std::process::Abort;
 use std::test::Fail;
 
@@ -34,8 +33,8 @@ fn remove<T>(rt: &impl Abort, nodes: &mut Nodes<T>, slot: Slot) -> T {
 
 /// Compares the oldest slot and the length with what they must be.
 fn expect_oldest<T>(rt: &impl Abort, nodes: &Nodes<T>, oldest: Option<Slot>, len: usize) {
-    assert_eq!(rt; nodes.oldest(), oldest);
-    assert_eq!(rt; nodes.len(), len);
+    assert!(rt; nodes.oldest() == oldest);
+    assert!(rt; nodes.len() == len);
 }
 
 /// Lists the values, the least recently used first. Each is touched once, so the order stays.
@@ -58,24 +57,24 @@ fn expect_order(
     expected: &str,
 ) -> Result<(), Fail> {
     let values = values_from_oldest(alloc, nodes)?;
-    assert_eq!(rt; values.as_str(), expected);
+    assert!(rt; values.as_str() == expected);
     Ok(())
 }
 
 /// Sees that a full arena gives a value back.
 fn expect_full(rt: &impl Abort, nodes: &mut Nodes<char>, value: char) {
-    assert_eq!(rt; nodes.add(value), Err(value));
+    assert!(rt; nodes.add(value) == Err(value));
 }
 
 /// Removes a slot that is held, and compares its value.
 fn expect_removed(rt: &impl Abort, nodes: &mut Nodes<char>, slot: Slot, value: char) {
-    assert_eq!(rt; remove(rt, nodes, slot), value);
+    assert!(rt; remove(rt, nodes, slot) == value);
 }
 
 #[test]
 fn refuses_a_third_value_at_capacity_two(rt: HostRuntime) -> Result<(), Fail> {
     let mut nodes = Nodes::new(rt.alloc(), 2)?;
-    assert_eq!(rt; nodes.capacity(), 2);
+    assert!(rt; nodes.capacity() == 2);
     expect_oldest(&rt, &nodes, None, 0);
     let a = add(&rt, &mut nodes, 'a');
     let b = add(&rt, &mut nodes, 'b');
@@ -104,7 +103,7 @@ fn keeps_the_order_of_use_at_capacity_three(rt: HostRuntime) -> Result<(), Fail>
     expect_order(&rt, rt.alloc(), &mut nodes, "ba")?;
     let d = add(&rt, &mut nodes, 'd');
     expect_order(&rt, rt.alloc(), &mut nodes, "bad")?;
-    assert_eq!(rt; c, d, "c's old slot is held again");
+    assert!(rt; c == d, "c's old slot is held again");
     Ok(())
 }
 
@@ -124,22 +123,16 @@ fn writes_a_value_in_its_place(rt: HostRuntime) -> Result<(), Fail> {
     expect_order(&rt, rt.alloc(), &mut nodes, "axc")
 }
 
-#[test]
-fn takes_24_bytes_beside_a_value(rt: HostRuntime) {
-    assert_eq!(rt; size_of::<Node<u64>>(), 24 + 8);
-    assert_eq!(rt; size_of::<Node<(u64, [u64; 9])>>(), 24 + 80);
-}
-
 /// Fills an arena, sees that it refuses one more, and empties it, the oldest first.
 fn fill_and_empty(rt: &impl Abort, nodes: &mut Nodes<usize>) -> Result<(), Fail> {
     let capacity = nodes.capacity();
     for value in 0..capacity {
         add(rt, nodes, value);
     }
-    assert_eq!(rt; nodes.add(capacity), Err(capacity));
+    assert!(rt; nodes.add(capacity) == Err(capacity));
     for value in 0..capacity {
         let slot = nodes.oldest().ok_or("no oldest slot")?;
-        assert_eq!(rt; remove(rt, nodes, slot), value);
+        assert!(rt; remove(rt, nodes, slot) == value);
     }
     Ok(())
 }
@@ -148,7 +141,7 @@ fn fill_and_empty(rt: &impl Abort, nodes: &mut Nodes<usize>) -> Result<(), Fail>
 fn fills_refuses_once_and_empties(rt: HostRuntime) -> Result<(), Fail> {
     for capacity in [1usize, 65_536] {
         let mut nodes = Nodes::new(rt.alloc(), capacity)?;
-        assert_eq!(rt; nodes.capacity(), capacity);
+        assert!(rt; nodes.capacity() == capacity);
         fill_and_empty(&rt, &mut nodes)?;
         expect_oldest(&rt, &nodes, None, 0);
     }
@@ -173,13 +166,13 @@ fn drops_each_value_once(rt: HostRuntime) -> Result<(), Fail> {
     add(&rt, &mut nodes, Counted(&drops));
     add(&rt, &mut nodes, Counted(&drops));
     drop(nodes.add(Counted(&drops)));
-    assert_eq!(rt; drops.get(), 1, "the value that came back");
+    assert!(rt; drops.get() == 1, "the value that came back");
     let value = remove(&rt, &mut nodes, first);
-    assert_eq!(rt; drops.get(), 1, "a removed value is its caller's");
+    assert!(rt; drops.get() == 1, "a removed value is its caller's");
     drop(value);
-    assert_eq!(rt; drops.get(), 2);
+    assert!(rt; drops.get() == 2);
     drop(nodes);
-    assert_eq!(rt; drops.get(), 4, "the values that are held at the end");
+    assert!(rt; drops.get() == 4, "the values that are held at the end");
     Ok(())
 }
 
@@ -189,9 +182,9 @@ fn drops_nothing_where_no_value_is_held(rt: HostRuntime) -> Result<(), Fail> {
     let mut nodes = Nodes::new(rt.alloc(), 2)?;
     let slot = add(&rt, &mut nodes, Counted(&drops));
     drop(remove(&rt, &mut nodes, slot));
-    assert_eq!(rt; drops.get(), 1);
+    assert!(rt; drops.get() == 1);
     drop(nodes);
-    assert_eq!(rt; drops.get(), 1);
+    assert!(rt; drops.get() == 1);
     Ok(())
 }
 
@@ -212,8 +205,8 @@ fn add_to_both(
     match nodes.add(value) {
         Ok(slot) => list.insert(0, (slot, value))?,
         Err(back) => {
-            assert_eq!(rt; back, value);
-            assert_eq!(rt; list.len(), nodes.capacity());
+            assert!(rt; back == value);
+            assert!(rt; list.len() == nodes.capacity());
         }
     }
     Ok(())
@@ -234,18 +227,18 @@ fn use_in_both(
         touch(rt, nodes, slot);
         list.insert(0, (slot, value))?;
     } else {
-        assert_eq!(rt; remove(rt, nodes, slot), value);
+        assert!(rt; remove(rt, nodes, slot) == value);
     }
     Ok(())
 }
 
 /// Compares the arena with the list.
 fn compare(rt: &impl Abort, nodes: &Nodes<u64>, list: &[(Slot, u64)]) {
-    assert_eq!(rt; nodes.len(), list.len());
-    assert_eq!(rt; nodes.oldest(), list.last().map(|entry| entry.0));
+    assert!(rt; nodes.len() == list.len());
+    assert!(rt; nodes.oldest() == list.last().map(|entry| entry.0));
     for (slot, value) in list {
         assert!(rt; nodes.is_held(*slot));
-        assert_eq!(rt; *nodes.get(*slot), *value);
+        assert!(rt; *nodes.get(*slot) == *value);
     }
 }
 

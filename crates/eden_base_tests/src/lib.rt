@@ -1,0 +1,5 @@
+//! Tests of `eden_base` by its public calls.
+#![tactic(auto)]
+
+#[cfg(test)]
+mod tests;
