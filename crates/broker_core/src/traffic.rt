@@ -94,10 +94,13 @@ impl Traffic {
         ensures issued { OnOk result (self.new ≡ ask_issued self.old unique request.now) }
         ensures unchanged { OnErr result (self.new ≡ self.old) }
     {
-        let what = request.copy(self.alloc)?;
         self.untaken.reserve(1)?;
         self.posted.reserve(self.unanswered.len() + 1)?;
-        self.unanswered.push(unique, request.form())?;
+        let what = request.copy(self.alloc)?;
+        let Ok(()) = self.unanswered.push(unique, request.form()) else {
+            drop(what);
+            return Err(NoMemory);
+        };
         self.untaken.push_back_reserved(Ask { unique, what });
         Ok(())
     }

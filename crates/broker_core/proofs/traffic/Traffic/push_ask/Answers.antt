@@ -22,7 +22,7 @@ invariant_of-self-2 c =
     let ask : Ask = record { unique = c.args.unique; what = c.args.request.now } in
     let same = ap (λ (what : Request). asks ++ record { unique = c.args.unique; what = what } ∷ []) c.in_ok-what.ensures.copy in
     let pushed = c.push_back_reserved.ensures.items ∙ ap (λ xs. xs ++ record { unique = c.args.unique; what = c.in_ok-what.what } ∷ []) c.in_ok-reserve.ensures.items ∙ same in
-    let put = c.in_ok-push.ensures.pushed ∙ ap (λ form. es ++ (c.args.unique, form) ∷ []) c.form.ensures.form in
+    let put = c.in-Ok.ensures.pushed ∙ ap (λ form. es ++ (c.args.unique, form) ∷ []) c.form.ensures.form in
     let after = asked-last es c.push.new.self ts asks c.push_back_reserved.new.self.items ask c.self.invariant.parts pushed put in
     record {
       rising = c.push.ensures.rising;
@@ -39,6 +39,6 @@ returns-clause-issued c =
     let ask : Ask = record { unique = c.args.unique; what = c.args.request.now } in
     let same = ap (λ (what : Request). asks ++ record { unique = c.args.unique; what = what } ∷ []) c.in_ok-what.ensures.copy in
     let pushed = c.push_back_reserved.ensures.items ∙ ap (λ xs. xs ++ record { unique = c.args.unique; what = c.in_ok-what.what } ∷ []) c.in_ok-reserve.ensures.items ∙ same in
-    let put = c.in_ok-push.ensures.pushed ∙ ap (λ form. es ++ (c.args.unique, form) ∷ []) c.form.ensures.form in
+    let put = c.in-Ok.ensures.pushed ∙ ap (λ form. es ++ (c.args.unique, form) ∷ []) c.form.ensures.form in
     let after = asked-last es c.push.new.self ts asks c.push_back_reserved.new.self.items ask c.self.invariant.parts pushed put in
     rw (← c.self.view_is) (one-state _ _ _ ts inside.forgets _ _ pushed (taken-before c.push.new.self ts c.push_back_reserved.new.self.items after.parts) c.in_ok-reserve-2.ensures.items)
