@@ -1,6 +1,7 @@
 //! One daemon of the world.
 ghost use Rattle.std.specs.Option.{option_copied};
-ghost use Rattle.std.specs.Prelude.{◌≡◌, ◌<◌, vec_len};
+ghost use Rattle.std.specs.Prelude.{◌≡◌, ◌<◌, set, vec_len};
+ghost use Rattle.world.specs.declared.daemon.Daemon.TheVariants.{Serving};
 ghost use Rattle.world.specs.State.{server_in};
 ghost use Rattle.world.specs.Serving.{is_waiting, ChangesAt, DaemonTakes, DaemonWorks, DaemonPosts};
 
@@ -76,6 +77,14 @@ impl Daemon {
             Daemon::Serving(server) => server.make_room().is_ok(),
         }
     }
+}
+
+/// Lets the daemon at an index serve what it mounted.
+pub(crate) fn serve_at(daemons: &mut Vec<Daemon>, index: usize, server: Server)
+    requires within { index < vec_len daemons.old }
+    ensures serves { daemons.new.items ≡ set daemons.old.items index (Serving server) }
+{
+    daemons[index] = Daemon::Serving(server);
 }
 
 /// Lets the daemon at an index take what waits first.

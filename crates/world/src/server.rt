@@ -1,6 +1,7 @@
 //! A daemon that mounted.
-ghost use Rattle.std.specs.Prelude.{◌≡◌, ◌++◌, ◌+◌, ◌≤◌, map, length, vec_len, vec_capacity};
+ghost use Rattle.std.specs.Prelude.{◌≡◌, ◌++◌, ◌+◌, ◌≤◌, map, length, vec_len, vec_capacity, IfOk};
 ghost use Rattle.broker_core.specs.Broker.{take_fault};
+ghost use Rattle.fuse_ops.specs.Served.{new_served};
 ghost use Rattle.world.specs.Server.{at_place, handed, single, told_taken, told_item};
 ghost use Rattle.world.specs.Serving.{beginning, TakesBy, WorksBy, PostsBy};
 
@@ -130,13 +131,12 @@ impl Server {
             fails,
             &task.what,
         );
+        let unique = task.unique;
+        drop(task);
         let Some(answer) = answer else {
             return told;
         };
-        let reply = Reply {
-            unique: task.unique,
-            answer,
-        };
+        let reply = Reply { unique, answer };
         self.unposted.push_reserved(reply);
         Happened::Made(reply)
     }
@@ -156,6 +156,20 @@ impl Server {
         let _posted = self.unposted.remove(index);
         Happened::Posted(reply.unique)
     }
+}
+
+/// Makes what a daemon serves that mounts, and its share of the manifest.
+pub(crate) fn opening(
+    alloc: Global,
+    manifest: &Manifest,
+    limit: usize,
+) -> Result<(Manifest, Served), NoMemory>
+    ensures shared { IfOk result (λ opening. opening.0 ≡ manifest.now) }
+    ensures served { IfOk result (λ opening. opening.1 ≡ new_served manifest.now limit) }
+{
+    let shared = manifest.share()?;
+    let served = Served::new(alloc, manifest, limit)?;
+    Ok((shared, served))
 }
 
 /// Returns what becomes of an item; what is no item is refused.
@@ -178,7 +192,9 @@ fn put_in_hand(hand: &mut Vec<Ask>, taken: Ask) -> Happened
     ensures told { result ≡ told_taken taken }
 {
     if !taken.what.is_ask() {
-        return Happened::TookForgets(put_each(hand, taken.what.items()));
+        let count = put_each(hand, taken.what.items());
+        drop(taken);
+        return Happened::TookForgets(count);
     }
     let unique = taken.unique;
     hand.push_reserved(taken);

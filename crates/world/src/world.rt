@@ -6,11 +6,11 @@ ghost use Rattle.world.specs.Step.{Once, Step};
 ghost use Rattle.world.specs.World.{first_world, World as Ideal};
 ghost use Rattle.world.specs.Agreement.{Matches, MovesOn};
 
-use crate::daemon::{Daemon, make_room_at, post_at, take_at, work_at};
+use crate::daemon::{Daemon, make_room_at, post_at, serve_at, take_at, work_at};
 use crate::event::Event;
 use crate::outcome::{Happened, Outcome, Refusal};
 use crate::place::index_of;
-use crate::server::Server;
+use crate::server::{Server, opening};
 use broker_core::{Broker, DeliverFault};
 use checkout::Manifest;
 use eden_base::{DaemonId, NoMemory};
@@ -156,10 +156,11 @@ impl World {
             return Happened::Refused(Refusal::Full);
         }
         let daemon = DaemonId(self.daemons.len() as u64 + 1);
-        match self.daemons.push(Daemon::Waiting) {
-            Ok(()) => Happened::Started(daemon),
-            Err(_refused) => Happened::Refused(Refusal::NoMemory),
+        if self.daemons.reserve(1).is_err() {
+            return Happened::Refused(Refusal::NoMemory);
         }
+        self.daemons.push_reserved(Daemon::Waiting);
+        Happened::Started(daemon)
     }
 
     /// Gives a waiting daemon the seat. Its refusals are looked for before what it serves is made.
@@ -175,16 +176,12 @@ impl World {
         if let Some(fault) = self.broker.mount_refusal() {
             return Happened::Refused(Refusal::from(fault));
         }
-        let Ok(served) = Served::new(self.alloc, &self.manifest, self.limit) else {
-            return Happened::Refused(Refusal::NoMemory);
-        };
-        let Ok(manifest) = self.manifest.share() else {
+        let Ok((manifest, served)) = opening(self.alloc, &self.manifest, self.limit) else {
             return Happened::Refused(Refusal::NoMemory);
         };
         let generation = self.broker.mount(daemon);
-        self.daemons[index] = Daemon::Serving(Server::new(
-            self.alloc, generation, manifest, served,
-        ));
+        let server = Server::new(self.alloc, generation, manifest, served);
+        serve_at(&mut self.daemons, index, server);
         Happened::Mounted(generation)
     }
 
