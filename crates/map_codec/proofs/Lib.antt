@@ -15,7 +15,6 @@ pub mod Perms
 pub mod PlaceLaws
 pub mod RaisedLaws
 pub mod RaisingLaws
-pub mod RefusalLaws
 pub mod RiseLaws
 pub mod SoundRaises
 pub mod TwiceLaws

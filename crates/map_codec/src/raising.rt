@@ -3,7 +3,7 @@ ghost use Rattle.std.specs.Prelude.{◌≡◌, true, None, IfErr, IfOk, OnOk};
 ghost use Rattle.checkout.specs.Tree.{IsTree};
 ghost use Rattle.fuse_ops.specs.Soundness.{IsSound};
 ghost use Rattle.map_codec.specs.Fit.{entry_follows, rises, CountsFit, IsFit};
-ghost use Rattle.map_codec.specs.Raising.{raised, IsRaisable, IsRaiseRefusal, StandsAgainst};
+ghost use Rattle.map_codec.specs.Raising.{raised, tree_told, IsRaisable, IsRaiseRefusal, StandsAgainst, TellsATree};
 
 use crate::directories::directories;
 use crate::entry_checks::{are_apart, are_right_marks, is_next};
@@ -45,6 +45,48 @@ fn entry_fault(
     Ok(None)
 }
 
+/// Makes the tree that an image tells over a manifest.
+fn tree_told(alloc: Global, image: &Image, manifest: &Manifest) -> Result<Tree, RaiseFault>
+    ensures tree { IfOk result (λ tree. tree ≡ tree_told manifest.now image.now) }
+    ensures is_tree { IfOk result IsTree }
+    ensures tells { OnOk result (TellsATree manifest.now image.now) }
+    ensures refused { IfErr result (IsRaiseRefusal manifest.now image.now) }
+{
+    if image.commit != manifest.commit() {
+        return Err(RaiseFault::OtherCommit);
+    }
+    match Tree::with_changes(alloc, manifest, &image.changes) {
+        Ok(tree) => Ok(tree),
+        Err(ChangeFault::BadChange(place)) => Err(RaiseFault::BadChange(place)),
+        Err(ChangeFault::NoMemory) => Err(RaiseFault::NoMemory),
+    }
+}
+
+/// Makes the tree that an image tells, where the image's entries may be served over it.
+fn raisable_tree(alloc: Global, image: &Image, manifest: &Manifest) -> Result<Tree, RaiseFault>
+    requires fit { IsFit image.now }
+    ensures tree { IfOk result (λ tree. tree ≡ tree_told manifest.now image.now) }
+    ensures is_tree { IfOk result IsTree }
+    ensures accepted { OnOk result (IsRaisable manifest.now image.now) }
+    ensures refused { IfErr result (IsRaiseRefusal manifest.now image.now) }
+{
+    let tree = tree_told(alloc, image, manifest)?;
+    let fault = match entry_fault(alloc, &tree, image.entries.as_slice(), image.next_number) {
+        Ok(None) => return Ok(tree),
+        Ok(Some(fault)) => fault,
+        Err(NoMemory) => RaiseFault::NoMemory,
+    };
+    drop(tree);
+    Err(fault)
+}
+
+/// Returns an image's entries, and lets the rest of it go.
+fn entries_of(image: Image) -> Vec<Kept>
+    ensures { result.items ≡ image.entries }
+{
+    image.entries.into_vec()
+}
+
 /// Raises what a daemon serves from an image, over the manifest that the daemon was handed. So many attributes may be
 /// loaded at once, and one at least; none is at first.
 pub fn raise(
@@ -60,21 +102,16 @@ pub fn raise(
     ensures accepted { OnOk result (IsRaisable manifest.now image) }
     ensures refused { IfErr result (IsRaiseRefusal manifest.now image) }
 {
-    if image.commit != manifest.commit() {
-        return Err(RaiseFault::OtherCommit);
-    }
-    let tree = match Tree::with_changes(alloc, manifest, &image.changes) {
+    let tree = match raisable_tree(alloc, &image, manifest) {
         Ok(tree) => tree,
-        Err(ChangeFault::BadChange(place)) => return Err(RaiseFault::BadChange(place)),
-        Err(ChangeFault::NoMemory) => return Err(RaiseFault::NoMemory),
+        Err(fault) => {
+            drop(image);
+            return Err(fault);
+        }
     };
-    let entries = image.entries.into_vec();
-    match entry_fault(alloc, &tree, entries.as_slice(), image.next_number) {
-        Ok(None) => {}
-        Ok(Some(fault)) => return Err(fault),
-        Err(NoMemory) => return Err(RaiseFault::NoMemory),
-    }
-    match Served::of_entries(alloc, entries, image.next_number, limit, tree) {
+    let next = image.next_number;
+    let entries = entries_of(image);
+    match Served::of_entries(alloc, entries, next, limit, tree) {
         Ok(served) => Ok(served),
         Err(NoMemory) => Err(RaiseFault::NoMemory),
     }
