@@ -104,7 +104,9 @@ pub fn not_text(alloc: Global) -> Result<Error, AllocError>
     ensures kind { IfOk result (λ error. kind_of error ≡ ErrorKind.InvalidValue) }
 {
     let mut command = edend_command(alloc)?;
-    command.error(ErrorKind::InvalidValue, NOT_TEXT)
+    let refusal = command.error(ErrorKind::InvalidValue, NOT_TEXT);
+    drop(command);
+    refusal
 }
 
 /// Returns the word that names a script.

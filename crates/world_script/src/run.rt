@@ -54,9 +54,14 @@ pub fn run_script<R: Read, W: Write>(
         → Keeps (W.contents writer.old) (W.contents writer.new)) }
 {
     let bytes = read_whole(alloc, reader)?;
-    let script = Script::read(alloc, bytes.as_slice())?;
+    let script = Script::read(alloc, bytes.as_slice());
+    drop(bytes);
+    let script = script?;
     let mut world = World::new(alloc, &script.manifest, limit)?;
-    match play(&mut world, script.events.as_slice(), writer) {
+    let played = play(&mut world, script.events.as_slice(), writer);
+    drop(world);
+    drop(script);
+    match played {
         Ok(()) => Ok(()),
         Err(error) => Err(RunError::with_cause(Fault::CannotWrite, error)),
     }

@@ -7,6 +7,6 @@ returns-in-Ok-clause-runs g c =
     (runs_as_said _ _ _ _ _ c.args.limit _ _ _ c.in_ok-bytes.ensures.len c.as_slice.ensures.value c.as_slice-2.ensures.value
     c.in_ok-script.ensures.manifest c.in_ok-script.ensures.events c.in_ok-world.ensures.new c.in_ok-world.ensures.matches c.in-Ok.ensures)
 
-pub returns-clause-refused : goal.returns-clause-refused
-returns-clause-refused g c =
+pub returns-in-Err-clause-refused : goal.returns-in-Err-clause-refused
+returns-in-Err-clause-refused g c =
     refused_late _ _ _ _ _ _ c.in_ok-bytes.ensures.whole c.in_ok-bytes.ensures.len c.as_slice.ensures.value c.in_ok-script.ensures.manifest c.in_ok-script.ensures.events c.with_cause.ensures
