@@ -9,6 +9,7 @@ use crate::outcome::{Happened, Refusal};
 use crate::server::Server;
 use broker_core::Broker;
 use eden_base::DaemonId;
+use std::mem;
 
 /// A daemon: started, and then serving what it mounted.
 #[derive(Drop)]
@@ -84,7 +85,8 @@ pub(crate) fn serve_at(daemons: &mut Vec<Daemon>, index: usize, server: Server)
     requires within { index < vec_len daemons.old }
     ensures serves { daemons.new.items ≡ set daemons.old.items index (Serving server) }
 {
-    daemons[index] = Daemon::Serving(server);
+    let waited = mem::replace(&mut daemons[index], Daemon::Serving(server));
+    drop(waited);
 }
 
 /// Lets the daemon at an index take what waits first.
