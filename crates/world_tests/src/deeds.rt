@@ -37,32 +37,51 @@ pub enum Deed {
     Show,
 }
 
+/// The attributes of a file.
+#[derive(Clone, Copy)]
+pub enum Look {
+    /// A directory of the manifest.
+    Directory,
+    /// A file of so many bytes, with so many links.
+    File(u64, u32),
+}
+
 /// What a daemon answers.
 #[derive(Clone, Copy)]
 pub enum Said {
-    Entry(u64, Attr),
-    Opened(u64, Attr),
-    Attrs(u64, Attr),
+    Entry(u64, Look),
+    Opened(u64, Look),
+    Attrs(u64, Look),
     Done,
     Error(Errno),
+}
+
+/// One thing that happened.
+#[derive(Clone, Copy)]
+pub enum Fact {
+    Started(u64),
+    Mounted(u64),
+    /// An ask waits under this unique, or a forget without one.
+    Asked(Option<u64>),
+    Took(u64),
+    TookForgets(usize),
+    Made(u64, Said),
+    Forgot(u64, u64, Forgot),
+    Posted(u64),
+    Delivered(u64, Said),
+    Refused(Refusal),
 }
 
 /// What an event made happen.
 #[derive(Clone, Copy)]
 pub enum Told {
     Nothing,
-    One(Happened),
-    Started(u64),
-    Mounted(u64),
-    Asked(u64),
-    Made(u64, Said),
-    Delivered(u64, Said),
-    Refused(Refusal),
+    One(Fact),
     /// A forget of one item was carried out.
     Forgot(u64, u64, Forgot),
     /// An ask was carried out.
     Answered(u64, Said),
-    All([Option<Happened>; 5]),
+    All(&'static [Fact]),
 }
 
 /// What is found in a world after its events.
@@ -178,7 +197,12 @@ pub(crate) fn room(alloc: Global, deeds: usize) -> Option<Vec<Event>> {
 /// Puts an event behind the others, and returns whether it was made.
 pub(crate) fn is_put(alloc: Global, events: &mut Vec<Event>, deed: Deed) -> bool {
     match event(alloc, deed) {
-        Some(event) => events.push(event).is_ok(),
+        Some(event) => {
+            let pushed = events.push(event);
+            let is_pushed = pushed.is_ok();
+            drop(pushed);
+            is_pushed
+        }
         None => false,
     }
 }
@@ -193,19 +217,36 @@ fn are_put(alloc: Global, events: &mut Vec<Event>, deeds: &[(Deed, Told)]) -> bo
     true
 }
 
+fn attr(look: Look) -> Attr {
+    match look {
+        Look::Directory => Attr {
+            kind: Kind::Dir,
+            perm: Perm::DIRECTORY,
+            size: 0,
+            nlink: 2,
+        },
+        Look::File(size, nlink) => Attr {
+            kind: Kind::File,
+            perm: Perm { bits: 0o644 },
+            size,
+            nlink,
+        },
+    }
+}
+
 fn reply(unique: u64, said: Said) -> Reply {
     let answer = match said {
-        Said::Entry(number, attr) => Answer::Entry {
+        Said::Entry(number, look) => Answer::Entry {
             number: Number(number),
-            attr,
+            attr: attr(look),
         },
-        Said::Opened(number, attr) => Answer::Opened {
+        Said::Opened(number, look) => Answer::Opened {
             number: Number(number),
-            attr,
+            attr: attr(look),
         },
-        Said::Attrs(number, attr) => Answer::Attrs {
+        Said::Attrs(number, look) => Answer::Attrs {
             number: Number(number),
-            attr,
+            attr: attr(look),
         },
         Said::Done => Answer::Done,
         Said::Error(errno) => Answer::Error(errno),
@@ -213,61 +254,68 @@ fn reply(unique: u64, said: Said) -> Reply {
     Reply { unique, answer }
 }
 
-type Happenings = [Option<Happened>; 5];
-
-fn one(happened: Happened) -> Happenings {
-    [Some(happened), None, None, None, None]
+/// Returns a fact as a world tells it.
+pub(crate) fn happened(fact: Fact) -> Happened {
+    match fact {
+        Fact::Started(daemon) => Happened::Started(DaemonId(daemon)),
+        Fact::Mounted(generation) => Happened::Mounted(generation),
+        Fact::Asked(unique) => Happened::Asked(unique),
+        Fact::Took(unique) => Happened::Took(unique),
+        Fact::TookForgets(items) => Happened::TookForgets(items),
+        Fact::Made(unique, said) => Happened::Made(reply(unique, said)),
+        Fact::Forgot(node, k, forgot) => Happened::Forgot {
+            item: item(node, k),
+            forgot,
+        },
+        Fact::Posted(unique) => Happened::Posted(unique),
+        Fact::Delivered(unique, said) => Happened::Answered(reply(unique, said)),
+        Fact::Refused(refusal) => Happened::Refused(refusal),
+    }
 }
 
 /// Tells of a forget of one item that was carried out.
-fn forgotten(node: u64, k: u64, forgot: Forgot) -> Happenings {
-    let item = item(node, k);
+fn forgotten(node: u64, k: u64, forgot: Forgot) -> [Fact; 3] {
     [
-        Some(Happened::Asked(None)),
-        Some(Happened::TookForgets(1)),
-        Some(Happened::Forgot { item, forgot }),
-        None,
-        None,
+        Fact::Asked(None),
+        Fact::TookForgets(1),
+        Fact::Forgot(node, k, forgot),
     ]
 }
 
 /// Tells of an ask that was carried out.
-fn answered(unique: u64, said: Said) -> Happenings {
-    let reply = reply(unique, said);
+fn answered(unique: u64, said: Said) -> [Fact; 5] {
     [
-        Some(Happened::Asked(Some(unique))),
-        Some(Happened::Took(unique)),
-        Some(Happened::Made(reply)),
-        Some(Happened::Posted(unique)),
-        Some(Happened::Answered(reply)),
+        Fact::Asked(Some(unique)),
+        Fact::Took(unique),
+        Fact::Made(unique, said),
+        Fact::Posted(unique),
+        Fact::Delivered(unique, said),
     ]
 }
 
-/// Returns what happened, in its order.
-fn happenings(told: Told) -> Happenings {
-    match told {
-        Told::Nothing => [None; 5],
-        Told::One(happened) => one(happened),
-        Told::Started(daemon) => one(Happened::Started(DaemonId(daemon))),
-        Told::Mounted(generation) => one(Happened::Mounted(generation)),
-        Told::Asked(unique) => one(Happened::Asked(Some(unique))),
-        Told::Made(unique, said) => one(Happened::Made(reply(unique, said))),
-        Told::Delivered(unique, said) => one(Happened::Answered(reply(unique, said))),
-        Told::Refused(refusal) => one(Happened::Refused(refusal)),
-        Told::Forgot(node, k, forgot) => forgotten(node, k, forgot),
-        Told::Answered(unique, said) => answered(unique, said),
-        Told::All(all) => all,
-    }
-}
-
 /// Returns whether just this happened, in this order.
-fn is_all(happened: &[Happened], expected: &Happenings) -> bool {
-    (0..5).all(|at| happened.get(at).copied() == expected.get(at).copied().flatten())
+fn is_all(all: &[Happened], facts: &[Fact]) -> bool {
+    if all.len() != facts.len() {
+        return false;
+    }
+    for (one, fact) in all.iter().zip(facts.iter()) {
+        if *one != happened(*fact) {
+            return false;
+        }
+    }
+    true
 }
 
 /// Returns whether an event made just this happen.
 pub(crate) fn is_told(outcome: &Outcome, told: Told) -> bool {
-    is_all(outcome.happened(), &happenings(told))
+    let all = outcome.happened();
+    match told {
+        Told::Nothing => all.is_empty(),
+        Told::One(fact) => is_all(all, &[fact]),
+        Told::Forgot(node, k, forgot) => is_all(all, &forgotten(node, k, forgot)),
+        Told::Answered(unique, said) => is_all(all, &answered(unique, said)),
+        Told::All(facts) => is_all(all, facts),
+    }
 }
 
 /// Returns whether each event had its outcome.
@@ -333,6 +381,19 @@ fn is_each_found(world: &World, found: &[Found]) -> bool {
     true
 }
 
+/// Returns whether these are found in a world whose events had these outcomes; nothing where they had others.
+fn told_and_found(
+    world: &World,
+    outcomes: &[Outcome],
+    deeds: &[(Deed, Told)],
+    found: &[Found],
+) -> Option<bool> {
+    if !are_told(outcomes, deeds) {
+        return None;
+    }
+    Some(is_each_found(world, found))
+}
+
 /// Runs events, and returns whether these are found in the world after them; nothing where they had other outcomes or
 /// memory was refused.
 fn found_after(
@@ -344,11 +405,10 @@ fn found_after(
 ) -> Option<bool> {
     match run(alloc, manifest, 8, events) {
         Ok((world, outcomes)) => {
-            if are_told(outcomes.as_slice(), deeds) {
-                Some(is_each_found(&world, found))
-            } else {
-                None
-            }
+            let are_found = told_and_found(&world, outcomes.as_slice(), deeds, found);
+            drop(world);
+            drop(outcomes);
+            are_found
         }
         Err(NoMemory) => None,
     }
@@ -434,7 +494,11 @@ fn is_stepped(world: &mut World, event: &Event, told: Told) -> bool {
 /// Does a deed, and returns whether it has its outcome.
 fn goes_so(alloc: Global, world: &mut World, deed: Deed, told: Told) -> bool {
     match event(alloc, deed) {
-        Some(event) => is_stepped(world, &event, told),
+        Some(event) => {
+            let went_so = is_stepped(world, &event, told);
+            drop(event);
+            went_so
+        }
         None => false,
     }
 }
@@ -454,7 +518,9 @@ pub(crate) fn all_count(alloc: Global, deeds: &[(Deed, Told, Counts)]) -> bool {
     match new_world(alloc) {
         Some(world) => {
             let mut world = world;
-            each_counts(alloc, &mut world, deeds)
+            let counted = each_counts(alloc, &mut world, deeds);
+            drop(world);
+            counted
         }
         None => false,
     }

@@ -20,7 +20,7 @@ struct Order {
     more: [bool; LONG],
 }
 
-const CHOICE: [Deed; CHOICES] = [
+static CHOICE: [Deed; CHOICES] = [
     Deed::Issue(LOOK_UP_SRC),
     Deed::Issue(Wish::Forget(2, 1)),
     Deed::Take(1),
@@ -124,9 +124,9 @@ fn is_even(world: &World) -> bool {
 
 /// Goes by an order where daemon 1 serves, and the kernel holds number 2 once, and returns whether it ends evenly.
 fn goes_evenly(world: &mut World, first: &Event, choices: &[Event], order: &mut Order) -> bool {
-    let _started = world.step(&Event::Start);
-    let _mounted = world.step(&Event::Mount(DaemonId(1)));
-    let _looked_up = world.step(first);
+    drop(world.step(&Event::Start));
+    drop(world.step(&Event::Mount(DaemonId(1))));
+    drop(world.step(first));
     for at in 0..LONG {
         if !goes_on(world, choices, order, at) {
             return false;
@@ -146,7 +146,9 @@ fn ends_evenly(
     match World::new(alloc, manifest, 8) {
         Ok(world) => {
             let mut world = world;
-            goes_evenly(&mut world, first, choices, order)
+            let ended_evenly = goes_evenly(&mut world, first, choices, order);
+            drop(world);
+            ended_evenly
         }
         Err(NoMemory) => false,
     }
@@ -175,7 +177,11 @@ fn even_orders_in(alloc: Global, manifest: &Manifest, events: &mut Vec<Event>) -
         return 0;
     }
     match event(alloc, Deed::Do(LOOK_UP_SRC)) {
-        Some(first) => even_orders(alloc, manifest, &first, events.as_slice()),
+        Some(first) => {
+            let orders = even_orders(alloc, manifest, &first, events.as_slice());
+            drop(first);
+            orders
+        }
         None => 0,
     }
 }

@@ -1,5 +1,5 @@
 //! How a world goes on where an event's allocation was refused.
-use crate::deeds::{Deed, Wish, counts, event, new_world};
+use crate::deeds::{Deed, Fact, Wish, counts, event, happened, new_world};
 use eden_base::DaemonId;
 use std::alloc::Global;
 use world::{Event, Happened, Outcome, Refusal, World};
@@ -29,11 +29,15 @@ fn last_told(world: &mut World, event: &Event) -> Option<Happened> {
 }
 
 /// Returns whether a deed tells this last, or whatever it tells where that is not named.
-fn is_last(alloc: Global, world: &mut World, deed: Deed, expected: Option<Happened>) -> bool {
+fn is_last(alloc: Global, world: &mut World, deed: Deed, expected: Option<Fact>) -> bool {
     match event(alloc, deed) {
         Some(event) => {
             let told = last_told(world, &event);
-            expected.is_none() || told == expected
+            drop(event);
+            match expected {
+                Some(fact) => told == Some(happened(fact)),
+                None => true,
+            }
         }
         None => false,
     }
@@ -47,7 +51,7 @@ fn is_even(world: &World) -> bool {
 
 /// Returns whether each deed tells what is expected last, where that is named, and daemon 1 counts then what the kernel
 /// holds.
-fn tells_last(alloc: Global, world: &mut World, deeds: &[(Deed, Option<Happened>)]) -> bool {
+fn tells_last(alloc: Global, world: &mut World, deeds: &[(Deed, Option<Fact>)]) -> bool {
     for (deed, expected) in deeds {
         if !is_last(alloc, world, *deed, *expected) {
             return false;
@@ -57,23 +61,25 @@ fn tells_last(alloc: Global, world: &mut World, deeds: &[(Deed, Option<Happened>
 }
 
 /// Returns that of a new world.
-fn tells_last_from_nothing(alloc: Global, deeds: &[(Deed, Option<Happened>)]) -> bool {
+fn tells_last_from_nothing(alloc: Global, deeds: &[(Deed, Option<Fact>)]) -> bool {
     match new_world(alloc) {
         Some(world) => {
             let mut world = world;
-            tells_last(alloc, &mut world, deeds)
+            let is_told = tells_last(alloc, &mut world, deeds);
+            drop(world);
+            is_told
         }
         None => false,
     }
 }
 
-const IN_STEPS: [(Deed, Option<Happened>); 7] = [
+static IN_STEPS: [(Deed, Option<Fact>); 7] = [
     (Deed::Start, None),
-    (Deed::Mount(1), Some(Happened::Mounted(1))),
-    (Deed::Issue(LOOK_UP_SRC), Some(Happened::Asked(Some(1)))),
-    (Deed::Take(1), Some(Happened::Took(1))),
+    (Deed::Mount(1), Some(Fact::Mounted(1))),
+    (Deed::Issue(LOOK_UP_SRC), Some(Fact::Asked(Some(1)))),
+    (Deed::Take(1), Some(Fact::Took(1))),
     (Deed::Work(1, 1), None),
-    (Deed::Post(1, 1), Some(Happened::Posted(1))),
+    (Deed::Post(1, 1), Some(Fact::Posted(1))),
     (Deed::Deliver, None),
 ];
 
@@ -112,7 +118,9 @@ fn finishes_in_new(alloc: Global, ask: &Event) -> bool {
     match new_world(alloc) {
         Some(world) => {
             let mut world = world;
-            finishes(&mut world, ask)
+            let is_finished = finishes(&mut world, ask);
+            drop(world);
+            is_finished
         }
         None => false,
     }
@@ -121,7 +129,11 @@ fn finishes_in_new(alloc: Global, ask: &Event) -> bool {
 /// Returns whether a lookup finishes in a new world.
 fn finishes_from_nothing(alloc: Global) -> bool {
     match event(alloc, Deed::Do(LOOK_UP_SRC)) {
-        Some(ask) => finishes_in_new(alloc, &ask),
+        Some(ask) => {
+            let is_finished = finishes_in_new(alloc, &ask);
+            drop(ask);
+            is_finished
+        }
         None => false,
     }
 }

@@ -1,47 +1,17 @@
 //! Worked examples of whole lists of events.
-use crate::deeds::{Counts, Deed, Found, Said, Told, Wish, all_count, all_go_so};
-use eden_base::{Attr, Errno, Kind, Number, Perm};
-use fuse_wire::{Answer, Item, Reply};
+use crate::deeds::{Counts, Deed, Fact, Found, Look, Said, Told, Wish, all_count, all_go_so};
+use eden_base::Errno;
 use inode_map::Forgot;
-use world::{Happened, Refusal};
-
-const DIRECTORY: Attr = Attr {
-    kind: Kind::Dir,
-    perm: Perm::DIRECTORY,
-    size: 0,
-    nlink: 2,
-};
-
-const PERM: Perm = Perm { bits: 0o644 };
+use world::Refusal;
 
 /// What `src/a` has.
-const FILE: Attr = Attr {
-    kind: Kind::File,
-    perm: PERM,
-    size: 12,
-    nlink: 1,
-};
+const FILE: Look = Look::File(12, 1);
 
-const README: Attr = Attr {
-    kind: Kind::File,
-    perm: PERM,
-    size: 7,
-    nlink: 1,
-};
+const README: Look = Look::File(7, 1);
 
-const CREATED: Attr = Attr {
-    kind: Kind::File,
-    perm: PERM,
-    size: 0,
-    nlink: 1,
-};
+const CREATED: Look = Look::File(0, 1);
 
-const UNLINKED: Attr = Attr {
-    kind: Kind::File,
-    perm: PERM,
-    size: 0,
-    nlink: 0,
-};
+const UNLINKED: Look = Look::File(0, 0);
 
 const LOOK_UP_SRC: Wish = Wish::LookUp(1, b"src");
 
@@ -50,11 +20,11 @@ const LOOK_UP_MISSING: Wish = Wish::LookUp(1, b"missing");
 const LOOK_UP_README: Wish = Wish::LookUp(1, b"README");
 
 /// An entry of `src` under number 2.
-const SRC: Said = Said::Entry(2, DIRECTORY);
+const SRC: Said = Said::Entry(2, Look::Directory);
 
-const NEW_NUMBER: [(Deed, Told); 7] = [
-    (Deed::Start, Told::Started(1)),
-    (Deed::Mount(1), Told::Mounted(1)),
+static NEW_NUMBER: [(Deed, Told); 7] = [
+    (Deed::Start, Told::One(Fact::Started(1))),
+    (Deed::Mount(1), Told::One(Fact::Mounted(1))),
     (Deed::Do(LOOK_UP_SRC), Told::Answered(1, SRC)),
     (Deed::Do(LOOK_UP_SRC), Told::Answered(2, SRC)),
     (Deed::Show, Told::Nothing),
@@ -64,7 +34,7 @@ const NEW_NUMBER: [(Deed, Told); 7] = [
     ),
     (
         Deed::Do(LOOK_UP_SRC),
-        Told::Answered(3, Said::Entry(3, DIRECTORY)),
+        Told::Answered(3, Said::Entry(3, Look::Directory)),
     ),
 ];
 
@@ -74,9 +44,9 @@ fn gives_a_new_number_once_the_kernel_forgot_the_old_one(rt: HostRuntime) {
     assert!(rt; all_go_so(rt.alloc(), &NEW_NUMBER, &found));
 }
 
-const KEPT_DIRECTORY: [(Deed, Told); 9] = [
-    (Deed::Start, Told::Started(1)),
-    (Deed::Mount(1), Told::Mounted(1)),
+static KEPT_DIRECTORY: [(Deed, Told); 9] = [
+    (Deed::Start, Told::One(Fact::Started(1))),
+    (Deed::Mount(1), Told::One(Fact::Mounted(1))),
     (Deed::Do(LOOK_UP_SRC), Told::Answered(1, SRC)),
     (
         Deed::Do(Wish::LookUp(2, b"a")),
@@ -100,7 +70,7 @@ const KEPT_DIRECTORY: [(Deed, Told); 9] = [
     ),
     (
         Deed::Do(LOOK_UP_SRC),
-        Told::Answered(5, Said::Entry(4, DIRECTORY)),
+        Told::Answered(5, Said::Entry(4, Look::Directory)),
     ),
 ];
 
@@ -109,9 +79,9 @@ fn keeps_a_directory_until_what_it_holds_is_forgotten(rt: HostRuntime) {
     assert!(rt; all_go_so(rt.alloc(), &KEPT_DIRECTORY, &[Found::Alone(4, 5)]));
 }
 
-const KEPT_FILE: [(Deed, Told); 10] = [
-    (Deed::Start, Told::Started(1)),
-    (Deed::Mount(1), Told::Mounted(1)),
+static KEPT_FILE: [(Deed, Told); 10] = [
+    (Deed::Start, Told::One(Fact::Started(1))),
+    (Deed::Mount(1), Told::One(Fact::Mounted(1))),
     (
         Deed::Do(Wish::Create(1, b"a")),
         Told::Answered(1, Said::Opened(2, CREATED)),
@@ -142,7 +112,7 @@ const KEPT_FILE: [(Deed, Told); 10] = [
     ),
     (
         Deed::Do(LOOK_UP_SRC),
-        Told::Answered(6, Said::Entry(4, DIRECTORY)),
+        Told::Answered(6, Said::Entry(4, Look::Directory)),
     ),
 ];
 
@@ -151,30 +121,36 @@ fn keeps_an_unlinked_file_that_the_kernel_holds(rt: HostRuntime) {
     assert!(rt; all_go_so(rt.alloc(), &KEPT_FILE, &[Found::Alone(4, 5)]));
 }
 
-const FIRST_CAUSES: [(Deed, Told); 12] = [
-    (Deed::Mount(1), Told::Refused(Refusal::NoDaemon)),
-    (Deed::Mount(0), Told::Refused(Refusal::NoDaemon)),
-    (Deed::Do(LOOK_UP_SRC), Told::Refused(Refusal::NotMounted)),
+static FIRST_CAUSES: [(Deed, Told); 12] = [
+    (Deed::Mount(1), Told::One(Fact::Refused(Refusal::NoDaemon))),
+    (Deed::Mount(0), Told::One(Fact::Refused(Refusal::NoDaemon))),
+    (
+        Deed::Do(LOOK_UP_SRC),
+        Told::One(Fact::Refused(Refusal::NotMounted)),
+    ),
     (
         Deed::Do(Wish::Forget(1, 0)),
-        Told::Refused(Refusal::NotMounted),
+        Told::One(Fact::Refused(Refusal::NotMounted)),
     ),
-    (Deed::Start, Told::Started(1)),
-    (Deed::Start, Told::Started(2)),
-    (Deed::Mount(2), Told::Mounted(1)),
-    (Deed::Mount(1), Told::Refused(Refusal::Seated)),
-    (Deed::Mount(2), Told::Refused(Refusal::WrongPhase)),
+    (Deed::Start, Told::One(Fact::Started(1))),
+    (Deed::Start, Told::One(Fact::Started(2))),
+    (Deed::Mount(2), Told::One(Fact::Mounted(1))),
+    (Deed::Mount(1), Told::One(Fact::Refused(Refusal::Seated))),
+    (
+        Deed::Mount(2),
+        Told::One(Fact::Refused(Refusal::WrongPhase)),
+    ),
     (
         Deed::Do(Wish::LookUp(2, b"a")),
-        Told::Refused(Refusal::NotHeld),
+        Told::One(Fact::Refused(Refusal::NotHeld)),
     ),
     (
         Deed::Do(Wish::Forget(1, 1)),
-        Told::Refused(Refusal::BadForget),
+        Told::One(Fact::Refused(Refusal::BadForget)),
     ),
     (
         Deed::Do(Wish::Forget(2, 1)),
-        Told::Refused(Refusal::BadForget),
+        Told::One(Fact::Refused(Refusal::BadForget)),
     ),
 ];
 
@@ -184,28 +160,34 @@ fn refuses_events_for_the_first_cause(rt: HostRuntime) {
     assert!(rt; all_go_so(rt.alloc(), &FIRST_CAUSES, &found));
 }
 
-const NOT_THERE: [(Deed, Told); 21] = [
-    (Deed::Take(1), Told::Refused(Refusal::NoDaemon)),
-    (Deed::Work(0, 1), Told::Refused(Refusal::NoDaemon)),
-    (Deed::Post(1, 1), Told::Refused(Refusal::NoDaemon)),
-    (Deed::Deliver, Told::Refused(Refusal::Empty)),
-    (Deed::Start, Told::Started(1)),
-    (Deed::Start, Told::Started(2)),
-    (Deed::Mount(1), Told::Mounted(1)),
-    (Deed::Take(2), Told::Refused(Refusal::WrongPhase)),
-    (Deed::Work(2, 1), Told::Refused(Refusal::NoSuch)),
-    (Deed::Post(2, 1), Told::Refused(Refusal::NoSuch)),
-    (Deed::Take(1), Told::Refused(Refusal::Empty)),
-    (Deed::Issue(LOOK_UP_SRC), Told::Asked(1)),
-    (Deed::Take(1), Told::One(Happened::Took(1))),
-    (Deed::Work(1, 0), Told::Refused(Refusal::NoSuch)),
-    (Deed::Work(1, 2), Told::Refused(Refusal::NoSuch)),
-    (Deed::Work(1, 1), Told::Made(1, SRC)),
-    (Deed::Work(1, 1), Told::Refused(Refusal::NoSuch)),
-    (Deed::Post(1, 0), Told::Refused(Refusal::NoSuch)),
-    (Deed::Post(1, 2), Told::Refused(Refusal::NoSuch)),
-    (Deed::Post(1, 1), Told::One(Happened::Posted(1))),
-    (Deed::Deliver, Told::Delivered(1, SRC)),
+static NOT_THERE: [(Deed, Told); 21] = [
+    (Deed::Take(1), Told::One(Fact::Refused(Refusal::NoDaemon))),
+    (
+        Deed::Work(0, 1),
+        Told::One(Fact::Refused(Refusal::NoDaemon)),
+    ),
+    (
+        Deed::Post(1, 1),
+        Told::One(Fact::Refused(Refusal::NoDaemon)),
+    ),
+    (Deed::Deliver, Told::One(Fact::Refused(Refusal::Empty))),
+    (Deed::Start, Told::One(Fact::Started(1))),
+    (Deed::Start, Told::One(Fact::Started(2))),
+    (Deed::Mount(1), Told::One(Fact::Mounted(1))),
+    (Deed::Take(2), Told::One(Fact::Refused(Refusal::WrongPhase))),
+    (Deed::Work(2, 1), Told::One(Fact::Refused(Refusal::NoSuch))),
+    (Deed::Post(2, 1), Told::One(Fact::Refused(Refusal::NoSuch))),
+    (Deed::Take(1), Told::One(Fact::Refused(Refusal::Empty))),
+    (Deed::Issue(LOOK_UP_SRC), Told::One(Fact::Asked(Some(1)))),
+    (Deed::Take(1), Told::One(Fact::Took(1))),
+    (Deed::Work(1, 0), Told::One(Fact::Refused(Refusal::NoSuch))),
+    (Deed::Work(1, 2), Told::One(Fact::Refused(Refusal::NoSuch))),
+    (Deed::Work(1, 1), Told::One(Fact::Made(1, SRC))),
+    (Deed::Work(1, 1), Told::One(Fact::Refused(Refusal::NoSuch))),
+    (Deed::Post(1, 0), Told::One(Fact::Refused(Refusal::NoSuch))),
+    (Deed::Post(1, 2), Told::One(Fact::Refused(Refusal::NoSuch))),
+    (Deed::Post(1, 1), Told::One(Fact::Posted(1))),
+    (Deed::Deliver, Told::One(Fact::Delivered(1, SRC))),
 ];
 
 /// NotAsked is told of no list of events: a daemon posts only what it answered, and it answered what it took. Nor are
@@ -215,23 +197,26 @@ fn refuses_to_hand_on_what_is_not_there(rt: HostRuntime) {
     assert!(rt; all_go_so(rt.alloc(), &NOT_THERE, &[Found::Alone(2, 3)]));
 }
 
-const NO_BATCH: [(Deed, Told); 8] = [
-    (Deed::Start, Told::Started(1)),
-    (Deed::Mount(1), Told::Mounted(1)),
+static NO_BATCH: [(Deed, Told); 8] = [
+    (Deed::Start, Told::One(Fact::Started(1))),
+    (Deed::Mount(1), Told::One(Fact::Mounted(1))),
     (Deed::Do(LOOK_UP_SRC), Told::Answered(1, SRC)),
     (
         Deed::Do(Wish::ForgetBatch),
-        Told::Refused(Refusal::BadForget),
+        Told::One(Fact::Refused(Refusal::BadForget)),
     ),
     (
         Deed::Do(Wish::Getattr(2)),
-        Told::Answered(2, Said::Attrs(2, DIRECTORY)),
+        Told::Answered(2, Said::Attrs(2, Look::Directory)),
     ),
     (
         Deed::Do(Wish::Open(1)),
         Told::Answered(3, Said::Error(Errno::ENOSYS)),
     ),
-    (Deed::Do(Wish::Getattr(3)), Told::Refused(Refusal::NotHeld)),
+    (
+        Deed::Do(Wish::Getattr(3)),
+        Told::One(Fact::Refused(Refusal::NotHeld)),
+    ),
     (
         Deed::Do(LOOK_UP_MISSING),
         Told::Answered(4, Said::Error(Errno::ENOENT)),
@@ -243,40 +228,38 @@ fn shows_attributes_and_takes_no_batch(rt: HostRuntime) {
     assert!(rt; all_go_so(rt.alloc(), &NO_BATCH, &[Found::Alone(2, 3)]));
 }
 
-const ITEM: Item = Item {
-    node: Number(2),
-    k: 1,
-};
-
-const LOWERED: Happened = Happened::Forgot {
-    item: ITEM,
-    forgot: Forgot::Lowered,
-};
-
-const FORGOTTEN_BEFORE: [(Deed, Told, Counts); 11] = [
-    (Deed::Start, Told::Started(1), [0, 0, 0, 0]),
-    (Deed::Mount(1), Told::Mounted(1), [0, 0, 0, 0]),
+static FORGOTTEN_BEFORE: [(Deed, Told, Counts); 11] = [
+    (Deed::Start, Told::One(Fact::Started(1)), [0, 0, 0, 0]),
+    (Deed::Mount(1), Told::One(Fact::Mounted(1)), [0, 0, 0, 0]),
     (Deed::Do(LOOK_UP_SRC), Told::Answered(1, SRC), [1, 1, 0, 0]),
-    (Deed::Issue(LOOK_UP_SRC), Told::Asked(2), [1, 1, 0, 0]),
-    (Deed::Take(1), Told::One(Happened::Took(2)), [1, 1, 0, 0]),
-    (Deed::Work(1, 1), Told::Made(2, SRC), [2, 1, 0, 0]),
+    (
+        Deed::Issue(LOOK_UP_SRC),
+        Told::One(Fact::Asked(Some(2))),
+        [1, 1, 0, 0],
+    ),
+    (Deed::Take(1), Told::One(Fact::Took(2)), [1, 1, 0, 0]),
+    (
+        Deed::Work(1, 1),
+        Told::One(Fact::Made(2, SRC)),
+        [2, 1, 0, 0],
+    ),
     (
         Deed::Issue(Wish::Forget(2, 1)),
-        Told::One(Happened::Asked(None)),
+        Told::One(Fact::Asked(None)),
         [2, 0, 0, 1],
     ),
+    (Deed::Take(1), Told::One(Fact::TookForgets(1)), [2, 0, 0, 0]),
     (
-        Deed::Take(1),
-        Told::One(Happened::TookForgets(1)),
-        [2, 0, 0, 0],
+        Deed::Work(1, 1),
+        Told::One(Fact::Forgot(2, 1, Forgot::Lowered)),
+        [1, 0, 0, 0],
     ),
-    (Deed::Work(1, 1), Told::One(LOWERED), [1, 0, 0, 0]),
+    (Deed::Post(1, 1), Told::One(Fact::Posted(2)), [1, 0, 1, 0]),
     (
-        Deed::Post(1, 1),
-        Told::One(Happened::Posted(2)),
-        [1, 0, 1, 0],
+        Deed::Deliver,
+        Told::One(Fact::Delivered(2, SRC)),
+        [1, 1, 0, 0],
     ),
-    (Deed::Deliver, Told::Delivered(2, SRC), [1, 1, 0, 0]),
 ];
 
 /// The forget is worked before the reply of the second lookup reaches the kernel: the daemon counts the number twice
@@ -288,14 +271,14 @@ fn counts_a_number_that_is_forgotten_before_the_reply(rt: HostRuntime) {
 
 const FAILED: Said = Said::Error(Errno::EIO);
 
-const BACKING_FAILS: [(Deed, Told); 10] = [
-    (Deed::Start, Told::Started(1)),
-    (Deed::Mount(1), Told::Mounted(1)),
-    (Deed::Issue(LOOK_UP_README), Told::Asked(1)),
-    (Deed::Take(1), Told::One(Happened::Took(1))),
-    (Deed::WorkFails(1, 1), Told::Made(1, FAILED)),
-    (Deed::Post(1, 1), Told::One(Happened::Posted(1))),
-    (Deed::Deliver, Told::Delivered(1, FAILED)),
+static BACKING_FAILS: [(Deed, Told); 10] = [
+    (Deed::Start, Told::One(Fact::Started(1))),
+    (Deed::Mount(1), Told::One(Fact::Mounted(1))),
+    (Deed::Issue(LOOK_UP_README), Told::One(Fact::Asked(Some(1)))),
+    (Deed::Take(1), Told::One(Fact::Took(1))),
+    (Deed::WorkFails(1, 1), Told::One(Fact::Made(1, FAILED))),
+    (Deed::Post(1, 1), Told::One(Fact::Posted(1))),
+    (Deed::Deliver, Told::One(Fact::Delivered(1, FAILED))),
     (
         Deed::Do(LOOK_UP_README),
         Told::Answered(2, Said::Entry(2, README)),
@@ -306,7 +289,7 @@ const BACKING_FAILS: [(Deed, Told); 10] = [
     ),
     (
         Deed::Do(LOOK_UP_SRC),
-        Told::Answered(3, Said::Entry(3, DIRECTORY)),
+        Told::Answered(3, Said::Entry(3, Look::Directory)),
     ),
 ];
 
@@ -315,67 +298,39 @@ fn answers_eio_where_its_backing_fails(rt: HostRuntime) {
     assert!(rt; all_go_so(rt.alloc(), &BACKING_FAILS, &[Found::Alone(3, 4)]));
 }
 
-const SRC_ENTRY: Answer = Answer::Entry {
-    number: Number(2),
-    attr: DIRECTORY,
-};
-
-const SRC_REPLY: Reply = Reply {
-    unique: 1,
-    answer: SRC_ENTRY,
-};
-
-const MISSING_REPLY: Reply = Reply {
-    unique: 2,
-    answer: Answer::Error(Errno::ENOENT),
-};
-
-const DROPPED: Happened = Happened::Forgot {
-    item: ITEM,
-    forgot: Forgot::Dropped,
-};
+const MISSING: Said = Said::Error(Errno::ENOENT);
 
 /// Tells of a `do` whose ask waits, while an older one is answered.
-const OLDER: [Option<Happened>; 5] = [
-    Some(Happened::Asked(Some(2))),
-    Some(Happened::Took(1)),
-    Some(Happened::Made(SRC_REPLY)),
-    Some(Happened::Posted(1)),
-    Some(Happened::Answered(SRC_REPLY)),
-];
+const OLDER: Told = Told::All(&[
+    Fact::Asked(Some(2)),
+    Fact::Took(1),
+    Fact::Made(1, SRC),
+    Fact::Posted(1),
+    Fact::Delivered(1, SRC),
+]);
 
 /// Tells of a forget by `do`, which waits, while an ask is taken and worked.
-const FORGETS: [Option<Happened>; 5] = [
-    Some(Happened::Asked(None)),
-    Some(Happened::Took(2)),
-    Some(Happened::Made(MISSING_REPLY)),
-    None,
-    None,
-];
+const FORGETS: Told = Told::All(&[Fact::Asked(None), Fact::Took(2), Fact::Made(2, MISSING)]);
 
 /// Tells of a lookup by `do` that worked a forget in hand, had no reply to post, and ended there.
-const STOPPED: [Option<Happened>; 5] = [
-    Some(Happened::Asked(Some(3))),
-    Some(Happened::Took(3)),
-    Some(DROPPED),
-    Some(Happened::Refused(Refusal::NoSuch)),
-    None,
-];
+const STOPPED: Told = Told::All(&[
+    Fact::Asked(Some(3)),
+    Fact::Took(3),
+    Fact::Forgot(2, 1, Forgot::Dropped),
+    Fact::Refused(Refusal::NoSuch),
+]);
 
-const WAITS_FIRST: [(Deed, Told); 10] = [
-    (Deed::Start, Told::Started(1)),
-    (Deed::Mount(1), Told::Mounted(1)),
-    (Deed::Issue(LOOK_UP_SRC), Told::Asked(1)),
-    (Deed::Do(LOOK_UP_MISSING), Told::All(OLDER)),
-    (Deed::Do(Wish::Forget(2, 1)), Told::All(FORGETS)),
-    (Deed::Take(1), Told::One(Happened::TookForgets(1))),
-    (Deed::Deliver, Told::Refused(Refusal::Empty)),
-    (Deed::Post(1, 1), Told::One(Happened::Posted(2))),
-    (
-        Deed::Deliver,
-        Told::Delivered(2, Said::Error(Errno::ENOENT)),
-    ),
-    (Deed::Do(LOOK_UP_SRC), Told::All(STOPPED)),
+static WAITS_FIRST: [(Deed, Told); 10] = [
+    (Deed::Start, Told::One(Fact::Started(1))),
+    (Deed::Mount(1), Told::One(Fact::Mounted(1))),
+    (Deed::Issue(LOOK_UP_SRC), Told::One(Fact::Asked(Some(1)))),
+    (Deed::Do(LOOK_UP_MISSING), OLDER),
+    (Deed::Do(Wish::Forget(2, 1)), FORGETS),
+    (Deed::Take(1), Told::One(Fact::TookForgets(1))),
+    (Deed::Deliver, Told::One(Fact::Refused(Refusal::Empty))),
+    (Deed::Post(1, 1), Told::One(Fact::Posted(2))),
+    (Deed::Deliver, Told::One(Fact::Delivered(2, MISSING))),
+    (Deed::Do(LOOK_UP_SRC), STOPPED),
 ];
 
 /// An older ask waits: the `do` takes it first, and answers it; its own ask waits then, and the next `do` takes that.
