@@ -65,7 +65,7 @@ type Row = (
     &'static [u8],
 );
 
-const ROWS: [Row; 14] = [
+static ROWS: [Row; 14] = [
     (Some(&[]), 4096, Ending::Ran, b"daemon 1\n", b""),
     (Some(&["world", "-"]), 4096, Ending::Ran, b"daemon 1\n", b""),
     (
