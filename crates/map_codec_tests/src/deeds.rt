@@ -62,7 +62,11 @@ fn each_goes_so(alloc: Global, manifest: &Manifest, deeds: &[Deed]) -> bool {
 /// Does each deed over the manifest, and returns whether all go so.
 pub(crate) fn all_go_so(alloc: Global, deeds: &[Deed]) -> bool {
     match manifest_of(alloc, CHECKOUT) {
-        Ok(manifest) => each_goes_so(alloc, &manifest, deeds),
+        Ok(manifest) => {
+            let so = each_goes_so(alloc, &manifest, deeds);
+            drop(manifest);
+            so
+        }
         Err(_) => false,
     }
 }

@@ -10,16 +10,26 @@ use std::alloc::{AllocError, Global};
 /// The first file that the checkout doesn't have.
 const FIRST_FILE: u64 = 6;
 
+/// Puts an entry named `a` in the directory of a number.
+fn put_entry(bytes: &mut Vec<u8>, number: u64, parent: u64) -> Result<(), AllocError> {
+    put(
+        bytes,
+        &[
+            number.to_be_bytes().as_slice(),
+            [0, 0, 0, 0, 1].as_slice(),
+            parent.to_be_bytes().as_slice(),
+            b"\x01a".as_slice(),
+        ],
+    )
+}
+
 /// Puts so many entries named `a`, each in the directory of the next, and the last in that of a number.
 fn put_entries(bytes: &mut Vec<u8>, count: u32, top: u64) -> Result<(), AllocError> {
     bytes.extend_from_slice(&count.to_be_bytes())?;
     for i in 0..count {
         let number = u64::from(i) + 2;
         let parent = if i + 1 < count { number + 1 } else { top };
-        bytes.extend_from_slice(&number.to_be_bytes())?;
-        bytes.extend_from_slice(&[0, 0, 0, 0, 1])?;
-        bytes.extend_from_slice(&parent.to_be_bytes())?;
-        bytes.extend_from_slice(b"\x01a")?;
+        put_entry(bytes, number, parent)?;
     }
     Ok(())
 }
@@ -34,15 +44,25 @@ fn put_made(bytes: &mut Vec<u8>, count: u32) -> Result<(), AllocError> {
     Ok(())
 }
 
+/// Puts the name `a` in a directory, which gives a file.
+fn put_link(bytes: &mut Vec<u8>, dir: u64, file: u64) -> Result<(), AllocError> {
+    put(
+        bytes,
+        &[
+            dir.to_be_bytes().as_slice(),
+            b"\x01a\x01".as_slice(),
+            file.to_be_bytes().as_slice(),
+        ],
+    )
+}
+
 /// Puts so many names `a`, the first in the root, and each other in the directory that the one before it gives.
 fn put_links(bytes: &mut Vec<u8>, count: u32) -> Result<(), AllocError> {
     bytes.extend_from_slice(&count.to_be_bytes())?;
     let mut dir: u64 = 1;
     for i in 0..count {
         let file = FIRST_FILE + u64::from(i);
-        bytes.extend_from_slice(&dir.to_be_bytes())?;
-        bytes.extend_from_slice(b"\x01a\x01")?;
-        bytes.extend_from_slice(&file.to_be_bytes())?;
+        put_link(bytes, dir, file)?;
         dir = file;
     }
     Ok(())

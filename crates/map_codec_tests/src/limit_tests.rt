@@ -36,8 +36,10 @@ fn is_refused(
 {
     match request_of(alloc, asking) {
         Ok(request) => {
-            answer_to(alloc, served, manifest, &request) == Some(Answer::Error(errno))
-                && is_spelled(alloc, served, bytes)
+            let answer = answer_to(alloc, served, manifest, &request);
+            drop(request);
+            let is_error = matches!(answer, Some(Answer::Error(found)) if found == errno);
+            is_error && is_spelled(alloc, served, bytes)
         }
         Err(_) => false,
     }
@@ -48,13 +50,17 @@ fn finds_src(alloc: Global, served: &mut Served, manifest: &Manifest) -> bool
     requires over { served.old.tree.manifest ≡ manifest.now }
 {
     match request_of(alloc, (Asks::LookUp, 1, b"src")) {
-        Ok(src) => matches!(
-            answer_to(alloc, served, manifest, &src),
-            Some(Answer::Entry {
-                number: Number(2),
-                ..
-            })
-        ),
+        Ok(src) => {
+            let answer = answer_to(alloc, served, manifest, &src);
+            drop(src);
+            matches!(
+                answer,
+                Some(Answer::Entry {
+                    number: Number(2),
+                    ..
+                })
+            )
+        }
         Err(_) => false,
     }
 }
@@ -76,7 +82,11 @@ fn refuses_once(
 /// Returns that of what is raised.
 fn refuses(alloc: Global, manifest: &Manifest, bytes: &[u8], asking: Asking, errno: Errno) -> bool {
     match raised(alloc, manifest, bytes) {
-        Ok(mut served) => refuses_once(alloc, &mut served, manifest, asking, errno, bytes),
+        Ok(mut served) => {
+            let so = refuses_once(alloc, &mut served, manifest, asking, errno, bytes);
+            drop(served);
+            so
+        }
         Err(_) => false,
     }
 }

@@ -45,7 +45,10 @@ pub fn comes_to(
     fault: Option<RaiseFault>,
 ) -> bool {
     match raised(alloc, manifest, bytes) {
-        Ok(_) => fault.is_none(),
+        Ok(served) => {
+            drop(served);
+            fault.is_none()
+        }
         Err(found) => found.is_some() && fault == found,
     }
 }
@@ -89,12 +92,12 @@ pub(crate) fn is_twice_refused(alloc: Global, manifest: &Manifest) -> bool {
     let (front, rest) = CHANGED.split_at(100);
     let (_, rest) = rest.split_at(7);
     match all(alloc, &[front, b"\x03src".as_slice(), rest]) {
-        Ok(twice) => comes_to(
-            alloc,
-            manifest,
-            twice.as_slice(),
-            Some(RaiseFault::TwoNumbers),
-        ),
+        Ok(twice) => {
+            let fault = Some(RaiseFault::TwoNumbers);
+            let is_refused = comes_to(alloc, manifest, twice.as_slice(), fault);
+            drop(twice);
+            is_refused
+        }
         Err(AllocError) => false,
     }
 }
@@ -107,7 +110,11 @@ fn refuses_two_numbers_of_one_file(rt: HostRuntime) {
 /// Returns whether the image of what was raised is the one that it was raised from.
 pub(crate) fn is_raised_and_spelled(alloc: Global, manifest: &Manifest, bytes: &[u8]) -> bool {
     match raised(alloc, manifest, bytes) {
-        Ok(served) => is_spelled(alloc, &served, bytes),
+        Ok(served) => {
+            let so = is_spelled(alloc, &served, bytes);
+            drop(served);
+            so
+        }
         Err(_) => false,
     }
 }

@@ -48,7 +48,10 @@ fn has_text(alloc: Global, image: &Image, bytes: &[u8]) -> bool
 /// Returns the fault of bytes that are no image.
 fn fault_of(alloc: Global, bytes: &[u8]) -> Option<ImageFault> {
     match image_of_bytes(alloc, bytes) {
-        Ok(_) => None,
+        Ok(image) => {
+            drop(image);
+            None
+        }
         Err(fault) => Some(fault),
     }
 }
@@ -56,7 +59,11 @@ fn fault_of(alloc: Global, bytes: &[u8]) -> Option<ImageFault> {
 /// Returns whether bytes are refused, or are the one spelling of the image that they are read as.
 fn is_refused_or_spelled_so(alloc: Global, bytes: &[u8]) -> bool {
     match image_of_bytes(alloc, bytes) {
-        Ok(image) => has_text(alloc, &image, bytes),
+        Ok(image) => {
+            let so = has_text(alloc, &image, bytes);
+            drop(image);
+            so
+        }
         Err(_) => true,
     }
 }
@@ -227,8 +234,12 @@ fn unlinked(alloc: Global, count: u32) -> Vec<u8> {
 fn is_written_again(alloc: Global, bytes: &[u8]) -> bool {
     match image_of_bytes(alloc, bytes) {
         Ok(image) => {
-            has_text(alloc, &image, bytes)
-                && matches!(text_of(alloc, &image, 2), Err(WriteFault::NoSuchVersion))
+            let is_same = has_text(alloc, &image, bytes);
+            let second = text_of(alloc, &image, 2);
+            drop(image);
+            let is_refused = matches!(second, Err(WriteFault::NoSuchVersion));
+            drop(second);
+            is_same && is_refused
         }
         Err(_) => false,
     }
@@ -237,7 +248,13 @@ fn is_written_again(alloc: Global, bytes: &[u8]) -> bool {
 /// Returns whether the image of a text is too long to be written.
 fn is_too_long(alloc: Global, bytes: &[u8]) -> bool {
     match image_of_bytes(alloc, bytes) {
-        Ok(image) => matches!(text_of(alloc, &image, 1), Err(WriteFault::TooLong)),
+        Ok(image) => {
+            let text = text_of(alloc, &image, 1);
+            drop(image);
+            let is_too_long = matches!(text, Err(WriteFault::TooLong));
+            drop(text);
+            is_too_long
+        }
         Err(_) => false,
     }
 }
@@ -344,7 +361,11 @@ pub fn answer_to(
 /// Returns whether the image of what a daemon serves is spelled so.
 pub fn is_spelled(alloc: Global, served: &Served, bytes: &[u8]) -> bool {
     match image_taken(alloc, served) {
-        Ok(image) => has_text(alloc, &image, bytes),
+        Ok(image) => {
+            let so = has_text(alloc, &image, bytes);
+            drop(image);
+            so
+        }
         Err(NoMemory) => false,
     }
 }
@@ -357,6 +378,7 @@ fn asks_all(alloc: Global, served: &mut Served, manifest: &Manifest, askings: &[
         match request_of(alloc, *asking) {
             Ok(request) => {
                 answer_to(alloc, served, manifest, &request);
+                drop(request);
             }
             Err(_) => return false,
         }
@@ -385,7 +407,11 @@ pub(crate) fn is_spelled_after(
     bytes: &[u8],
 ) -> bool {
     match served_of(alloc, manifest) {
-        Ok(mut served) => asks_and_spells(alloc, &mut served, manifest, askings, bytes),
+        Ok(mut served) => {
+            let so = asks_and_spells(alloc, &mut served, manifest, askings, bytes);
+            drop(served);
+            so
+        }
         Err(NoMemory) => false,
     }
 }
@@ -450,7 +476,12 @@ fn is_count_refused(alloc: Global, image: &Image) -> bool {
 /// Returns that of the changed image with such a count: a count is no part of being fit.
 fn refuses_a_great_count(alloc: Global) -> bool {
     match image_of_bytes(alloc, &CHANGED) {
-        Ok(image) => is_count_refused(alloc, &with_great_count(image)),
+        Ok(image) => {
+            let great = with_great_count(image);
+            let so = is_count_refused(alloc, &great);
+            drop(great);
+            so
+        }
         Err(_) => false,
     }
 }
