@@ -228,21 +228,38 @@ fn is_answered(
     expected: Answer,
 ) -> bool {
     match asked(alloc, asks, place.0, place.1) {
-        Some(request) => answer(alloc, served, &request) == Some(expected),
+        Some(request) => {
+            let answer = answer(alloc, served, &request);
+            drop(request);
+            answer == Some(expected)
+        }
         None => false,
     }
+}
+
+/// Answers a request that is made for this once.
+fn answer_once(alloc: Global, served: &mut Hosted, request: Request) -> Option<Answer> {
+    let answer = served.apply(alloc, &request);
+    drop(request);
+    answer
 }
 
 /// Returns whether a number's attributes are answered so.
 fn is_shown(alloc: Global, served: &mut Hosted, node: u64, expected: Answer) -> bool {
     let node = Number(node);
-    served.apply(alloc, &Request::Getattr { node }) == Some(expected)
+    answer_once(alloc, served, Request::Getattr { node }) == Some(expected)
+}
+
+/// Forgets one number, and returns whether that has no answer.
+fn is_one_forgotten(alloc: Global, served: &mut Hosted, node: u64, k: u64) -> bool {
+    let node = Number(node);
+    answer_once(alloc, served, Request::Forget(Item { node, k })).is_none()
 }
 
 /// Forgets numbers, and returns whether that has no answer.
 fn is_forgotten(alloc: Global, served: &mut Hosted, items: &[Item; 6]) -> bool {
     match batch_of(alloc, items) {
-        Some(batch) => served.apply(alloc, &Request::BatchForget(batch)).is_none(),
+        Some(batch) => answer_once(alloc, served, Request::BatchForget(batch)).is_none(),
         None => false,
     }
 }
@@ -256,6 +273,35 @@ fn is_at(served: &Hosted, two: u64, three: u64, next: u64, bad: u64) -> bool {
     map.next() == next && map.bad_items() == bad
 }
 
+/// Returns whether the next file is this one.
+fn is_next_file(served: &Hosted, file: u64) -> bool {
+    served.served.tree().next_file() == FileId(file)
+}
+
+/// Returns the answer that a name is such a file's, of this number.
+fn entry_of(number: u64, is: Is) -> Answer {
+    Answer::Entry {
+        number: Number(number),
+        attr: is.attr(),
+    }
+}
+
+/// Returns the answer that a file was made, of this number.
+fn opened_as(number: u64) -> Answer {
+    Answer::Opened {
+        number: Number(number),
+        attr: Is::Made.attr(),
+    }
+}
+
+/// Returns the answer that a number is such a file's.
+fn attrs_of(number: u64, is: Is) -> Answer {
+    Answer::Attrs {
+        number: Number(number),
+        attr: is.attr(),
+    }
+}
+
 /// Does a deed, and returns whether it comes to what it says.
 fn goes_so(alloc: Global, served: &mut Hosted, deed: Deed) -> bool {
     match deed {
@@ -264,32 +310,18 @@ fn goes_so(alloc: Global, served: &mut Hosted, deed: Deed) -> bool {
         }
         Deed::Take(asks, dir, name) => is_answered(alloc, served, asks, (dir, name), Answer::Done),
         Deed::Enter(asks, dir, name, number, is) => {
-            let number = Number(number);
-            let attr = is.attr();
-            let expected = Answer::Entry { number, attr };
-            is_answered(alloc, served, asks, (dir, name), expected)
+            is_answered(alloc, served, asks, (dir, name), entry_of(number, is))
         }
         Deed::Create(dir, name, number) => {
-            let expected = Answer::Opened {
-                number: Number(number),
-                attr: Is::Made.attr(),
-            };
+            let expected = opened_as(number);
             is_answered(alloc, served, Asks::Create, (dir, name), expected)
         }
-        Deed::Show(node, is) => {
-            let number = Number(node);
-            let attr = is.attr();
-            is_shown(alloc, served, node, Answer::Attrs { number, attr })
-        }
+        Deed::Show(node, is) => is_shown(alloc, served, node, attrs_of(node, is)),
         Deed::ShowNone(node) => is_shown(alloc, served, node, Answer::Error(Errno::ESTALE)),
-        Deed::Forget(node, k) => {
-            let node = Number(node);
-            let forget = Request::Forget(Item { node, k });
-            served.apply(alloc, &forget).is_none()
-        }
+        Deed::Forget(node, k) => is_one_forgotten(alloc, served, node, k),
         Deed::ForgetAll(items) => is_forgotten(alloc, served, items),
         Deed::At(two, three, next, bad, file) => {
-            is_at(served, two, three, next, bad) && served.served.tree().next_file() == FileId(file)
+            is_at(served, two, three, next, bad) && is_next_file(served, file)
         }
     }
 }
@@ -309,7 +341,9 @@ fn all_go_so(alloc: Global, deeds: &[Deed]) -> bool {
     match Hosted::of(alloc, TEXT, 8) {
         Some(served) => {
             let mut served = served;
-            each_goes_so(alloc, &mut served, deeds)
+            let so = each_goes_so(alloc, &mut served, deeds);
+            drop(served);
+            so
         }
         None => false,
     }
@@ -546,6 +580,7 @@ fn ask(alloc: Global, served: &mut Hosted, place: usize) -> bool {
     match asked_in_turn(alloc, place) {
         Some(request) => {
             answer(alloc, served, &request);
+            drop(request);
             true
         }
         None => false,
@@ -579,14 +614,25 @@ fn answer_again(alloc: Global, served: &mut Hosted, request: &Request) -> Option
     }
 }
 
-/// Returns that, and whether the request is answered with its number when it is made again and the backing answers.
+/// Returns that, and whether the request is answered with this number when it is made again and the backing answers.
+fn fails_first(
+    alloc: Global,
+    served: &mut Hosted,
+    request: &Request,
+    next: u64,
+    number: u64,
+) -> bool {
+    fails(alloc, served, request, next)
+        && number_told(answer_again(alloc, served, request)) == number
+}
+
+/// Returns that of the request at a place.
 fn fails_once(alloc: Global, served: &mut Hosted, place: usize, next: u64) -> Option<bool> {
     let number = if place == 4 { 3 } else { next };
     let request = asked_in_turn(alloc, place)?;
-    if !fails(alloc, served, &request, next) {
-        return Some(false);
-    }
-    Some(number_told(answer_again(alloc, served, &request)) == number)
+    let fails = fails_first(alloc, served, &request, next, number);
+    drop(request);
+    Some(fails)
 }
 
 /// Answers all requests in turn, one of them from a backing that fails at once. Returns whether that one is answered
@@ -602,7 +648,9 @@ fn fails_in_turn(alloc: Global, served: &mut Hosted, place: usize, next: u64) ->
 /// Returns that of a daemon that begins.
 fn fails_at(alloc: Global, place: usize, next: u64) -> Option<bool> {
     let mut served = Hosted::of(alloc, FOUR_FILES, 1)?;
-    fails_in_turn(alloc, &mut served, place, next)
+    let fails = fails_in_turn(alloc, &mut served, place, next);
+    drop(served);
+    fails
 }
 
 /// The place of a request, the next number then, and whether the request asks the backing.
@@ -623,8 +671,10 @@ fn answers_eio_where_the_backing_fails_and_changes_nothing(rt: HostRuntime) {
 
 /// Returns whether the attributes of a number are told though the backing fails.
 fn is_loaded(alloc: Global, served: &mut Hosted, node: u64) -> bool {
-    let node = Number(node);
-    match served.apply_failing(alloc, 0, &Request::Getattr { node }) {
+    let request = Request::Getattr { node: Number(node) };
+    let answer = served.apply_failing(alloc, 0, &request);
+    drop(request);
+    match answer {
         Some(answer) => answer != Answer::Error(Errno::EIO),
         None => false,
     }
@@ -649,7 +699,9 @@ fn loaded_then(alloc: Global, served: &mut Hosted) -> Option<[bool; 3]> {
 /// Returns that at a limit.
 fn stay_loaded(alloc: Global, limit: usize) -> Option<[bool; 3]> {
     let mut served = Hosted::of(alloc, FOUR_FILES, limit)?;
-    loaded_then(alloc, &mut served)
+    let loaded = loaded_then(alloc, &mut served);
+    drop(served);
+    loaded
 }
 
 /// A limit, and whether each of the files stays loaded.
