@@ -16,22 +16,48 @@ fn given(alloc: Global, map: &mut InodeMap, parent: Number, name: &Name) -> Opti
     }
 }
 
+/// Gives a number to each directory of the path, and returns the last.
+fn last_given(alloc: Global, map: &mut InodeMap, name: &Name) -> Number {
+    let mut last = Number::ROOT;
+    for _step in 0..DEPTH {
+        last = given(alloc, map, last, name).unwrap_or(Number::ROOT);
+    }
+    last
+}
+
+/// Makes a tree of two directories, one in the other.
+fn tree_of_two(alloc: Global) -> Result<Tree, Fail> {
+    let manifest = Manifest::read(
+        alloc,
+        b"commit 0123456789abcdef0123456789abcdef01234567\ndir a\ndir a/a\n",
+    )?;
+    let tree = Tree::of(alloc, &manifest);
+    drop(manifest);
+    Ok(tree?)
+}
+
+/// Returns the files of number 3, of the last number and of number 2 in such a tree.
+fn located(alloc: Global, map: &mut InodeMap, last: Number) -> Result<[Option<FileId>; 3], Fail> {
+    let tree = tree_of_two(alloc)?;
+    let third = map.locate(&tree, Number(3));
+    let deepest = map.locate(&tree, last);
+    let second = map.locate(&tree, Number(2));
+    drop(tree);
+    Ok([third, deepest, second])
+}
+
 #[test]
 fn walks_a_path_of_fifty_thousand_directories(rt: HostRuntime) -> Result<(), Fail> {
     let a = Name::parse(rt.alloc(), b"a")?;
     let mut map = InodeMap::new(rt.alloc(), 1)?;
-    let mut last = Number::ROOT;
-    for _step in 0..DEPTH {
-        last = given(rt.alloc(), &mut map, last, &a).unwrap_or(Number::ROOT);
-    }
+    let last = last_given(rt.alloc(), &mut map, &a);
+    let files = located(rt.alloc(), &mut map, last);
+    drop(map);
+    drop(a);
     assert!(rt; last == Number(DEPTH + 1));
-    let manifest = Manifest::read(
-        rt.alloc(),
-        b"commit 0123456789abcdef0123456789abcdef01234567\ndir a\ndir a/a\n",
-    )?;
-    let tree = Tree::of(rt.alloc(), &manifest)?;
-    assert!(rt; map.locate(&tree, Number(3)) == Some(FileId(3)));
-    assert!(rt; map.locate(&tree, last) == None);
-    assert!(rt; map.locate(&tree, Number(2)) == Some(FileId(2)));
+    let [third, deepest, second] = files?;
+    assert!(rt; third == Some(FileId(3)));
+    assert!(rt; deepest == None);
+    assert!(rt; second == Some(FileId(2)));
     Ok(())
 }

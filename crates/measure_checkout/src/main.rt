@@ -110,7 +110,9 @@ fn look_up_in(rt: &HostRuntime, lines: u32, tree: &Tree, started: Instant) -> Re
 fn make_tree(rt: &HostRuntime, lines: u32, manifest: &Manifest) -> Result<()> {
     let started = Instant::now(rt)?;
     let tree = Tree::of(rt.alloc(), manifest)?;
-    look_up_in(rt, lines, &tree, started)
+    let done = look_up_in(rt, lines, &tree, started);
+    drop(tree);
+    done
 }
 
 /// A file, where it stands, and a name that its directory lacks.
@@ -278,7 +280,9 @@ fn call_each(tree: &mut Tree, list: &[Member]) -> Told {
 /// Makes each call on files of a tree of a manifest.
 fn call_made(alloc: Global, manifest: &Manifest, list: &[Member]) -> Result<Told, NoMemory> {
     let mut tree = tree_of(alloc, manifest)?;
-    Ok(call_each(&mut tree, list))
+    let told = call_each(&mut tree, list);
+    drop(tree);
+    Ok(told)
 }
 
 /// Makes each call on files that lie evenly over those of a manifest.
@@ -321,9 +325,10 @@ fn measure(rt: &HostRuntime, lines: u32) -> Result<()> {
 }
 
 fn main(rt: HostRuntime) -> Result<()> {
-    let mut words = env::args(&rt)?.skip(1);
-    if let Some(word) = words.next() {
+    let word = env::args(&rt)?.nth(1);
+    if let Some(word) = word {
         let lines = word.as_str().parse::<u32>().unwrap_or(1000);
+        drop(word);
         return measure_calls(&rt, lines);
     }
     for lines in LINES {

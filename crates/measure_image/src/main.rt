@@ -231,7 +231,9 @@ fn measure_taken(rt: &HostRuntime, served: &Served, entries: u64) -> Result<usiz
     let started = rt.thread_cpu_time()?;
     let image = image_taken(rt.alloc(), served)?;
     tell(rt, "image_of", started, entries)?;
-    measure_write(rt, &image, entries)
+    let written = measure_write(rt, &image, entries);
+    drop(image);
+    written
 }
 
 /// Says what a raise took, and goes on with what is served.
@@ -252,7 +254,9 @@ fn measure_raise(rt: &HostRuntime, image: Image, manifest: &Manifest, entries: u
 {
     let started = rt.thread_cpu_time()?;
     let served = image_raised(rt.alloc(), image, manifest)?;
-    measure_served(rt, &served, started, entries)
+    let written = measure_served(rt, &served, started, entries);
+    drop(served);
+    written
 }
 
 /// Reads the image that bytes spell, and goes on with it.

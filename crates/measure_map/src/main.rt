@@ -54,7 +54,9 @@ fn name_of(alloc: Global, i: u64) -> Result<Name> {
 /// Gives an entry, by its place, a number, and forgets it where it is none of every so many.
 fn give_entry(alloc: Global, map: &mut InodeMap, i: u64, every: u64) -> Result<()> {
     let name = name_of(alloc, i)?;
-    let number = map.give(alloc, parent_of(i), &name)?;
+    let given = map.give(alloc, parent_of(i), &name);
+    drop(name);
+    let number = given?;
     if every == 2 && i % 2 == 1 {
         map.forget(number, 1);
     }
@@ -264,13 +266,17 @@ fn call_all(alloc: Global, map: &mut InodeMap, list: &[Sought]) -> Result<Told> 
 fn fill_and_call(alloc: Global, map: &mut InodeMap, entries: u64, every: u64) -> Result<Told> {
     fill(alloc, map, entries, every)?;
     let list = list_sought(alloc, entries, every)?;
-    call_all(alloc, map, list.as_slice())
+    let told = call_all(alloc, map, list.as_slice());
+    drop(list);
+    told
 }
 
 /// Makes a map of so many entries, and each call on it.
 fn told_of(alloc: Global, entries: u64, every: u64) -> Result<Told> {
     let mut map = InodeMap::new(alloc, LOADED_LIMIT)?;
-    fill_and_call(alloc, &mut map, entries, every)
+    let told = fill_and_call(alloc, &mut map, entries, every);
+    drop(map);
+    told
 }
 
 /// Makes each call on a map of so many entries, which are each, or every second, of those that were given.
@@ -316,7 +322,9 @@ fn knows_last(alloc: Global, entries: Vec<Kept>, next: u64) -> Result<bool, NoMe
     requires next { 0 < next }
 {
     let map = of_entries(alloc, entries, next)?;
-    Ok(map.known(Number(next - 1)))
+    let known = map.known(Number(next - 1));
+    drop(map);
+    Ok(known)
 }
 
 /// Makes that of so many entries.

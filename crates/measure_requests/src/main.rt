@@ -59,11 +59,12 @@ impl Hosted {
 /// Writes a line of the manifest.
 fn line_of(alloc: Global, i: u64) -> Result<String, NoMemory> {
     let dir = i / EACH;
-    if i % EACH == 0 {
-        Ok(format!(in alloc; "dir directory{dir}\n")?)
+    let line = if i % EACH == 0 {
+        format!(in alloc; "dir directory{dir}\n")
     } else {
-        Ok(format!(in alloc; "file 0644 {i} directory{dir}/file{i}.txt\n")?)
-    }
+        format!(in alloc; "file 0644 {i} directory{dir}/file{i}.txt\n")
+    };
+    Ok(line?)
 }
 
 /// Makes the text of a manifest of this many lines.
@@ -102,11 +103,11 @@ fn named(alloc: Global, text: String) -> Result<Name, NoMemory> {
 fn name_of(alloc: Global, i: u64) -> Result<Name, NoMemory> {
     let dir = i / EACH;
     let text = if i % EACH == 0 {
-        format!(in alloc; "directory{dir}")?
+        format!(in alloc; "directory{dir}")
     } else {
-        format!(in alloc; "file{i}.txt")?
+        format!(in alloc; "file{i}.txt")
     };
-    named(alloc, text)
+    named(alloc, text?)
 }
 
 /// Returns the number of an entry, and the root's where there is none.
@@ -122,6 +123,7 @@ fn look_up_twice(alloc: Global, served: &mut Hosted, dir: Number, name: Name) ->
     let request = Request::Lookup { dir, name };
     let number = number_told(served.apply(alloc, &request));
     served.apply(alloc, &request);
+    drop(request);
     number
 }
 
@@ -148,7 +150,9 @@ fn look_half_up(alloc: Global, served: &mut Hosted, lines: u64) -> Result<Vec<Re
 fn make_dir(alloc: Global, served: &mut Hosted, dir: Number, name: Name) -> Number {
     let perm = Perm::DIRECTORY;
     let request = Request::Mkdir { dir, name, perm };
-    number_told(served.apply(alloc, &request))
+    let number = number_told(served.apply(alloc, &request));
+    drop(request);
+    number
 }
 
 /// Makes a directory in a directory, so many times, and returns the number of the last.
@@ -278,13 +282,20 @@ fn ask_others(alloc: Global, served: &mut Hosted, others: &[Request]) {
     }
 }
 
+/// Takes a number back once. Tells whether that has no answer.
+fn take_back(alloc: Global, served: &mut Hosted, node: Number) -> bool {
+    let back = Request::Forget(Item { node, k: 1 });
+    let answer = served.apply(alloc, &back);
+    drop(back);
+    answer.is_none()
+}
+
 /// Looks a name up that has a number of which nothing is loaded, and then once more. Takes one back, so that it is held
 /// twice as the others are, and tells whether both gave one number.
 fn ask_other_again(alloc: Global, served: &mut Hosted, request: &Request) -> bool {
     let node = look_up_unloaded(alloc, served, request);
     let same = look_up_loaded(alloc, served, request, node);
-    let back = Request::Forget(Item { node, k: 1 });
-    same && node != Number::ROOT && served.apply(alloc, &back).is_none()
+    same && node != Number::ROOT && take_back(alloc, served, node)
 }
 
 /// Looks half of the names up, asks for others three times, and counts those that are there.
@@ -297,7 +308,26 @@ fn ask_fresh(alloc: Global, served: &mut Hosted, lines: u64) -> Result<u64, NoMe
             found = found.wrapping_add(1);
         }
     }
+    drop(others);
     Ok(found)
+}
+
+/// Asks for the attributes of a number. Tells whether there are some.
+fn is_shown(alloc: Global, served: &mut Hosted, node: Number) -> bool {
+    let request = Request::Getattr { node };
+    let shown = get_attr(alloc, served, &request).is_some();
+    drop(request);
+    shown
+}
+
+/// Forgets a file once, unlinks it and forgets it again. Tells whether all was answered as it should be.
+fn is_forgotten(alloc: Global, served: &mut Hosted, node: Number, unlinking: &Request) -> bool {
+    let forget = Request::Forget(Item { node, k: 1 });
+    let lowered = forget_one(alloc, served, &forget);
+    let gone = unlink(alloc, served, unlinking);
+    let dropped = forget_last(alloc, served, &forget) == 2;
+    drop(forget);
+    lowered && gone && dropped
 }
 
 /// Looks a file that was made up once more, asks for its attributes, forgets it once, unlinks it and forgets it again.
@@ -310,12 +340,9 @@ fn ask_one(
     unlinking: &Request,
 ) -> bool {
     let same = look_up_held(alloc, served, lookup, number);
-    let shown = get_attr(alloc, served, &Request::Getattr { node: number }).is_some();
-    let item = Item { node: number, k: 1 };
-    let lowered = forget_one(alloc, served, &Request::Forget(item));
-    let gone = unlink(alloc, served, unlinking);
-    let dropped = forget_last(alloc, served, &Request::Forget(item)) == 2;
-    same && shown && lowered && gone && dropped
+    let shown = is_shown(alloc, served, number);
+    let forgotten = is_forgotten(alloc, served, number, unlinking);
+    same && shown && forgotten
 }
 
 /// Makes files and asks each of them. Counts those that answered as they should.
@@ -350,7 +377,11 @@ fn ask_made(alloc: Global, served: &mut Hosted, depth: u64) -> Result<u64, NoMem
     let creates = list_asked(alloc, dir, Step::Create)?;
     let lookups = list_asked(alloc, dir, Step::Lookup)?;
     let unlinks = list_asked(alloc, dir, Step::Unlink)?;
-    Ok(ask_listed(alloc, served, &creates, &lookups, &unlinks))
+    let done = ask_listed(alloc, served, &creates, &lookups, &unlinks);
+    drop(creates);
+    drop(lookups);
+    drop(unlinks);
+    Ok(done)
 }
 
 /// Returns a batch that forgets numbers once each, from this one on.
@@ -367,14 +398,22 @@ fn batch_from(alloc: Global, first: u64) -> Result<Batch, NoMemory> {
     Batch::of(alloc, &items)
 }
 
+/// Forgets the numbers of a batch twice. Tells how many batches were forgotten.
+fn ask_batch(alloc: Global, served: &mut Hosted, request: &Request) -> u64 {
+    if lower_batch(alloc, served, request) == 0 {
+        forget_batch(alloc, served, request)
+    } else {
+        0
+    }
+}
+
 /// Forgets the first numbers twice, once each in a batch, so that they are lowered and then dropped.
 fn ask_batches(alloc: Global, served: &mut Hosted) -> Result<u64, NoMemory> {
     let mut batches = 0u64;
     for first in [2, 258, 514, 770] {
         let request = Request::BatchForget(batch_from(alloc, first)?);
-        if lower_batch(alloc, served, &request) == 0 {
-            batches = batches.wrapping_add(forget_batch(alloc, served, &request));
-        }
+        batches = batches.wrapping_add(ask_batch(alloc, served, &request));
+        drop(request);
     }
     Ok(batches)
 }
@@ -393,7 +432,9 @@ fn ask_all(alloc: Global, served: &mut Hosted, lines: u64, depth: u64) -> Result
 /// Makes all requests of a daemon that begins.
 fn ask_begun(alloc: Global, lines: u64, depth: u64) -> Result<Told, NoMemory> {
     let mut served = begin(alloc, lines)?;
-    ask_all(alloc, &mut served, lines, depth)
+    let told = ask_all(alloc, &mut served, lines, depth);
+    drop(served);
+    told
 }
 
 /// Prints words and a number behind them.
