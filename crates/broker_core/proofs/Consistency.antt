@@ -106,3 +106,12 @@ given-none held reply is = ap (λ (o : Option Number). option_map_or (λ (n : Nu
 
 pub consistent-delivered : (b now : Inside) (reply : Reply) (t : TrafficState) → front b.traffic.posted ≡ Some reply → IsConsistent b → now ≡ record b { held = held_with b.held (Some reply) } → t ≡ reply_delivered now.traffic → IsConsistent (record now { traffic = t })
 consistent-delivered b now reply t first kept is left = rw (left, is) (consistent-delivery b reply first kept)
+
+-- where nothing is held or under way, nothing more was asked for than uniques were taken
+pub consistent-ended : (b : Inside) → IsConsistent b → IsConsistent (record b { seat = None; held = none_held; traffic = no_traffic })
+consistent-ended b kept = record {
+  generation = kept.generation;
+  uniques = kept.uniques;
+  later = later_none b.next_unique;
+  asked_for = λ n. omega (arith, held_count-none n, kept.asked_for n);
+}

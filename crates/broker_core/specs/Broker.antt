@@ -1,12 +1,14 @@
 -- What the kernel holds, and who serves it: the requests and the lookup counts of libfuse's `fuse_lowlevel.h`, seen
 -- from the kernel's side, and the seat, which is this project's own and stands in for a file descriptor that is handed
 -- over.
-use Rattle.std.specs.Prelude.{◌≡◌, ℕ, ◌+◌, ◌-◌, ◌^◌, Bool, ◌||◌, ◌&&◌, ◌==◌, not, nat_le, nat_lt, Option, Some, None, is_none, is_some, if◌then◌else◌, refl}
+use Rattle.std.specs.Prelude.{◌≡◌, ℕ, ◌+◌, ◌-◌, ◌^◌, Bool, false, ◌||◌, ◌&&◌, ◌==◌, not, nat_le, nat_lt, length, Option, Some, None, is_none, is_some, if◌then◌else◌, refl}
 use Rattle.std.specs.List.{list_all}
 use Rattle.std.specs.Option.{option_map_or}
 use Rattle.std.specs.Coded.{Coded, code_by, coded×, coded_option, coded_ℕ}
 use Rattle.eden_base.specs.declared.number.Number.{Number}
 use Rattle.eden_base.specs.declared.number.DaemonId.{DaemonId}
+use Rattle.eden_base.specs.declared.claim.ClaimFault.{ClaimFault}
+use Rattle.eden_base.specs.declared.claim.ClaimFault.TheVariants as claim
 use Rattle.fuse_wire.specs.declared.request.Request.{Request}
 use Rattle.fuse_wire.specs.declared.item.Item.{Item}
 use Rattle.fuse_wire.specs.declared.reply.Reply.{Reply}
@@ -66,10 +68,14 @@ mount_fault broker =
     else if nat_le last_generation broker.last then Some LastGeneration
     else None
 
+-- a daemon serves at a generation, which is the greatest from now on
+abbrev pub seated : BrokerState → DaemonId → ℕ → BrokerState
+seated broker daemon generation =
+    record broker { seat = Some (record { generation = generation; daemon = daemon }); last = generation }
+
 -- a new seat, one generation later
 abbrev pub mounted : BrokerState → DaemonId → BrokerState
-mounted broker daemon =
-    record broker { seat = Some (record { generation = broker.last + 1; daemon = daemon }); last = broker.last + 1 }
+mounted broker daemon = seated broker daemon (broker.last + 1)
 
 -- the root, or a number that the kernel holds
 abbrev pub may_be_asked : BrokerState → Number → Bool
@@ -193,3 +199,34 @@ pub record IsNewNumber (broker : BrokerState) : Type 0 where
 abbrev pub IsDeliverRefusal : BrokerState → DeliverFault → Type 0
 IsDeliverRefusal broker deliver.Empty = front broker.traffic.posted ≡ None
 IsDeliverRefusal broker deliver.NoMemory = IsNewNumber broker
+
+-- ---- the seat moves on, or is left
+
+-- why the seat is not claimed at a generation, by who has it and by how many asks were taken and have no reply
+abbrev pub claim_fault_by : Option Seat → ℕ → ℕ → Option ClaimFault
+claim_fault_by None asks generation = Some claim.Ended
+claim_fault_by (Some seat) asks generation =
+    if not (seat.generation == generation) then Some (claim.Stale seat.generation)
+    else if nat_lt 0 asks then Some (claim.Unanswered asks)
+    else if nat_le last_generation generation then Some claim.LastGeneration
+    else None
+
+-- why the seat is not claimed at a generation, if it is not
+abbrev pub claim_fault : BrokerState → ℕ → Option ClaimFault
+claim_fault broker generation = claim_fault_by broker.seat (length broker.traffic.taken) generation
+
+-- the seat passes to a daemon, one generation later; what is held and what is under way stays
+abbrev pub claimed : BrokerState → DaemonId → ℕ → BrokerState
+claimed broker daemon generation = seated broker daemon (generation + 1)
+
+-- the mount ends: nobody serves, and nothing is held or under way; generations and uniques go on
+abbrev pub ended : BrokerState → BrokerState
+ended broker = record broker { seat = None; held = none_held; traffic = no_traffic }
+
+-- a daemon has the seat
+abbrev pub has_seat : BrokerState → DaemonId → Bool
+has_seat broker daemon = option_map_or (λ seat. seat.daemon.0 == daemon.0) broker.seat false
+
+-- the mount ends with the daemon that has the seat, and no other daemon's end changes it
+abbrev pub without_daemon : BrokerState → DaemonId → BrokerState
+without_daemon broker daemon = if has_seat broker daemon then ended broker else broker

@@ -4,13 +4,13 @@ ghost use Rattle.std.specs.List.{list_all};
 ghost use Rattle.fuse_wire.specs.Request.{is_ask};
 ghost use Rattle.broker_core.specs.Held.{held_count, IsLeastHeldAfter};
 ghost use Rattle.broker_core.specs.Traffic.{front, next_taken, forgets_on, entries_of};
-ghost use Rattle.broker_core.specs.Broker.{mount_fault, issue_fault, ask_fault, forget_fault, may_be_asked, seat_fault, take_fault, post_fault, mounted, asked, forgot, issued, unique_of, taken, posted, delivered, new_broker, IsIssueRefusal, IsDeliverRefusal};
+ghost use Rattle.broker_core.specs.Broker.{mount_fault, issue_fault, ask_fault, forget_fault, may_be_asked, seat_fault, take_fault, post_fault, mounted, asked, forgot, issued, unique_of, taken, posted, delivered, claim_fault, claimed, ended, has_seat, without_daemon, last_generation, seated, new_broker, IsIssueRefusal, IsDeliverRefusal};
 
 use crate::Seat;
 use crate::fault::{DeliverFault, NotSeated, PostFault, TakeFault};
 use crate::held::Held;
 use crate::traffic::Traffic;
-use eden_base::{DaemonId, NoMemory, Number};
+use eden_base::{ClaimFault, DaemonId, NoMemory, Number};
 use fuse_wire::{Ask, Item, Reply, Request};
 use std::alloc::Global;
 use std::marker::Model;
@@ -113,8 +113,7 @@ impl Broker {
         ensures mounted { self.new ≡ mounted self.old daemon }
     {
         let generation = self.last + 1;
-        self.last = generation;
-        self.seat = Some(Seat { generation, daemon });
+        self.give_seat(daemon, generation);
         generation
     }
 
@@ -303,6 +302,83 @@ impl Broker {
         }
         let _delivered = self.traffic.deliver();
         Ok(reply)
+    }
+
+    /// Returns why the seat cannot be claimed at a generation.
+    fn claim_refusal(&self, generation: u64) -> Option<ClaimFault>
+        ensures { result ≡ claim_fault self.now generation }
+    {
+        let Some(seat) = self.seat else {
+            return Some(ClaimFault::Ended);
+        };
+        if seat.generation != generation {
+            let now = seat.generation;
+            return Some(ClaimFault::Stale { now });
+        }
+        let asks = self.traffic.taken_asks() as u64;
+        if asks > 0 {
+            return Some(ClaimFault::Unanswered { asks });
+        }
+        if generation >= Broker::LAST_GENERATION {
+            return Some(ClaimFault::LastGeneration);
+        }
+        None
+    }
+
+    /// Hands the seat to a daemon that claims it at the generation at which it stands, and returns the next one, at
+    /// which that daemon serves. What the kernel holds and what is under way stay, so each ask that was taken has to
+    /// have its reply. Takes no memory.
+    pub fn claim(&mut self, daemon: DaemonId, generation: u64) -> Result<u64, ClaimFault>
+        ensures generation { IfOk result (λ next. next ≡ generation + 1) }
+        ensures claimed { OnOk result (self.new ≡ claimed self.old daemon generation) }
+        ensures accepted { OnOk result (claim_fault self.old generation ≡ None) }
+        ensures refused { IfErr result (λ fault. claim_fault self.old generation ≡ Some fault) }
+        ensures unchanged { OnErr result (self.new ≡ self.old) }
+    {
+        if let Some(fault) = self.claim_refusal(generation) {
+            return Err(fault);
+        }
+        let next = generation + 1;
+        self.give_seat(daemon, next);
+        Ok(next)
+    }
+
+    /// Lets a daemon serve at a generation, which is the last one from now on.
+    fn give_seat(&mut self, daemon: DaemonId, generation: u64)
+        requires { generation ≤ last_generation }
+        ensures { self.new ≡ seated self.old daemon generation }
+    {
+        self.last = generation;
+        self.seat = Some(Seat { generation, daemon });
+    }
+
+    /// Ends the mount where the daemon that is gone has the seat: the kernel then holds nothing, and nothing is under
+    /// way. That another daemon is gone changes nothing. Takes no memory.
+    pub fn gone(&mut self, daemon: DaemonId)
+        ensures gone { self.new ≡ without_daemon self.old daemon }
+    {
+        if self.has_seat(daemon) {
+            self.end();
+        }
+    }
+
+    /// Ends the mount. A generation and a unique are given once, so those go on.
+    fn end(&mut self)
+        ensures { self.new ≡ ended self.old }
+    {
+        self.seat = None;
+        self.held.clear();
+        self.traffic.clear();
+    }
+
+    /// Returns whether a daemon has the seat.
+    fn has_seat(&self, daemon: DaemonId) -> bool
+        ensures { result ≡ has_seat self.now daemon }
+    {
+        match self.seat {
+            Some(seat) => seat.daemon == daemon,
+            None => false,
+        }
     }
 
     /// Returns how often the kernel holds a number: as often as entries gave it and no forget took

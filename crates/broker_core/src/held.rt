@@ -68,6 +68,13 @@ impl Held {
         *count -= k;
     }
 
+    /// Holds no number any more.
+    pub(crate) fn clear(&mut self)
+        ensures none { self.new ≡ none_held }
+    {
+        self.counts.clear();
+    }
+
     /// Returns how often a number is held.
     pub(crate) fn count(&self, number: Number) -> u64
         ensures count { result ≡ held_count self.now number.0 }

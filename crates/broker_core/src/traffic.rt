@@ -11,6 +11,7 @@ use fuse_wire::{Answer, Ask, Form, Item, Items, Reply, Request};
 use std::alloc::Global;
 use std::collections::VecDeque;
 use std::marker::Model;
+use std::mem;
 
 /// The reply answers nothing that was asked.
 #[derive(Clone, Copy)]
@@ -65,6 +66,21 @@ impl Traffic {
             forgets: Forgets::new(alloc),
             alloc,
         }
+    }
+
+    /// Drops all that is under way.
+    pub(crate) fn clear(&mut self)
+        ensures none { self.new ≡ no_traffic }
+    {
+        let none = Traffic::new(self.alloc);
+        drop(mem::replace(self, none));
+    }
+
+    /// Returns how many asks were taken and have no reply.
+    pub(crate) fn taken_asks(&self) -> usize
+        ensures taken { result ≡ length self.now.taken }
+    {
+        self.unanswered.len() - self.untaken.len()
     }
 
     /// Returns why no further ask is taken.

@@ -1,6 +1,6 @@
 //! What a test does with a broker and hears of it, as data, so that a test is a table.
 use broker_core::{Broker, DeliverFault, IssueFault, MountFault, PostFault, Seat, TakeFault};
-use eden_base::{Attr, DaemonId, Errno, Kind, Name, Number, Perm};
+use eden_base::{Attr, ClaimFault, DaemonId, Errno, Kind, Name, Number, Perm};
 use fuse_wire::{Answer, Batch, Item, Reply, Request};
 use std::alloc::Global;
 
@@ -47,6 +47,8 @@ pub enum Deed {
     MayTake(Option<TakeFault>),
     /// Takes an ask with this unique.
     Take(u64),
+    /// A daemon at a generation takes an ask with this unique.
+    TakeAs(u64, u64, u64),
     /// Takes so many items, none of an ask, or nothing.
     TakeItems(Option<usize>),
     /// Takes a batch of these items.
@@ -62,6 +64,10 @@ pub enum Deed {
     DeliverNothing(DeliverFault),
     /// Sends a look-up its whole way so many times, and this answer reaches the kernel each time.
     LookUpEach(u64, Said),
+    /// A daemon claims the seat at a generation.
+    Claim(u64, u64, Result<u64, ClaimFault>),
+    /// A daemon is gone.
+    Gone(u64),
     Held(u64, u64),
     /// Tells the least held number above a number.
     HeldAfter(u64, Option<u64>),
@@ -178,9 +184,9 @@ fn deliver(broker: &mut Broker) -> Result<Reply, DeliverFault> {
     }
 }
 
-/// Takes, and returns the unique of what came, 0 of items and where nothing waits.
-fn unique_taken(broker: &mut Broker) -> u64 {
-    match broker.take(DAEMON, 1) {
+/// Takes for a daemon at a generation, and returns the unique of what came, 0 of items and where nothing is taken.
+fn unique_taken(broker: &mut Broker, daemon: DaemonId, generation: u64) -> u64 {
+    match broker.take(daemon, generation) {
         Ok(ask) => ask.unique,
         Err(_) => 0,
     }
@@ -236,7 +242,7 @@ fn answers(broker: &mut Broker, request: &Request, said: Said) -> bool {
         return false;
     };
     let reply = reply(unique, said);
-    unique_taken(broker) == unique
+    unique_taken(broker, DAEMON, 1) == unique
         && broker.post(DAEMON, 1, reply).is_ok()
         && deliver(broker) == Ok(reply)
 }
@@ -276,7 +282,10 @@ fn goes_so(alloc: Global, broker: &mut Broker, deed: Deed) -> bool {
         Deed::Issue(wish, issued) => is_issued(alloc, broker, wish, issued),
         Deed::IssueEach(wish, times) => is_issued_each(alloc, broker, wish, times),
         Deed::MayTake(fault) => broker.take_refusal(DAEMON, 1) == fault,
-        Deed::Take(unique) => unique_taken(broker) == unique,
+        Deed::Take(unique) => unique_taken(broker, DAEMON, 1) == unique,
+        Deed::TakeAs(daemon, generation, unique) => {
+            unique_taken(broker, DaemonId(daemon), generation) == unique
+        }
         Deed::TakeItems(items) => items_taken(broker) == items,
         Deed::TakeBatch(items) => is_batch_taken(broker, items),
         Deed::TakeNothing(daemon, generation, fault) => {
@@ -289,6 +298,13 @@ fn goes_so(alloc: Global, broker: &mut Broker, deed: Deed) -> bool {
         Deed::Deliver(unique, said) => deliver(broker) == Ok(reply(unique, said)),
         Deed::DeliverNothing(fault) => deliver(broker) == Err(fault),
         Deed::LookUpEach(times, said) => is_found_each(alloc, broker, times, said),
+        Deed::Claim(daemon, generation, claimed) => {
+            broker.claim(DaemonId(daemon), generation) == claimed
+        }
+        Deed::Gone(daemon) => {
+            broker.gone(DaemonId(daemon));
+            true
+        }
         Deed::Held(number, count) => broker.held(Number(number)) == count,
         Deed::HeldAfter(number, after) => broker.held_after(Number(number)) == after.map(Number),
         Deed::Stand(number, counts) => stands(broker, Number(number), counts),

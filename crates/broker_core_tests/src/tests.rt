@@ -1,7 +1,7 @@
 //! Worked examples: what the kernel may ask and when, and the way of an ask, an item and a reply.
 use crate::deeds::{Deed, Said, Wish, all_go_so};
 use broker_core::{DeliverFault, IssueFault, MountFault, PostFault, Seat, TakeFault};
-use eden_base::{DaemonId, Errno, Number};
+use eden_base::{ClaimFault, DaemonId, Errno, Number};
 use fuse_wire::Item;
 use std::alloc::Global;
 
@@ -269,4 +269,55 @@ const ASKS_IN_FULL: [Deed; 9] = [
 #[test]
 fn refuses_the_1025th_ask(rt: HostRuntime) {
     assert!(rt; all_go_so(rt.alloc(), &ASKS_IN_FULL));
+}
+
+const STALE: ClaimFault = ClaimFault::Stale { now: 1 };
+
+const CLAIMS: [Deed; 15] = [
+    Deed::Claim(1, 1, Err(ClaimFault::Ended)),
+    SERVE,
+    Deed::IssueEach(Wish::Getattr(1), 2),
+    Deed::Claim(2, 0, Err(STALE)),
+    Deed::Take(1),
+    Deed::Claim(2, 1, Err(ClaimFault::Unanswered { asks: 1 })),
+    Deed::Claim(2, 2, Err(STALE)),
+    Deed::Post(1, ANSWER, Ok(())),
+    Deed::Claim(2, 1, Ok(2)),
+    Deed::Claim(1, 1, Err(ClaimFault::Stale { now: 2 })),
+    Deed::PostNothing(1, 1, 2, ANSWER, PostFault::Stale(2)),
+    Deed::Deliver(1, ANSWER),
+    Deed::TakeNothing(1, 2, TakeFault::Stale(2)),
+    Deed::TakeAs(2, 2, 2),
+    Deed::Claim(2, 2, Err(ClaimFault::Unanswered { asks: 1 })),
+];
+
+#[test]
+fn hands_the_seat_to_who_claims_it(rt: HostRuntime) {
+    assert!(rt; all_go_so(rt.alloc(), &CLAIMS));
+}
+
+const ENDS: [Deed; 18] = [
+    Deed::Gone(1),
+    SERVE,
+    Deed::LookUpEach(2, Said::Entry(2)),
+    Deed::Issue(Wish::Forget(2, 1), Ok(None)),
+    Deed::IssueEach(Wish::Getattr(2), 2),
+    Deed::Take(3),
+    Deed::Post(3, ANSWER, Ok(())),
+    Deed::Gone(2),
+    Deed::Stand(2, [1, 0, 1]),
+    Deed::Seat(Some(SEAT)),
+    Deed::Gone(1),
+    Deed::Seat(None),
+    Deed::Stand(2, [0, 0, 0]),
+    Deed::DeliverNothing(DeliverFault::Empty),
+    Deed::TakeNothing(1, 1, TakeFault::Ended),
+    Deed::Claim(1, 1, Err(ClaimFault::Ended)),
+    Deed::TryMount(2, Ok(2)),
+    Deed::Issue(Wish::Getattr(1), Ok(Some(5))),
+];
+
+#[test]
+fn ends_with_the_daemon_of_the_seat(rt: HostRuntime) {
+    assert!(rt; all_go_so(rt.alloc(), &ENDS));
 }
