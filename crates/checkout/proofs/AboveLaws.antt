@@ -9,12 +9,12 @@ use Rattle.eden_base.specs.declared.number.FileId.{FileId}
 use Rattle.checkout.specs.Added.{gives}
 use Rattle.checkout.specs.Around.{links_now, AreBeside, IsDirAbove, StandsIn}
 use Rattle.checkout.specs.Gone.{Gone, is_gone}
-use Rattle.checkout.specs.Manifest.{Line, Manifest, IsManifest, line_of}
+use Rattle.manifest.specs.Manifest.{Line, Manifest, IsManifest, line_of}
 use Rattle.checkout.specs.Overlay.{still}
-use Rattle.checkout.specs.Tree.{link_cmp, links_from}
+use Rattle.manifest.specs.Tree.{link_cmp, links_from}
 use Rattle.checkout.proofs.LinkLaws.{given_from_link}
-use Rattle.checkout.proofs.ManifestTree.{line_of_link, link_of_line, same_id}
-use Rattle.checkout.proofs.MoreLines.{apart}
+use Rattle.manifest.proofs.ManifestTree.{line_of_link, link_of_line, same_id}
+use Rattle.manifest.proofs.MoreLines.{apart}
 use Rattle.checkout.proofs.UnionLaws.{get-links_over}
 
 -- a line of these files is that of the file that it gives

@@ -7,23 +7,23 @@ use Rattle.std.specs.List.{AllByRecursion, cons_option, filter, filter_map, list
 use Rattle.std.specs.Option.{option_map}
 use Rattle.eden_base.specs.declared.number.FileId.{FileId}
 use Rattle.checkout.specs.declared.changes.Changes.{Changes}
-use Rattle.checkout.specs.declared.changes.LinkChange.{LinkChange}
+use Rattle.manifest.specs.declared.links.LinkChange.{LinkChange}
 use Rattle.checkout.specs.BadChanges.{Link, bad_itself, changed_links, first_bad, first_link, first_link_where, given, has_names, is_at, is_given, lines_links}
 use Rattle.checkout.specs.Changed.{changed, links_with}
 use Rattle.checkout.specs.Changes.{place_of}
-use Rattle.checkout.specs.Manifest.{Line, Manifest, IsManifest}
+use Rattle.manifest.specs.Manifest.{Line, Manifest, IsManifest}
 use Rattle.checkout.specs.Rounds.{first_of}
-use Rattle.checkout.specs.Tree.{has_links, is_linked, link_cmp, links_from}
+use Rattle.manifest.specs.Tree.{has_links, is_linked, link_cmp, links_from}
 use Rattle.checkout.proofs.ChangeLists.{all_weaker}
 use Rattle.checkout.proofs.ChangedLinks.{any_link}
 use Rattle.checkout.proofs.ChangedMaps.{changed_links-changed, each_stands, links_with-put, target_else}
 use Rattle.checkout.proofs.FirstBadLaws.{good_itself, places_rise}
-use Rattle.checkout.proofs.FlatLemmas.{has_link, link_cmp_total}
+use Rattle.manifest.proofs.FlatLemmas.{has_link, link_cmp_total}
 use Rattle.checkout.proofs.LaidLinks.{change_at}
 use Rattle.checkout.proofs.LinkLaws.{child_from_linked, linked_from_child}
-use Rattle.checkout.proofs.ManifestTree.{file_with, link_of_line, same_id}
-use Rattle.checkout.proofs.MapLemmas.{key_from_any}
-use Rattle.checkout.proofs.MoreLines.{apart}
+use Rattle.manifest.proofs.ManifestTree.{file_with, link_of_line, same_id}
+use Rattle.manifest.proofs.MapLemmas.{key_from_any}
+use Rattle.manifest.proofs.MoreLines.{apart}
 
 -- a change is one of some
 abbrev pub IsAmong : LinkChange → List LinkChange → Type 0

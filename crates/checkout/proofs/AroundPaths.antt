@@ -4,7 +4,7 @@ use Rattle.std.specs.FinMap.{FinMap, get}
 use Rattle.std.specs.Option.{option_and_then}
 use Rattle.eden_base.specs.declared.number.FileId.{FileId}
 use Rattle.checkout.specs.Around.{end_of, AreApart, IsUnder, Leads, StandsIn}
-use Rattle.checkout.specs.Tree.{link_cmp}
+use Rattle.manifest.specs.Tree.{link_cmp}
 
 module _ (links : FinMap link_cmp FileId) where
   pub end_of-append : (dir : FileId) (path more : List (List ℕ)) → end_of links dir (path ++ more) ≡ option_and_then (λ (f : FileId). end_of links f more) (end_of links dir path)

@@ -4,9 +4,9 @@ use Rattle.std.proofs.lemmas.Bool.Decides.{nat_tests}
 use Rattle.std.specs.FinMap.{FinMap}
 use Rattle.eden_base.specs.declared.number.FileId.{FileId}
 use Rattle.checkout.specs.Around.{among, first_or, AreApart, IsDirAbove, IsUnder, IsWay, Leads, StandsIn}
-use Rattle.checkout.specs.Tree.{link_cmp}
+use Rattle.manifest.specs.Tree.{link_cmp}
 use Rattle.checkout.proofs.AroundPaths.{circle_goes_up, leads_down, leads_itself, leads_on, one_dir}
-use Rattle.checkout.proofs.ManifestTree.{same_id}
+use Rattle.manifest.proofs.ManifestTree.{same_id}
 
 -- a file that is among some is the first, or among the others
 pub first_or_later : (file x : FileId) (xs : List FileId) → among file (x ∷ xs) ≡ true → (x ≡ file) ⊎ (among file xs ≡ true)

@@ -3,7 +3,7 @@ use Rattle.std.proofs.Common.{◌≡◌, ◌+◌, ℕ, Option, Some, None, sym, 
 use Rattle.std.proofs.lemmas.Bool.{cases_order}
 use Rattle.checkout.specs.declared.changes.Changes.{Changes}
 use Rattle.checkout.specs.BadChanges.{Else, IsBadAround, IsBadChange, bad_by_other, bad_itself, first_link}
-use Rattle.checkout.specs.Manifest.{Manifest}
+use Rattle.manifest.specs.Manifest.{Manifest}
 
 else_one : (earlier : Option ℕ) (Later : Option ℕ → Type 0) → ((a b : Option ℕ) → Later a → Later b → a ≡ b) → (a b : Option ℕ) → Else earlier Later a → Else earlier Later b → a ≡ b
 else_one (Some place) Later one a b g h = g ∙ sym h

@@ -6,11 +6,11 @@ use Rattle.eden_base.specs.declared.attr.Kind.{Kind}
 use Rattle.eden_base.specs.declared.attr.Kind.TheVariants.{Dir, File as RegularFile}
 use Rattle.eden_base.specs.declared.number.FileId.{FileId}
 use Rattle.checkout.specs.declared.changes.Changes.{Changes}
-use Rattle.checkout.specs.declared.changes.LinkChange.{LinkChange}
+use Rattle.manifest.specs.declared.links.LinkChange.{LinkChange}
 use Rattle.checkout.specs.declared.changes.Made.{Made}
 use Rattle.checkout.specs.BadChanges.{Link, bad_by_cut, changed_links, file_below, file_in, IsAboveItself, IsBadAround, IsBadChange}
-use Rattle.checkout.specs.Manifest.{Line, Manifest}
-use Rattle.checkout.specs.Text.{perm_of}
+use Rattle.manifest.specs.Manifest.{Line, Manifest}
+use Rattle.manifest.specs.Text.{perm_of}
 
 abbrev pub file : ℕ → FileId
 file id = record { 0 = id }

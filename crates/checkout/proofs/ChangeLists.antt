@@ -13,7 +13,7 @@ use Rattle.std.specs.List.Sorted.{IsPermutation, IsSortedBy, IsStrictlySortedBy}
 use Rattle.std.specs.Ordering.{eq_by_cmp, is_eq, is_lt, ordering_reverse}
 use Rattle.std.specs.declared.cmp.Ordering.{Ordering}
 use Rattle.std.specs.declared.cmp.Ordering.TheVariants.{Less, Equal, Greater}
-use Rattle.checkout.proofs.MapLemmas.{both_hold, no_tie_behind}
+use Rattle.manifest.proofs.MapLemmas.{both_hold, no_tie_behind}
 
 -- what holds of each key and its value holds of all entries
 pub all_entries : {K X : Type 0} {R : K → K → Ordering} (o : IsTotalOrder R) (P : K × X → Type 0) (es : List (K × X)) → T (is_sorted R es) →

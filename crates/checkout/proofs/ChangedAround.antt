@@ -10,21 +10,21 @@ use Rattle.eden_base.specs.declared.attr.Kind.{Kind}
 use Rattle.eden_base.specs.declared.attr.Kind.TheVariants.{Dir, File as RegularFile}
 use Rattle.eden_base.specs.declared.number.FileId.{FileId}
 use Rattle.checkout.specs.declared.changes.Changes.{Changes}
-use Rattle.checkout.specs.declared.changes.LinkChange.{LinkChange}
+use Rattle.manifest.specs.declared.links.LinkChange.{LinkChange}
 use Rattle.checkout.specs.declared.changes.Made.{Made}
 use Rattle.checkout.specs.BadChanges.{Link, bad_by_other, bad_itself, changed_links, first_link, first_link_where, has_other_link, is_at, is_target, kind_with, last_file}
 use Rattle.checkout.specs.Changed.{changed}
 use Rattle.checkout.specs.Changes.{place_of}
-use Rattle.checkout.specs.Manifest.{File, IsManifest, Manifest}
-use Rattle.checkout.specs.Tree.{IsTree, Tree, child_of, file_of, is_dir, kind_of, link_cmp, links_from, tree_of}
+use Rattle.manifest.specs.Manifest.{File, IsManifest, Manifest}
+use Rattle.manifest.specs.Tree.{IsTree, Tree, child_of, file_of, is_dir, kind_of, link_cmp, links_from, tree_of}
 use Rattle.checkout.proofs.ChangedFiles.{changed_files, changed_kind, file_of_made, found_made, made_is_good, made_under}
 use Rattle.checkout.proofs.ChangedLinks.{any_link}
 use Rattle.checkout.proofs.ChangedMaps.{StandsAt, change_is_good, changed_links-changed, stands_or_same}
 use Rattle.checkout.proofs.FirstBadLaws.{IsGoodItself, all_good, good_itself}
-use Rattle.checkout.proofs.FlatLemmas.{link_cmp-same}
-use Rattle.checkout.proofs.ManifestIsTree.{tree_of-IsTree}
-use Rattle.checkout.proofs.ManifestTree.{file_with, id_of_file, same_id}
-use Rattle.checkout.proofs.MapLemmas.{tied_key}
+use Rattle.manifest.proofs.FlatLemmas.{link_cmp-same}
+use Rattle.manifest.proofs.ManifestIsTree.{tree_of-IsTree}
+use Rattle.manifest.proofs.ManifestTree.{file_with, id_of_file, same_id}
+use Rattle.manifest.proofs.MapLemmas.{tied_key}
 
 -- a test of which no link is found holds of none
 pub holds_of_none : (test : LinkChange → Bool) (c : Changes) → first_link_where test c ≡ None → (x : LinkChange) → Contains c.links x → test x ≡ false

@@ -5,17 +5,17 @@ use Rattle.std.specs.List.{Contains, slice_get}
 use Rattle.std.specs.Option.{option_and_then}
 use Rattle.eden_base.specs.declared.number.FileId.{FileId}
 use Rattle.checkout.specs.declared.changes.Changes.{Changes}
-use Rattle.checkout.specs.declared.changes.LinkChange.{LinkChange}
+use Rattle.manifest.specs.declared.links.LinkChange.{LinkChange}
 use Rattle.checkout.specs.BadChanges.{IsAboveItself, changed_links, first_bad, first_link, is_bad_link}
 use Rattle.checkout.specs.Changed.{changed}
-use Rattle.checkout.specs.Manifest.{IsManifest, Manifest}
-use Rattle.checkout.specs.Tree.{Tree, child_of, file_at, link_cmp, links_from, tree_of}
+use Rattle.manifest.specs.Manifest.{IsManifest, Manifest}
+use Rattle.manifest.specs.Tree.{Tree, child_of, file_at, link_cmp, links_from, tree_of}
 use Rattle.checkout.proofs.ChangedLinks.{file_below-is}
 use Rattle.checkout.proofs.ChangedMaps.{changed_has_links, stands_or_same}
 use Rattle.checkout.proofs.CircleLaws.{not_above_itself}
-use Rattle.checkout.proofs.ManifestIsTree.{tree_of-IsTree}
-use Rattle.checkout.proofs.ManifestTree.{same_id}
-use Rattle.checkout.proofs.PathLaws.{file_at-append}
+use Rattle.manifest.proofs.ManifestIsTree.{tree_of-IsTree}
+use Rattle.manifest.proofs.ManifestTree.{same_id}
+use Rattle.manifest.proofs.PathLaws.{file_at-append}
 
 -- the place of a member
 place_in : (xs : List LinkChange) (x : LinkChange) → Contains xs x → (j : ℕ) × (slice_get xs j ≡ Some x)

@@ -7,20 +7,20 @@ use Rattle.eden_base.specs.Name.{IsNameText}
 use Rattle.eden_base.specs.declared.attr.Kind.TheVariants.{Dir}
 use Rattle.eden_base.specs.declared.number.FileId.{FileId}
 use Rattle.checkout.specs.declared.changes.Changes.{Changes}
-use Rattle.checkout.specs.declared.changes.LinkChange.{LinkChange}
+use Rattle.manifest.specs.declared.links.LinkChange.{LinkChange}
 use Rattle.checkout.specs.BadChanges.{Else, IsAboveItself, IsBadAround, IsBadChange, bad_by_cut, bad_by_other, bad_itself, changed_links}
 use Rattle.checkout.specs.Changed.{changed}
 use Rattle.checkout.specs.Changes.{AreChanges}
-use Rattle.checkout.specs.Manifest.{File, IsManifest, Manifest}
-use Rattle.checkout.specs.Tree.{IsTree, Tree, child_of, file_at, file_of, kind_of, links_from, root, tree_of}
+use Rattle.manifest.specs.Manifest.{File, IsManifest, Manifest}
+use Rattle.manifest.specs.Tree.{IsTree, Tree, child_of, file_at, file_of, kind_of, links_from, root, tree_of}
 use Rattle.checkout.proofs.ChangedAround.{changed_apart, dir_stays, file_cases, first_stays, id_within, kind_there}
 use Rattle.checkout.proofs.ChangedCircles.{not_in_a_circle}
 use Rattle.checkout.proofs.ChangedFiles.{changed_has_made, made_is_good}
 use Rattle.checkout.proofs.ChangedMaps.{changed_has_links, stands_or_same}
 use Rattle.checkout.proofs.ChangedUpward.{one_above}
 use Rattle.checkout.proofs.FirstBadLaws.{IsGoodItself, good_itself}
-use Rattle.checkout.proofs.ManifestIsTree.{tree_of-IsTree}
-use Rattle.checkout.proofs.ManifestTree.{same_id}
+use Rattle.manifest.proofs.ManifestIsTree.{tree_of-IsTree}
+use Rattle.manifest.proofs.ManifestTree.{same_id}
 use Rattle.checkout.proofs.UpwardLaws.{reached_from_root}
 
 -- no round finds a bad change

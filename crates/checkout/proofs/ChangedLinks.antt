@@ -9,15 +9,15 @@ use Rattle.std.specs.Option.{option_and_then, option_map, option_or}
 use Rattle.std.specs.Ordering.{is_eq}
 use Rattle.eden_base.specs.declared.number.FileId.{FileId}
 use Rattle.checkout.specs.declared.changes.Changes.{Changes}
-use Rattle.checkout.specs.declared.changes.LinkChange.{LinkChange}
+use Rattle.manifest.specs.declared.links.LinkChange.{LinkChange}
 use Rattle.checkout.specs.BadChanges.{Link, changed_links, file_below, file_in, given, is_at, lines_links}
 use Rattle.checkout.specs.Changes.{AreLinkChanges, IsLinkChange, place_of}
-use Rattle.checkout.specs.Manifest.{Line}
-use Rattle.checkout.specs.Tree.{Tree, child_of, file_at, link_cmp, links_from}
+use Rattle.manifest.specs.Manifest.{Line}
+use Rattle.manifest.specs.Tree.{Tree, child_of, file_at, link_cmp, links_from}
 use Rattle.checkout.proofs.ChangeLists.{all_of}
 use Rattle.checkout.proofs.ChangesLaws.{same_or_not}
-use Rattle.checkout.proofs.FlatLemmas.{link_cmp_total, link_cmp-same}
-use Rattle.checkout.proofs.MapLemmas.{tied_key}
+use Rattle.manifest.proofs.FlatLemmas.{link_cmp_total, link_cmp-same}
+use Rattle.manifest.proofs.MapLemmas.{tied_key}
 
 -- the manifest's links, as a list and as a map
 pub lines_links-get : (id : ℕ) (lines : List Line) (place : ℕ × List ℕ) → file_in (lines_links id lines) place ≡ get (links_from id lines) place

@@ -10,17 +10,17 @@ use Rattle.std.specs.Ordering.{is_eq, ordering_reverse}
 use Rattle.std.specs.declared.cmp.Ordering.TheVariants.{Less}
 use Rattle.eden_base.specs.declared.number.FileId.{FileId}
 use Rattle.checkout.specs.declared.changes.Changes.{Changes}
-use Rattle.checkout.specs.declared.changes.LinkChange.{LinkChange}
+use Rattle.manifest.specs.declared.links.LinkChange.{LinkChange}
 use Rattle.checkout.specs.BadChanges.{changed_links, file_in, first_bad, first_link, gives_same, is_at, is_bad_link}
 use Rattle.checkout.specs.Changed.{changed, links_with, put}
 use Rattle.checkout.specs.Changes.{AreLinkChanges, IsLinkChange, place_of}
-use Rattle.checkout.specs.Manifest.{Manifest}
-use Rattle.checkout.specs.Tree.{Tree, child_of, link_cmp, links_from, tree_of}
+use Rattle.manifest.specs.Manifest.{Manifest}
+use Rattle.manifest.specs.Tree.{Tree, child_of, link_cmp, links_from, tree_of}
 use Rattle.checkout.proofs.ChangedLinks.{changed_links-get, lines_links-get}
 use Rattle.checkout.proofs.FirstBadLaws.{IsGoodLink, gives_same_itself, links_good, places_rise}
-use Rattle.checkout.proofs.FlatLemmas.{link_cmp_total, link_cmp-same}
-use Rattle.checkout.proofs.ManifestTree.{same_id}
-use Rattle.checkout.proofs.MapLemmas.{tied_key}
+use Rattle.manifest.proofs.FlatLemmas.{link_cmp_total, link_cmp-same}
+use Rattle.manifest.proofs.ManifestTree.{same_id}
+use Rattle.manifest.proofs.MapLemmas.{tied_key}
 
 abbrev Links : Type 0
 Links = FinMap link_cmp FileId

@@ -6,21 +6,21 @@ use Rattle.std.specs.List.{AllByRecursion, Contains, cons_option, filter, filter
 use Rattle.std.specs.Option.{option_map}
 use Rattle.eden_base.specs.declared.number.FileId.{FileId}
 use Rattle.checkout.specs.declared.changes.Changes.{Changes}
-use Rattle.checkout.specs.declared.changes.LinkChange.{LinkChange}
+use Rattle.manifest.specs.declared.links.LinkChange.{LinkChange}
 use Rattle.checkout.specs.BadChanges.{Link, bad_by_cut, changed_links, file_does, first_bad, first_link, given, has_names, is_bad_link, is_cut_off, is_given, lines_links, manifest_target}
 use Rattle.checkout.specs.Changed.{changed}
 use Rattle.checkout.specs.Changes.{AreLinkChanges, place_of}
-use Rattle.checkout.specs.Manifest.{IsManifest, Line, Manifest}
-use Rattle.checkout.specs.Tree.{Tree, child_of, link_cmp, links_from, tree_of}
+use Rattle.manifest.specs.Manifest.{IsManifest, Line, Manifest}
+use Rattle.manifest.specs.Tree.{Tree, child_of, link_cmp, links_from, tree_of}
 use Rattle.checkout.proofs.ChangeLists.{all-append, all_of}
 use Rattle.checkout.proofs.ChangedAround.{holds_of_none}
 use Rattle.checkout.proofs.ChangedLinks.{any_link, lines_links-get, touched, untouched}
 use Rattle.checkout.proofs.ChangedMaps.{changed_has_links, changed_links-changed, stands_or_same}
 use Rattle.checkout.proofs.CircleLaws.{dir_is_linked}
 use Rattle.checkout.proofs.LinkLaws.{child_from_linked}
-use Rattle.checkout.proofs.ManifestIsTree.{tree_of-IsTree}
-use Rattle.checkout.proofs.ManifestTree.{file_with, link_of_line, same_id}
-use Rattle.checkout.proofs.MoreLines.{apart}
+use Rattle.manifest.proofs.ManifestIsTree.{tree_of-IsTree}
+use Rattle.manifest.proofs.ManifestTree.{file_with, link_of_line, same_id}
+use Rattle.manifest.proofs.MoreLines.{apart}
 
 -- what holds of the link of each line
 each_line : (P : Link → Type 0) (id : ℕ) (lines : List Line) → ((i : ℕ) (line : Line) → slice_get lines i ≡ Some line → P ((line.dir.0, line.name), file_with (id + i))) → AllByRecursion P (lines_links id lines)

@@ -7,14 +7,14 @@ use Rattle.std.specs.List.{AllByRecursion}
 use Rattle.eden_base.specs.Name.{IsNameText}
 use Rattle.eden_base.specs.declared.number.FileId.{FileId}
 use Rattle.checkout.specs.declared.changes.Changes.{Changes}
-use Rattle.checkout.specs.declared.changes.LinkChange.{LinkChange}
+use Rattle.manifest.specs.declared.links.LinkChange.{LinkChange}
 use Rattle.checkout.specs.declared.changes.Made.{Made}
 use Rattle.checkout.specs.Changes.{AreChanges, IsLinkChange, place_of}
-use Rattle.checkout.specs.Manifest.{File, Manifest}
-use Rattle.checkout.specs.Tree.{Tree, IsTree, child_of, file_of, links_from, made_file, tree_of}
+use Rattle.manifest.specs.Manifest.{File, Manifest}
+use Rattle.manifest.specs.Tree.{Tree, IsTree, child_of, file_of, links_from, made_file, tree_of}
 use Rattle.checkout.proofs.ChangeLists.{all_of}
-use Rattle.checkout.proofs.FlatLemmas.{link_cmp_total, link_cmp-same}
-use Rattle.checkout.proofs.ManifestTree.{file_with, same_id}
+use Rattle.manifest.proofs.FlatLemmas.{link_cmp_total, link_cmp-same}
+use Rattle.manifest.proofs.ManifestTree.{file_with, same_id}
 use Rattle.checkout.proofs.OneList.{one_list}
 
 -- two files, or the want of one, are the same or not

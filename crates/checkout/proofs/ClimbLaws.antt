@@ -7,10 +7,10 @@ use Rattle.std.specs.List.{list_any, IsDistinct}
 use Rattle.std.specs.Ordering.{nat_cmp}
 use Rattle.eden_base.specs.declared.number.FileId.{FileId}
 use Rattle.checkout.specs.Around.{among, ids, IsClimb, IsDirAbove}
-use Rattle.checkout.specs.Tree.{link_cmp}
+use Rattle.manifest.specs.Tree.{link_cmp}
 use Rattle.checkout.proofs.AroundWays.{goes_on}
 use Rattle.checkout.proofs.GoneLemmas.{below-push, distinct-push, length_below}
-use Rattle.checkout.proofs.MapLemmas.{get-insert_other, get-insert_same}
+use Rattle.manifest.proofs.MapLemmas.{get-insert_other, get-insert_same}
 
 pub none-IsClimb : (links : FinMap link_cmp FileId) (colours : FinMap nat_cmp Bool) (top : Option FileId) → IsClimb links colours colours [] top
 none-IsClimb links colours top = record { is_way = tt; were_new = λ file h. absurd (cc); are_set = λ file. refl }

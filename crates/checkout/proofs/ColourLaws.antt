@@ -6,10 +6,10 @@ use Rattle.std.specs.FinMap.{FinMap, empty, get, get-empty, insert, nat_cmp-IsAn
 use Rattle.std.specs.Ordering.{nat_cmp}
 use Rattle.eden_base.specs.declared.number.FileId.{FileId}
 use Rattle.checkout.specs.Around.{among, from_file, AreApart, AreRight, AreSet, IsClimb, IsEnd, IsUnder, IsWay, StandsIn}
-use Rattle.checkout.specs.Tree.{link_cmp}
+use Rattle.manifest.specs.Tree.{link_cmp}
 use Rattle.checkout.proofs.AroundPaths.{told_above}
 use Rattle.checkout.proofs.AroundWays.{circle_to_top, dir_of_way, first_among, is_circle, ToTop}
-use Rattle.checkout.proofs.MapLemmas.{get-insert_other, get-insert_same}
+use Rattle.manifest.proofs.MapLemmas.{get-insert_other, get-insert_same}
 use Rattle.checkout.proofs.FilesFrom.{among_from, from_none, from_there, way_from}
 
 module _ (links : FinMap link_cmp FileId) where

@@ -11,13 +11,13 @@ use Rattle.eden_base.specs.declared.attr.Kind.{Kind}
 use Rattle.eden_base.specs.declared.attr.Kind.TheVariants.{Dir}
 use Rattle.eden_base.specs.declared.attr.Perm.{Perm}
 use Rattle.eden_base.specs.declared.number.FileId.{FileId}
-use Rattle.checkout.specs.Manifest.{File, Line}
-use Rattle.checkout.specs.Tree.{Tree, root, file_of, kind_of, child_of, file_at, is_linked, is_unlinked, next_file, made_file, created, files_from, IsTree}
-use Rattle.checkout.proofs.FlatLemmas.{link_cmp_total, link_cmp-same}
+use Rattle.manifest.specs.Manifest.{File, Line}
+use Rattle.manifest.specs.Tree.{Tree, root, file_of, kind_of, child_of, file_at, is_linked, is_unlinked, next_file, made_file, created, files_from, IsTree}
+use Rattle.manifest.proofs.FlatLemmas.{link_cmp_total, link_cmp-same}
 use Rattle.checkout.proofs.LinkLaws.{child_from_linked}
-use Rattle.checkout.proofs.ManifestTree.{file_with, same_id, file_of_line, line_at}
-use Rattle.checkout.proofs.MapLemmas.{get-insert_cases, get-insert_same, get-insert_other}
-use Rattle.checkout.proofs.PathLaws.{file_at-below, file_at-stays}
+use Rattle.manifest.proofs.ManifestTree.{file_with, same_id, file_of_line, line_at}
+use Rattle.manifest.proofs.MapLemmas.{get-insert_cases, get-insert_same, get-insert_other}
+use Rattle.manifest.proofs.PathLaws.{file_at-below, file_at-stays}
 
 -- the place is another
 abbrev pub IsElsewhere : FileId → List ℕ → FileId → List ℕ → Type 0

@@ -5,11 +5,11 @@ use Rattle.std.specs.FinMap.{FinMap, empty, get, get-empty, insert, remove, nat_
 use Rattle.std.specs.Ordering.{nat_cmp, eq_by_cmp, is_eq}
 use Rattle.eden_base.specs.declared.number.FileId.{FileId}
 use Rattle.checkout.specs.Added.{gives, AreDirsOf}
-use Rattle.checkout.specs.Tree.{link_cmp}
-use Rattle.checkout.proofs.FlatLemmas.{link_cmp_total, link_cmp-same}
+use Rattle.manifest.specs.Tree.{link_cmp}
+use Rattle.manifest.proofs.FlatLemmas.{link_cmp_total, link_cmp-same}
 use Rattle.checkout.proofs.LinkLaws.{given_from_link, link_from_given}
-use Rattle.checkout.proofs.ManifestTree.{same_id}
-use Rattle.checkout.proofs.MapLemmas.{get-insert_cases, get-insert_same, get-insert_other, get-remove_cases, get-remove_other, tied_key}
+use Rattle.manifest.proofs.ManifestTree.{same_id}
+use Rattle.manifest.proofs.MapLemmas.{get-insert_cases, get-insert_same, get-insert_other, get-remove_cases, get-remove_other, tied_key}
 
 -- without links there are no directories
 pub none-AreDirsOf : (dirs : ℕ → Option FileId) → ((q : ℕ) → dirs q ≡ None) → AreDirsOf empty dirs

@@ -4,9 +4,9 @@ use Rattle.std.proofs.lemmas.Bool.Decides.{nat_tests}
 use Rattle.std.specs.FinMap.{FinMap}
 use Rattle.eden_base.specs.declared.number.FileId.{FileId}
 use Rattle.checkout.specs.Around.{among, from_file, IsWay}
-use Rattle.checkout.specs.Tree.{link_cmp}
+use Rattle.manifest.specs.Tree.{link_cmp}
 use Rattle.checkout.proofs.AroundWays.{later_among}
-use Rattle.checkout.proofs.ManifestTree.{same_id}
+use Rattle.manifest.proofs.ManifestTree.{same_id}
 
 -- they are among all
 pub among_from : (from : FileId) (files : List FileId) (file : FileId) → among file (from_file from files) ≡ true → among file files ≡ true

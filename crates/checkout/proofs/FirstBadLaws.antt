@@ -11,14 +11,14 @@ use Rattle.std.specs.declared.cmp.Ordering.TheVariants.{Less, Equal, Greater}
 use Rattle.eden_base.specs.Limits.{end_of_files}
 use Rattle.eden_base.specs.declared.number.FileId.{FileId}
 use Rattle.checkout.specs.declared.changes.Changes.{Changes}
-use Rattle.checkout.specs.declared.changes.LinkChange.{LinkChange}
+use Rattle.manifest.specs.declared.links.LinkChange.{LinkChange}
 use Rattle.checkout.specs.declared.changes.Made.{Made}
 use Rattle.checkout.specs.BadChanges.{bad_itself, first_bad, first_link, gives_same, is_bad_link, is_bad_made, is_behind, is_target, kind_with, last_file, manifest_target, rises}
 use Rattle.checkout.specs.Changes.{file_ids, place_of}
-use Rattle.checkout.specs.Manifest.{Manifest}
-use Rattle.checkout.specs.Tree.{is_dir, link_cmp}
+use Rattle.manifest.specs.Manifest.{Manifest}
+use Rattle.manifest.specs.Tree.{is_dir, link_cmp}
 use Rattle.checkout.proofs.ChangeLists.{all_weaker}
-use Rattle.checkout.proofs.FlatLemmas.{link_cmp_total}
+use Rattle.manifest.proofs.FlatLemmas.{link_cmp_total}
 
 step_good : {X : Type 0} (bad : Option X → X → Bool) (i : ℕ) (before : Option X) (x : X) (xs : List X) → first_bad bad i before (x ∷ xs) ≡ None → (bad before x ≡ false) × (first_bad bad (i + 1) (Some x) xs ≡ None)
 step_good bad i before x xs h =

@@ -7,7 +7,7 @@ use Rattle.std.proofs.lemmas.Map.Steps.{length-le_from_distinct_below}
 use Rattle.std.specs.Cmp.{nat_eq_equiv}
 use Rattle.std.specs.List.{AllByRecursion, IsDistinct, list_any}
 use Rattle.checkout.specs.Gone.{Gone, is_gone}
-use Rattle.checkout.specs.Tally.{Tally, count_of}
+use Rattle.manifest.specs.Tally.{Tally, count_of}
 
 pub none-IsDistinct : IsDistinct eqb []
 unfolding IsDistinct

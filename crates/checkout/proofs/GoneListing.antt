@@ -6,13 +6,13 @@ use Rattle.std.proofs.lemmas.Option.{slice_get-get_or}
 use Rattle.std.specs.FinMap.{FinMap, get}
 use Rattle.std.specs.List.{AllByRecursion, cons_option, list_any}
 use Rattle.eden_base.specs.declared.number.FileId.{FileId}
-use Rattle.checkout.specs.declared.changes.LinkChange.{LinkChange}
+use Rattle.manifest.specs.declared.links.LinkChange.{LinkChange}
 use Rattle.checkout.specs.Gone.{Gone, is_gone}
 use Rattle.checkout.specs.Listing.{gone_change, gone_changes, HaveLines}
-use Rattle.checkout.specs.Manifest.{Line, Manifest}
+use Rattle.manifest.specs.Manifest.{Line, Manifest}
 use Rattle.checkout.specs.Overlay.{is_line}
-use Rattle.checkout.specs.Tree.{link_cmp}
-use Rattle.checkout.proofs.ListLemmas.{listed_one_more}
+use Rattle.manifest.specs.Tree.{link_cmp}
+use Rattle.manifest.proofs.ListLemmas.{listed_one_more}
 use Rattle.checkout.proofs.OverlayLaws.{within_lines}
 
 -- the place of a line that lost its link

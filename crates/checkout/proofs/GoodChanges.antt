@@ -8,13 +8,13 @@ use Rattle.std.specs.Option.{option_map}
 use Rattle.std.specs.Ordering.{is_eq}
 use Rattle.eden_base.specs.declared.number.FileId.{FileId}
 use Rattle.checkout.specs.declared.changes.Changes.{Changes}
-use Rattle.checkout.specs.declared.changes.LinkChange.{LinkChange}
+use Rattle.manifest.specs.declared.links.LinkChange.{LinkChange}
 use Rattle.checkout.specs.BadChanges.{Link, changed_links, file_in, has_names, is_at, is_cut_off, is_given, IsAboveItself}
 use Rattle.checkout.specs.Changes.{AreChanges, IsLinkChange}
-use Rattle.checkout.specs.Tree.{Tree, IsTree}
+use Rattle.manifest.specs.Tree.{Tree, IsTree}
 use Rattle.checkout.proofs.ChangedLinks.{any_link, changed_links-get, file_below-is}
 use Rattle.checkout.proofs.CircleLaws.{dir_is_linked, not_above_itself}
-use Rattle.checkout.proofs.FlatLemmas.{link_cmp_total}
+use Rattle.manifest.proofs.FlatLemmas.{link_cmp_total}
 use Rattle.checkout.proofs.LinkLaws.{child_from_linked}
 
 -- a name that stands in a directory is found

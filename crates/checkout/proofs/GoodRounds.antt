@@ -9,20 +9,20 @@ use Rattle.eden_base.proofs.MemberLemmas.{some-is}
 use Rattle.eden_base.specs.declared.attr.Kind.TheVariants.{Dir}
 use Rattle.eden_base.specs.declared.number.FileId.{FileId}
 use Rattle.checkout.specs.declared.changes.Changes.{Changes}
-use Rattle.checkout.specs.declared.changes.LinkChange.{LinkChange}
+use Rattle.manifest.specs.declared.links.LinkChange.{LinkChange}
 use Rattle.checkout.specs.BadChanges.{Else, IsBadAround, IsBadChange, Link, bad_by_cut, bad_by_other, bad_itself, changed_links, file_does, first_bad, first_link, gives_same, has_other_link, is_at, is_bad_link, is_bad_made, is_cut_off, is_target, kind_with, manifest_target}
 use Rattle.checkout.specs.Changes.{AreChanges, IsLinkChange, place_of}
-use Rattle.checkout.specs.Manifest.{File, IsManifest, Manifest}
-use Rattle.checkout.specs.Tree.{IsTree, Tree, child_of, file_of, is_dir, kind_of, tree_of}
+use Rattle.manifest.specs.Manifest.{File, IsManifest, Manifest}
+use Rattle.manifest.specs.Tree.{IsTree, Tree, child_of, file_of, is_dir, kind_of, tree_of}
 use Rattle.checkout.proofs.ChangeLists.{all_of}
 use Rattle.checkout.proofs.ChangedAround.{both_true, dir_stays}
 use Rattle.checkout.proofs.ChangedLinks.{lines_links-get}
 use Rattle.checkout.proofs.ChangedUpward.{Stands, each_link, passing_one}
 use Rattle.checkout.proofs.FirstBadLaws.{IsGoodLink}
-use Rattle.checkout.proofs.FlatLemmas.{link_cmp_total}
+use Rattle.manifest.proofs.FlatLemmas.{link_cmp_total}
 use Rattle.checkout.proofs.GoodChanges.{none_cut_off, none_is_above}
-use Rattle.checkout.proofs.ManifestIsTree.{tree_of-IsTree}
-use Rattle.checkout.proofs.ManifestTree.{file_with, same_id}
+use Rattle.manifest.proofs.ManifestIsTree.{tree_of-IsTree}
+use Rattle.manifest.proofs.ManifestTree.{file_with, same_id}
 use Rattle.checkout.proofs.NoneBadLaws.{links_not_bad, none_found}
 use Rattle.checkout.proofs.OwnFiles.{next_not_bad, own_kind, own_made_not_bad}
 

@@ -9,9 +9,9 @@ use Rattle.eden_base.specs.declared.attr.Kind.TheVariants.{Dir}
 use Rattle.eden_base.specs.declared.number.FileId.{FileId}
 use Rattle.checkout.specs.declared.changes.Made.{Made}
 use Rattle.checkout.specs.BadChanges.{kind_with}
-use Rattle.checkout.specs.Manifest.{File, Line, Manifest, line_of}
-use Rattle.checkout.specs.Tree.{files_from}
-use Rattle.checkout.proofs.ManifestTree.{file_from_line, no_file, root_of_files}
+use Rattle.manifest.specs.Manifest.{File, Line, Manifest, line_of}
+use Rattle.manifest.specs.Tree.{files_from}
+use Rattle.manifest.proofs.ManifestTree.{file_from_line, no_file, root_of_files}
 
 -- the kind that a file was made with
 abbrev pub kind_made : List Made → FileId → Option Kind

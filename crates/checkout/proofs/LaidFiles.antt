@@ -14,10 +14,10 @@ use Rattle.checkout.specs.declared.made.MadeFile.{MadeFile}
 use Rattle.checkout.specs.Changed.{files_with}
 use Rattle.checkout.specs.Changes.{file_ids}
 use Rattle.checkout.specs.Laying.{file_kept, with_made}
-use Rattle.checkout.specs.Manifest.{File}
+use Rattle.manifest.specs.Manifest.{File}
 use Rattle.checkout.specs.Overlay.{file_made, files_over}
 use Rattle.checkout.proofs.ChangedFiles.{file_of_made, files_with-get, made_under}
-use Rattle.checkout.proofs.MapLemmas.{get-insert_other, get-insert_same}
+use Rattle.manifest.proofs.MapLemmas.{get-insert_other, get-insert_same}
 use Rattle.checkout.proofs.UnionLaws.{get-files_over}
 
 other_id : (a b : ℕ) → nat_cmp a b ≡ Less → (b == a) ≡ false

@@ -9,17 +9,17 @@ use Rattle.std.specs.List.{AllByRecursion, cons_option, find, list_any}
 use Rattle.std.specs.Option.{option_map, option_or}
 use Rattle.std.specs.Ordering.{eq_by_cmp, is_eq}
 use Rattle.eden_base.specs.declared.number.FileId.{FileId}
-use Rattle.checkout.specs.declared.changes.LinkChange.{LinkChange}
+use Rattle.manifest.specs.declared.links.LinkChange.{LinkChange}
 use Rattle.checkout.specs.BadChanges.{is_at}
 use Rattle.checkout.specs.Changed.{links_with}
 use Rattle.checkout.specs.Changes.{place_of}
 use Rattle.checkout.specs.Laying.{StandApart, add, base_target, taken, with_added}
-use Rattle.checkout.specs.Manifest.{Manifest, IsManifest}
+use Rattle.manifest.specs.Manifest.{Manifest, IsManifest}
 use Rattle.checkout.specs.Overlay.{links_over, still}
-use Rattle.checkout.specs.Tree.{link_cmp, links_from}
+use Rattle.manifest.specs.Tree.{link_cmp, links_from}
 use Rattle.checkout.proofs.ChangedMaps.{links_with-put, target_else}
-use Rattle.checkout.proofs.FlatLemmas.{link_cmp_total, link_cmp-same}
-use Rattle.checkout.proofs.MapLemmas.{tied_key}
+use Rattle.manifest.proofs.FlatLemmas.{link_cmp_total, link_cmp-same}
+use Rattle.manifest.proofs.MapLemmas.{tied_key}
 use Rattle.checkout.proofs.TakenLaws.{one_place}
 use Rattle.checkout.proofs.UnionLaws.{get-links_over}
 

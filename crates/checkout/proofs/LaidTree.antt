@@ -9,7 +9,7 @@ use Rattle.std.specs.Ordering.{eq_by_cmp, nat_cmp}
 use Rattle.eden_base.proofs.MemberLemmas.{some-is}
 use Rattle.eden_base.specs.declared.number.FileId.{FileId}
 use Rattle.checkout.specs.declared.changes.Changes.{Changes}
-use Rattle.checkout.specs.declared.changes.LinkChange.{LinkChange}
+use Rattle.manifest.specs.declared.links.LinkChange.{LinkChange}
 use Rattle.checkout.specs.declared.made.MadeFile.{MadeFile}
 use Rattle.checkout.specs.Added.{gives}
 use Rattle.checkout.specs.BadChanges.{bad_by_other, bad_itself, first_link, gives_same, is_at}
@@ -17,20 +17,20 @@ use Rattle.checkout.specs.Changed.{changed, links_with}
 use Rattle.checkout.specs.Changes.{file_ids, place_of}
 use Rattle.checkout.specs.Gone.{Gone, is_gone}
 use Rattle.checkout.specs.Laying.{AreTaken, CanAdd, StandApart, add, file_kept, taken, with_added, with_made}
-use Rattle.checkout.specs.Manifest.{Manifest, IsManifest}
+use Rattle.manifest.specs.Manifest.{Manifest, IsManifest}
 use Rattle.checkout.specs.Overlay.{tree_over, AreParts}
-use Rattle.checkout.specs.Tally.{Tally, count_of}
-use Rattle.checkout.specs.Tree.{files_from, link_cmp, links_from}
+use Rattle.manifest.specs.Tally.{Tally, count_of}
+use Rattle.manifest.specs.Tree.{files_from, link_cmp, links_from}
 use Rattle.checkout.proofs.ChangedAround.{changed_apart}
 use Rattle.checkout.proofs.ChangedFiles.{found_made, made_is_good, made_under}
 use Rattle.checkout.proofs.ChangedLinks.{lines_links-get}
 use Rattle.checkout.proofs.ChangedMaps.{each_stands}
 use Rattle.checkout.proofs.FirstBadLaws.{IsGoodLink, good_itself, gives_same_itself, ids_rise, links_good, places_rise}
-use Rattle.checkout.proofs.FlatLemmas.{link_cmp-same}
+use Rattle.manifest.proofs.FlatLemmas.{link_cmp-same}
 use Rattle.checkout.proofs.LaidFiles.{files_over-changed, get-kept}
 use Rattle.checkout.proofs.LaidLinks.{change_at, found_at, get-add, get-added, given_else, links_over-changed, nothing_still}
 use Rattle.checkout.proofs.LinkLaws.{link_from_given}
-use Rattle.checkout.proofs.MapLemmas.{tied_key}
+use Rattle.manifest.proofs.MapLemmas.{tied_key}
 use Rattle.checkout.proofs.TakenSteps.{not_one}
 
 -- links that can be added to some of a map's links, in which each file stands once

@@ -7,17 +7,18 @@ use Rattle.std.specs.List.{AllByRecursion, Contains, cons_option, list_any, slic
 use Rattle.std.specs.Option.{option_or}
 use Rattle.std.specs.Ordering.{nat_cmp}
 use Rattle.eden_base.specs.declared.number.FileId.{FileId}
-use Rattle.checkout.specs.declared.changes.LinkChange.{LinkChange}
+use Rattle.manifest.specs.declared.links.LinkChange.{LinkChange}
 use Rattle.checkout.specs.declared.made.MadeFile.{MadeFile}
 use Rattle.checkout.specs.Changes.{IsLinkChange}
-use Rattle.checkout.specs.Listing.{added_change, gone_change, gone_changes}
-use Rattle.checkout.specs.Manifest.{Line, Manifest}
+use Rattle.checkout.specs.Listing.{gone_change, gone_changes}
+use Rattle.manifest.specs.Links.{added_change}
+use Rattle.manifest.specs.Manifest.{Line, Manifest}
 use Rattle.checkout.specs.Overlay.{still, tree_over, AreParts}
-use Rattle.checkout.specs.Tree.{Tree, link_cmp, links_from}
+use Rattle.manifest.specs.Tree.{Tree, link_cmp, links_from}
 use Rattle.checkout.proofs.ChangeLists.{all_entries, all-map, all-append, contains_found}
-use Rattle.checkout.proofs.FlatLemmas.{link_cmp_total, link_cmp-same}
-use Rattle.checkout.proofs.ManifestTree.{file_with, line_at, line_of_link, link_of_line, same_id}
-use Rattle.checkout.proofs.MoreLines.{apart}
+use Rattle.manifest.proofs.FlatLemmas.{link_cmp_total, link_cmp-same}
+use Rattle.manifest.proofs.ManifestTree.{file_with, line_at, line_of_link, link_of_line, same_id}
+use Rattle.manifest.proofs.MoreLines.{apart}
 use Rattle.checkout.proofs.OverlayLaws.{child-over, child_added, within_lines}
 
 -- the listing of one more file

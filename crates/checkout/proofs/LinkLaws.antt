@@ -4,10 +4,10 @@ use Rattle.std.proofs.lemmas.Bool.Decides.{nat_tests}
 use Rattle.std.specs.FinMap.{FinMap, get}
 use Rattle.eden_base.specs.declared.number.FileId.{FileId}
 use Rattle.checkout.specs.Added.{gives}
-use Rattle.checkout.specs.Tree.{Tree, link_cmp, child_of, is_linked}
-use Rattle.checkout.proofs.FlatLemmas.{link_cmp_total}
-use Rattle.checkout.proofs.ManifestTree.{same_id}
-use Rattle.checkout.proofs.MapLemmas.{list_any-entries, value_from_any}
+use Rattle.manifest.specs.Tree.{Tree, link_cmp, child_of, is_linked}
+use Rattle.manifest.proofs.FlatLemmas.{link_cmp_total}
+use Rattle.manifest.proofs.ManifestTree.{same_id}
+use Rattle.manifest.proofs.MapLemmas.{list_any-entries, value_from_any}
 
 -- what a link gives is given
 pub given_from_link : (links : FinMap link_cmp FileId) (dir : FileId) (name : List ℕ) (file : FileId) → get links (dir.0, name) ≡ Some file → gives links file ≡ true

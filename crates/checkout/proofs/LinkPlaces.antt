@@ -9,18 +9,19 @@ use Rattle.std.specs.List.{AllByRecursion, IsDistinct, cons_option, list_any, sl
 use Rattle.std.specs.List.Sorted.{IsPermutation, IsSortedBy}
 use Rattle.std.specs.Ordering.{eq_by_cmp, is_lt, nat_cmp}
 use Rattle.eden_base.specs.declared.number.FileId.{FileId}
-use Rattle.checkout.specs.declared.changes.LinkChange.{LinkChange}
+use Rattle.manifest.specs.declared.links.LinkChange.{LinkChange}
 use Rattle.checkout.specs.declared.made.MadeFile.{MadeFile}
 use Rattle.checkout.specs.Changes.{AreLinkChanges, IsLinkChange, place_of}
-use Rattle.checkout.specs.Listing.{added_change, gone_change, gone_changes}
-use Rattle.checkout.specs.Manifest.{Manifest}
+use Rattle.checkout.specs.Listing.{gone_change, gone_changes}
+use Rattle.manifest.specs.Links.{added_change}
+use Rattle.manifest.specs.Manifest.{Manifest}
 use Rattle.checkout.specs.Overlay.{tree_over, AreParts}
-use Rattle.checkout.specs.Tree.{Tree, link_cmp, links_from}
+use Rattle.manifest.specs.Tree.{Tree, link_cmp, links_from}
 use Rattle.checkout.proofs.ChangeLists.{all_entries, all-map, all_weaker, distinct-append, keys_rise, rising_from_sorted}
-use Rattle.checkout.proofs.FlatLemmas.{link_cmp_total, link_cmp-same}
+use Rattle.manifest.proofs.FlatLemmas.{link_cmp_total, link_cmp-same}
 use Rattle.checkout.proofs.LinkChanges.{all_differ, differing_there, line_of_gone}
-use Rattle.checkout.proofs.ManifestTree.{file_with}
-use Rattle.checkout.proofs.MapLemmas.{tied_key}
+use Rattle.manifest.proofs.ManifestTree.{file_with}
+use Rattle.manifest.proofs.MapLemmas.{tied_key}
 
 places_added : (es : List ((ℕ × List ℕ) × FileId)) → map place_of (map added_change es) ≡ map (λ (e : (ℕ × List ℕ) × FileId). e.0) es
 places_added [] = refl

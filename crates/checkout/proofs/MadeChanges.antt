@@ -13,11 +13,11 @@ use Rattle.checkout.specs.declared.changes.Made.{Made}
 use Rattle.checkout.specs.declared.made.MadeFile.{MadeFile}
 use Rattle.checkout.specs.Changes.{AreMade, IsMade, file_ids}
 use Rattle.checkout.specs.Listing.{listed_file}
-use Rattle.checkout.specs.Manifest.{Manifest}
+use Rattle.manifest.specs.Manifest.{Manifest}
 use Rattle.checkout.specs.Overlay.{file_made, tree_over, AreParts}
-use Rattle.checkout.specs.Tree.{Tree, link_cmp, files_from, made_file}
+use Rattle.manifest.specs.Tree.{Tree, link_cmp, files_from, made_file}
 use Rattle.checkout.proofs.ChangeLists.{all_entries, all-map, contains_found, keys_rise}
-use Rattle.checkout.proofs.ManifestTree.{no_later_file}
+use Rattle.manifest.proofs.ManifestTree.{no_later_file}
 use Rattle.checkout.proofs.UnionLaws.{get-files_over}
 
 ids_of : (es : List (ℕ × MadeFile)) → file_ids (map listed_file es) ≡ map (λ (e : ℕ × MadeFile). e.0) es

@@ -10,7 +10,7 @@ use Rattle.eden_base.specs.declared.number.FileId.{FileId}
 use Rattle.checkout.specs.declared.changes.Made.{Made}
 use Rattle.checkout.specs.BadChanges.{first_bad, is_bad_made, last_file}
 use Rattle.checkout.specs.Changes.{file_ids}
-use Rattle.checkout.specs.Manifest.{Manifest}
+use Rattle.manifest.specs.Manifest.{Manifest}
 
 module _ (m : Manifest) (next : FileId) where
   -- the first is not bad, and none behind it

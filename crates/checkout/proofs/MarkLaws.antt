@@ -5,15 +5,15 @@ use Rattle.std.proofs.lemmas.Map.Keys.{IsDistinct-head, IsDistinct-tail}
 use Rattle.std.specs.List.{AllByRecursion}
 use Rattle.std.specs.Ordering.{eq_by_cmp}
 use Rattle.eden_base.specs.declared.number.FileId.{FileId}
-use Rattle.checkout.specs.declared.changes.LinkChange.{LinkChange}
+use Rattle.manifest.specs.declared.links.LinkChange.{LinkChange}
 use Rattle.checkout.specs.BadChanges.{is_at}
 use Rattle.checkout.specs.Changes.{place_of}
 use Rattle.checkout.specs.Laying.{StandApart}
 use Rattle.checkout.specs.Rounds.{is_marked, mark_after, marked}
-use Rattle.checkout.specs.Tree.{link_cmp}
+use Rattle.manifest.specs.Tree.{link_cmp}
 use Rattle.checkout.proofs.AmongLinks.{IsAmong, holds_among}
-use Rattle.checkout.proofs.FlatLemmas.{link_cmp-same}
-use Rattle.checkout.proofs.MapLemmas.{tied_key}
+use Rattle.manifest.proofs.FlatLemmas.{link_cmp-same}
+use Rattle.manifest.proofs.MapLemmas.{tied_key}
 
 -- a change gives the file
 abbrev pub Gives : ℕ → LinkChange → Type 0

@@ -8,12 +8,12 @@ use Rattle.std.specs.Ordering.{is_lt, nat_cmp}
 use Rattle.std.specs.declared.cmp.Ordering.{Ordering}
 use Rattle.std.specs.declared.cmp.Ordering.TheVariants.{Less, Equal, Greater}
 use Rattle.eden_base.specs.declared.number.FileId.{FileId}
-use Rattle.checkout.specs.declared.changes.LinkChange.{LinkChange}
+use Rattle.manifest.specs.declared.links.LinkChange.{LinkChange}
 use Rattle.checkout.specs.declared.changes.Made.{Made}
 use Rattle.checkout.specs.BadChanges.{first_bad, gives_same, is_bad_link, is_bad_made, is_behind, is_target, kind_with, last_file, manifest_target, rises}
 use Rattle.checkout.specs.Changes.{file_ids, place_of}
-use Rattle.checkout.specs.Manifest.{Manifest}
-use Rattle.checkout.specs.Tree.{is_dir, link_cmp}
+use Rattle.manifest.specs.Manifest.{Manifest}
+use Rattle.manifest.specs.Tree.{is_dir, link_cmp}
 use Rattle.checkout.proofs.FirstBadLaws.{IsGoodLink, IsGoodMade}
 
 -- nothing is found where no test passes

@@ -12,13 +12,13 @@ use Rattle.eden_base.specs.declared.attr.Kind.TheVariants.{Dir}
 use Rattle.eden_base.specs.declared.attr.Perm.{Perm}
 use Rattle.eden_base.specs.declared.number.FileId.{FileId}
 use Rattle.checkout.specs.declared.made.MadeFile.{MadeFile}
-use Rattle.checkout.specs.Manifest.{File, Manifest}
-use Rattle.checkout.specs.Tree.{Tree, link_cmp, kind_of, child_of, is_unlinked, created, files_from, links_from, IsTree}
+use Rattle.manifest.specs.Manifest.{File, Manifest}
+use Rattle.manifest.specs.Tree.{Tree, link_cmp, kind_of, child_of, is_unlinked, created, files_from, links_from, IsTree}
 use Rattle.checkout.specs.Overlay.{file_made, still, files_over, links_over, tree_over, IsOverlay}
 use Rattle.checkout.proofs.CreateLaws.{created-IsTree, next_is_later}
-use Rattle.checkout.proofs.FlatLemmas.{link_cmp_total, link_cmp-same}
-use Rattle.checkout.proofs.ManifestTree.{file_with}
-use Rattle.checkout.proofs.MapLemmas.{get-insert_cases}
+use Rattle.manifest.proofs.FlatLemmas.{link_cmp_total, link_cmp-same}
+use Rattle.manifest.proofs.ManifestTree.{file_with}
+use Rattle.manifest.proofs.MapLemmas.{get-insert_cases}
 use Rattle.checkout.proofs.OverlayLaws.{child-over, child_added, line_of_base, within_lines}
 use Rattle.checkout.proofs.UnionLaws.{get-files_over, get-links_over}
 

@@ -10,15 +10,15 @@ use Rattle.eden_base.proofs.MemberLemmas.{some-IsSome}
 use Rattle.eden_base.specs.declared.number.FileId.{FileId}
 use Rattle.checkout.specs.declared.made.MadeFile.{MadeFile}
 use Rattle.checkout.specs.Added.{gives}
-use Rattle.checkout.specs.Manifest.{Manifest}
-use Rattle.checkout.specs.Tree.{Tree, link_cmp, child_of, has_links, is_linked, links_from}
-use Rattle.checkout.specs.Overlay.{still, tree_over, kids_in, lost_in, is_line, AreParts}
-use Rattle.checkout.proofs.FlatLemmas.{link_cmp_total, has_link, has_no_link}
-use Rattle.checkout.proofs.LineCounts.{left_from_lost, lost_from_left}
+use Rattle.manifest.specs.Manifest.{Manifest, kids_in}
+use Rattle.manifest.specs.Tree.{Tree, link_cmp, child_of, has_links, is_linked, links_from}
+use Rattle.checkout.specs.Overlay.{still, tree_over, lost_in, is_line, AreParts}
+use Rattle.manifest.proofs.FlatLemmas.{link_cmp_total, has_link, has_no_link}
+use Rattle.checkout.proofs.LostCounts.{left_from_lost, lost_from_left}
 use Rattle.checkout.proofs.LinkLaws.{given_from_link, link_from_given, linked_from_child, child_from_linked}
-use Rattle.checkout.proofs.ManifestTree.{file_with, same_id, line_of_link, link_of_line, line_at}
-use Rattle.checkout.proofs.MapLemmas.{key_from_any}
-use Rattle.checkout.proofs.MoreLines.{apart}
+use Rattle.manifest.proofs.ManifestTree.{file_with, same_id, line_of_link, link_of_line, line_at}
+use Rattle.manifest.proofs.MapLemmas.{key_from_any}
+use Rattle.manifest.proofs.MoreLines.{apart}
 use Rattle.checkout.proofs.UnionLaws.{get-links_over}
 
 pub still-cases : (gone : ℕ → Bool) (o : Option FileId) (file : FileId) → still gone o ≡ Some file → (o ≡ Some file) × (gone file.0 ≡ false)

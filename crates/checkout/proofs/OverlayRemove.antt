@@ -9,14 +9,14 @@ use Rattle.std.specs.FinMap.{FinMap, get, remove, get-remove, same_map}
 use Rattle.eden_base.proofs.MemberLemmas.{some-IsSome, some-is}
 use Rattle.eden_base.specs.declared.number.FileId.{FileId}
 use Rattle.checkout.specs.declared.made.MadeFile.{MadeFile}
-use Rattle.checkout.specs.Manifest.{Manifest}
-use Rattle.checkout.specs.Tree.{Tree, link_cmp, is_full_dir, removed, files_from, links_from, IsTree}
+use Rattle.manifest.specs.Manifest.{Manifest}
+use Rattle.manifest.specs.Tree.{Tree, link_cmp, is_full_dir, removed, files_from, links_from, IsTree}
 use Rattle.checkout.specs.Overlay.{still, files_over, links_over, tree_over, is_line, lost_in, IsOverlay}
-use Rattle.checkout.proofs.FlatLemmas.{link_cmp_total, link_cmp-same}
-use Rattle.checkout.proofs.LineCounts.{lost-one_more}
-use Rattle.checkout.proofs.ManifestIsTree.{tree_of-IsTree}
-use Rattle.checkout.proofs.ManifestTree.{same_id, line_of_link}
-use Rattle.checkout.proofs.MapLemmas.{get-remove_cases, get-remove_other, get-remove_same, tied_key}
+use Rattle.manifest.proofs.FlatLemmas.{link_cmp_total, link_cmp-same}
+use Rattle.checkout.proofs.LostCounts.{lost-one_more}
+use Rattle.manifest.proofs.ManifestIsTree.{tree_of-IsTree}
+use Rattle.manifest.proofs.ManifestTree.{same_id, line_of_link}
+use Rattle.manifest.proofs.MapLemmas.{get-remove_cases, get-remove_other, get-remove_same, tied_key}
 use Rattle.checkout.proofs.OverlayLaws.{child_added, child_left, line_of_base}
 use Rattle.checkout.proofs.RemoveLaws.{removed-IsTree}
 use Rattle.checkout.proofs.UnionLaws.{get-links_over}

@@ -12,16 +12,17 @@ use Rattle.eden_base.specs.declared.attr.Perm.{Perm}
 use Rattle.eden_base.specs.declared.number.FileId.{FileId}
 use Rattle.checkout.specs.declared.made.MadeFile.{MadeFile}
 use Rattle.checkout.specs.Added.{gives}
-use Rattle.checkout.specs.Manifest.{Manifest, IsManifest}
+use Rattle.manifest.specs.Manifest.{Manifest, IsManifest}
 use Rattle.checkout.specs.Overlay.{tree_over, AreParts, IsOverlay}
-use Rattle.checkout.specs.Tree.{Tree, IsTree, link_cmp, kind_of, child_of, is_unlinked, is_full_dir, created, removed, tree_of, files_from, links_from}
-use Rattle.checkout.proofs.FlatLemmas.{link_cmp_total, link_cmp-same}
+use Rattle.manifest.specs.Tree.{Tree, IsTree, link_cmp, kind_of, child_of, is_unlinked, is_full_dir, created, removed, tree_of, files_from, links_from}
+use Rattle.manifest.proofs.FlatLemmas.{link_cmp_total, link_cmp-same}
 use Rattle.checkout.proofs.CreateLaws.{linked_is_below}
-use Rattle.checkout.proofs.LineCounts.{lost-le-kids, kids-le-length, lost_in-none}
+use Rattle.checkout.proofs.LostCounts.{lost-le-kids, lost_in-none}
+use Rattle.manifest.proofs.LineCounts.{kids-le-length}
 use Rattle.checkout.proofs.LinkLaws.{link_from_given}
-use Rattle.checkout.proofs.ManifestIsTree.{tree_of-IsTree}
-use Rattle.checkout.proofs.ManifestTree.{file_with, line_of_link}
-use Rattle.checkout.proofs.MapLemmas.{removed_nothing, removed_again}
+use Rattle.manifest.proofs.ManifestIsTree.{tree_of-IsTree}
+use Rattle.manifest.proofs.ManifestTree.{file_with, line_of_link}
+use Rattle.manifest.proofs.MapLemmas.{removed_nothing, removed_again}
 use Rattle.checkout.proofs.OverlayCreate.{kept_file, tree_over-created, create-IsOverlay}
 use Rattle.checkout.proofs.OverlayLaws.{child_added, child_cases}
 use Rattle.checkout.proofs.OverlayRemove.{tree_over-removed_added, remove_added-IsOverlay, tree_over-removed, remove-IsOverlay}

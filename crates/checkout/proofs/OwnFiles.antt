@@ -11,13 +11,13 @@ use Rattle.checkout.specs.declared.changes.Made.{Made}
 use Rattle.checkout.specs.BadChanges.{first_bad, is_bad_made, is_bad_next, kind_with, last_file}
 use Rattle.checkout.specs.Changed.{changed}
 use Rattle.checkout.specs.Changes.{AreChanges}
-use Rattle.checkout.specs.Manifest.{File, Manifest}
-use Rattle.checkout.specs.Tree.{IsTree, Tree, file_of, kind_of, made_file, root, tree_of}
+use Rattle.manifest.specs.Manifest.{File, Manifest}
+use Rattle.manifest.specs.Tree.{IsTree, Tree, file_of, kind_of, made_file, root, tree_of}
 use Rattle.checkout.proofs.ChangeLists.{all_of}
 use Rattle.checkout.proofs.ChangedAround.{kind_there}
 use Rattle.checkout.proofs.ChangedFiles.{changed_files, changed_kind, file_of_made, found_listed, found_made, made_under}
 use Rattle.checkout.proofs.FirstBadLaws.{IsGoodMade}
-use Rattle.checkout.proofs.ManifestTree.{file_of_line, file_with, line_at, same_id}
+use Rattle.manifest.proofs.ManifestTree.{file_of_line, file_with, line_at, same_id}
 use Rattle.checkout.proofs.NoneBadLaws.{made_not_bad}
 
 module _ (t : Tree) (c : Changes) (is : IsTree t) (has : AreChanges t c) where

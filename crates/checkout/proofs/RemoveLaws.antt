@@ -2,13 +2,13 @@
 use Rattle.std.proofs.Common.{Bool, not, ◌≡◌, ℕ, ◌&&◌, true, false, List, Some, None, refl, sym, ap, ◌∙◌}
 use Rattle.eden_base.specs.declared.attr.Kind.TheVariants.{File as RegularFile}
 use Rattle.eden_base.specs.declared.number.FileId.{FileId}
-use Rattle.checkout.specs.Tree.{kind_of, Tree, root, child_of, has_links, is_empty_dir, is_full_dir, is_dir, is_linked, removed, IsTree}
-use Rattle.checkout.proofs.FlatLemmas.{link_cmp_total, link_cmp-same, has_link}
+use Rattle.manifest.specs.Tree.{kind_of, Tree, root, child_of, has_links, is_empty_dir, is_full_dir, is_dir, is_linked, removed, IsTree}
+use Rattle.manifest.proofs.FlatLemmas.{link_cmp_total, link_cmp-same, has_link}
 use Rattle.checkout.proofs.CreateLaws.{IsElsewhere}
 use Rattle.checkout.proofs.LinkLaws.{linked_from_child, child_from_linked}
-use Rattle.checkout.proofs.ManifestTree.{same_id}
-use Rattle.checkout.proofs.MapLemmas.{get-remove_cases, get-remove_same, get-remove_other}
-use Rattle.checkout.proofs.PathLaws.{file_at-beside}
+use Rattle.manifest.proofs.ManifestTree.{same_id}
+use Rattle.manifest.proofs.MapLemmas.{get-remove_cases, get-remove_same, get-remove_other}
+use Rattle.manifest.proofs.PathLaws.{file_at-beside}
 
 module _ (tree : Tree) (dir : FileId) (name : List ℕ) where
   abbrev less : Tree

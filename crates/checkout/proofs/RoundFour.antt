@@ -6,16 +6,16 @@ use Rattle.std.specs.Option.{option_map}
 use Rattle.std.specs.Ordering.{nat_cmp}
 use Rattle.eden_base.specs.declared.number.FileId.{FileId}
 use Rattle.checkout.specs.declared.changes.Changes.{Changes}
-use Rattle.checkout.specs.declared.changes.LinkChange.{LinkChange}
+use Rattle.manifest.specs.declared.links.LinkChange.{LinkChange}
 use Rattle.checkout.specs.declared.made.MadeFile.{MadeFile}
 use Rattle.checkout.specs.BadChanges.{bad_by_cut, bad_itself, changed_links, file_does, first_link, is_cut_off, manifest_target}
 use Rattle.checkout.specs.Changed.{changed}
 use Rattle.checkout.specs.Changes.{place_of}
 use Rattle.checkout.specs.Laying.{base_target}
-use Rattle.checkout.specs.Manifest.{Manifest, IsManifest}
+use Rattle.manifest.specs.Manifest.{Manifest, IsManifest}
 use Rattle.checkout.specs.Overlay.{tree_over, AreParts}
 use Rattle.checkout.specs.Rounds.{cuts, first_of, is_cut}
-use Rattle.checkout.specs.Tree.{Tree, has_links, is_linked, link_cmp}
+use Rattle.manifest.specs.Tree.{Tree, has_links, is_linked, link_cmp}
 use Rattle.checkout.proofs.AmongLinks.{first_of-same, first_where-is, given-linked, names-links}
 use Rattle.checkout.proofs.ChangedLinks.{lines_links-get}
 use Rattle.checkout.proofs.OverlayLaws.{has_links-over, is_linked-over}

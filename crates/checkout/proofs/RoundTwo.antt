@@ -9,27 +9,27 @@ use Rattle.std.specs.Option.{option_map}
 use Rattle.std.specs.Ordering.{is_eq}
 use Rattle.eden_base.specs.declared.number.FileId.{FileId}
 use Rattle.checkout.specs.declared.changes.Changes.{Changes}
-use Rattle.checkout.specs.declared.changes.LinkChange.{LinkChange}
+use Rattle.manifest.specs.declared.links.LinkChange.{LinkChange}
 use Rattle.checkout.specs.BadChanges.{Link, bad_by_other, bad_itself, changed_links, file_does, first_link, gives_same, has_other_link, is_at}
 use Rattle.checkout.specs.Changed.{links_with}
 use Rattle.checkout.specs.Changes.{place_of}
 use Rattle.checkout.specs.Laying.{taken}
-use Rattle.checkout.specs.Manifest.{Manifest, IsManifest}
+use Rattle.manifest.specs.Manifest.{Manifest, IsManifest}
 use Rattle.checkout.specs.Overlay.{is_line}
 use Rattle.checkout.specs.Rounds.{first_of, is_given_twice, is_marked, marked}
-use Rattle.checkout.specs.Tree.{link_cmp, links_from}
+use Rattle.manifest.specs.Tree.{link_cmp, links_from}
 use Rattle.checkout.proofs.AmongLinks.{IsAmong, all_among, both_hold, either_holds, first_of-same, first_where-is, holds_among, links_any, links_found, same_bool, stands}
 use Rattle.checkout.proofs.ChangeLists.{all_weaker}
 use Rattle.checkout.proofs.ChangedLinks.{lines_links-get}
 use Rattle.checkout.proofs.ChangedMaps.{links_with-put, target_else}
 use Rattle.checkout.proofs.FirstBadLaws.{IsGoodLink, gives_same_itself, good_itself, links_good}
-use Rattle.checkout.proofs.FlatLemmas.{link_cmp_total, link_cmp-same}
+use Rattle.manifest.proofs.FlatLemmas.{link_cmp_total, link_cmp-same}
 use Rattle.checkout.proofs.LaidLinks.{change_at, found_at, goes, stays_there}
 use Rattle.checkout.proofs.LaidTree.{stand_apart}
-use Rattle.checkout.proofs.ManifestTree.{file_with, line_at, link_of_line, same_id}
-use Rattle.checkout.proofs.MapLemmas.{tied_key}
+use Rattle.manifest.proofs.ManifestTree.{file_with, line_at, link_of_line, same_id}
+use Rattle.manifest.proofs.MapLemmas.{tied_key}
 use Rattle.checkout.proofs.MarkLaws.{gave_twice, marked-is, marked_twice}
-use Rattle.checkout.proofs.MoreLines.{apart}
+use Rattle.manifest.proofs.MoreLines.{apart}
 use Rattle.checkout.proofs.OverlayLaws.{within_lines}
 use Rattle.checkout.proofs.TakenLaws.{line_of_place}
 

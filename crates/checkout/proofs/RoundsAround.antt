@@ -11,11 +11,11 @@ use Rattle.checkout.specs.Changed.{changed, links_with}
 use Rattle.checkout.specs.Changes.{place_of}
 use Rattle.checkout.specs.Gone.{Gone, is_gone}
 use Rattle.checkout.specs.Laying.{with_made}
-use Rattle.checkout.specs.Manifest.{Manifest}
+use Rattle.manifest.specs.Manifest.{Manifest}
 use Rattle.checkout.specs.Overlay.{AreParts, tree_over}
 use Rattle.checkout.specs.Rounds.{AreLaid, cuts, first_of}
-use Rattle.checkout.specs.Tally.{Tally, count_of}
-use Rattle.checkout.specs.Tree.{link_cmp, links_from}
+use Rattle.manifest.specs.Tally.{Tally, count_of}
+use Rattle.manifest.specs.Tree.{link_cmp, links_from}
 use Rattle.checkout.proofs.AboveItself.{above-IsBadAround, none_above-IsBadAround}
 use Rattle.checkout.proofs.ChangeLists.{all_weaker}
 use Rattle.checkout.proofs.ChangedAround.{changed_apart}
@@ -23,7 +23,7 @@ use Rattle.checkout.proofs.ChangedMaps.{changed_links-changed, each_stands}
 use Rattle.checkout.proofs.FirstBadLaws.{good_itself, places_rise}
 use Rattle.checkout.proofs.LaidLinks.{links_over-changed}
 use Rattle.checkout.proofs.LaidTree.{laid-AreParts, laid-changed, stand_apart}
-use Rattle.checkout.proofs.ManifestTree.{same_id}
+use Rattle.manifest.proofs.ManifestTree.{same_id}
 use Rattle.checkout.proofs.RoundFour.{cut-found}
 
 module _ (m : Manifest) (c : Changes) (added : FinMap link_cmp FileId) (gone : Gone) (lost : Tally) (laid : AreLaid m c added gone lost) where

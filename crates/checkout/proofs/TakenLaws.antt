@@ -4,18 +4,19 @@ use Rattle.std.proofs.lemmas.Bool.Decides.{nat_tests}
 use Rattle.std.proofs.lemmas.Option.{slice_get_within}
 use Rattle.std.specs.FinMap.{get}
 use Rattle.eden_base.specs.declared.number.FileId.{FileId}
-use Rattle.checkout.specs.declared.changes.LinkChange.{LinkChange}
+use Rattle.manifest.specs.declared.links.LinkChange.{LinkChange}
 use Rattle.checkout.specs.Changes.{place_of}
 use Rattle.checkout.specs.Gone.{Gone, is_gone}
 use Rattle.checkout.specs.Laying.{AreTaken, base_target}
-use Rattle.checkout.specs.Manifest.{Manifest, IsManifest}
+use Rattle.manifest.specs.Manifest.{Manifest, IsManifest}
 use Rattle.checkout.specs.Overlay.{is_line, lost_in}
-use Rattle.checkout.specs.Tally.{Tally, count_of}
-use Rattle.checkout.specs.Tree.{links_from}
+use Rattle.manifest.specs.Tally.{Tally, count_of}
+use Rattle.manifest.specs.Tree.{links_from}
 use Rattle.checkout.proofs.GoneLemmas.{is_gone-added}
-use Rattle.checkout.proofs.LineCounts.{kids-le-length, lost-le-kids, lost-one_more}
-use Rattle.checkout.proofs.ManifestIsTree.{tree_of-IsTree}
-use Rattle.checkout.proofs.ManifestTree.{file_with, line_of_link, same_id}
+use Rattle.checkout.proofs.LostCounts.{lost-le-kids, lost-one_more}
+use Rattle.manifest.proofs.LineCounts.{kids-le-length}
+use Rattle.manifest.proofs.ManifestIsTree.{tree_of-IsTree}
+use Rattle.manifest.proofs.ManifestTree.{file_with, line_of_link, same_id}
 
 -- a link of the manifest gives a file of a line
 pub line_of_place : (m : Manifest) (place : ℕ × List ℕ) (file : FileId) → get (links_from 2 m.lines) place ≡ Some file → is_line m file ≡ true

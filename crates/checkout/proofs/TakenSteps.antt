@@ -8,15 +8,15 @@ use Rattle.std.specs.List.{AllByRecursion, cons_option, list_any}
 use Rattle.std.specs.Option.{option_map}
 use Rattle.std.specs.Ordering.{eq_by_cmp, is_eq}
 use Rattle.eden_base.specs.declared.number.FileId.{FileId}
-use Rattle.checkout.specs.declared.changes.LinkChange.{LinkChange}
+use Rattle.manifest.specs.declared.links.LinkChange.{LinkChange}
 use Rattle.checkout.specs.Changes.{place_of}
 use Rattle.checkout.specs.Gone.{Gone, is_gone}
 use Rattle.checkout.specs.Laying.{IsLeft, StandApart, base_target, taken}
-use Rattle.checkout.specs.Manifest.{Manifest, IsManifest}
-use Rattle.checkout.specs.Tree.{link_cmp}
-use Rattle.checkout.proofs.FlatLemmas.{link_cmp_total}
+use Rattle.manifest.specs.Manifest.{Manifest, IsManifest}
+use Rattle.manifest.specs.Tree.{link_cmp}
+use Rattle.manifest.proofs.FlatLemmas.{link_cmp_total}
 use Rattle.checkout.proofs.GoneLemmas.{is_gone-added}
-use Rattle.checkout.proofs.ListLemmas.{listed_more, nothing_left}
+use Rattle.manifest.proofs.ListLemmas.{listed_more, nothing_left}
 use Rattle.checkout.proofs.TakenLaws.{one_place}
 
 -- two places that are told apart

@@ -6,10 +6,10 @@ use Rattle.std.specs.Cmp.{nat_cmp_total}
 use Rattle.std.specs.FinMap.{FinMap, get, entries, empty, find, get-empty, get-entries, get-from_entries, retain_keys, get-retain_keys, same_map, nat_cmp-IsAntisymmetric}
 use Rattle.eden_base.specs.declared.number.FileId.{FileId}
 use Rattle.checkout.specs.declared.made.MadeFile.{MadeFile}
-use Rattle.checkout.specs.Manifest.{File}
+use Rattle.manifest.specs.Manifest.{File}
 use Rattle.checkout.specs.Overlay.{file_made, files_over, stays, still, links_over}
-use Rattle.checkout.specs.Tree.{link_cmp}
-use Rattle.checkout.proofs.FlatLemmas.{find-append, link_cmp_total, link_cmp-same}
+use Rattle.manifest.specs.Tree.{link_cmp}
+use Rattle.manifest.proofs.FlatLemmas.{find-append, link_cmp_total, link_cmp-same}
 
 find-values : {X Y : Type 0} (f : X → Y) (es : List (ℕ × X)) (q : ℕ) → find nat_cmp q (map (λ (e : ℕ × X). (e.0, f e.1)) es) ≡ option_map f (find nat_cmp q es)
 find-values f [] q = refl

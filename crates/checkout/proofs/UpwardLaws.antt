@@ -6,8 +6,8 @@ use Rattle.std.proofs.lemmas.Map.Steps.{length-le_from_distinct_below}
 use Rattle.std.specs.List.{AllByRecursion, IsDistinct, list_any}
 use Rattle.std.specs.Option.{option_and_then}
 use Rattle.eden_base.specs.declared.number.FileId.{FileId}
-use Rattle.checkout.specs.Tree.{Tree, child_of, file_at, root}
-use Rattle.checkout.proofs.ManifestTree.{file_with, same_id}
+use Rattle.manifest.specs.Tree.{Tree, child_of, file_at, root}
+use Rattle.manifest.proofs.ManifestTree.{file_with, same_id}
 
 -- where no element passes each fails
 none_passes : {X : Type 0} (test : X → Bool) (xs : List X) → list_any test xs ≡ false → AllByRecursion (λ x. test x ≡ false) xs

@@ -8,17 +8,17 @@ use Rattle.std.specs.Ordering.{nat_cmp}
 use Rattle.eden_base.specs.Name.{IsNameText}
 use Rattle.eden_base.specs.declared.number.FileId.{FileId}
 use Rattle.checkout.specs.declared.changes.Changes.{Changes}
-use Rattle.checkout.specs.declared.changes.LinkChange.{LinkChange}
+use Rattle.manifest.specs.declared.links.LinkChange.{LinkChange}
 use Rattle.checkout.specs.declared.made.MadeFile.{MadeFile}
 use Rattle.checkout.specs.BadChanges.{Else, bad_by_other, bad_itself, changed_links, file_does, first_link, first_link_where, is_cut_off, manifest_target, IsBadAround, IsBadChange}
 use Rattle.checkout.specs.Changed.{changed}
 use Rattle.checkout.specs.Gone.{Gone, is_gone}
 use Rattle.checkout.specs.Laying.{taken, with_made}
-use Rattle.checkout.specs.Manifest.{IsManifest, Manifest}
+use Rattle.manifest.specs.Manifest.{IsManifest, Manifest}
 use Rattle.checkout.specs.Overlay.{IsOverlay, tree_over}
 use Rattle.checkout.specs.Rounds.{AreLaid, first_of, is_given_twice, marked}
-use Rattle.checkout.specs.Tally.{Tally, count_of}
-use Rattle.checkout.specs.Tree.{IsTree, link_cmp}
+use Rattle.manifest.specs.Tally.{Tally, count_of}
+use Rattle.manifest.specs.Tree.{IsTree, link_cmp}
 use Rattle.checkout.proofs.AmongLinks.{first_where-is}
 use Rattle.checkout.proofs.ChangedIsTree.{changed_is_tree}
 use Rattle.checkout.proofs.RoundTwo.{twice-found}

@@ -8,12 +8,12 @@ use Rattle.std.specs.List.{list_any}
 use Rattle.std.specs.Option.{option_and_then}
 use Rattle.std.specs.Ordering.{nat_cmp}
 use Rattle.eden_base.specs.declared.number.FileId.{FileId}
-use Rattle.checkout.specs.declared.changes.LinkChange.{LinkChange}
+use Rattle.manifest.specs.declared.links.LinkChange.{LinkChange}
 use Rattle.checkout.specs.Changes.{place_of}
 use Rattle.checkout.specs.Gone.{Gone, is_gone}
-use Rattle.checkout.specs.Manifest.{Manifest}
+use Rattle.manifest.specs.Manifest.{Manifest}
 use Rattle.checkout.specs.Overlay.{links_over, still}
-use Rattle.checkout.specs.Tree.{link_cmp, links_from}
+use Rattle.manifest.specs.Tree.{link_cmp, links_from}
 
 -- the file at the end of some names, from a directory down
 abbrev pub end_of : FinMap link_cmp FileId → FileId → List (List ℕ) → Option FileId

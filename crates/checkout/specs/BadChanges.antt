@@ -10,11 +10,11 @@ use Rattle.eden_base.specs.declared.attr.Kind.{Kind}
 use Rattle.eden_base.specs.declared.attr.Kind.TheVariants.{Dir}
 use Rattle.eden_base.specs.declared.number.FileId.{FileId}
 use Rattle.checkout.specs.declared.changes.Changes.{Changes}
-use Rattle.checkout.specs.declared.changes.LinkChange.{LinkChange}
+use Rattle.manifest.specs.declared.links.LinkChange.{LinkChange}
 use Rattle.checkout.specs.declared.changes.Made.{Made}
 use Rattle.checkout.specs.Changes.{place_of}
-use Rattle.checkout.specs.Manifest.{Line, Manifest, line_of}
-use Rattle.checkout.specs.Tree.{is_dir, link_cmp}
+use Rattle.manifest.specs.Manifest.{Line, Manifest, line_of}
+use Rattle.manifest.specs.Tree.{is_dir, link_cmp}
 
 -- the last file of a manifest
 abbrev pub last_file : Manifest → ℕ

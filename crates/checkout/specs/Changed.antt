@@ -4,14 +4,14 @@ use Rattle.std.specs.FinMap.{FinMap, insert, remove}
 use Rattle.std.specs.Ordering.{nat_cmp}
 use Rattle.eden_base.specs.declared.number.FileId.{FileId}
 use Rattle.checkout.specs.declared.changes.Changes.{Changes}
-use Rattle.checkout.specs.declared.changes.LinkChange.{LinkChange}
+use Rattle.manifest.specs.declared.links.LinkChange.{LinkChange}
 use Rattle.checkout.specs.declared.changes.Made.{Made}
 use Rattle.checkout.specs.declared.fault.ChangeFault.{ChangeFault}
 use Rattle.checkout.specs.declared.fault.ChangeFault.TheVariants.{BadChange, NoMemory}
 use Rattle.checkout.specs.BadChanges.{bad_itself, IsBadChange}
 use Rattle.checkout.specs.Changes.{place_of}
-use Rattle.checkout.specs.Manifest.{File, Manifest}
-use Rattle.checkout.specs.Tree.{Tree, files_from, link_cmp, links_from, made_file}
+use Rattle.manifest.specs.Manifest.{File, Manifest}
+use Rattle.manifest.specs.Tree.{Tree, files_from, link_cmp, links_from, made_file}
 
 -- files, and those that were made beside them
 abbrev pub files_with : FinMap nat_cmp File → List Made → FinMap nat_cmp File

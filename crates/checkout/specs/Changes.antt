@@ -5,9 +5,9 @@ use Rattle.std.specs.Ordering.{nat_cmp}
 use Rattle.std.specs.List.{Contains}
 use Rattle.std.specs.List.Sorted.{IsStrictlySortedBy}
 use Rattle.checkout.specs.declared.changes.Changes.{Changes}
-use Rattle.checkout.specs.declared.changes.LinkChange.{LinkChange}
+use Rattle.manifest.specs.declared.links.LinkChange.{LinkChange}
 use Rattle.checkout.specs.declared.changes.Made.{Made}
-use Rattle.checkout.specs.Tree.{Tree, link_cmp, child_of, file_of, made_file, next_file, tree_of}
+use Rattle.manifest.specs.Tree.{Tree, link_cmp, child_of, file_of, made_file, next_file, tree_of}
 
 -- the tree has the file as it was made, after all of the manifest's
 pub record IsMade (tree : Tree) (made : Made) : Type 0 where

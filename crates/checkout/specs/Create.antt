@@ -3,7 +3,7 @@ use Rattle.std.specs.Prelude.{◌≡◌, ◌<◌}
 use Rattle.eden_base.specs.Limits.{end_of_files}
 use Rattle.checkout.specs.declared.fault.CreateFault.{CreateFault}
 use Rattle.checkout.specs.declared.fault.CreateFault.TheVariants.{NoFileId, NoMemory}
-use Rattle.checkout.specs.Tree.{Tree}
+use Rattle.manifest.specs.Tree.{Tree}
 
 -- no id is left; or memory was refused, and one is
 abbrev pub IsCreateRefusal : Tree → CreateFault → Type 0

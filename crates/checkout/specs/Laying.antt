@@ -5,16 +5,16 @@ use Rattle.std.specs.List.{IsDistinct, filter_map}
 use Rattle.std.specs.Option.{option_map}
 use Rattle.std.specs.FinMap.{FinMap, get, insert}
 use Rattle.eden_base.specs.declared.number.FileId.{FileId}
-use Rattle.checkout.specs.declared.changes.LinkChange.{LinkChange}
+use Rattle.manifest.specs.declared.links.LinkChange.{LinkChange}
 use Rattle.checkout.specs.declared.changes.Made.{Made}
 use Rattle.checkout.specs.declared.made.MadeFile.{MadeFile}
 use Rattle.checkout.specs.Added.{gives}
 use Rattle.checkout.specs.Changes.{place_of}
 use Rattle.checkout.specs.Gone.{Gone, is_gone}
-use Rattle.checkout.specs.Manifest.{Manifest}
+use Rattle.manifest.specs.Manifest.{Manifest}
 use Rattle.checkout.specs.Overlay.{is_line, lost_in}
-use Rattle.checkout.specs.Tally.{Tally, count_of}
-use Rattle.checkout.specs.Tree.{link_cmp, links_from}
+use Rattle.manifest.specs.Tally.{Tally, count_of}
+use Rattle.manifest.specs.Tree.{link_cmp, links_from}
 
 -- no two stand at one place
 abbrev pub StandApart : List LinkChange → Type 0

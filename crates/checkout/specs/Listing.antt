@@ -3,19 +3,15 @@ use Rattle.std.specs.Prelude.{ℕ, ◌+◌, ◌-◌, ◌<◌, ◌≤◌, List, l
 use Rattle.std.specs.List.{AllByRecursion, filter_map, slice_get}
 use Rattle.std.specs.FinMap.{FinMap, get}
 use Rattle.eden_base.specs.declared.number.FileId.{FileId}
-use Rattle.checkout.specs.declared.changes.LinkChange.{LinkChange}
+use Rattle.manifest.specs.declared.links.LinkChange.{LinkChange}
 use Rattle.checkout.specs.declared.changes.Made.{Made}
 use Rattle.checkout.specs.declared.made.MadeFile.{MadeFile}
-use Rattle.checkout.specs.Manifest.{Line}
-use Rattle.checkout.specs.Tree.{link_cmp}
+use Rattle.manifest.specs.Manifest.{Line}
+use Rattle.manifest.specs.Tree.{link_cmp}
 
 -- a made file, with its id
 abbrev pub listed_file : ℕ × MadeFile → Made
 listed_file e = record { file = record { 0 = e.0 }; kind = e.1.kind; perm = e.1.perm }
-
--- a link that was added, with its place
-abbrev pub added_change : (ℕ × List ℕ) × FileId → LinkChange
-added_change link = record { dir = record { 0 = link.0.0 }; name = link.0.1; target = Some link.1 }
 
 -- a line's place gives nothing, unless a link was added there
 abbrev pub gone_change : FinMap link_cmp FileId → Option Line → Option LinkChange

@@ -5,8 +5,8 @@ use Rattle.std.specs.Ordering.{nat_cmp}
 use Rattle.std.specs.FinMap.{FinMap, get, entries, from_entries, retain_keys}
 use Rattle.eden_base.specs.declared.number.FileId.{FileId}
 use Rattle.checkout.specs.declared.made.MadeFile.{MadeFile}
-use Rattle.checkout.specs.Manifest.{File, Line, Manifest, IsManifest}
-use Rattle.checkout.specs.Tree.{Tree, IsTree, link_cmp, made_file, files_from, links_from}
+use Rattle.manifest.specs.Manifest.{File, Line, Manifest, IsManifest}
+use Rattle.manifest.specs.Tree.{Tree, IsTree, link_cmp, made_file, files_from, links_from}
 
 -- a file of the manifest, below the root
 abbrev pub is_line : Manifest → FileId → Bool
@@ -43,12 +43,7 @@ tree_over m made added gone next = record {
   next_file = next;
 }
 
--- how many lines stand in a directory
-abbrev pub kids_in : ℕ → List Line → ℕ
-kids_in dir [] = 0
-kids_in dir (l ∷ ls) = (if l.dir.0 == dir then 1 else 0) + kids_in dir ls
-
--- how many of them are gone, where the first line is of this file
+-- how many lines of a directory are gone, where the first line is of this file
 abbrev pub lost_in : (ℕ → Bool) → ℕ → ℕ → List Line → ℕ
 lost_in gone dir id [] = 0
 lost_in gone dir id (l ∷ ls) = (if (l.dir.0 == dir) && gone id then 1 else 0) + lost_in gone dir (id + 1) ls

@@ -4,15 +4,15 @@ use Rattle.std.specs.FinMap.{FinMap, empty, entries}
 use Rattle.std.specs.List.{list_any}
 use Rattle.eden_base.specs.declared.number.FileId.{FileId}
 use Rattle.checkout.specs.declared.changes.Changes.{Changes}
-use Rattle.checkout.specs.declared.changes.LinkChange.{LinkChange}
+use Rattle.manifest.specs.declared.links.LinkChange.{LinkChange}
 use Rattle.checkout.specs.Added.{gives}
 use Rattle.checkout.specs.BadChanges.{bad_by_other, bad_itself, file_does}
 use Rattle.checkout.specs.Gone.{Gone}
 use Rattle.checkout.specs.Laying.{AreTaken, base_target, taken, with_added}
-use Rattle.checkout.specs.Manifest.{IsManifest, Manifest}
-use Rattle.checkout.specs.Overlay.{is_line, kids_in}
-use Rattle.checkout.specs.Tally.{Tally}
-use Rattle.checkout.specs.Tree.{link_cmp}
+use Rattle.manifest.specs.Manifest.{IsManifest, Manifest, kids_in}
+use Rattle.checkout.specs.Overlay.{is_line}
+use Rattle.manifest.specs.Tally.{Tally}
+use Rattle.manifest.specs.Tree.{link_cmp}
 
 -- the place of the first of which a test holds
 abbrev pub first_of : (LinkChange → Bool) → ℕ → List LinkChange → Option ℕ

@@ -3,8 +3,8 @@ ghost use Rattle.std.specs.Prelude.{◌≡◌, List, ℕ, None, Some, false, Mat
 ghost use Rattle.std.specs.FinMap.{empty, get, insert, remove};
 ghost use Rattle.checkout.specs.Added.{gives};
 
-use crate::links::Links;
 use eden_base::{FileId, NoMemory};
+use manifest::Links;
 use std::alloc::Global;
 use std::collections::HashMap;
 use std::marker::Model;
@@ -24,8 +24,8 @@ impl Model for Added {
     ghost use Rattle.std.specs.FinMap.{FinMap};
     ghost use Rattle.eden_base.specs.declared.number.FileId.{FileId};
     ghost use Rattle.checkout.specs.Added.{AreDirsOf};
-    ghost use Rattle.checkout.specs.Codes.{links_code};
-    ghost use Rattle.checkout.specs.Tree.{link_cmp};
+    ghost use Rattle.manifest.specs.Codes.{links_code};
+    ghost use Rattle.manifest.specs.Tree.{link_cmp};
 
     ghost Value = { FinMap link_cmp FileId };
 

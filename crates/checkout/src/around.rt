@@ -4,14 +4,13 @@ ghost use Rattle.std.specs.FinMap.{get};
 ghost use Rattle.std.specs.List.{AllByRecursion};
 ghost use Rattle.checkout.specs.Around.{links_now, AreApart, AreBeside, AreRight, GivesTarget, IsAbove, IsDirAbove, IsFirstAbove};
 ghost use Rattle.checkout.specs.Gone.{is_gone};
-ghost use Rattle.checkout.specs.Tree.{links_from};
+ghost use Rattle.manifest.specs.Tree.{links_from};
 
 use crate::added::Added;
 use crate::colours::{Colours, from_file};
 use crate::gone::Gone;
-use crate::line::line_of;
-use crate::{LinkChange, Manifest};
 use eden_base::{FileId, NoMemory};
+use manifest::{LinkChange, Manifest, line_of};
 use std::alloc::Global;
 
 /// Returns the directory in which a link gives the file.

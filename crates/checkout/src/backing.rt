@@ -1,11 +1,11 @@
 //! What a checkout stands on: the store that knows the files' attributes.
 ghost use Rattle.std.specs.Prelude.{◌≡◌, ◌<◌, ◌≤◌, ℕ, IfOk, IsOk, IsSome, OnErr, OnOk, Option, Some};
 ghost use Rattle.eden_base.specs.declared.number.FileId.{FileId};
-ghost use Rattle.checkout.specs.Tree.{file_of, tree_of};
-ghost use Rattle.checkout.specs.declared.content.Content.{Content};
+ghost use Rattle.manifest.specs.Tree.{file_of, tree_of};
+ghost use Rattle.manifest.specs.declared.content.Content.{Content};
 
-use crate::{Content, Manifest};
 use eden_base::FileId;
+use manifest::{Content, Manifest};
 use std::marker::Model;
 use thiserror::Error;
 
@@ -43,8 +43,8 @@ pub struct ManifestBacking<'a> {
 }
 
 impl<'a> Model for ManifestBacking<'a> {
-    ghost use Rattle.checkout.specs.Manifest.{Manifest};
-    ghost use Rattle.checkout.specs.Codes.{manifest_code};
+    ghost use Rattle.manifest.specs.Manifest.{Manifest};
+    ghost use Rattle.manifest.specs.Codes.{manifest_code};
 
     ghost Value = { Manifest };
 

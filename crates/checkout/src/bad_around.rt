@@ -4,13 +4,13 @@ ghost use Rattle.std.specs.Option.{option_map};
 ghost use Rattle.checkout.specs.BadChanges.{first_link, IsBadAround};
 ghost use Rattle.checkout.specs.Rounds.{AreLaid};
 
+use crate::Changes;
 use crate::added::Added;
 use crate::around::first_above;
 use crate::cut::first_cut;
 use crate::gone::Gone;
-use crate::tally::Tally;
-use crate::{Changes, Manifest};
 use eden_base::NoMemory;
+use manifest::{Manifest, Tally};
 use std::alloc::Global;
 
 /// Returns the index of the one or the other. Neither of the first two rounds found a bad change.

@@ -7,11 +7,12 @@ ghost use Rattle.std.specs.Ordering.{nat_cmp};
 ghost use Rattle.checkout.specs.declared.changes.Made.{Made};
 ghost use Rattle.checkout.specs.BadChanges.{bad_itself, first_bad, gives_same, is_bad_link, is_bad_made, is_bad_next, is_behind, is_target, kind_with, last_file, manifest_target, rises};
 ghost use Rattle.checkout.specs.Changes.{file_ids};
-ghost use Rattle.checkout.specs.Tree.{is_dir};
+ghost use Rattle.manifest.specs.Tree.{is_dir};
 
 use crate::order::compare;
-use crate::{Changes, LinkChange, Made, Manifest};
+use crate::{Changes, Made};
 use eden_base::{END_OF_FILES, FileId, Kind};
+use manifest::{LinkChange, Manifest};
 use std::cmp::Ordering;
 
 /// Returns the last file of a manifest.

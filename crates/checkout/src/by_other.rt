@@ -7,8 +7,8 @@ ghost use Rattle.checkout.specs.Rounds.{first_of, is_given_twice, is_marked, mar
 
 use crate::gone::Gone;
 use crate::overlay::is_left;
-use crate::{LinkChange, Manifest};
 use eden_base::NoMemory;
+use manifest::{LinkChange, Manifest};
 use std::alloc::Global;
 use std::collections::BTreeMap;
 

@@ -1,7 +1,8 @@
 //! What tells a tree from the tree of its manifest, as data: it travels in an image.
 ghost use Rattle.std.specs.Prelude.{◌≡◌};
 
-use eden_base::{FileId, Kind, Name, Perm};
+use eden_base::{FileId, Kind, Perm};
+use manifest::LinkChange;
 use std::marker::Model;
 
 /// A file that was made since the manifest. It has no content.
@@ -10,15 +11,6 @@ pub struct Made {
     pub file: FileId,
     pub kind: Kind,
     pub perm: Perm,
-}
-
-/// A name in a directory that gives another file than the manifest says, or none where the manifest says one.
-#[derive(Drop)]
-pub struct LinkChange {
-    pub dir: FileId,
-    pub name: Name,
-    /// The file that it gives now, if any.
-    pub target: Option<FileId>,
 }
 
 /// Files that were made, in order.
@@ -67,7 +59,7 @@ pub struct LinkList {
 
 impl Model for LinkList {
     ghost use Rattle.std.specs.Prelude.{List};
-    ghost use Rattle.checkout.specs.declared.changes.LinkChange.{LinkChange};
+    ghost use Rattle.manifest.specs.declared.links.LinkChange.{LinkChange};
 
     ghost Value = { List LinkChange };
 

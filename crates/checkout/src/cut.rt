@@ -2,14 +2,13 @@
 ghost use Rattle.std.specs.Prelude.{◌≡◌};
 ghost use Rattle.checkout.specs.Gone.{is_gone};
 ghost use Rattle.checkout.specs.Rounds.{cuts, first_of, is_cut};
-ghost use Rattle.checkout.specs.Tally.{count_of};
+ghost use Rattle.manifest.specs.Tally.{count_of};
 
 use crate::added::Added;
 use crate::gone::Gone;
 use crate::overlay::{has_links, is_linked};
-use crate::tally::Tally;
-use crate::{LinkChange, Manifest};
 use eden_base::FileId;
+use manifest::{LinkChange, Manifest, Tally};
 
 /// Returns whether links stand in a directory, and none gives it.
 fn is_cut(manifest: &Manifest, added: &Added, gone: &Gone, lost: &Tally, dir: FileId) -> bool

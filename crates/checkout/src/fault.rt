@@ -1,43 +1,9 @@
-//! Why bytes are no manifest, and why no file is made.
-ghost use Rattle.std.specs.Prelude.{◌≡◌, Some};
+//! Why no file is made, and why changes make no tree.
+ghost use Rattle.std.specs.Prelude.{◌≡◌};
 ghost use Rattle.checkout.specs.declared.fault.ChangeFault.TheVariants.{NoMemory as OutOfMemory};
-ghost use Rattle.checkout.specs.Words.{kind_text};
 
 use eden_base::NoMemory;
-use std::fmt;
 use thiserror::Error;
-
-/// The first faulty line, and what is wrong with it.
-#[derive(Clone, Copy, Debug, PartialEq, Eq, Error)]
-#[error("line {line}: {kind}")]
-pub struct ManifestFault {
-    /// From 1.
-    pub line: usize,
-    pub kind: ManifestFaultKind,
-}
-
-/// What is wrong with a line. Of several faults the one that stands first here is told.
-#[derive(Clone, Copy, Debug, PartialEq, Eq)]
-pub enum ManifestFaultKind {
-    /// The first line isn't `commit ` and forty hexadecimal digits.
-    NoCommit,
-    /// The line isn't ended, or is neither `dir PATH` nor `file MODE SIZE PATH`.
-    BadLine,
-    /// The mode isn't four octal digits.
-    BadMode,
-    /// The size isn't a decimal number below 2^63, or has a leading zero.
-    BadSize,
-    /// What the slashes of the path part aren't all names.
-    BadPath,
-    /// No earlier line makes the directory that holds the file.
-    NoParent,
-    /// An earlier line has the path.
-    Twice,
-    /// The line is the 65,537th.
-    TooManyLines,
-    /// Out of memory.
-    NoMemory,
-}
 
 /// Why no file was made.
 #[derive(Clone, Copy, Debug, PartialEq, Eq, Error)]
@@ -63,23 +29,5 @@ impl From<NoMemory> for ChangeFault {
 
     fn from(_refused: NoMemory) -> ChangeFault {
         ChangeFault::NoMemory
-    }
-}
-
-impl fmt::Display for ManifestFaultKind {
-    ghost output = { λ kind. Some (kind_text kind) };
-
-    fn fmt<W: fmt::Write>(&self, f: &mut fmt::Formatter<W>) -> fmt::Result {
-        f.write_str(match self {
-            ManifestFaultKind::NoCommit => "NoCommit",
-            ManifestFaultKind::BadLine => "BadLine",
-            ManifestFaultKind::BadMode => "BadMode",
-            ManifestFaultKind::BadSize => "BadSize",
-            ManifestFaultKind::BadPath => "BadPath",
-            ManifestFaultKind::NoParent => "NoParent",
-            ManifestFaultKind::Twice => "Twice",
-            ManifestFaultKind::TooManyLines => "TooManyLines",
-            ManifestFaultKind::NoMemory => "NoMemory",
-        })
     }
 }

@@ -4,10 +4,8 @@ ghost use Rattle.std.specs.List.{IsDistinct};
 ghost use Rattle.checkout.specs.Gone.{is_gone};
 ghost use Rattle.checkout.specs.Listing.{gone_changes, HaveLines};
 
-use crate::links::Links;
-use crate::tally::Tally;
-use crate::{Line, LinkChange};
 use eden_base::{FileId, NoMemory};
+use manifest::{Line, LinkChange, Links, Tally};
 use std::alloc::Global;
 use std::marker::Model;
 
@@ -24,7 +22,7 @@ impl Model for Gone {
     ghost use Rattle.std.specs.List.{IsDistinct};
     ghost use Rattle.std.specs.Vec.{vec_capacity, vec_len};
     ghost use Rattle.checkout.specs.Gone.{Gone, is_gone};
-    ghost use Rattle.checkout.specs.Tally.{count_of};
+    ghost use Rattle.manifest.specs.Tally.{count_of};
 
     ghost Value = { Gone };
 

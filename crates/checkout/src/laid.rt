@@ -7,7 +7,7 @@ ghost use Rattle.checkout.specs.declared.fault.ChangeFault.TheVariants.{BadChang
 ghost use Rattle.checkout.specs.BadChanges.{bad_by_other, bad_itself, IsBadAround};
 ghost use Rattle.checkout.specs.Changed.{IsChangeRefusal};
 ghost use Rattle.checkout.specs.Laying.{taken, with_added, with_made, AreTaken, CanAdd};
-ghost use Rattle.checkout.specs.Manifest.{IsManifest};
+ghost use Rattle.manifest.specs.Manifest.{IsManifest};
 ghost use Rattle.checkout.specs.Rounds.{AreLaid};
 
 use crate::added::Added;
@@ -15,9 +15,9 @@ use crate::bad_around::first_bad_around;
 use crate::by_other::first_given_twice;
 use crate::gone::Gone;
 use crate::made::MadeFiles;
-use crate::tally::Tally;
-use crate::{ChangeFault, Changes, LinkChange, Made, Manifest, laying};
+use crate::{ChangeFault, Changes, Made, laying};
 use eden_base::NoMemory;
+use manifest::{LinkChange, Manifest, Tally};
 use std::alloc::Global;
 
 /// All in which the tree of a manifest with changes differs from the manifest's, but the next file.

@@ -5,12 +5,12 @@ ghost use Rattle.std.specs.List.{AllByRecursion};
 ghost use Rattle.eden_base.specs.Name.{IsNameText};
 ghost use Rattle.checkout.specs.Laying.{taken, with_added, with_made, AreTaken, CanAdd, IsLeft, StandApart};
 
+use crate::Made;
 use crate::added::Added;
 use crate::gone::Gone;
 use crate::made::{MadeFile, MadeFiles};
-use crate::tally::Tally;
-use crate::{LinkChange, Made, Manifest};
 use eden_base::NoMemory;
+use manifest::{LinkChange, Manifest, Tally};
 use std::alloc::Global;
 
 /// Returns the files of the manifest at the places of changed links, whose own links go, and how many go from each

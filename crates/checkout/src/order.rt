@@ -3,9 +3,9 @@ ghost use Rattle.std.specs.Prelude.{◌≡◌};
 ghost use Rattle.std.specs.Ordering.{is_lt};
 ghost use Rattle.std.specs.List.Sorted.{IsPermutation, IsSortedBy};
 ghost use Rattle.checkout.specs.Changes.{place_of};
-ghost use Rattle.checkout.specs.Tree.{link_cmp};
+ghost use Rattle.manifest.specs.Tree.{link_cmp};
 
-use crate::LinkChange;
+use manifest::LinkChange;
 use std::cmp::Ordering;
 
 /// Compares where two names stand: by directory, and then byte by byte.

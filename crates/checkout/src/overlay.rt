@@ -4,14 +4,14 @@ ghost use Rattle.std.specs.FinMap.{entries};
 ghost use Rattle.std.specs.List.{list_any};
 ghost use Rattle.checkout.specs.Added.{gives};
 ghost use Rattle.checkout.specs.Gone.{is_gone};
-ghost use Rattle.checkout.specs.Overlay.{is_line, kids_in};
-ghost use Rattle.checkout.specs.Tally.{count_of};
+ghost use Rattle.checkout.specs.Overlay.{is_line};
+ghost use Rattle.manifest.specs.Manifest.{kids_in};
+ghost use Rattle.manifest.specs.Tally.{count_of};
 
-use crate::Manifest;
 use crate::added::Added;
 use crate::gone::Gone;
-use crate::tally::Tally;
 use eden_base::FileId;
+use manifest::{Manifest, Tally};
 
 /// Returns whether the file is one of the manifest, below the root.
 pub fn is_line(manifest: &Manifest, file: FileId) -> bool

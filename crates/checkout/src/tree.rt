@@ -9,18 +9,17 @@ ghost use Rattle.checkout.specs.Changed.{changed, IsChangeRefusal};
 ghost use Rattle.checkout.specs.Changes.{AreChanges};
 ghost use Rattle.checkout.specs.declared.changes.Changes.{Changes as ChangesState};
 ghost use Rattle.checkout.specs.Create.{IsCreateRefusal};
-ghost use Rattle.checkout.specs.Tree.{Tree as TreeState, IsTree, tree_of, child_of, kind_of, attr_of, file_of, perm_made, next_file, nlink_of, has_links, is_empty_dir, is_full_dir, is_linked, is_unlinked, created, removed};
+ghost use Rattle.manifest.specs.Tree.{Tree as TreeState, IsTree, tree_of, child_of, kind_of, attr_of, file_of, perm_made, next_file, nlink_of, has_links, is_empty_dir, is_full_dir, is_linked, is_unlinked, created, removed};
 
 use crate::added::Added;
 use crate::bad_itself::bad_itself;
-use crate::content::nlink_of_kind;
 use crate::gone::Gone;
 use crate::laid::Laid;
 use crate::made::{MadeFile, MadeFiles};
 use crate::order::sort;
-use crate::tally::Tally;
-use crate::{ChangeFault, Changes, Content, CreateFault, LinkList, MadeList, Manifest, overlay};
+use crate::{ChangeFault, Changes, CreateFault, LinkList, MadeList, overlay};
 use eden_base::{Attr, END_OF_FILES, FileId, Kind, Name, NoMemory, Perm};
+use manifest::{Content, Manifest, Tally, nlink_of_kind};
 use std::alloc::Global;
 use std::marker::Model;
 
@@ -42,9 +41,9 @@ impl Model for Tree {
     ghost use Rattle.std.specs.Prelude.{◌≡◌, ◌+◌, length};
     ghost use Rattle.checkout.specs.Overlay.{tree_over, IsOverlay};
     ghost use Rattle.checkout.specs.Gone.{is_gone};
-    ghost use Rattle.checkout.specs.Tally.{count_of};
-    ghost use Rattle.checkout.specs.Tree.{Tree};
-    ghost use Rattle.checkout.specs.Codes.{tree_code};
+    ghost use Rattle.manifest.specs.Tally.{count_of};
+    ghost use Rattle.manifest.specs.Tree.{Tree};
+    ghost use Rattle.manifest.specs.Codes.{tree_code};
 
     ghost Value = { Tree };
 

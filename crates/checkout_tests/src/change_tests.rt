@@ -1,6 +1,6 @@
 //! What tells a tree from its manifest's, as names come and go.
 use crate::deeds::{Deed, all_go_so};
-use crate::tests::SMALL;
+use crate::small::SMALL;
 use eden_base::Kind;
 
 const NOTHING: [Deed; 1] = [Deed::Differ(&[], &[], 6)];

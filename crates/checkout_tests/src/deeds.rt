@@ -1,7 +1,8 @@
 //! What a test does with a tree and finds in it, as data, so that a test is a table.
-use crate::tests::read_again;
-use checkout::{Changes, CreateFault, LinkChange, Made, Tree};
+use crate::small::read_again;
+use checkout::{Changes, CreateFault, Made, Tree};
 use eden_base::{FileId, Kind, Name, NoMemory, Perm};
+use manifest::LinkChange;
 use std::alloc::Global;
 
 /// A file that was made: its id, kind and permissions.

@@ -2,11 +2,13 @@
 #![tactic(auto)]
 
 #[cfg(test)]
+mod backing_tests;
+#[cfg(test)]
 mod change_tests;
 #[cfg(test)]
 mod deeds;
 #[cfg(test)]
-mod tests;
+mod small;
 #[cfg(test)]
 mod tree_tests;
 #[cfg(test)]

@@ -1,6 +1,6 @@
 //! What a tree tells of its files, as they come and go.
 use crate::deeds::{Deed, all_go_so};
-use crate::tests::{COMMIT, SMALL};
+use crate::small::{COMMIT, SMALL};
 use eden_base::{FileId, Kind, Number, Perm};
 
 /// What `SMALL` has at a directory and a name.

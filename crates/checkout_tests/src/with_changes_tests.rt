@@ -1,8 +1,9 @@
 //! Trees that are made of changes, and the first change that no tree has.
 use crate::deeds::{MadeRow, Named, differs, parsed};
-use crate::tests::{SMALL, read_again};
-use checkout::{ChangeFault, Changes, LinkChange, LinkList, Made, MadeList, Manifest, Tree};
+use crate::small::{SMALL, read_again};
+use checkout::{ChangeFault, Changes, LinkList, Made, MadeList, Tree};
 use eden_base::{FileId, Kind, Perm};
+use manifest::{LinkChange, Manifest};
 use std::alloc::Global;
 
 /// Files that were made, names with what they give, and the next file.

@@ -1,7 +1,8 @@
 //! A map of fifty thousand numbers, each in the directory of the one before.
-use checkout::{Manifest, Tree};
+use checkout::Tree;
 use eden_base::{FileId, Name, Number};
 use inode_map::{GiveFault, InodeMap};
+use manifest::Manifest;
 use std::alloc::Global;
 use std::test::Fail;
 

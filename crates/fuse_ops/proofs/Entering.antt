@@ -4,7 +4,7 @@ use Rattle.std.specs.Option.{option_map_or}
 use Rattle.std.specs.Prelude.{IsSome}
 use Rattle.eden_base.specs.declared.attr.Attr.{Attr}
 use Rattle.eden_base.specs.declared.number.Number.{Number}
-use Rattle.checkout.specs.Tree.{IsTree, attr_of as file_attr}
+use Rattle.manifest.specs.Tree.{IsTree, attr_of as file_attr}
 use Rattle.inode_map.specs.InodeMap.{MapState, entry_of, entry_at, give_fault, given, number_given, number_of_kept, remembered, attr_of, load, IsFileOf}
 use Rattle.inode_map.specs.declared.inode_map.Kept.{Kept}
 use Rattle.inode_map.specs.declared.loaded.LoadedAttr.{LoadedAttr}

@@ -7,7 +7,7 @@ use Rattle.eden_base.specs.Limits.{greatest_count, end_of_numbers}
 use Rattle.eden_base.specs.declared.number.FileId.{FileId}
 use Rattle.eden_base.specs.declared.place.Place.TheVariants.{Linked, Unlinked}
 use Rattle.checkout.proofs.LinkLaws.{linked_from_child}
-use Rattle.checkout.specs.Tree.{Tree, IsTree, child_of, root, file_of as tree_file, is_unlinked, is_linked}
+use Rattle.manifest.specs.Tree.{Tree, IsTree, child_of, root, file_of as tree_file, is_unlinked, is_linked}
 use Rattle.inode_map.proofs.EntryLemmas.{numbers-entry, entry_of-first}
 use Rattle.inode_map.proofs.FileLemmas.{IsFileOf-same, named-known}
 use Rattle.inode_map.proofs.Places.{place-stands, stands-place}

@@ -5,7 +5,7 @@ use Rattle.eden_base.proofs.MemberLemmas.{some-IsSome, some-is}
 use Rattle.eden_base.specs.First.{changed_where}
 use Rattle.eden_base.specs.Limits.{greatest_count}
 use Rattle.eden_base.specs.declared.number.FileId.{FileId}
-use Rattle.checkout.specs.Tree.{Tree}
+use Rattle.manifest.specs.Tree.{Tree}
 use Rattle.inode_map.proofs.Changing.{KeepsPlace, WasEntry, changed-was, changed-extends, changed-extended}
 use Rattle.inode_map.proofs.EntryLemmas.{numbers-changed}
 use Rattle.inode_map.proofs.FileLemmas.{IsFileOf-extended}

@@ -7,7 +7,7 @@ use Rattle.eden_base.specs.First.{without_where}
 use Rattle.eden_base.specs.declared.number.FileId.{FileId}
 use Rattle.eden_base.specs.declared.number.Number.{Number}
 use Rattle.eden_base.specs.declared.place.Place.TheVariants.{Linked}
-use Rattle.checkout.specs.Tree.{Tree}
+use Rattle.manifest.specs.Tree.{Tree}
 use Rattle.inode_map.proofs.Changing.{count_of-entry, count_of-none, count_of-alike}
 use Rattle.inode_map.proofs.EntryLemmas.{numbers-without, without-same, without-other}
 use Rattle.inode_map.proofs.FileLemmas.{IsFileOf-extended, IsFileOf-left}

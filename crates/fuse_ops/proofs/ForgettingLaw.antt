@@ -6,7 +6,7 @@ use Rattle.eden_base.proofs.NumberTests.{eq-false, false-ne}
 use Rattle.eden_base.specs.First.{without_where}
 use Rattle.eden_base.specs.Limits.{greatest_count}
 use Rattle.eden_base.specs.declared.number.FileId.{FileId}
-use Rattle.checkout.specs.Tree.{Tree}
+use Rattle.manifest.specs.Tree.{Tree}
 use Rattle.inode_map.proofs.Changing.{changed-extended, count_of-entry, count-changed_same, count-changed_other}
 use Rattle.inode_map.proofs.FileLemmas.{IsFileOf-extended}
 use Rattle.inode_map.proofs.Forgetting.{less, less-keeps, counted-entry, lowered-others}

@@ -8,7 +8,7 @@ use Rattle.eden_base.specs.First.{changed_where}
 use Rattle.eden_base.specs.Limits.{greatest_count, end_of_numbers}
 use Rattle.eden_base.specs.declared.number.FileId.{FileId}
 use Rattle.eden_base.specs.declared.number.Number.{Number}
-use Rattle.checkout.specs.Tree.{Tree}
+use Rattle.manifest.specs.Tree.{Tree}
 use Rattle.inode_map.proofs.Changing.{raised-of_use, added-of_use, changed-extends, changed-extended, count_of-entry, count_of-none, count_of-alike, count-changed_same, count-changed_other}
 use Rattle.inode_map.proofs.EntryLemmas.{append-same, append-other, changed-first, entry_of-first, numbers-bound, numbers-entry}
 use Rattle.inode_map.proofs.FileLemmas.{IsFileOf-extended}

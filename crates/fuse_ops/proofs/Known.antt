@@ -6,8 +6,8 @@ use Rattle.eden_base.specs.Limits.{greatest_count}
 use Rattle.eden_base.proofs.MemberLemmas.{some-IsSome}
 use Rattle.eden_base.specs.declared.number.FileId.{FileId}
 use Rattle.eden_base.specs.declared.attr.Kind.TheVariants.{Dir}
-use Rattle.checkout.specs.Tree.{IsTree, file_of as tree_file, root}
-use Rattle.checkout.specs.declared.content.Content.{Content}
+use Rattle.manifest.specs.Tree.{IsTree, file_of as tree_file, root}
+use Rattle.manifest.specs.declared.content.Content.{Content}
 use Rattle.inode_map.proofs.EntryLemmas.{numbers-bound, numbers-entry}
 use Rattle.inode_map.proofs.FileLemmas.{IsFileOf-same, named-known}
 use Rattle.inode_map.proofs.Forgetting.{counted-entry}

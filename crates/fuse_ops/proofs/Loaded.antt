@@ -12,8 +12,8 @@ use Rattle.eden_base.specs.declared.attr.Perm.{Perm}
 use Rattle.eden_base.specs.declared.number.FileId.{FileId}
 use Rattle.eden_base.specs.declared.number.Number.{Number}
 use Rattle.checkout.proofs.CreateLaws.{file_of-created_other}
-use Rattle.checkout.specs.Tree.{Tree, IsTree, file_of as tree_file, attr_of as file_attr, nlink_of, nlink_of_kind, is_unlinked, created, removed}
-use Rattle.checkout.specs.declared.content.Content.{Content}
+use Rattle.manifest.specs.Tree.{Tree, IsTree, file_of as tree_file, attr_of as file_attr, nlink_of, nlink_of_kind, is_unlinked, created, removed}
+use Rattle.manifest.specs.declared.content.Content.{Content}
 use Rattle.inode_map.proofs.FileLemmas.{IsFileOf-same, named-known}
 use Rattle.inode_map.specs.InodeMap.{MapState, entry_of, entry_at, is_kept, is_bad_item, left_with, left_of_use, lowered, given, forgotten, unlinked, has_number, marked, stands_at, once_more, new_entry, attr_of, loaded_number, load, used}
 use Rattle.inode_map.specs.declared.inode_map.Kept.{Kept}

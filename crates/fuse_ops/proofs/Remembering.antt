@@ -12,7 +12,7 @@ use Rattle.eden_base.proofs.NumberTests.{eq-or, true-eq, false-ne}
 use Rattle.eden_base.specs.First.{changed_where}
 use Rattle.eden_base.specs.declared.number.FileId.{FileId}
 use Rattle.eden_base.specs.declared.number.Number.{Number}
-use Rattle.checkout.specs.Tree.{Tree, IsTree, root, removed}
+use Rattle.manifest.specs.Tree.{Tree, IsTree, root, removed}
 use Rattle.inode_map.proofs.FileLemmas.{IsFileOf-same, named-known}
 use Rattle.inode_map.specs.InodeMap.{MapState, entry_of, entry_at, is_kept, is_bad_item, left_with, left_of_use, lowered, given, forgotten, unlinked, has_number, marked, stands_at, once_more, new_entry, file_remembered, remembered, IsFileOf, is_root}
 use Rattle.inode_map.specs.declared.inode_map.Kept.{Kept}

@@ -11,7 +11,7 @@ use Rattle.eden_base.specs.declared.place.Place.TheVariants.{Linked, Unlinked}
 use Rattle.eden_base.specs.First.{first_where}
 use Rattle.eden_base.proofs.NumberTests.{true-eq}
 use Rattle.checkout.proofs.RemoveLaws.{no_links_below}
-use Rattle.checkout.specs.Tree.{Tree, IsTree, child_of, is_full_dir, removed}
+use Rattle.manifest.specs.Tree.{Tree, IsTree, child_of, is_full_dir, removed}
 use Rattle.inode_map.proofs.EntryLemmas.{entry_of-first}
 use Rattle.inode_map.proofs.FileLemmas.{IsFileOf-same, linked-child}
 use Rattle.inode_map.proofs.Places.{stands-place}

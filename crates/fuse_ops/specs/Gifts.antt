@@ -3,7 +3,7 @@
 use Rattle.std.specs.Prelude.{◌≡◌, ℕ, ◌+◌, ◌-◌, ◌<◌, ◌≤◌, ◌↔◌, ◌⊎◌, true, false, List, Option, Some, None}
 use Rattle.eden_base.specs.declared.number.FileId.{FileId}
 use Rattle.eden_base.specs.declared.number.Number.{Number}
-use Rattle.checkout.specs.Tree.{Tree, IsTree, child_of}
+use Rattle.manifest.specs.Tree.{Tree, IsTree, child_of}
 use Rattle.inode_map.specs.InodeMap.{MapState, new_map, entry_at, count_of, give_fault, number_given, given, is_bad_item, forgot, forgotten, IsFileOf}
 use Rattle.inode_map.specs.declared.inode_map.Forgot.{Forgot}
 use Rattle.inode_map.specs.declared.inode_map.Forgot.TheVariants.{Lowered, Dropped}

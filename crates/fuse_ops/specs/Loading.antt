@@ -6,8 +6,8 @@ use Rattle.eden_base.specs.declared.attr.Kind.TheVariants.{File}
 use Rattle.eden_base.specs.declared.errno.Errno.TheVariants.{EIO}
 use Rattle.eden_base.specs.declared.number.FileId.{FileId}
 use Rattle.eden_base.specs.declared.number.Number.{Number}
-use Rattle.checkout.specs.Tree.{Tree, file_of, tree_of}
-use Rattle.checkout.specs.declared.content.Content.{Content}
+use Rattle.manifest.specs.Tree.{Tree, file_of, tree_of}
+use Rattle.manifest.specs.declared.content.Content.{Content}
 use Rattle.fuse_wire.specs.Request.{items_of}
 use Rattle.fuse_wire.specs.declared.request.Request.{Request}
 use Rattle.fuse_wire.specs.declared.reply.Answer.{Answer}

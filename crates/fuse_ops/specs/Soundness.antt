@@ -6,8 +6,8 @@ use Rattle.eden_base.specs.declared.attr.Attr.{Attr}
 use Rattle.eden_base.specs.declared.number.FileId.{FileId}
 use Rattle.eden_base.specs.declared.place.Place.{Place}
 use Rattle.eden_base.specs.declared.place.Place.TheVariants.{Linked, Unlinked}
-use Rattle.checkout.specs.Tree.{file_of as tree_file, is_unlinked}
-use Rattle.checkout.specs.declared.content.Content.{Content}
+use Rattle.manifest.specs.Tree.{file_of as tree_file, is_unlinked}
+use Rattle.manifest.specs.declared.content.Content.{Content}
 use Rattle.inode_map.specs.InodeMap.{entry_of, attr_of, file_remembered, is_of_use, AreNumbers, IsFileOf}
 use Rattle.inode_map.specs.declared.inode_map.Kept.{Kept}
 use Rattle.fuse_ops.specs.Served.{ServedState}

@@ -3,7 +3,7 @@ ghost use Rattle.std.specs.Prelude.{◌≡◌, ◌<◌, true, false, not, None, 
 ghost use Rattle.eden_base.specs.Limits.{end_of_numbers};
 ghost use Rattle.eden_base.specs.declared.number.FileId.{FileId};
 ghost use Rattle.std.specs.Option.{option_map, IfNone, IfSome};
-ghost use Rattle.checkout.specs.Tree.{IsTree, child_of, attr_of, file_of as tree_file, is_full_dir, is_unlinked, nlink_of_kind};
+ghost use Rattle.manifest.specs.Tree.{IsTree, child_of, attr_of, file_of as tree_file, is_full_dir, is_unlinked, nlink_of_kind};
 ghost use Rattle.eden_base.specs.declared.errno.Errno.TheVariants.{EIO};
 ghost use Rattle.fuse_wire.specs.declared.reply.Answer.TheVariants.{Error};
 ghost use Rattle.fuse_wire.specs.declared.request.Request.TheVariants.{Lookup, Getattr, Create, Mkdir, Unlink, Rmdir};
@@ -14,12 +14,13 @@ ghost use Rattle.fuse_ops.specs.Served.{new_served, served_of, forgotten_all, Is
 ghost use Rattle.fuse_ops.specs.Soundness.{IsSound, Names, AreRemembered, AreLoaded};
 ghost use Rattle.fuse_ops.specs.Work.{errno_of, Finds, GivesEntry, IsFree, IsNextRefusal, IsSamePlainly, lacks_name, LooksUp, Makes, NameIsTaken, Shows, Takes};
 
-use checkout::{Backing, BackingFault, Manifest, Tree, nlink_of_kind};
+use checkout::{Backing, BackingFault, Tree};
 use eden_base::{
     Attr, END_OF_FILES, END_OF_NUMBERS, Errno, FileId, Kind, Name, NoMemory, Number, Perm,
 };
 use fuse_wire::{Answer, Item, Request};
 use inode_map::{GiveFault, InodeMap, Kept};
+use manifest::{Manifest, nlink_of_kind};
 use std::alloc::Global;
 use std::marker::Model;
 
@@ -33,13 +34,13 @@ pub struct Served {
 impl Model for Served {
     ghost use Rattle.fuse_ops.specs.Served.{ServedState};
     ghost use Rattle.std.specs.Coded.{codes};
-    ghost use Rattle.checkout.specs.Codes.{tree_code};
+    ghost use Rattle.manifest.specs.Codes.{tree_code};
 
     ghost Value = { ServedState };
 
     ghost coded = { Prim.hlevel (codes, tree_code) };
 
-    ghost use Rattle.checkout.specs.Tree.{IsTree};
+    ghost use Rattle.manifest.specs.Tree.{IsTree};
     ghost use Rattle.fuse_ops.specs.Soundness.{IsSound, AreRemembered, AreLoaded};
 
     ghost view = { λ s. record { map = s.map; tree = s.tree } };

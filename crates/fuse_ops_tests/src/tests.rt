@@ -1,12 +1,13 @@
 //! What one daemon answers, and what it counts afterwards.
 ghost use Rattle.std.specs.Prelude.{◌≡◌, if◌then◌else◌, IfSome};
-ghost use Rattle.checkout.specs.Tree.{file_of, tree_of};
+ghost use Rattle.manifest.specs.Tree.{file_of, tree_of};
 ghost use Rattle.fuse_ops.specs.Served.{new_served};
 
-use checkout::{Backing, BackingFault, Content, Manifest, ManifestBacking};
+use checkout::{Backing, BackingFault, ManifestBacking};
 use eden_base::{Attr, Errno, FileId, Kind, Name, NoMemory, Number, Perm};
 use fuse_ops::Served;
 use fuse_wire::{Answer, Batch, Item, Request};
+use manifest::{Content, Manifest};
 use std::alloc::Global;
 use std::marker::Model;
 
@@ -96,7 +97,7 @@ impl Model for Hosted {
     ghost use Rattle.std.specs.Prelude.{◌≡◌};
     ghost use Rattle.fuse_ops.specs.Served.{ServedState};
     ghost use Rattle.std.specs.Coded.{codes};
-    ghost use Rattle.checkout.specs.Codes.{tree_code};
+    ghost use Rattle.manifest.specs.Codes.{tree_code};
 
     ghost Value = { ServedState };
 

@@ -6,7 +6,7 @@ use Rattle.eden_base.proofs.NumberTests.{eq-true, true-eq}
 use Rattle.eden_base.specs.declared.number.FileId.{FileId}
 use Rattle.eden_base.specs.declared.number.Number.{Number}
 use Rattle.eden_base.specs.declared.place.Place.TheVariants.{Linked, Unlinked}
-use Rattle.checkout.specs.Tree.{Tree, child_of}
+use Rattle.manifest.specs.Tree.{Tree, child_of}
 use Rattle.inode_map.specs.EntryPlaces.{StepsUp, Climbs}
 use Rattle.inode_map.specs.InodeMap.{entry_of, IsFileOf, is_child}
 use Rattle.inode_map.specs.declared.inode_map.Kept.{Kept}

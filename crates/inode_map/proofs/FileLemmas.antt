@@ -6,7 +6,7 @@ use Rattle.eden_base.specs.declared.number.FileId.{FileId}
 use Rattle.eden_base.specs.declared.number.Number.{Number}
 use Rattle.eden_base.specs.declared.place.Place.{Place}
 use Rattle.eden_base.specs.declared.place.Place.TheVariants.{Linked, Unlinked}
-use Rattle.checkout.specs.Tree.{Tree, child_of}
+use Rattle.manifest.specs.Tree.{Tree, child_of}
 use Rattle.inode_map.specs.InodeMap.{has_number, entry_of, IsFileOf, is_root, is_child, is_marked}
 use Rattle.inode_map.specs.declared.inode_map.Kept.{Kept}
 use Rattle.inode_map.proofs.EntryLemmas.{without-other}

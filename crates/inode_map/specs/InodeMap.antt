@@ -14,7 +14,7 @@ use Rattle.eden_base.specs.declared.place.Place.TheVariants.{Linked, Unlinked}
 use Rattle.eden_base.specs.declared.attr.Attr.{Attr}
 use Rattle.eden_base.specs.First.{first_where, changed_where, without_where}
 use Rattle.eden_base.specs.Limits.{greatest_count, end_of_numbers}
-use Rattle.checkout.specs.Tree.{Tree, child_of, root}
+use Rattle.manifest.specs.Tree.{Tree, child_of, root}
 use Rattle.inode_map.specs.declared.inode_map.Kept.{Kept}
 use Rattle.inode_map.specs.declared.loaded.LoadedAttr.{LoadedAttr}
 use Rattle.inode_map.specs.declared.inode_map.GiveFault.{GiveFault}

@@ -3,7 +3,7 @@ ghost use Rattle.std.specs.Prelude.{◌≡◌, ℕ, ◌+◌, ◌<◌, ◌≤◌,
 ghost use Rattle.std.specs.Option.{option_map, option_copied, option_and_then, IfNone, IfSome, OnSome};
 ghost use Rattle.std.specs.List.{AllByRecursion, AllWithin, HoldsAt, list_any, filter};
 ghost use Rattle.std.specs.List.Sorted.{IsPartitionPoint};
-ghost use Rattle.checkout.specs.Tree.{Tree};
+ghost use Rattle.manifest.specs.Tree.{Tree};
 ghost use Rattle.eden_base.specs.First.{changed_where, without_where};
 ghost use Rattle.eden_base.specs.Limits.{end_of_numbers, greatest_count};
 ghost use Rattle.eden_base.specs.declared.number.FileId.{FileId};

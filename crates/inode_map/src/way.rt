@@ -1,6 +1,6 @@
 //! The way from a number up to the root, by which its file is found.
 ghost use Rattle.std.specs.Prelude.{◌≡◌, ◌≤◌, MatchOption, length, vec_capacity};
-ghost use Rattle.checkout.specs.Tree.{Tree};
+ghost use Rattle.manifest.specs.Tree.{Tree};
 ghost use Rattle.eden_base.specs.declared.number.FileId.{FileId};
 ghost use Rattle.inode_map.specs.EntryPlaces.{IsWay};
 ghost use Rattle.inode_map.specs.InodeMap.{IsFileOf};

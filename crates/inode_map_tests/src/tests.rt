@@ -2,9 +2,10 @@
 ghost use Rattle.std.specs.Prelude.{◌+◌, ◌<◌, ◌≤◌};
 ghost use Rattle.eden_base.specs.Limits.{end_of_numbers};
 
-use checkout::{Manifest, Tree};
+use checkout::Tree;
 use eden_base::{Attr, FileId, Kind, Name, NoMemory, Number, Perm, Place};
 use inode_map::{Forgot, GiveFault, InodeMap, Kept};
+use manifest::Manifest;
 use std::alloc::{AllocError, Global};
 
 /// Gives the number of a name, and gives it again where memory was short.

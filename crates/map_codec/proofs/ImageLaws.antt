@@ -8,7 +8,7 @@ use Rattle.std.proofs.lemmas.List.{append-nil, nil_from_length}
 use Rattle.std.proofs.lemmas.List.Elements.{recursion_from_All, All-from_recursion}
 use Rattle.eden_base.specs.Name.{IsNameText}
 use Rattle.checkout.specs.declared.changes.Made.{Made}
-use Rattle.checkout.specs.declared.changes.LinkChange.{LinkChange}
+use Rattle.manifest.specs.declared.links.LinkChange.{LinkChange}
 use Rattle.checkout.specs.declared.changes.Changes.{Changes}
 use Rattle.inode_map.specs.declared.inode_map.Kept.{Kept}
 use Rattle.map_codec.specs.declared.fault.ImageFault.{ImageFault}

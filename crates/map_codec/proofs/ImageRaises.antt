@@ -3,8 +3,8 @@ use Rattle.std.proofs.Common.{◌≡◌, ℕ, sym, subst}
 use Rattle.checkout.proofs.GoodRounds.{changes_are_good}
 use Rattle.checkout.proofs.OwnTree.{tree_is_changed}
 use Rattle.checkout.specs.BadChanges.{IsBadChange}
-use Rattle.checkout.specs.Manifest.{Manifest, IsManifest}
-use Rattle.checkout.specs.Tree.{Tree, IsTree}
+use Rattle.manifest.specs.Manifest.{Manifest, IsManifest}
+use Rattle.manifest.specs.Tree.{Tree, IsTree}
 use Rattle.std.specs.Prelude.{List, None}
 use Rattle.inode_map.specs.declared.inode_map.Kept.{Kept}
 use Rattle.fuse_ops.specs.Served.{ServedState, plain}

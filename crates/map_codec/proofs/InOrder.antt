@@ -10,8 +10,8 @@ use Rattle.std.specs.Ordering.{nat_cmp, is_lt, ordering_then}
 use Rattle.std.specs.declared.cmp.Ordering.{Ordering}
 use Rattle.std.specs.declared.cmp.Ordering.TheVariants.{Less, Equal, Greater}
 use Rattle.checkout.specs.Changes.{AreMade, AreLinkChanges, place_of}
-use Rattle.checkout.specs.Tree.{Tree, link_cmp}
-use Rattle.checkout.specs.declared.changes.LinkChange.{LinkChange}
+use Rattle.manifest.specs.Tree.{Tree, link_cmp}
+use Rattle.manifest.specs.declared.links.LinkChange.{LinkChange}
 use Rattle.checkout.specs.declared.changes.Made.{Made}
 use Rattle.map_codec.specs.Fit.{rises, made_follows, link_follows}
 

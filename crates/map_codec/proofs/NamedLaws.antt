@@ -9,7 +9,7 @@ use Rattle.eden_base.proofs.NumberTests.{eq-or}
 use Rattle.eden_base.specs.declared.number.FileId.{FileId}
 use Rattle.eden_base.specs.declared.number.Number.{Number}
 use Rattle.eden_base.specs.declared.place.Place.TheVariants.{Linked}
-use Rattle.checkout.specs.Tree.{Tree}
+use Rattle.manifest.specs.Tree.{Tree}
 use Rattle.inode_map.specs.EntryPlaces.{StepsUp}
 use Rattle.inode_map.specs.InodeMap.{IsFileOf, entry_of}
 use Rattle.inode_map.specs.declared.inode_map.Kept.{Kept}

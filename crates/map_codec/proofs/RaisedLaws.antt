@@ -10,8 +10,8 @@ use Rattle.eden_base.specs.declared.number.FileId.{FileId}
 use Rattle.eden_base.specs.declared.place.Place.{Place}
 use Rattle.eden_base.specs.declared.place.Place.TheVariants.{Linked, Unlinked}
 use Rattle.checkout.proofs.LinkLaws.{linked_from_child}
-use Rattle.checkout.specs.Manifest.{File}
-use Rattle.checkout.specs.Tree.{Tree, IsTree, child_of, file_of, is_linked, is_unlinked, kind_of}
+use Rattle.manifest.specs.Manifest.{File}
+use Rattle.manifest.specs.Tree.{Tree, IsTree, child_of, file_of, is_linked, is_unlinked, kind_of}
 use Rattle.inode_map.proofs.EntryLemmas.{entry_of-number, numbers-entry}
 use Rattle.inode_map.proofs.EntryRuns.{each-entry}
 use Rattle.inode_map.proofs.FileLemmas.{IsFileOf-same, linked-child, marked-same}

@@ -11,8 +11,8 @@ use Rattle.eden_base.specs.Limits.{end_of_numbers}
 use Rattle.eden_base.specs.declared.number.FileId.{FileId}
 use Rattle.eden_base.specs.declared.place.Place.{Place}
 use Rattle.eden_base.specs.declared.place.Place.TheVariants.{Linked, Unlinked}
-use Rattle.checkout.specs.Manifest.{File}
-use Rattle.checkout.specs.Tree.{Tree, file_of, kind_of, is_unlinked}
+use Rattle.manifest.specs.Manifest.{File}
+use Rattle.manifest.specs.Tree.{Tree, file_of, kind_of, is_unlinked}
 use Rattle.inode_map.proofs.EntryLemmas.{entry_of-number, numbers-bound, numbers-entry, numbers-rise}
 use Rattle.inode_map.proofs.FileLemmas.{linked-child, marked-same, named-known}
 use Rattle.inode_map.specs.InodeMap.{IsFileOf, entry_of, is_kept, is_known}

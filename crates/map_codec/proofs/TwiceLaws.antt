@@ -8,7 +8,7 @@ use Rattle.std.proofs.lemmas.List.Sums.{sum_by-cons}
 use Rattle.std.proofs.lemmas.Option.{get_or_from_slice_get, slice_get-get_or, slice_get_within}
 use Rattle.eden_base.proofs.NumberTests.{eq-true, true-eq}
 use Rattle.eden_base.specs.declared.number.FileId.{FileId}
-use Rattle.checkout.proofs.ManifestTree.{same_id}
+use Rattle.manifest.proofs.ManifestTree.{same_id}
 use Rattle.map_codec.specs.Raising.{IsTwice}
 
 -- 1 for this file

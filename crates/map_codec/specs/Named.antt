@@ -6,7 +6,7 @@ use Rattle.eden_base.specs.declared.number.FileId.{FileId}
 use Rattle.eden_base.specs.declared.number.Number.{Number}
 use Rattle.eden_base.specs.declared.place.Place.{Place}
 use Rattle.eden_base.specs.declared.place.Place.TheVariants.{Linked, Unlinked}
-use Rattle.checkout.specs.Tree.{Tree}
+use Rattle.manifest.specs.Tree.{Tree}
 use Rattle.inode_map.specs.EntryPlaces.{Climbs}
 use Rattle.inode_map.specs.InodeMap.{IsFileOf, entry_of, number_of_kept}
 use Rattle.inode_map.specs.declared.inode_map.Kept.{Kept}

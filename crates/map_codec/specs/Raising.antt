@@ -8,8 +8,8 @@ use Rattle.eden_base.specs.declared.place.Place.{Place}
 use Rattle.eden_base.specs.declared.place.Place.TheVariants.{Linked, Unlinked}
 use Rattle.checkout.specs.BadChanges.{bad_itself, IsBadChange}
 use Rattle.checkout.specs.Changed.{changed}
-use Rattle.checkout.specs.Manifest.{Manifest}
-use Rattle.checkout.specs.Tree.{Tree, is_unlinked, kind_of}
+use Rattle.manifest.specs.Manifest.{Manifest}
+use Rattle.manifest.specs.Tree.{Tree, is_unlinked, kind_of}
 use Rattle.inode_map.specs.InodeMap.{IsFileOf, is_known}
 use Rattle.inode_map.specs.declared.inode_map.Kept.{Kept}
 use Rattle.fuse_ops.specs.Served.{ServedState, served_of}

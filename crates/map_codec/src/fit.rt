@@ -7,9 +7,10 @@ ghost use Rattle.map_codec.specs.ImageReading.{last_of};
 use crate::Image;
 use crate::member_reader::{is_next_file, is_next_number, is_next_place};
 use crate::usage::are_of_use;
-use checkout::{LinkChange, Made};
+use checkout::Made;
 use eden_base::{NoMemory, Place};
 use inode_map::Kept;
+use manifest::LinkChange;
 use std::alloc::Global;
 
 /// Returns whether an entry may follow others. Its name, where it has one, is a name.

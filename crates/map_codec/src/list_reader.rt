@@ -6,8 +6,9 @@ ghost use Rattle.map_codec.specs.ImageReading.{Gives, entry_at, made_at, link_at
 use crate::ImageFault;
 use crate::member_reader::{entry_at, link_at, made_at};
 use crate::reader::u32_at;
-use checkout::{LinkChange, Made};
+use checkout::Made;
 use inode_map::Kept;
+use manifest::LinkChange;
 use std::alloc::Global;
 
 /// Takes so many entries.

@@ -6,9 +6,10 @@ ghost use Rattle.map_codec.specs.ImageText.{name_text, place_text, entry_text, m
 ghost use Rattle.map_codec.specs.Writing.{AreFew, IsLength, Leaves};
 
 use crate::Image;
-use checkout::{LinkChange, Made};
+use checkout::Made;
 use eden_base::{FileId, Name, Place};
 use inode_map::Kept;
+use manifest::LinkChange;
 
 /// The longest text that is written, in bytes.
 const LONGEST: usize = 65_000;

@@ -6,9 +6,10 @@ ghost use Rattle.map_codec.specs.ImageReading.{Gives, last_of, name_at, place_at
 
 use crate::ImageFault;
 use crate::reader::{counted_at, mark_at, named, u16_at, u32_at, u64_at};
-use checkout::{LinkChange, Made};
+use checkout::Made;
 use eden_base::{FileId, Kind, Name, Number, Perm, Place};
 use inode_map::Kept;
+use manifest::LinkChange;
 use std::alloc::Global;
 
 /// Takes a name behind its length.

@@ -6,9 +6,10 @@ ghost use Rattle.map_codec.specs.ImageText.{name_text, place_mark, place_text, e
 ghost use Rattle.map_codec.specs.Writing.{HasRoom, Puts, is_too_large};
 
 use crate::writer::{put_byte, put_slice, put_u16, put_u32, put_u64};
-use checkout::{LinkChange, Made};
+use checkout::Made;
 use eden_base::{FileId, Kind, Name, Place};
 use inode_map::Kept;
+use manifest::LinkChange;
 
 /// Puts a name behind its length.
 #[tactic(auto, using(crate::proofs::Written::written))]

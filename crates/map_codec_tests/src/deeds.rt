@@ -3,8 +3,8 @@ use crate::deep_tests::{is_chain_raised, is_circle_refused};
 use crate::limit_tests::is_limited;
 use crate::raise_tests::{comes_to_with, is_raised_and_spelled, is_twice_refused};
 use crate::tests::{Asking, is_spelled_after, manifest_of};
-use checkout::Manifest;
 use eden_base::Errno;
+use manifest::Manifest;
 use map_codec::RaiseFault;
 use std::alloc::Global;
 

@@ -3,7 +3,7 @@ use crate::deeds::{Deed, all_go_so};
 use crate::raise_tests::comes_to;
 use crate::tests::put;
 use crate::vectors::CHANGED;
-use checkout::Manifest;
+use manifest::Manifest;
 use map_codec::RaiseFault;
 use std::alloc::{AllocError, Global};
 

@@ -5,10 +5,10 @@ use crate::deeds::{Deed, all_go_so};
 use crate::raise_tests::raised;
 use crate::tests::{Asking, Asks, answer_to, is_spelled, request_of};
 use crate::vectors::CHANGED;
-use checkout::Manifest;
 use eden_base::{Errno, Number};
 use fuse_ops::Served;
 use fuse_wire::Answer;
+use manifest::Manifest;
 use std::alloc::Global;
 
 /// Returns the changed image with eight bytes set.

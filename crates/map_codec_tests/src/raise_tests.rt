@@ -4,8 +4,8 @@ ghost use Rattle.std.specs.Prelude.{◌≡◌, IfOk};
 use crate::deeds::{Deed, all_go_so};
 use crate::tests::{all, image_of_bytes, is_spelled};
 use crate::vectors::{CHANGED, LOOKED_UP, MOVED};
-use checkout::Manifest;
 use fuse_ops::Served;
+use manifest::Manifest;
 use map_codec::{RaiseFault, raise};
 use std::alloc::{AllocError, Global};
 

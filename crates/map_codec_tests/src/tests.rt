@@ -5,10 +5,11 @@ ghost use Rattle.map_codec.specs.Fit.{CountsFit, IsFit};
 
 use crate::deeds::{Deed, all_go_so};
 use crate::vectors::{CHANGED, LOOKED_UP, MOVED};
-use checkout::{Manifest, ManifestBacking, ManifestFault};
+use checkout::ManifestBacking;
 use eden_base::{Errno, Name, NameFault, NoMemory, Number, Perm};
 use fuse_ops::Served;
 use fuse_wire::{Answer, Request};
+use manifest::{Manifest, ManifestFault};
 use map_codec::{Entries, Image, ImageFault, WriteFault, image_of, read, write};
 use std::alloc::{AllocError, Global};
 

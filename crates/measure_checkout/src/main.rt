@@ -4,12 +4,13 @@
 #![tactic(auto)]
 
 ghost use Rattle.std.specs.Prelude.{◌≡◌, IfSome, IsSome, None, Some, false};
-ghost use Rattle.checkout.specs.Tree.{child_of, is_full_dir, is_unlinked, kind_of};
+ghost use Rattle.manifest.specs.Tree.{child_of, is_full_dir, is_unlinked, kind_of};
 ghost use Rattle.eden_base.specs.declared.attr.Kind.TheVariants.{Dir};
 
 use anyhow::Result;
-use checkout::{CreateFault, Manifest, Tree};
+use checkout::{CreateFault, Tree};
 use eden_base::{Attr, FileId, Kind, Name, NoMemory, Perm};
+use manifest::Manifest;
 use std::alloc::{AllocError, Global};
 use std::env;
 use std::time::Instant;

@@ -7,9 +7,9 @@ ghost use Rattle.std.specs.Prelude.{IfOk};
 ghost use Rattle.map_codec.specs.Fit.{CountsFit, IsFit};
 
 use anyhow::Result;
-use checkout::Manifest;
 use eden_base::NoMemory;
 use fuse_ops::Served;
+use manifest::Manifest;
 use map_codec::{Image, ImageFault, RaiseFault, WriteFault, image_of, raise, read, write};
 use std::alloc::{AllocError, Global};
 use std::env;

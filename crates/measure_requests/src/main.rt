@@ -4,10 +4,11 @@
 #![tactic(auto)]
 
 use anyhow::Result;
-use checkout::{Manifest, ManifestBacking};
+use checkout::ManifestBacking;
 use eden_base::{Kind, Name, NoMemory, Number, Perm};
 use fuse_ops::Served;
 use fuse_wire::{Answer, Batch, Item, Request};
+use manifest::Manifest;
 use std::alloc::Global;
 use std::env;
 use std::marker::Model;
@@ -31,7 +32,7 @@ impl Model for Hosted {
     ghost use Rattle.std.specs.Prelude.{◌≡◌};
     ghost use Rattle.fuse_ops.specs.Served.{ServedState};
     ghost use Rattle.std.specs.Coded.{codes};
-    ghost use Rattle.checkout.specs.Codes.{tree_code};
+    ghost use Rattle.manifest.specs.Codes.{tree_code};
 
     ghost Value = { ServedState };
 

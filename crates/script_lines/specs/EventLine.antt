@@ -10,7 +10,7 @@ use Rattle.eden_base.specs.Name.{name_fault}
 use Rattle.eden_base.specs.declared.attr.Perm.{Perm}
 use Rattle.eden_base.specs.declared.number.DaemonId.{DaemonId}
 use Rattle.eden_base.specs.declared.number.Number.{Number}
-use Rattle.checkout.specs.Text.{mode_of}
+use Rattle.manifest.specs.Text.{mode_of}
 use Rattle.script_lines.specs.Number.{number_of}
 use Rattle.eden_base.specs.Text.{cut}
 use Rattle.script_lines.specs.Words.{is_word}

@@ -3,9 +3,9 @@ ghost use Rattle.std.specs.Prelude.{◌≡◌, IfOk};
 ghost use Rattle.script_lines.specs.EventLine.{event_of, daemon_event_by, mount_of, take_of, work_of, tried_of, tried_at, post_of, issue_of, do_of, request_of, lookup_of, create_of, mkdir_of, unlink_of, rmdir_of, forget_of, getattr_of, other_said, named_of, made_of, name_of};
 
 use crate::decimal::number;
-use checkout::mode_of;
 use eden_base::{DaemonId, Name, NameFault, NoMemory, Number, Perm, cut};
 use fuse_wire::{Item, Request};
+use manifest::mode_of;
 use std::alloc::Global;
 use world::Event;
 

@@ -4,7 +4,7 @@ use Rattle.std.specs.Prelude.{slice_get, slice_set, ◌==◌, if◌then◌else�
 use Rattle.std.specs.Option.{option_and_then, option_map}
 use Rattle.eden_base.proofs.NumberTests.{eq-or, false-ne}
 use Rattle.eden_base.specs.declared.number.DaemonId.{DaemonId}
-use Rattle.checkout.specs.Tree.{IsTree}
+use Rattle.manifest.specs.Tree.{IsTree}
 use Rattle.broker_core.specs.Broker.{BrokerState, mount_fault}
 use Rattle.broker_core.proofs.Accepted.{free_to_mount}
 use Rattle.broker_core.specs.declared.broker.MountFault.{MountFault}
@@ -179,7 +179,7 @@ broker-goes-on w new old broker seat server m manifest tree books last orderly a
   manifest = manifest ∙ m.manifest;
   is_tree = m.is_tree;
   tree_is_tree = subst IsTree (sym tree) m.tree_is_tree;
-  of_manifest = ap (λ (t : Rattle.checkout.specs.Tree.Tree). t.manifest) tree ∙ m.of_manifest ∙ sym manifest;
+  of_manifest = ap (λ (t : Rattle.manifest.specs.Tree.Tree). t.manifest) tree ∙ m.of_manifest ∙ sym manifest;
   books = books;
   seat_is_last = last;
   quiet = λ e. absurd (let n : Some seat ≡ None = sym at.has_seat ∙ sym same ∙ e in let none : ⊥ = cc in none);

@@ -9,9 +9,9 @@ use Rattle.eden_base.specs.declared.errno.Errno.TheVariants.{EIO, ENOMEM}
 use Rattle.eden_base.specs.declared.number.FileId.{FileId}
 use Rattle.eden_base.specs.declared.number.Number.{Number}
 use Rattle.eden_base.proofs.NumberTests.{eq-or}
-use Rattle.checkout.specs.Manifest.{Manifest}
+use Rattle.manifest.specs.Manifest.{Manifest}
 use Rattle.eden_base.specs.declared.attr.Kind.TheVariants.{File}
-use Rattle.checkout.specs.Tree.{Tree, IsTree, kind_of}
+use Rattle.manifest.specs.Tree.{Tree, IsTree, kind_of}
 use Rattle.fuse_wire.specs.Given.{given_out}
 use Rattle.fuse_wire.specs.declared.request.Request.{Request}
 use Rattle.fuse_wire.specs.declared.reply.Answer.{Answer}

@@ -3,8 +3,8 @@ use Rattle.std.proofs.Common.{◌≡◌, ℕ, ◌+◌, true, false, List, [], Op
 use Rattle.std.specs.Prelude.{sum_by}
 use Rattle.std.specs.Option.{option_map}
 use Rattle.eden_base.specs.declared.number.DaemonId.{DaemonId}
-use Rattle.checkout.specs.Manifest.{Manifest}
-use Rattle.checkout.specs.Tree.{IsTree, tree_of}
+use Rattle.manifest.specs.Manifest.{Manifest}
+use Rattle.manifest.specs.Tree.{IsTree, tree_of}
 use Rattle.fuse_wire.specs.declared.request.Request.{Request}
 use Rattle.broker_core.specs.Broker.{issue_fault, mounted}
 use Rattle.broker_core.specs.Traffic.{TrafficState, no_traffic}

@@ -7,7 +7,7 @@ use Rattle.eden_base.specs.declared.attr.Perm.{Perm}
 use Rattle.eden_base.specs.declared.number.FileId.{FileId}
 use Rattle.eden_base.specs.declared.number.Number.{Number}
 use Rattle.checkout.proofs.CreateLaws.{child_of-created}
-use Rattle.checkout.specs.Tree.{Tree, IsTree, child_of, root, next_file, created}
+use Rattle.manifest.specs.Tree.{Tree, IsTree, child_of, root, next_file, created}
 use Rattle.fuse_wire.specs.declared.request.Request.{Request}
 use Rattle.inode_map.specs.InodeMap.{MapState, IsFileOf, is_root, entry_at, give_fault_at, given, number_given, number_of_kept}
 use Rattle.inode_map.specs.declared.inode_map.Kept.{Kept}

@@ -4,8 +4,8 @@ use Rattle.std.specs.Prelude.{◌==◌, Contains, if◌then◌else◌}
 use Rattle.std.specs.Option.{option_and_then}
 use Rattle.eden_base.specs.declared.number.DaemonId.{DaemonId}
 use Rattle.std.specs.List.{AllByRecursion}
-use Rattle.checkout.specs.Manifest.{Manifest}
-use Rattle.checkout.specs.Tree.{IsTree, tree_of}
+use Rattle.manifest.specs.Manifest.{Manifest}
+use Rattle.manifest.specs.Tree.{IsTree, tree_of}
 use Rattle.broker_core.proofs.HeldLaws.{held_count-none}
 use Rattle.broker_core.specs.declared.seat.Seat.{Seat}
 use Rattle.world.specs.Server.{ServerState}

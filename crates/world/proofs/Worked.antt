@@ -4,7 +4,7 @@ use Rattle.std.specs.Option.{option_map_or}
 use Rattle.std.specs.Prelude.{◌==◌, if◌then◌else◌}
 use Rattle.eden_base.specs.declared.errno.Errno.{Errno}
 use Rattle.eden_base.specs.declared.number.Number.{Number}
-use Rattle.checkout.specs.Tree.{IsTree}
+use Rattle.manifest.specs.Tree.{IsTree}
 use Rattle.fuse_wire.specs.Given.{given_out}
 use Rattle.fuse_wire.specs.declared.request.Request.{Request}
 use Rattle.fuse_wire.specs.declared.reply.Answer.{Answer}

@@ -5,8 +5,8 @@ use Rattle.std.specs.Option.{option_map_or}
 use Rattle.std.specs.List.{AllByRecursion, list_any}
 use Rattle.eden_base.specs.declared.number.DaemonId.{DaemonId}
 use Rattle.eden_base.specs.declared.number.FileId.{FileId}
-use Rattle.checkout.specs.Manifest.{Manifest}
-use Rattle.checkout.specs.Tree.{Tree, IsTree, tree_of}
+use Rattle.manifest.specs.Manifest.{Manifest}
+use Rattle.manifest.specs.Tree.{Tree, IsTree, tree_of}
 use Rattle.fuse_wire.specs.Request.{is_ask, item_of, items_of}
 use Rattle.fuse_wire.specs.declared.request.Ask.{Ask}
 use Rattle.fuse_wire.specs.declared.item.Item.{Item}

@@ -1,7 +1,7 @@
 -- What holds of the definitions alone, for those who work requests elsewhere than in an event.
 use Rattle.std.specs.Prelude.{◌≡◌, ◌≤◌, ◌≢◌, Some, None}
 use Rattle.eden_base.specs.First.{first_where}
-use Rattle.checkout.specs.Tree.{IsTree}
+use Rattle.manifest.specs.Tree.{IsTree}
 use Rattle.fuse_wire.specs.declared.request.Ask.{Ask}
 use Rattle.fuse_wire.specs.declared.request.Request.TheVariants.{Forget}
 use Rattle.fuse_wire.specs.declared.item.Item.{Item}

@@ -1,6 +1,6 @@
 -- A daemon that mounted: what it serves, and what it has in hand. (This project's own.)
 use Rattle.std.specs.Prelude.{ℕ, ◌-◌, ◌==◌, Bool, List, [], ◌∷◌, ◌++◌, length, map, remove, slice_get, Option, Some, None, is_some, ◌||◌, if◌then◌else◌}
-use Rattle.checkout.specs.Manifest.{Manifest}
+use Rattle.manifest.specs.Manifest.{Manifest}
 use Rattle.fuse_wire.specs.Request.{is_ask, item_of, items_of}
 use Rattle.fuse_wire.specs.declared.request.Ask.{Ask}
 use Rattle.fuse_wire.specs.declared.request.Request.TheVariants.{Forget}

@@ -12,8 +12,8 @@ use Rattle.eden_base.specs.declared.errno.Errno.TheVariants.{ESTALE}
 use Rattle.eden_base.specs.declared.number.DaemonId.{DaemonId}
 use Rattle.eden_base.specs.declared.number.FileId.{FileId}
 use Rattle.eden_base.specs.declared.number.Number.{Number}
-use Rattle.checkout.specs.Manifest.{Manifest}
-use Rattle.checkout.specs.Tree.{Tree, tree_of, kind_of, root}
+use Rattle.manifest.specs.Manifest.{Manifest}
+use Rattle.manifest.specs.Tree.{Tree, tree_of, kind_of, root}
 use Rattle.fuse_wire.specs.Request.{is_ask, nodes}
 use Rattle.fuse_wire.specs.Given.{given_out}
 use Rattle.fuse_wire.specs.declared.request.Ask.{Ask}

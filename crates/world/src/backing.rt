@@ -1,14 +1,15 @@
 //! The backing of a daemon: the manifest, which fails where an event says so.
 ghost use Rattle.std.specs.Prelude.{◌≡◌, ◌≢◌, false, Some, if◌then◌else◌};
 ghost use Rattle.eden_base.specs.declared.errno.Errno.TheVariants.{EIO};
-ghost use Rattle.checkout.specs.Tree.{file_of, tree_of};
+ghost use Rattle.manifest.specs.Tree.{file_of, tree_of};
 ghost use Rattle.fuse_wire.specs.declared.reply.Answer.TheVariants.{Error};
 ghost use Rattle.fuse_ops.specs.Served.{Replay};
 
-use checkout::{Backing, BackingFault, Content, Manifest, ManifestBacking};
+use checkout::{Backing, BackingFault, ManifestBacking};
 use eden_base::FileId;
 use fuse_ops::Served;
 use fuse_wire::{Answer, Request};
+use manifest::{Content, Manifest};
 use std::alloc::Global;
 
 /// The manifest as a backing that fails the first time it is asked.

@@ -8,8 +8,8 @@ ghost use Rattle.world.specs.Agreement.{world_after, IsRunOfMoves, CountsAreOwed
 use crate::event::Event;
 use crate::outcome::Outcome;
 use crate::world::World;
-use checkout::Manifest;
 use eden_base::NoMemory;
+use manifest::Manifest;
 use std::alloc::Global;
 
 /// Lets events happen one after another, and tells what came of each. Memory is wanting for the list of outcomes and

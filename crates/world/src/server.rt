@@ -9,10 +9,10 @@ use crate::backing::apply;
 use crate::outcome::{Happened, Refusal};
 use crate::place::index_of;
 use broker_core::Broker;
-use checkout::Manifest;
 use eden_base::{DaemonId, NoMemory};
 use fuse_ops::Served;
 use fuse_wire::{Ask, Item, Items, Reply, Request};
+use manifest::Manifest;
 use std::alloc::Global;
 use std::marker::Model;
 
@@ -31,7 +31,7 @@ pub struct Server {
 
 impl Model for Server {
     ghost use Rattle.std.specs.Coded.{codes};
-    ghost use Rattle.checkout.specs.Codes.{tree_code};
+    ghost use Rattle.manifest.specs.Codes.{tree_code};
     ghost use Rattle.world.specs.Server.{ServerState};
     ghost use Rattle.world.specs.Inside.{IsConsistent};
 

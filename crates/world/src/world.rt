@@ -12,10 +12,10 @@ use crate::outcome::{Happened, Outcome, Refusal};
 use crate::place::index_of;
 use crate::server::{Server, opening};
 use broker_core::{Broker, DeliverFault};
-use checkout::Manifest;
 use eden_base::{DaemonId, NoMemory};
 use fuse_ops::Served;
 use fuse_wire::{Ask, Reply, Request};
+use manifest::Manifest;
 use std::alloc::Global;
 use std::marker::Model;
 
@@ -31,7 +31,7 @@ pub struct World {
 
 impl Model for World {
     ghost use Rattle.std.specs.Coded.{codes};
-    ghost use Rattle.checkout.specs.Codes.{tree_code, manifest_code};
+    ghost use Rattle.manifest.specs.Codes.{tree_code, manifest_code};
     ghost use Rattle.broker_core.specs.Held.{held_map_code};
     ghost use Rattle.world.specs.State.{State};
 

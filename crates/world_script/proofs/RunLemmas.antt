@@ -3,7 +3,7 @@ use Rattle.std.proofs.Common.{◌≡◌, ℕ, ◌≤◌, List, [], ◌∷◌, le
 use Rattle.std.specs.Prelude.{IfSome}
 use Rattle.std.specs.Io.KnownBytes.{Keeps}
 use Rattle.std.proofs.KnownBytes.{Appends-kept}
-use Rattle.checkout.specs.Manifest.{Manifest}
+use Rattle.manifest.specs.Manifest.{Manifest}
 use Rattle.world.specs.State.{State, started}
 use Rattle.world.specs.Step.{Steps}
 use Rattle.world.specs.World.{first_world}

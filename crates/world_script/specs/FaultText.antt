@@ -1,7 +1,7 @@
 -- The words that a fault is told by. (This project's own.)
 use Rattle.std.specs.Prelude.{ℕ, List, [], ◌∷◌, ◌++◌, codes}
 use Rattle.std.specs.Fmt.{decimal}
-use Rattle.checkout.specs.Words.{kind_text}
+use Rattle.manifest.specs.Words.{kind_text}
 use Rattle.world_script.specs.declared.fault.Fault.{Fault}
 use Rattle.world_script.specs.declared.fault.Fault.TheVariants.{CannotRead, TooLong, NoEvents, BadManifest, BadLine, NoMemory, CannotWrite}
 

@@ -1,9 +1,9 @@
 -- Why a script is refused: the first of no line `--`, a bad manifest, and a bad line behind it. (This project's own.)
 use Rattle.std.specs.Prelude.{◌≡◌, ℕ, ◌+◌, ◌<◌, ◌≤◌, Bool, true, false, List, length, ⊤, Some, None, Ok, Err, option_map}
-use Rattle.checkout.specs.Manifest.{Manifest}
-use Rattle.checkout.specs.declared.fault.ManifestFault.{ManifestFault}
-use Rattle.checkout.specs.declared.fault.ManifestFaultKind.{ManifestFaultKind}
-use Rattle.checkout.specs.declared.fault.ManifestFaultKind.TheVariants as kind
+use Rattle.manifest.specs.Manifest.{Manifest}
+use Rattle.manifest.specs.declared.fault.ManifestFault.{ManifestFault}
+use Rattle.manifest.specs.declared.fault.ManifestFaultKind.{ManifestFaultKind}
+use Rattle.manifest.specs.declared.fault.ManifestFaultKind.TheVariants as kind
 use Rattle.world_script.specs.declared.fault.Fault.{Fault}
 use Rattle.world_script.specs.declared.fault.Fault.TheVariants.{CannotRead, TooLong, NoEvents, BadManifest, BadLine, NoMemory, CannotWrite}
 use Rattle.script_lines.specs.Lines.{lines_of}

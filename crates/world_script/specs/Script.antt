@@ -2,9 +2,9 @@
 use Rattle.std.specs.Prelude.{◌≡◌, ℕ, ◌≤◌, List, [], ◌∷◌, ◌++◌, length, Option, Result, Ok}
 use Rattle.std.specs.List.{AllByRecursion}
 use Rattle.std.specs.Io.KnownBytes.{Appends}
-use Rattle.checkout.specs.Manifest.{Manifest}
-use Rattle.checkout.specs.ManifestText.{manifest_of}
-use Rattle.checkout.specs.declared.fault.ManifestFault.{ManifestFault}
+use Rattle.manifest.specs.Manifest.{Manifest}
+use Rattle.manifest.specs.ManifestText.{manifest_of}
+use Rattle.manifest.specs.declared.fault.ManifestFault.{ManifestFault}
 use Rattle.world.specs.State.{State, started}
 use Rattle.world.specs.Step.{Step}
 use Rattle.world.specs.World.{IsRun, first_world}

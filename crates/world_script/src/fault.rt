@@ -5,8 +5,8 @@ ghost use Rattle.std.specs.Io.KnownBytes.{Appends};
 ghost use Rattle.world_script.specs.FaultText.{fault_line, fault_text};
 ghost use Rattle.world_script.specs.Refusal.{fault_of_manifest};
 
-use checkout::{ManifestFault, ManifestFaultKind};
 use eden_base::NoMemory;
+use manifest::{ManifestFault, ManifestFaultKind};
 use std::alloc::{AllocError, AllocFailed};
 use std::error::Error;
 use std::fmt;

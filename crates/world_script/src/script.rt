@@ -7,8 +7,8 @@ ghost use Rattle.world_script.specs.Refusal.{IsScriptRefusal, IsEventsRefusal};
 ghost use Rattle.world_script.specs.Script.{SaysManifest};
 
 use crate::Fault;
-use checkout::Manifest;
 use eden_base::NoMemory;
+use manifest::Manifest;
 use script_lines::{first_line, read_event};
 use std::alloc::Global;
 use world::Event;

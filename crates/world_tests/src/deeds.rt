@@ -1,9 +1,9 @@
 //! What happens to a world in a test and what comes of it, as data, so that a test is a table.
 use broker_core::Seat;
-use checkout::Manifest;
 use eden_base::{Attr, DaemonId, Errno, Kind, Name, NoMemory, Number, Perm, Place};
 use fuse_wire::{Answer, Batch, Item, Reply, Request};
 use inode_map::{Forgot, InodeMap};
+use manifest::Manifest;
 use std::alloc::Global;
 use world::{Event, Happened, Outcome, Refusal, World, run};
 

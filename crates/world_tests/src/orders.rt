@@ -1,7 +1,7 @@
 //! Every order in which two asks and one forget on one number can go their ways.
 use crate::deeds::{Deed, Wish, event, is_put, manifest, room};
-use checkout::Manifest;
 use eden_base::{DaemonId, NoMemory, Number};
+use manifest::Manifest;
 use std::alloc::Global;
 use world::{Event, World};
 

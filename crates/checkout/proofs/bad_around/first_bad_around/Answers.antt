@@ -4,7 +4,7 @@ use Rattle.std.specs.List.{AllByRecursion}
 use Rattle.checkout.specs.Around.{GivesTarget, IsFirstAbove, links_now}
 use Rattle.checkout.specs.Gone.{is_gone}
 use Rattle.checkout.specs.Rounds.{cuts, first_of}
-use Rattle.checkout.specs.Tally.{count_of}
+use Rattle.manifest.specs.Tally.{count_of}
 use Rattle.checkout.proofs.RoundsAround.{all_give, are_apart, are_beside, around_above, around_cut}
 use Rattle.checkout.proofs.bad_around.first_bad_around.Goals as goal
 

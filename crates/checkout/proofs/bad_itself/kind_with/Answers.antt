@@ -1,7 +1,7 @@
 -- The manifest's file, or one that was made.
 use Rattle.std.proofs.Common.{sym, ap, ◌∙◌}
 use Rattle.std.specs.Option.{option_map, option_or}
-use Rattle.checkout.specs.Manifest.{File}
+use Rattle.manifest.specs.Manifest.{File}
 use Rattle.checkout.proofs.KindLemmas.{kind_made, kind_with-content}
 use Rattle.checkout.proofs.bad_itself.kind_with.Goals as goal
 

@@ -2,7 +2,7 @@
 use Rattle.std.proofs.Common.{sym, ap, ◌∙◌}
 use Rattle.std.specs.FinMap.{get}
 use Rattle.checkout.specs.Changes.{place_of}
-use Rattle.checkout.specs.Tree.{links_from}
+use Rattle.manifest.specs.Tree.{links_from}
 use Rattle.checkout.proofs.ChangedLinks.{lines_links-get}
 use Rattle.checkout.proofs.bad_itself.manifest_target.Goals as goal
 

@@ -2,7 +2,7 @@
 use Rattle.std.proofs.Common.{◌≡◌, drop}
 use Rattle.checkout.specs.Gone.{is_gone}
 use Rattle.checkout.specs.Rounds.{cuts, first_of}
-use Rattle.checkout.specs.Tally.{count_of}
+use Rattle.manifest.specs.Tally.{count_of}
 use Rattle.checkout.proofs.cut.first_cut.Given as goal
 
 abbrev pub invariant-loop-i : goal.invariant-loop-i

@@ -2,7 +2,7 @@
 use Rattle.std.proofs.Common.{◌≡◌, ap, sym, subst, IfSome, ◌∙◌, false}
 use Rattle.std.specs.FinMap.{get}
 use Rattle.checkout.specs.Gone.{is_gone}
-use Rattle.checkout.specs.Tree.{links_from}
+use Rattle.manifest.specs.Tree.{links_from}
 use Rattle.checkout.proofs.TakenLaws.{has_room, take-AreTaken}
 use Rattle.checkout.proofs.laying.take.Goals as goal
 

@@ -5,7 +5,7 @@ use Rattle.std.proofs.lemmas.List.{drop_more}
 use Rattle.std.specs.List.{AllByRecursion}
 use Rattle.eden_base.specs.Name.{IsNameText}
 use Rattle.checkout.specs.Laying.{taken, IsLeft, StandApart}
-use Rattle.checkout.proofs.LineCounts.{lost_in-none}
+use Rattle.checkout.proofs.LostCounts.{lost_in-none}
 use Rattle.checkout.proofs.TakenSteps.{all_left_first, take-kept}
 use Rattle.checkout.proofs.laying.taken.Goals as goal
 

@@ -3,8 +3,8 @@ use Rattle.std.proofs.Common.{rules, ◌≡◌, ap}
 use Rattle.std.proofs.lemmas.List.Sorted.{answers_always, ranks_by}
 use Rattle.std.specs.Ordering.{is_lt}
 use Rattle.checkout.specs.Changes.{place_of}
-use Rattle.checkout.specs.Tree.{link_cmp}
-use Rattle.checkout.proofs.FlatLemmas.{link_cmp_total}
+use Rattle.manifest.specs.Tree.{link_cmp}
+use Rattle.manifest.proofs.FlatLemmas.{link_cmp_total}
 use Rattle.checkout.proofs.order.sort.Goals as goal
 
 pub returns-clause-sorted : goal.returns-clause-sorted

@@ -5,7 +5,7 @@ use Rattle.eden_base.specs.declared.number.FileId.{FileId}
 use Rattle.checkout.specs.Added.{gives}
 use Rattle.checkout.specs.Gone.{is_gone}
 use Rattle.checkout.specs.Overlay.{is_line}
-use Rattle.checkout.specs.Tree.{link_cmp}
+use Rattle.manifest.specs.Tree.{link_cmp}
 use Rattle.checkout.proofs.LinkLaws.{given_from_link}
 use Rattle.checkout.proofs.overlay.is_linked.Goals as goal
 

@@ -1,6 +1,6 @@
 -- The way is gone down again by its names.
 use Rattle.std.proofs.Common.{ap, sym, ◌∙◌}
-use Rattle.checkout.specs.Tree.{child_of}
+use Rattle.manifest.specs.Tree.{child_of}
 use Rattle.inode_map.specs.Table.{kept_of, kept_from}
 use Rattle.eden_base.proofs.MemberLemmas.{some-none}
 use Rattle.inode_map.specs.InodeMap.{entry_of}

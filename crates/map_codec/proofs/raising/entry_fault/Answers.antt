@@ -2,7 +2,7 @@
 use Rattle.std.proofs.Common.{◌≡◌, ℕ, true, false, List, Option, Vec, Global, sym, subst}
 use Rattle.std.specs.Prelude.{MatchOption}
 use Rattle.eden_base.specs.declared.number.FileId.{FileId}
-use Rattle.checkout.specs.Tree.{Tree}
+use Rattle.manifest.specs.Tree.{Tree}
 use Rattle.inode_map.specs.declared.inode_map.Kept.{Kept}
 use Rattle.map_codec.specs.Named.{AreDirectories, AreFilesOf, EachNames}
 use Rattle.map_codec.specs.Raising.{have_parents}

@@ -1,7 +1,7 @@
 -- What an image tells that may be raised fits together.
 use Rattle.std.proofs.Common.{◌≡◌, true, List, None, sym, subst}
 use Rattle.std.specs.List.{list_all}
-use Rattle.checkout.specs.Tree.{Tree}
+use Rattle.manifest.specs.Tree.{Tree}
 use Rattle.inode_map.specs.InodeMap.{is_of_use}
 use Rattle.inode_map.specs.declared.inode_map.Kept.{Kept}
 use Rattle.map_codec.specs.Fit.{CountsFit, entry_follows, rises}

@@ -3,8 +3,8 @@ use Rattle.std.proofs.Common.{None, nat_eq, refl, sym, subst, ◌∙◌}
 use Rattle.std.specs.HashMap.{get as dir_at}
 use Rattle.checkout.specs.Added.{AreDirsOf}
 use Rattle.checkout.proofs.DirLaws.{at_id, remove-AreDirsOf}
-use Rattle.checkout.proofs.FlatLemmas.{link_cmp_total, link_cmp-same}
-use Rattle.checkout.proofs.MapLemmas.{removed_nothing}
+use Rattle.manifest.proofs.FlatLemmas.{link_cmp_total, link_cmp-same}
+use Rattle.manifest.proofs.MapLemmas.{removed_nothing}
 use Rattle.checkout.proofs.added.Added.remove.Goals as goal
 
 pub invariant_of-self : goal.invariant_of-self

@@ -2,13 +2,13 @@
 use Rattle.std.proofs.Common.{◌≡◌, ◌++◌, map, ap, sym, ◌∙◌}
 use Rattle.std.specs.FinMap.{entries}
 use Rattle.checkout.specs.Listing.{listed_file}
-use Rattle.checkout.proofs.ListLemmas.{entries-made, listed_one_more, nothing_left}
+use Rattle.manifest.proofs.ListLemmas.{entries-by_number, listed_one_more, nothing_left}
 use Rattle.checkout.proofs.made.MadeFiles.list.Goals as goal
 
 pub loop-file-init : goal.loop-file-init
 loop-file-init c =
     let gives : c.into_iter-file-iterator.result ≡ c.self.inside.files.entries = c.into_iter-file-iterator.ensures.into_iter_gives.0 in
-    let all = gives ∙ sym (entries-made c.self.inside.files.entries c.self.invariant) ∙ ap entries c.self.view_is in
+    let all = gives ∙ sym (entries-by_number c.self.inside.files.entries c.self.invariant) ∙ ap entries c.self.view_is in
     ap (λ xs. xs ++ map listed_file c.into_iter-file-iterator.result) c.in_ok-list.ensures.items ∙ ap (map listed_file) all
 
 pub loop-file-preserved : goal.loop-file-preserved

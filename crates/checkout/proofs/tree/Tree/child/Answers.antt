@@ -5,8 +5,8 @@ use Rattle.std.specs.Option.{option_or}
 use Rattle.eden_base.specs.declared.number.FileId.{FileId}
 use Rattle.checkout.specs.Gone.{is_gone}
 use Rattle.checkout.specs.Overlay.{still}
-use Rattle.checkout.specs.Tally.{count_of}
-use Rattle.checkout.specs.Tree.{link_cmp, links_from}
+use Rattle.manifest.specs.Tally.{count_of}
+use Rattle.manifest.specs.Tree.{link_cmp, links_from}
 use Rattle.checkout.proofs.OverlayLaws.{child-over}
 use Rattle.checkout.proofs.tree.Tree.child.Goals as goal
 

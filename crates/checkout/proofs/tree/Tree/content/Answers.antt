@@ -3,7 +3,7 @@ use Rattle.std.proofs.Common.{ap, sym, ◌∙◌}
 use Rattle.std.specs.FinMap.{get}
 use Rattle.std.specs.Option.{option_map, option_or}
 use Rattle.checkout.specs.Overlay.{file_made}
-use Rattle.checkout.specs.Tree.{files_from}
+use Rattle.manifest.specs.Tree.{files_from}
 use Rattle.checkout.proofs.UnionLaws.{get-files_over}
 use Rattle.checkout.proofs.tree.Tree.content.Goals as goal
 

@@ -5,10 +5,10 @@ use Rattle.std.specs.FinMap.{get}
 use Rattle.std.specs.Option.{option_map, option_or}
 use Rattle.eden_base.proofs.MemberLemmas.{some-IsSome}
 use Rattle.eden_base.specs.declared.attr.Perm.{Perm}
-use Rattle.checkout.specs.Manifest.{File, Line}
+use Rattle.manifest.specs.Manifest.{File, Line}
 use Rattle.checkout.specs.Overlay.{file_made}
-use Rattle.checkout.specs.Tree.{files_from}
-use Rattle.checkout.proofs.ManifestTree.{id_of_file}
+use Rattle.manifest.specs.Tree.{files_from}
+use Rattle.manifest.proofs.ManifestTree.{id_of_file}
 use Rattle.checkout.proofs.UnionLaws.{get-files_over}
 use Rattle.checkout.proofs.tree.Tree.perm_made.Goals as goal
 

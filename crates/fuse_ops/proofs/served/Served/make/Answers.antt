@@ -3,7 +3,7 @@ use Rattle.std.proofs.Common.{Err, refl, sym, ap, ◌∙◌, subst, inr}
 use Rattle.eden_base.specs.declared.errno.Errno.TheVariants.{ENOMEM}
 use Rattle.checkout.proofs.AttrLaws.{attr_of-created}
 use Rattle.eden_base.specs.declared.number.FileId.{FileId}
-use Rattle.checkout.specs.Tree.{Tree, attr_of, next_file}
+use Rattle.manifest.specs.Tree.{Tree, attr_of, next_file}
 use Rattle.inode_map.specs.InodeMap.{MapState, entry_of, given, number_given, IsFileOf}
 use Rattle.std.specs.Prelude.{IsSome}
 use Rattle.fuse_ops.specs.Loading.{LoadsTold}

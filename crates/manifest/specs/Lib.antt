@@ -1,0 +1,11 @@
+pub mod Codes
+pub mod Flat
+pub mod Links
+pub mod Manifest
+pub mod ManifestForm
+pub mod ManifestText
+pub mod Names
+pub mod Tally
+pub mod Text
+pub mod Tree
+pub mod Words

@@ -1,0 +1,176 @@
+-- The text of a manifest, line by line. (This project's own format. A commit is named by the twenty bytes of a hash,
+-- as in Git and EdenFS.)
+use Rattle.std.specs.Prelude.{◌≡◌, ℕ, ◌+◌, ◌<◌, ◌≤◌, not, nat_le, List, [], ◌∷◌, ◌++◌, length, codes, Option, Some, None, is_none, is_some, Result, Ok, Err, IsOk, IfErr, unwrap_or, if◌then◌else◌}
+use Rattle.std.specs.Option.{option_map, option_and_then, option_or}
+use Rattle.std.specs.Result.{result_ok}
+use Rattle.std.specs.List.{list_all}
+use Rattle.hex.specs.Hex.{decode_sized}
+use Rattle.eden_base.specs.declared.attr.Kind.{Kind}
+use Rattle.eden_base.specs.declared.attr.Kind.TheVariants.{Dir, File as RegularFile}
+use Rattle.eden_base.specs.declared.attr.Perm.{Perm}
+use Rattle.eden_base.specs.declared.number.FileId.{FileId}
+use Rattle.manifest.specs.declared.fault.ManifestFault.{ManifestFault}
+use Rattle.manifest.specs.declared.fault.ManifestFaultKind.{ManifestFaultKind}
+use Rattle.manifest.specs.declared.fault.ManifestFaultKind.TheVariants.{NoCommit, BadLine, BadMode, BadSize, BadPath, NoParent, Twice, TooManyLines, NoMemory}
+use Rattle.manifest.specs.Manifest.{Line, Manifest, most_lines}
+use Rattle.manifest.specs.Names.{is_name}
+use Rattle.eden_base.specs.Text.{cut}
+use Rattle.manifest.specs.Text.{after, parts, front, last, mode_of, size_of}
+use Rattle.manifest.specs.Tree.{Tree, tree_of, kind_of, child_of, file_at, root, dir_perm, is_dir}
+
+-- the lines that are ended by LF, and then what is not
+abbrev pub lines_of : List ℕ → List (List ℕ)
+lines_of text = parts 10 text
+
+-- the commit that the first line names, in hexadecimal digits of either case
+abbrev pub commit_of : List ℕ → Option (List ℕ)
+commit_of line =
+    option_and_then (λ (digits : List ℕ). result_ok (decode_sized digits 20)) (after (codes "commit ") line)
+
+-- what a line says of its file, where it says so, and its path
+pub record Entry : Type 0 where
+  pub kind : Kind
+  pub perm : Option Perm
+  pub size : Option ℕ
+  pub path : List ℕ
+
+-- `dir PATH`: its owner's alone to write, and without content
+abbrev pub dir_entry : List ℕ → Entry
+dir_entry path = record { kind = Dir; perm = Some dir_perm; size = Some 0; path = path }
+
+-- `MODE SIZE PATH`
+abbrev pub file_entry : List ℕ → Option Entry
+file_entry rest =
+    option_and_then (λ (m : List ℕ × List ℕ).
+    option_map
+    (λ (s : List ℕ × List ℕ). record { kind = RegularFile; perm = mode_of m.0; size = size_of s.0; path = s.1 })
+    (cut 32 m.1))
+    (cut 32 rest)
+
+-- a line is a directory's or a file's
+abbrev pub entry_of : List ℕ → Option Entry
+entry_of line =
+    option_or (option_map dir_entry (after (codes "dir ") line))
+    (option_and_then file_entry (after (codes "file ") line))
+
+-- the names of a path
+abbrev pub names_of : List ℕ → List (List ℕ)
+names_of path = parts 47 path
+
+-- what is wrong with a line's fields, the first in this order
+abbrev pub entry_fault : Option Entry → Option ManifestFaultKind
+entry_fault None = Some BadLine
+entry_fault (Some e) =
+    if is_none e.perm then Some BadMode
+    else if is_none e.size then Some BadSize
+    else None
+
+-- the tree of the lines so far
+abbrev pub tree_so_far : List Line → Tree
+tree_so_far lines = tree_of (record { commit = []; lines = lines })
+
+-- the file, where it is a directory
+abbrev pub only_dir : Tree → FileId → Option FileId
+only_dir tree file = if is_dir (kind_of tree file) then Some file else None
+
+-- the directory at a path
+abbrev pub dir_at : Tree → List (List ℕ) → Option FileId
+dir_at tree names = option_and_then (only_dir tree) (file_at tree root names)
+
+-- the directory that holds a path's last name
+abbrev pub parent_of : List Line → List ℕ → Option FileId
+parent_of lines path = dir_at (tree_so_far lines) (front (names_of path))
+
+-- what is wrong with a path after these lines, the first in this order
+abbrev pub place_fault : List Line → List ℕ → Option ManifestFaultKind
+place_fault lines path =
+    if not (list_all is_name (names_of path)) then Some BadPath
+    else if is_none (parent_of lines path) then Some NoParent
+    else if is_some (child_of (tree_so_far lines) (unwrap_or (parent_of lines path) root) (last (names_of path)))
+    then Some Twice
+    else if nat_le most_lines (length lines) then Some TooManyLines
+    else None
+
+-- the line that an entry makes after these lines
+abbrev pub line_said : List Line → Entry → Line
+line_said lines e = record {
+  dir = unwrap_or (parent_of lines e.path) root;
+  name = last (names_of e.path);
+  file = record { kind = e.kind; perm = unwrap_or e.perm dir_perm; size = unwrap_or e.size 0 };
+}
+
+-- what a line without a fault of its own makes after these lines
+abbrev pub placed : List Line → Entry → Option ManifestFaultKind → Result Line ManifestFaultKind
+placed lines e None = Ok (line_said lines e)
+placed lines e (Some fault) = Err fault
+
+-- the line that an entry makes after these lines, or its first fault
+abbrev pub line_of_entry : List Line → Option Entry → Result Line ManifestFaultKind
+line_of_entry lines None = Err BadLine
+line_of_entry lines (Some e) = placed lines e (option_or (entry_fault (Some e)) (place_fault lines e.path))
+
+-- the same of a line's text
+abbrev pub line_of_text : List Line → List ℕ → Result Line ManifestFaultKind
+line_of_text lines text = line_of_entry lines (entry_of text)
+
+-- what is wrong, with the number of the line
+abbrev pub fault_at : ℕ → ManifestFaultKind → ManifestFault
+fault_at line kind = record { line = line; kind = kind }
+
+-- what follows from a line, or from its fault
+abbrev pub on_line : {R : Type 0} → Result Line ManifestFaultKind → (Line → R) → (ManifestFaultKind → R) → R
+on_line (Ok line) f g = f line
+on_line (Err fault) f g = g fault
+
+-- the lines of a text from this number on, after these; what isn't ended by LF is no line
+abbrev pub read_on : List Line → ℕ → List (List ℕ) → Result (List Line) ManifestFault
+read_on lines number [] = Ok lines
+read_on lines number ([] ∷ []) = Ok lines
+read_on lines number ((b ∷ bs) ∷ []) = Err (fault_at number BadLine)
+read_on lines number (text ∷ next ∷ more) =
+    on_line (line_of_text lines text) (λ line. read_on (lines ++ line ∷ []) (number + 1) (next ∷ more))
+    (λ fault. Err (fault_at number fault))
+
+-- a commit with lines
+abbrev pub with_commit : List ℕ → Result (List Line) ManifestFault → Result Manifest ManifestFault
+with_commit commit (Ok lines) = Ok (record { commit = commit; lines = lines })
+with_commit commit (Err fault) = Err fault
+
+-- the first line is the commit's, and is ended
+abbrev pub after_commit : Option (List ℕ) → List (List ℕ) → Result Manifest ManifestFault
+after_commit None rest = Err (fault_at 1 NoCommit)
+after_commit (Some commit) [] = Err (fault_at 1 BadLine)
+after_commit (Some commit) (line ∷ more) = with_commit commit (read_on [] 2 (line ∷ more))
+
+-- what the lines of a text say
+abbrev pub manifest_of_lines : List (List ℕ) → Result Manifest ManifestFault
+manifest_of_lines [] = Err (fault_at 1 NoCommit)
+manifest_of_lines (first ∷ rest) = after_commit (commit_of first) rest
+
+-- the manifest that a text is, or the first faulty line and its first fault
+abbrev pub manifest_of : List ℕ → Result Manifest ManifestFault
+manifest_of text = manifest_of_lines (lines_of text)
+
+-- a refused line tells its first fault; out of memory comes for lines without one
+abbrev pub IsLineRefusal : Result Line ManifestFaultKind → ManifestFaultKind → Type 0
+IsLineRefusal line NoMemory = IsOk line
+IsLineRefusal line fault = line ≡ Err fault
+
+-- a refused text tells its first fault; out of memory comes at a line that has none, nor any before it
+abbrev pub IsRefusal : {T : Type 0} → Result T ManifestFault → ℕ → ManifestFaultKind → Type 0
+IsRefusal said line NoMemory = IfErr said (λ first. line < first.line)
+IsRefusal said line fault = said ≡ Err (fault_at line fault)
+
+-- that of a manifest, at one of its lines
+abbrev pub IsManifestRefusal : List ℕ → ManifestFault → Type 0
+IsManifestRefusal text fault = IsRefusal (manifest_of text) fault.line fault.kind
+
+-- where a fault stands among so many lines, the last of which LF doesn't end: out of memory comes for lines that are
+-- ended, and for the commit's alone where no other follows it
+abbrev pub IsAmongLines : ℕ → ℕ → ManifestFaultKind → Type 0
+IsAmongLines count line NoMemory = (0 < line) × (line < count) × (line ≡ 1 → count ≡ 2)
+IsAmongLines count line fault = (0 < line) × (line ≤ count)
+
+-- a fault stands at one of the text's lines
+abbrev pub IsAtLine : List ℕ → ManifestFault → Type 0
+IsAtLine text fault = IsAmongLines (length (lines_of text)) fault.line fault.kind

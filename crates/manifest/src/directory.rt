@@ -1,0 +1,104 @@
+//! The names in one directory, and the file that each of them gives.
+ghost use Rattle.std.specs.Prelude.{◌≡◌, ◌↔◌, ◌++◌, map, IsTrue, OnOk, OnErr};
+ghost use Rattle.std.specs.Ordering.{nat_cmp};
+ghost use Rattle.std.specs.Cmp.Lexicographic.{slice_cmp};
+ghost use Rattle.std.specs.FinMap.{FinMap, empty, entries, get, insert, remove};
+ghost use Rattle.std.specs.List.{AllByRecursion};
+ghost use Rattle.eden_base.specs.Name.{IsNameText};
+ghost use Rattle.manifest.specs.Flat.{in_directory};
+ghost use Rattle.manifest.specs.Links.{added_change};
+
+use crate::LinkChange;
+use eden_base::{FileId, Name, NoMemory};
+use std::alloc::Global;
+use std::collections::BTreeMap;
+use std::marker::Model;
+
+/// A lookup by bytes takes no memory, as the names are kept as bytes.
+#[derive(Drop)]
+pub struct Directory {
+    files: BTreeMap<Vec<u8>, FileId>,
+}
+
+impl Model for Directory {
+    ghost use Rattle.std.specs.Ordering.{nat_cmp};
+    ghost use Rattle.std.specs.Cmp.Lexicographic.{slice_cmp};
+    ghost use Rattle.std.specs.FinMap.{FinMap, from_entries};
+    ghost use Rattle.eden_base.specs.declared.number.FileId.{FileId};
+    ghost use Rattle.manifest.specs.Codes.{directory_code};
+    ghost use Rattle.std.specs.BTreeMap.{IsOrdered};
+    ghost use Rattle.manifest.specs.Flat.{by_bytes, vec_cmp};
+
+    ghost Value = { FinMap (slice_cmp nat_cmp) FileId };
+
+    ghost coded = { directory_code };
+
+    ghost view = { λ a. from_entries (by_bytes a.files.entries) };
+
+    ghost invariant = { λ a. IsOrdered vec_cmp a.files };
+}
+
+impl Directory {
+    /// Returns a directory with nothing in it.
+    pub fn new(alloc: Global) -> Directory
+        ensures { result ≡ empty }
+    {
+        Directory {
+            files: BTreeMap::new(alloc),
+        }
+    }
+
+    /// Returns the file under a name.
+    pub fn get(&self, name: &[u8]) -> Option<FileId>
+        ensures { result ≡ get self.now name.now }
+    {
+        self.files.get(name).copied()
+    }
+
+    /// Returns whether no name stands in it.
+    pub fn is_empty(&self) -> bool
+        ensures { IsTrue result ↔ (self.now ≡ empty) }
+    {
+        self.files.is_empty()
+    }
+
+    /// Writes the names, in their order, behind those that are listed.
+    pub fn list(
+        &self,
+        alloc: Global,
+        dir: FileId,
+        links: &mut Vec<LinkChange>,
+    ) -> Result<(), NoMemory>
+        requires names { AllByRecursion (λ e. IsNameText e.0) (entries self.now) }
+        ensures { OnOk result (links.new.items ≡ links.old.items
+            ++ map added_change (in_directory dir.0 (entries self.now))) }
+    {
+        for (name, file) in &self.files {
+            let name = Name::of(alloc, name.as_slice())?;
+            links.push(LinkChange {
+                dir,
+                name,
+                target: Some(*file),
+            })?;
+        }
+        Ok(())
+    }
+
+    /// Lets a name give a file.
+    pub fn insert(&mut self, alloc: Global, name: &[u8], file: FileId) -> Result<(), NoMemory>
+        ensures ok { OnOk result (self.new ≡ insert self.old name.now file) }
+        ensures err { OnErr result (self.new ≡ self.old) }
+    {
+        let name = Vec::from_slice(alloc, name)?;
+        self.files.insert(name, file)?;
+        Ok(())
+    }
+
+    /// Takes a name out, and returns the file that it gave. Takes no memory.
+    pub fn remove(&mut self, name: &[u8]) -> Option<FileId>
+        ensures value { result ≡ get self.old name.now }
+        ensures files { self.new ≡ remove self.old name.now }
+    {
+        self.files.remove(name)
+    }
+}

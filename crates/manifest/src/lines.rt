@@ -1,0 +1,173 @@
+//! The lines of a manifest, and the places that they take.
+ghost use Rattle.std.specs.Prelude.{◌≡◌, [], ◌∷◌, ◌++◌, ◌<◌, ◌≤◌, IfErr, IfOk, IsOkAnd, MatchOption, OnOk, length, Some, None};
+ghost use Rattle.std.specs.FinMap.{get};
+ghost use Rattle.eden_base.specs.Limits.{greatest_size};
+ghost use Rattle.manifest.specs.Manifest.{AreLines, IsDirBefore, most_lines, kids_in};
+ghost use Rattle.manifest.specs.ManifestText.{line_of_text, IsLineRefusal, parent_of, place_fault, names_of, tree_so_far};
+ghost use Rattle.manifest.specs.Text.{front, last};
+ghost use Rattle.manifest.specs.Tree.{file_at, links_from, root};
+
+use crate::entry::Entry;
+use crate::field::is_path;
+use crate::line::kind_of;
+use crate::links::Links;
+use crate::tally::Tally;
+use crate::{Line, ManifestFaultKind};
+use eden_base::{FileId, Kind, Name, NoMemory, cut};
+use std::alloc::Global;
+use std::marker::Model;
+
+/// The index of the places is made as the lines are read, and serves whoever reads the manifest afterwards.
+#[derive(Drop)]
+pub struct Lines {
+    lines: Vec<Line>,
+    links: Links,
+    /// How many lines stand in each directory.
+    kids: Tally,
+}
+
+impl Model for Lines {
+    ghost use Rattle.std.specs.Prelude.{◌≡◌, List, ℕ};
+    ghost use Rattle.manifest.specs.Manifest.{Line, AreLines, kids_in};
+    ghost use Rattle.manifest.specs.Tally.{count_of};
+    ghost use Rattle.manifest.specs.Tree.{links_from};
+    ghost use Rattle.manifest.specs.Codes.{lines_code};
+
+    ghost Value = { List Line };
+
+    ghost coded = { lines_code };
+
+    ghost view = { λ a. a.lines.items };
+
+    ghost invariant = { λ a. AreLines a.lines.items × (a.links ≡ links_from 2 a.lines.items)
+        × ((dir : ℕ) → count_of a.kids dir ≡ kids_in dir a.lines.items) };
+}
+
+impl Lines {
+    /// How many lines may follow the commit's.
+    const MAX_LINES: usize = 65535;
+
+    /// Returns no lines.
+    pub fn new(alloc: Global) -> Lines
+        ensures { result ≡ [] }
+    {
+        Lines {
+            lines: Vec::new(alloc),
+            links: Links::new(alloc),
+            kids: Tally::new(alloc),
+        }
+    }
+
+    /// Returns how many lines there are.
+    pub fn len(&self) -> usize
+        ensures len { result ≡ length self.now }
+        ensures few { result ≤ most_lines }
+    {
+        self.lines.len()
+    }
+
+    /// Returns the lines: that of the file with id 2, and so on.
+    pub fn as_slice(&self) -> &[Line]
+        ensures lines { result.now ≡ self.now }
+        ensures are_lines { AreLines self.now }
+    {
+        self.lines.as_slice()
+    }
+
+    /// Returns the file that the lines have under a name in a directory.
+    pub fn child(&self, dir: FileId, name: &[u8]) -> Option<FileId>
+        ensures { result ≡ get (links_from 2 self.now) (dir.0, name.now) }
+    {
+        self.links.get(dir, name)
+    }
+
+    /// Returns how many lines stand in a directory.
+    pub fn kids(&self, dir: FileId) -> u32
+        ensures { result ≡ kids_in dir.0 self.now }
+    {
+        self.kids.count(dir.0)
+    }
+
+    /// Takes one more line, without its LF.
+    pub fn add(&mut self, alloc: Global, text: &[u8]) -> Result<(), ManifestFaultKind>
+        ensures added { OnOk result (IsOkAnd (line_of_text self.old text.now) (λ line.
+            self.new ≡ self.old ++ line ∷ [])) }
+        ensures refused { IfErr result (IsLineRefusal (line_of_text self.old text.now)) }
+    {
+        let entry = Entry::read(text)?;
+        let (dir, bytes) = self.place(entry.path)?;
+        let Ok(name) = Name::parse(alloc, bytes) else {
+            return Err(ManifestFaultKind::NoMemory);
+        };
+        let line = Line {
+            dir,
+            name,
+            kind: entry.kind,
+            perm: entry.perm,
+            size: entry.size,
+        };
+        match self.push(alloc, line) {
+            Ok(()) => Ok(()),
+            Err(_) => Err(ManifestFaultKind::NoMemory),
+        }
+    }
+
+    /// Returns the directory and the name that a path ends in, where the next line may stand.
+    fn place<'a>(&self, path: &'a [u8]) -> Result<(FileId, &'a [u8]), ManifestFaultKind>
+        ensures fits { OnOk result (place_fault self.now path.now ≡ None) }
+        ensures dir { IfOk result (λ p. parent_of self.now path.now ≡ Some p.0) }
+        ensures name { IfOk result (λ p. p.1.now ≡ last (names_of path.now)) }
+        ensures before { IfOk result (λ p. IsDirBefore self.now (length self.now) p.0) }
+        ensures new { IfOk result (λ p. get (links_from 2 self.now) (p.0.0, p.1.now) ≡ None) }
+        ensures refused { IfErr result (λ fault. place_fault self.now path.now ≡ Some fault) }
+    {
+        if !is_path(path) {
+            return Err(ManifestFaultKind::BadPath);
+        }
+        let Some((dir, name)) = self.walk(path) else {
+            return Err(ManifestFaultKind::NoParent);
+        };
+        if kind_of(self.lines.as_slice(), dir) != Some(Kind::Dir) {
+            return Err(ManifestFaultKind::NoParent);
+        }
+        if self.links.get(dir, name).is_some() {
+            return Err(ManifestFaultKind::Twice);
+        }
+        if self.len() >= Lines::MAX_LINES {
+            return Err(ManifestFaultKind::TooManyLines);
+        }
+        Ok((dir, name))
+    }
+
+    /// Returns the file that all but the last name of a path lead to, and that name.
+    fn walk<'a>(&self, path: &'a [u8]) -> Option<(FileId, &'a [u8])>
+        ensures { let found = file_at (tree_so_far self.now) root (front (names_of path.now)) in
+            MatchOption result (found ≡ None) (λ p.
+            (found ≡ Some p.0) × (p.1.now ≡ last (names_of path.now))) }
+    {
+        let mut dir = FileId::ROOT;
+        let mut rest = path;
+        while let Some((first, after)) = cut(rest, b'/') {
+            dir = self.links.get(dir, first)?;
+            rest = after;
+        }
+        Some((dir, rest))
+    }
+
+    /// Adds a line at a new place.
+    fn push(&mut self, alloc: Global, line: Line) -> Result<(), NoMemory>
+        requires room { length self.old < most_lines }
+        requires size { line.file.size ≤ greatest_size }
+        requires dir { IsDirBefore self.old (length self.old) line.dir }
+        requires new { get (links_from 2 self.old) (line.dir.0, line.name) ≡ None }
+        ensures { IfOk result (λ _. self.new ≡ self.old ++ line ∷ []) }
+    {
+        let file = FileId(self.len() as u64 + 2);
+        self.lines.reserve(1)?;
+        self.kids.reserve(file.0 as usize)?;
+        self.links.insert(alloc, line.dir, line.name.bytes(), file)?;
+        self.kids.raise(line.dir.0);
+        self.lines.push(line).unwrap();
+        Ok(())
+    }
+}

@@ -1,0 +1,113 @@
+//! The names in every directory, and the file that each of them gives.
+ghost use Rattle.std.specs.Prelude.{◌≡◌, ◌==◌, ◌++◌, map, OnOk, OnErr};
+ghost use Rattle.std.specs.FinMap.{FinMap, empty, entries, get, insert, remove};
+ghost use Rattle.std.specs.List.{AllByRecursion, list_any};
+ghost use Rattle.std.specs.List.Sorted.{IsPermutation};
+ghost use Rattle.eden_base.specs.Name.{IsNameText};
+ghost use Rattle.manifest.specs.Links.{added_change};
+
+use crate::directory::Directory;
+use eden_base::{FileId, Name, NoMemory};
+use std::alloc::Global;
+use std::collections::HashMap;
+use std::marker::Model;
+
+/// A name in a directory that gives another file than the manifest says, or none where the manifest says one.
+#[derive(Drop)]
+pub struct LinkChange {
+    pub dir: FileId,
+    pub name: Name,
+    /// The file that it gives now, if any.
+    pub target: Option<FileId>,
+}
+
+/// A directory in which no name was to stand is not there.
+#[derive(Drop)]
+pub struct Links {
+    /// By their ids, which the tree gives itself, so a hash with a fixed seed serves.
+    directories: HashMap<u64, Directory>,
+}
+
+impl Model for Links {
+    ghost use Rattle.std.specs.Prelude.{ℕ, nat_eq};
+    ghost use Rattle.std.specs.HashMap.{IsUnique};
+    ghost use Rattle.std.specs.FinMap.{FinMap, from_entries};
+    ghost use Rattle.eden_base.specs.declared.number.FileId.{FileId};
+    ghost use Rattle.manifest.specs.Tree.{link_cmp};
+    ghost use Rattle.manifest.specs.Codes.{links_code};
+    ghost use Rattle.manifest.specs.Flat.{in_directories};
+
+    ghost Value = { FinMap link_cmp FileId };
+
+    ghost coded = { links_code };
+
+    ghost view = { λ a. from_entries (in_directories a.directories.entries) };
+
+    ghost invariant = { λ a. IsUnique nat_eq a.directories };
+}
+
+impl Links {
+    /// Returns an index without links.
+    pub fn new(alloc: Global) -> Links
+        ensures { result ≡ empty }
+    {
+        Links {
+            directories: HashMap::new(alloc),
+        }
+    }
+
+    /// Returns the file under a name in a directory.
+    pub fn get(&self, dir: FileId, name: &[u8]) -> Option<FileId>
+        ensures { result ≡ get self.now (dir.0, name.now) }
+    {
+        self.directories.get(&dir.0)?.get(name)
+    }
+
+    /// Returns whether a name stands in the directory.
+    pub fn has_links(&self, dir: FileId) -> bool
+        ensures { result ≡ list_any (λ link. link.0.0 == dir.0) (entries self.now) }
+    {
+        match self.directories.get(&dir.0) {
+            Some(directory) => !directory.is_empty(),
+            None => false,
+        }
+    }
+
+    /// Writes the names, those of one directory together, behind those that are listed.
+    pub fn list(&self, alloc: Global, links: &mut Vec<LinkChange>) -> Result<(), NoMemory>
+        requires names { AllByRecursion (λ link. IsNameText link.0.1) (entries self.now) }
+        ensures { OnOk result (IsPermutation (links.old.items ++ map added_change (entries self.now)) links.new.items) }
+    {
+        for (dir, directory) in &self.directories {
+            directory.list(alloc, FileId(*dir), links)?;
+        }
+        Ok(())
+    }
+
+    /// Lets a name in a directory give a file.
+    pub fn insert(
+        &mut self,
+        alloc: Global,
+        dir: FileId,
+        name: &[u8],
+        file: FileId,
+    ) -> Result<(), NoMemory>
+        ensures ok { OnOk result (self.new ≡ insert self.old (dir.0, name.now) file) }
+        ensures err { OnErr result (self.new ≡ self.old) }
+    {
+        let none = Directory::new(alloc);
+        let directory = self.directories.entry(dir.0)?.or_insert(none);
+        directory.insert(alloc, name, file)
+    }
+
+    /// Takes a name out of a directory, and returns the file that it gave. Takes no memory.
+    pub fn remove(&mut self, dir: FileId, name: &[u8]) -> Option<FileId>
+        ensures value { result ≡ get self.old (dir.0, name.now) }
+        ensures links { self.new ≡ remove self.old (dir.0, name.now) }
+    {
+        let Some(directory) = self.directories.get_mut(&dir.0) else {
+            return None;
+        };
+        directory.remove(name)
+    }
+}

@@ -1,0 +1,177 @@
+//! The list of what a commit contains.
+ghost use Rattle.std.specs.Prelude.{◌≡◌, ◌+◌, [], IfErr, IfOk, Ok, length};
+ghost use Rattle.std.specs.FinMap.{get};
+ghost use Rattle.manifest.specs.Manifest.{IsManifest, kids_in};
+ghost use Rattle.manifest.specs.ManifestForm.{AreFormsRead, IsManifestForm};
+ghost use Rattle.manifest.specs.ManifestText.{commit_of, lines_of, manifest_of, read_on, with_commit, IsAmongLines, IsAtLine, IsManifestRefusal, IsRefusal};
+
+use crate::field::after;
+use crate::line::content_of;
+use crate::lines::Lines;
+use crate::{Content, Line, ManifestFault, ManifestFaultKind};
+use eden_base::{FileId, NoMemory, cut};
+use std::alloc::Global;
+use std::marker::Model;
+use std::sync::Arc;
+
+/// The files of a checkout at a commit, each directory before what it holds. Every daemon of a mount is handed the
+/// same one.
+#[derive(Drop)]
+pub struct Manifest {
+    commit: [u8; 20],
+    lines: Arc<Lines>,
+}
+
+impl Model for Manifest {
+    ghost use Rattle.manifest.specs.Manifest.{Manifest, IsManifest};
+    ghost use Rattle.manifest.specs.Codes.{manifest_code};
+
+    ghost Value = { Manifest };
+
+    ghost coded = { manifest_code };
+
+    ghost view = { λ a. record { commit = a.commit; lines = a.lines.value } };
+
+    ghost invariant = { λ a. IsManifest (record { commit = a.commit; lines = a.lines.value }) };
+}
+
+impl Manifest {
+    ghost use Rattle.manifest.specs.Tree.{IsTree, tree_of, files_from, links_from};
+
+    /// Reads a line `commit ` with forty hexadecimal digits, and then lines `dir PATH` and `file MODE SIZE PATH`. Each
+    /// is ended by LF.
+    pub fn read(alloc: Global, bytes: &[u8]) -> Result<Manifest, ManifestFault>
+        ensures manifest { IfOk result (λ manifest. manifest_of bytes.now ≡ Ok manifest) }
+        ensures form { IfOk result (λ manifest. IsManifestForm manifest bytes.now) }
+        ensures forms_are_read { AreFormsRead bytes.now }
+        ensures is_manifest { IfOk result IsManifest }
+        ensures refused { IfErr result (IsManifestRefusal bytes.now) }
+        ensures line { IfErr result (IsAtLine bytes.now) }
+    {
+        let (commit, rest) = match read_commit(bytes) {
+            Ok(parts) => parts,
+            Err(kind) => return Err(ManifestFault { line: 1, kind }),
+        };
+        let lines = read_lines(alloc, rest)?;
+        let line = lines.len() + 1;
+        match Arc::new(alloc, lines) {
+            Ok(lines) => Ok(Manifest { commit, lines }),
+            Err(_) => Err(ManifestFault {
+                line,
+                kind: ManifestFaultKind::NoMemory,
+            }),
+        }
+    }
+
+    /// Returns the name of the commit, as Git and EdenFS have it: twenty bytes of a hash.
+    pub fn commit(&self) -> [u8; 20]
+        ensures commit { result ≡ self.now.commit }
+        ensures is_manifest { IsManifest self.now }
+    {
+        self.commit
+    }
+
+    /// Returns the lines: that of the file with id 2, and so on.
+    pub fn lines(&self) -> &[Line]
+        ensures lines { result.now ≡ self.now.lines }
+        ensures is_manifest { IsManifest self.now }
+    {
+        self.lines.as_slice()
+    }
+
+    /// Returns one more owner of the same lines, which make a tree. It is refused where owners can't be counted.
+    pub fn share(&self) -> Result<Manifest, NoMemory>
+        ensures same { IfOk result (λ shared. shared ≡ self.now) }
+        ensures is_manifest { IfOk result IsManifest }
+        ensures makes_tree { IfOk result (λ shared. IsTree (tree_of shared)) }
+    {
+        let lines = Arc::try_clone(&self.lines)?;
+        Ok(Manifest {
+            commit: self.commit,
+            lines,
+        })
+    }
+
+    /// Returns what the manifest says of a file.
+    pub fn content(&self, file: FileId) -> Option<Content>
+        ensures content { result ≡ get (files_from 2 self.now.lines) file.0 }
+        ensures is_manifest { IsManifest self.now }
+    {
+        content_of(self.lines(), file)
+    }
+
+    /// Returns the file that the manifest has under a name in a directory.
+    pub fn child(&self, dir: FileId, name: &[u8]) -> Option<FileId>
+        ensures child { result ≡ get (links_from 2 self.now.lines) (dir.0, name.now) }
+        ensures is_manifest { IsManifest self.now }
+    {
+        self.lines.child(dir, name)
+    }
+
+    /// Returns how many names the manifest has in a directory.
+    pub fn kids(&self, dir: FileId) -> u32
+        ensures kids { result ≡ kids_in dir.0 self.now.lines }
+    {
+        self.lines.kids(dir)
+    }
+}
+
+/// Reads the commit; returns it with what comes after its line.
+fn read_commit(bytes: &[u8]) -> Result<([u8; 20], &[u8]), ManifestFaultKind>
+    ensures commit { IfOk result (λ p.
+        manifest_of bytes.now ≡ with_commit p.0 (read_on [] 2 (lines_of p.1.now))) }
+    ensures behind { IfOk result (λ p.
+        length (lines_of bytes.now) ≡ length (lines_of p.1.now) + 1) }
+    ensures refused { IfErr result (IsRefusal (manifest_of bytes.now) 1) }
+    ensures line { IfErr result (IsAmongLines (length (lines_of bytes.now)) 1) }
+{
+    match cut(bytes, b'\n') {
+        Some((line, rest)) => match commit_of(line) {
+            Some(commit) => Ok((commit, rest)),
+            None => Err(ManifestFaultKind::NoCommit),
+        },
+        None => match commit_of(bytes) {
+            Some(_) => Err(ManifestFaultKind::BadLine),
+            None => Err(ManifestFaultKind::NoCommit),
+        },
+    }
+}
+
+/// Returns the commit that the first line names.
+fn commit_of(line: &[u8]) -> Option<[u8; 20]>
+    ensures { result ≡ commit_of line.now }
+{
+    let digits = after(b"commit ".as_slice(), line)?;
+    let mut commit = [0; 20];
+    match hex::decode_to_slice(digits, &mut commit) {
+        Ok(()) => Some(commit),
+        Err(_) => None,
+    }
+}
+
+/// Reads the lines after the first.
+fn read_lines(alloc: Global, bytes: &[u8]) -> Result<Lines, ManifestFault>
+    ensures lines { IfOk result (λ lines. read_on [] 2 (lines_of bytes.now) ≡ Ok lines) }
+    ensures count { IfOk result (λ lines. length (lines_of bytes.now) ≡ length lines + 1) }
+    ensures refused { IfErr result (λ fault.
+        IsRefusal (read_on [] 2 (lines_of bytes.now)) fault.line fault.kind) }
+    ensures line { IfErr result (λ fault.
+        IsAmongLines (length (lines_of bytes.now) + 1) fault.line fault.kind) }
+{
+    let mut lines = Lines::new(alloc);
+    let mut rest = bytes;
+    while !rest.is_empty() {
+        let line = lines.len() + 2;
+        let Some((text, after)) = cut(rest, b'\n') else {
+            return Err(ManifestFault {
+                line,
+                kind: ManifestFaultKind::BadLine,
+            });
+        };
+        match lines.add(alloc, text) {
+            Ok(()) => rest = after,
+            Err(kind) => return Err(ManifestFault { line, kind }),
+        }
+    }
+    Ok(lines)
+}
