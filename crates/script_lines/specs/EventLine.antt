@@ -5,7 +5,7 @@ use Rattle.fuse_wire.specs.declared.request.Request.{Request}
 use Rattle.fuse_wire.specs.declared.request.Request.TheVariants.{Lookup, Getattr, Create, Mkdir, Unlink, Rmdir, Forget}
 use Rattle.fuse_wire.specs.Request.{other_of}
 use Rattle.world.specs.declared.event.Event.{Event}
-use Rattle.world.specs.declared.event.Event.TheVariants.{Start, Mount, Issue, Take, Work, Post, Deliver, Do, Show}
+use Rattle.world.specs.declared.event.Event.TheVariants.{Start, Mount, Issue, Take, Work, Post, Deliver, Crash, Do, Show}
 use Rattle.eden_base.specs.Name.{name_fault}
 use Rattle.eden_base.specs.declared.attr.Perm.{Perm}
 use Rattle.eden_base.specs.declared.number.DaemonId.{DaemonId}
@@ -154,6 +154,10 @@ abbrev pub post_of : List ℕ → Option Event
 post_of words =
     option_and_then (λ (parts : List ℕ × List ℕ). post_both (number_of parts.0) (number_of parts.1)) (cut 32 words)
 
+-- `D`
+abbrev pub crash_of : List ℕ → Option Event
+crash_of words = option_map (λ (daemon : ℕ). Crash (daemon_said daemon)) (number_of words)
+
 -- a daemon's command, by its first word
 abbrev pub daemon_event_by : List ℕ → List ℕ → Option Event
 daemon_event_by word rest =
@@ -161,6 +165,7 @@ daemon_event_by word rest =
     else if is_word word (codes "take") then take_of rest
     else if is_word word (codes "work") then work_of rest
     else if is_word word (codes "post") then post_of rest
+    else if is_word word (codes "crash") then crash_of rest
     else None
 
 -- a request that waits

@@ -24,7 +24,7 @@ use Rattle.world.specs.declared.event.Event.{Event}
 use Rattle.world.specs.declared.event.Event.TheVariants.{Show}
 use Rattle.inode_map.specs.declared.inode_map.Kept.{Kept}
 use Rattle.world.specs.declared.outcome.Happened.{Happened}
-use Rattle.world.specs.declared.outcome.Happened.TheVariants.{Started, Mounted, Asked, Took, TookForgets, Made, Forgot, Posted, Answered, Refused}
+use Rattle.world.specs.declared.outcome.Happened.TheVariants.{Started, Mounted, Asked, Took, TookForgets, Made, Forgot, Posted, Answered, Crashed, Refused}
 use Rattle.world.specs.declared.outcome.Refusal.{Refusal}
 use Rattle.world.specs.declared.outcome.Refusal.TheVariants.{Stale}
 
@@ -85,6 +85,7 @@ line_of (Made reply) = reply_line (codes "made") reply
 line_of (Forgot item forgot) = line (codes "forgot" ∷ forgot_name forgot ∷ [])
 line_of (Posted unique) = line (codes "posted" ∷ decimal unique ∷ [])
 line_of (Answered reply) = reply_line (codes "answer") reply
+line_of Crashed = line (codes "crashed" ∷ [])
 line_of (Refused refusal) = line (codes "refused" ∷ refusal_name refusal ∷ refusal_values refusal)
 
 -- where a number stands: `at PARENT NAME`, the name byte for byte, or `unlinked FILE`

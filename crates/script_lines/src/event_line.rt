@@ -1,6 +1,6 @@
 //! A line that says what happens.
 ghost use Rattle.std.specs.Prelude.{◌≡◌, IfOk};
-ghost use Rattle.script_lines.specs.EventLine.{event_of, daemon_event_by, mount_of, take_of, work_of, tried_of, tried_at, post_of, issue_of, do_of, request_of, lookup_of, create_of, mkdir_of, unlink_of, rmdir_of, forget_of, getattr_of, other_said, named_of, made_of, name_of};
+ghost use Rattle.script_lines.specs.EventLine.{event_of, daemon_event_by, mount_of, take_of, work_of, tried_of, tried_at, post_of, crash_of, issue_of, do_of, request_of, lookup_of, create_of, mkdir_of, unlink_of, rmdir_of, forget_of, getattr_of, other_said, named_of, made_of, name_of};
 
 use crate::decimal::number;
 use eden_base::{DaemonId, Name, NameFault, NoMemory, Number, Perm, cut};
@@ -49,6 +49,9 @@ fn read_daemon_event(word: &[u8], rest: &[u8]) -> Option<Event>
     }
     if word == b"post".as_slice() {
         return read_post(rest);
+    }
+    if word == b"crash".as_slice() {
+        return read_crash(rest);
     }
     None
 }
@@ -106,6 +109,14 @@ fn read_post(words: &[u8]) -> Option<Event>
     let daemon = DaemonId(number(daemon)?);
     let place = number(place)?;
     Some(Event::Post { daemon, place })
+}
+
+/// Reads the daemon that crashes.
+fn read_crash(words: &[u8]) -> Option<Event>
+    ensures { result ≡ crash_of words.now }
+{
+    let daemon = number(words)?;
+    Some(Event::Crash(DaemonId(daemon)))
 }
 
 /// Reads what the kernel asks or forgets, and waits.

@@ -53,6 +53,7 @@ fn print_happened<W: Write>(out: &mut W, happened: &Happened) -> io::Result<()>
         }
         Happened::Posted(unique) => writeln!(out, "posted {unique}"),
         Happened::Answered(reply) => print_reply(out, "answer", reply),
+        Happened::Crashed => writeln!(out, "crashed"),
         Happened::Refused(refusal) => print_refusal(out, *refusal),
     }
 }

@@ -10,7 +10,7 @@ use Rattle.broker_core.proofs.Accepted.{free_to_mount}
 use Rattle.broker_core.specs.declared.broker.MountFault.{MountFault}
 use Rattle.broker_core.specs.declared.seat.Seat.{Seat}
 use Rattle.world.specs.declared.daemon.Daemon.{Daemon}
-use Rattle.world.specs.declared.daemon.Daemon.TheVariants.{Waiting, Serving}
+use Rattle.world.specs.declared.daemon.Daemon.TheVariants.{Waiting, Serving, Gone}
 use Rattle.world.specs.Server.{ServerState, at_place}
 use Rattle.world.specs.World.{World, owed}
 use Rattle.world.specs.Agreement.{Knows, HolderKnows, Books, SeatIsLast, IsUnderWay, IsIdle, IsHolder, OthersAreIdle, IsOrderly, AnsweredBefore, Matches}
@@ -51,22 +51,22 @@ daemon-some old daemon d h = in_ (daemon.0 == 0) refl h where
   in_ true e s = absurd (let none : ⊥ = cc in none)
   in_ false e s = (e, s)
 
-pub server_of-with : (old : State) (broker : BrokerState) (daemon : DaemonId) (d : Daemon) (later : ServerState) → daemon_of old daemon ≡ Some d →
-    server_of (with_daemon (record old { broker = broker }) daemon (Serving later)) daemon ≡ Some later
+pub server_of-with : (old : State) (broker : BrokerState) (daemon : DaemonId) (d later : Daemon) → daemon_of old daemon ≡ Some d →
+    server_of (with_daemon (record old { broker = broker }) daemon later) daemon ≡ server_in later
 server_of-with old broker daemon d later h =
     let r = daemon-some old daemon d h in
     let other : (daemon.0 == 0) ≡ false = r.0 in
-    rw other (ap (option_and_then server_in) (set_in old.daemons (daemon.0 - 1) d (Serving later) r.1))
+    rw other (ap (option_and_then server_in) (set_in old.daemons (daemon.0 - 1) d later r.1))
 
-pub server_of-other : (old : State) (broker : BrokerState) (daemon other : DaemonId) (d : Daemon) (later : ServerState) → daemon_of old daemon ≡ Some d → (daemon ≡ other → ⊥) →
-    server_of (with_daemon (record old { broker = broker }) daemon (Serving later)) other ≡ server_of old other
+pub server_of-other : (old : State) (broker : BrokerState) (daemon other : DaemonId) (d later : Daemon) → daemon_of old daemon ≡ Some d → (daemon ≡ other → ⊥) →
+    server_of (with_daemon (record old { broker = broker }) daemon later) other ≡ server_of old other
 server_of-other old broker daemon other d later h apart = in_ (other.0 == 0) refl where
   first : (daemon.0 == 0) ≡ false
   first = (daemon-some old daemon d h).0
 
-  in_ : (b : Bool) → (other.0 == 0) ≡ b → option_and_then server_in (if b then None else slice_get (slice_set old.daemons (daemon.0 - 1) (Serving later)) (other.0 - 1)) ≡ option_and_then server_in (if b then None else slice_get old.daemons (other.0 - 1))
+  in_ : (b : Bool) → (other.0 == 0) ≡ b → option_and_then server_in (if b then None else slice_get (slice_set old.daemons (daemon.0 - 1) later) (other.0 - 1)) ≡ option_and_then server_in (if b then None else slice_get old.daemons (other.0 - 1))
   in_ true e = refl
-  in_ false e = ap (option_and_then server_in) (other_in old.daemons (daemon.0 - 1) (other.0 - 1) (Serving later) (λ s.
+  in_ false e = ap (option_and_then server_in) (other_in old.daemons (daemon.0 - 1) (other.0 - 1) later (λ s.
       let low : daemon.0 ≡ 0 → ⊥ = false-ne daemon.0 0 first in
       let more : other.0 ≡ 0 → ⊥ = false-ne other.0 0 e in
       let same : daemon.0 ≡ other.0 = omega (arith, s, low, more) in
@@ -77,6 +77,7 @@ pub serving-is : (old : State) (daemon : DaemonId) (server : ServerState) → se
 serving-is old daemon server h = in_ (daemon_of old daemon) h where
   daemon_in : (d : Daemon) → server_in d ≡ Some server → Some d ≡ Some (Serving server)
   daemon_in Waiting e = absurd (let none : ⊥ = cc in none)
+  daemon_in Gone e = absurd (let none : ⊥ = cc in none)
   daemon_in (Serving s) e = let same : s ≡ server = cc in ap (λ (x : ServerState). Some (Serving x)) same
 
   in_ : (o : Option Daemon) → option_and_then server_in o ≡ Some server → o ≡ Some (Serving server)
@@ -157,13 +158,13 @@ goes-on w new old broker seat d later m manifest is of_manifest books last order
       let s : Some seat ≡ Some other = sym at ∙ has in
       let same : seat ≡ other = cc in (
         later,
-        subst (λ (x : Seat). IsSeated state x later) same (record { has_seat = at; serves = server_of-with old broker seat.daemon d later there }),
+        subst (λ (x : Seat). IsSeated state x later) same (record { has_seat = at; serves = server_of-with old broker seat.daemon d (Serving later) there }),
         knows,
         under,
       );
   others_idle = λ other server serves no_holder.
       let apart : seat.daemon ≡ other → ⊥ = λ e. no_holder (seat, at, e) in
-      m.others_idle other server (sym (server_of-other old broker seat.daemon other d later there apart) ∙ serves) (λ h. apart (holder other h));
+      m.others_idle other server (sym (server_of-other old broker seat.daemon other d (Serving later) there apart) ∙ serves) (λ h. apart (holder other h));
 } where
   state : State
   state = with_daemon (record old { broker = broker }) seat.daemon (Serving later)
@@ -200,6 +201,7 @@ broker-goes-on w new old broker seat server m manifest tree books last orderly a
 pub may_mount : (old : State) (o : Option Daemon) → mount_refusal old o ≡ None → (o ≡ Some Waiting) × (old.broker.seat ≡ None)
 may_mount old None h = absurd (let none : ⊥ = cc in none)
 may_mount old (Some (Serving server)) h = absurd (let none : ⊥ = cc in none)
+may_mount old (Some Gone) h = absurd (let none : ⊥ = cc in none)
 may_mount old (Some Waiting) h = (refl, (free_to_mount old.broker (fault_in (mount_fault old.broker) h)).0) where
   fault_in : (f : Option MountFault) → option_map refusal_of_mount f ≡ None → f ≡ None
   fault_in None e = refl

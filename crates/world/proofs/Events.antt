@@ -18,11 +18,12 @@ use Rattle.world.specs.State.{State, fault, refusal_of_issue, daemon_of}
 use Rattle.world.specs.Step.{Starts, Mounts, Makes, Refuses, TakesMemory, OnceBy, Once}
 use Rattle.world.specs.declared.daemon.Daemon.TheVariants.{Waiting}
 use Rattle.world.specs.declared.event.Event.{Event}
-use Rattle.world.specs.declared.event.Event.TheVariants.{Start, Mount, Issue, Take, Work, Post, Deliver, Do, Show}
+use Rattle.world.specs.declared.event.Event.TheVariants.{Start, Mount, Issue, Take, Work, Post, Deliver, Crash, Do, Show}
 use Rattle.world.specs.declared.outcome.Happened.{Happened}
 use Rattle.world.specs.declared.outcome.Happened.TheVariants as happened
 use Rattle.world.specs.declared.outcome.Refusal.{Refusal}
 use Rattle.world.specs.declared.outcome.Refusal.TheVariants as refusal
+use Rattle.world.proofs.Crashing.{crashes-moved}
 use Rattle.world.proofs.Daemons.{goes-on, may_mount, server_of-more}
 use Rattle.world.proofs.Issuing.{issues-moved}
 use Rattle.world.proofs.Keeping.{books-mounted, answered-mounted, seat-mounted}
@@ -33,24 +34,25 @@ use Rattle.world.proofs.Working.{works-moved}
 
 -- ---- one event
 
-refused-moves : (event : Event) (r : Refusal) → move_of event (happened.Refused r) ≡ []
-refused-moves Start r = refl
-refused-moves (Mount daemon) r = refl
-refused-moves (Issue request) r = refl
-refused-moves (Take daemon) r = refl
-refused-moves (Work daemon place fails) r = refl
-refused-moves (Post daemon place) r = refl
-refused-moves Deliver r = refl
-refused-moves (Do request) r = refl
-refused-moves Show r = refl
+refused-moves : (seat : Option Seat) (event : Event) (r : Refusal) → move_of seat event (happened.Refused r) ≡ []
+refused-moves seat Start r = refl
+refused-moves seat (Mount daemon) r = refl
+refused-moves seat (Issue request) r = refl
+refused-moves seat (Take daemon) r = refl
+refused-moves seat (Work daemon place fails) r = refl
+refused-moves seat (Post daemon place) r = refl
+refused-moves seat Deliver r = refl
+refused-moves seat (Crash daemon) r = refl
+refused-moves seat (Do request) r = refl
+refused-moves seat Show r = refl
 
-refuses-moved : (w : World) (old : State) (event : Event) (r : Refusal) (told : Happened) (new : State) → Matches w old → Refuses old r told new → MovesBy w (move_of event told) old told new
-refuses-moved w old event r told new m (is, same) = subst (λ (x : Happened). MovesBy w (move_of event x) old x new) (sym is)
-    (subst (λ (ms : List Move). MovesBy w ms old (happened.Refused r) new) (sym (refused-moves event r)) (unmoved w old (happened.Refused r) new tt refl (subst (λ (s : State). Matches w s) (sym same) m)))
+refuses-moved : (w : World) (old : State) (event : Event) (r : Refusal) (told : Happened) (new : State) → Matches w old → Refuses old r told new → MovesBy w (move_of w.seat event told) old told new
+refuses-moved w old event r told new m (is, same) = subst (λ (x : Happened). MovesBy w (move_of w.seat event x) old x new) (sym is)
+    (subst (λ (ms : List Move). MovesBy w ms old (happened.Refused r) new) (sym (refused-moves w.seat event r)) (unmoved w old (happened.Refused r) new tt refl (subst (λ (s : State). Matches w s) (sym same) m)))
 
 -- a daemon more leaves the broker, and whoever has the seat
-starts-moved : (w : World) (old : State) (told : Happened) (new : State) → Matches w old → Starts old told new → MovesBy w (move_of Start told) old told new
-starts-moved w old told new m (is, makes) = subst (λ (x : Happened). MovesBy w (move_of Start x) old x new) (sym is) (unmoved w old _ new tt refl (subst (λ (s : State). Matches w s) (sym makes) (record {
+starts-moved : (w : World) (old : State) (told : Happened) (new : State) → Matches w old → Starts old told new → MovesBy w (move_of w.seat Start told) old told new
+starts-moved w old told new m (is, makes) = subst (λ (x : Happened). MovesBy w (move_of w.seat Start x) old x new) (sym is) (unmoved w old _ new tt refl (subst (λ (s : State). Matches w s) (sym makes) (record {
   manifest = m.manifest;
   is_tree = m.is_tree;
   tree_is_tree = m.tree_is_tree;
@@ -68,8 +70,8 @@ starts-moved w old told new m (is, makes) = subst (λ (x : Happened). MovesBy w 
 quiet-owed : (w : World) (n : ℕ) → IsQuiet w → w.held ≡ [] → owed w n ≡ 0
 quiet-owed w n quiet held = rw (quiet.replies, quiet.items, held) refl
 
-mounts-moved : (w : World) (old : State) (daemon : DaemonId) (told : Happened) (new : State) → Matches w old → fault old (Mount daemon) ≡ None → Mounts old daemon told new → MovesBy w (move_of (Mount daemon) told) old told new
-mounts-moved w old daemon told new m clear (is, makes) = subst (λ (x : Happened). MovesBy w (move_of (Mount daemon) x) old x new) (sym is) (record {
+mounts-moved : (w : World) (old : State) (daemon : DaemonId) (told : Happened) (new : State) → Matches w old → fault old (Mount daemon) ≡ None → Mounts old daemon told new → MovesBy w (move_of w.seat (Mount daemon) told) old told new
+mounts-moved w old daemon told new m clear (is, makes) = subst (λ (x : Happened). MovesBy w (move_of w.seat (Mount daemon) x) old x new) (sym is) (record {
   run = ((m.books).seat ∙ may.1, tt);
   matches = subst (λ (s : State). Matches w' s) (sym makes) (goes-on w w' old (mounted old.broker daemon) seat Waiting (new_server old.manifest old.limit (old.broker.last + 1)) m refl is_tree refl (books-mounted w old.broker daemon m.books)
       (seat-mounted w daemon) (record { asked = (m.orderly).asked; once = (m.orderly).once; used = (m.orderly).used; good = (m.orderly).good }) (answered-mounted w daemon m.answered) refl
@@ -100,7 +102,7 @@ mounts-moved w old daemon told new m clear (is, makes) = subst (λ (x : Happened
   seat : Seat
   seat = record { generation = old.broker.last + 1; daemon = daemon }
 
-issues-seated : (w : World) (old : State) (request : Request) (told : Happened) (new : State) → Matches w old → fault old (Issue request) ≡ None → Makes old (Issue request) told new → MovesBy w (move_of (Issue request) told) old told new
+issues-seated : (w : World) (old : State) (request : Request) (told : Happened) (new : State) → Matches w old → fault old (Issue request) ≡ None → Makes old (Issue request) told new → MovesBy w (move_of w.seat (Issue request) told) old told new
 issues-seated w old request told new m clear made = in_ old.broker.seat refl (accepted-seated old.broker request free) where
   free : issue_fault old.broker request ≡ None
   free = fault_in (issue_fault old.broker request) clear where
@@ -108,12 +110,12 @@ issues-seated w old request told new m clear made = in_ old.broker.seat refl (ac
     fault_in None e = refl
     fault_in (Some f) e = absurd (let none : ⊥ = cc in none)
 
-  in_ : (o : Option Seat) → old.broker.seat ≡ o → is_some old.broker.seat ≡ true → MovesBy w (move_of (Issue request) told) old told new
+  in_ : (o : Option Seat) → old.broker.seat ≡ o → is_some old.broker.seat ≡ true → MovesBy w (move_of w.seat (Issue request) told) old told new
   in_ None e some = absurd (let s : false ≡ true = sym (ap is_some e) ∙ some in let none : ⊥ = cc in none)
   in_ (Some seat) e some = let k = m.knows seat e in issues-moved w old request told new seat k.0 m free k.1 made
 
 -- an event that no cause stands against
-made-moved : (w : World) (old : State) (event : Event) (told : Happened) (new : State) → Matches w old → fault old event ≡ None → Makes old event told new → MovesBy w (move_of event told) old told new
+made-moved : (w : World) (old : State) (event : Event) (told : Happened) (new : State) → Matches w old → fault old event ≡ None → Makes old event told new → MovesBy w (move_of w.seat event told) old told new
 made-moved w old Start told new m clear made = starts-moved w old told new m made
 made-moved w old (Mount daemon) told new m clear made = mounts-moved w old daemon told new m clear made
 made-moved w old (Issue request) told new m clear made = issues-seated w old request told new m clear made
@@ -121,15 +123,16 @@ made-moved w old (Take daemon) told new m clear made = takes-moved w old daemon 
 made-moved w old (Work daemon place fails) told new m clear made = works-moved w old daemon place fails told new m made
 made-moved w old (Post daemon place) told new m clear made = posts-moved w old daemon place told new m clear made
 made-moved w old Deliver told new m clear made = delivers-moved w old told new m made
+made-moved w old (Crash daemon) told new m clear made = crashes-moved w old daemon told new m clear made
 made-moved w old event told new m clear made = absurd made
 
 -- Every event that is no `do`, made or refused, is moves that may happen, and the state matches the world after them.
-pub once-moved : (w : World) (old : State) (event : Event) (told : Happened) (new : State) → Matches w old → Once old event told new → MovesBy w (move_of event told) old told new
+pub once-moved : (w : World) (old : State) (event : Event) (told : Happened) (new : State) → Matches w old → Once old event told new → MovesBy w (move_of w.seat event told) old told new
 once-moved w old event told new m once = in_ (fault old event) refl once where
-  made_in : fault old event ≡ None → Makes old event told new ⊎ (TakesMemory event × Refuses old refusal.NoMemory told new) → MovesBy w (move_of event told) old told new
+  made_in : fault old event ≡ None → Makes old event told new ⊎ (TakesMemory event × Refuses old refusal.NoMemory told new) → MovesBy w (move_of w.seat event told) old told new
   made_in clear (inl made) = made-moved w old event told new m clear made
   made_in clear (inr (takes, r)) = refuses-moved w old event refusal.NoMemory told new m r
 
-  in_ : (f : Option Refusal) → fault old event ≡ f → OnceBy old event f told new → MovesBy w (move_of event told) old told new
+  in_ : (f : Option Refusal) → fault old event ≡ f → OnceBy old event f told new → MovesBy w (move_of w.seat event told) old told new
   in_ (Some r) e s = refuses-moved w old event r told new m s
   in_ None e s = made_in e s

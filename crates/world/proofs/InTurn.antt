@@ -13,7 +13,7 @@ use Rattle.world.specs.Agreement.{is_posted, posted_from, IsGoodForget, IsAnswer
 use Rattle.world.specs.State.{State, fault}
 use Rattle.world.specs.Step.{Makes, OnceBy, Once, is_made, IfMade, Carries, events_of_do, parts_of, Step}
 use Rattle.world.specs.declared.event.Event.{Event}
-use Rattle.world.specs.declared.event.Event.TheVariants.{Start, Mount, Issue, Take, Work, Post, Deliver, Do, Show}
+use Rattle.world.specs.declared.event.Event.TheVariants.{Start, Mount, Issue, Take, Work, Post, Deliver, Crash, Do, Show}
 use Rattle.world.specs.declared.outcome.Happened.{Happened}
 use Rattle.world.specs.declared.outcome.Refusal.{Refusal}
 use Rattle.world.proofs.Events.{once-moved}
@@ -22,9 +22,10 @@ use Rattle.world.proofs.Runs.{run-append, after_all-append, answered-after_all}
 
 -- ---- the seat
 
--- all events but a mount leave the seat
+-- all events but a mount and a crash leave the seat
 abbrev pub KeepsSeat : Event → Type 0
 KeepsSeat (Mount daemon) = ⊥
+KeepsSeat (Crash daemon) = ⊥
 KeepsSeat event = Unit {0}
 
 issued-seat : (broker : BrokerState) (request : Request) (b : Bool) (o : Option Item) → (if b then asked broker request else option_map_or (forgot broker) o broker).seat ≡ broker.seat
@@ -40,6 +41,7 @@ made-seat old (Take daemon) told new keeps made = ap (λ (s : State). s.broker.s
 made-seat old (Work daemon place fails) told new keeps made = ap (λ (s : State). s.broker.seat) made.makes
 made-seat old (Post daemon place) told new keeps made = ap (λ (s : State). s.broker.seat) made.makes
 made-seat old Deliver told new keeps made = ap (λ (s : State). s.broker.seat) made.makes
+made-seat old (Crash daemon) told new keeps made = absurd keeps
 made-seat old event told new keeps made = absurd made
 
 once-seat : (old : State) (event : Event) (told : Happened) (new : State) → KeepsSeat event → Once old event told new → new.broker.seat ≡ old.broker.seat
@@ -49,7 +51,7 @@ once-seat old event told new keeps once = in_ (fault old event) once where
   in_ None (inl made) = made-seat old event told new keeps made
   in_ None (inr lacks) = ap (λ (x : State). x.broker.seat) lacks.1.1
 
--- no event of a list but the last is a mount
+-- no event of a list but the last is a mount or a crash
 abbrev pub StaysSeated : List Event → Type 0
 StaysSeated [] = Unit {0}
 StaysSeated (event ∷ []) = Unit {0}
@@ -59,30 +61,30 @@ StaysSeated (event ∷ next ∷ events) = KeepsSeat event × StaysSeated (next �
 
 -- what events did
 pub record Carried (w : World) (old : State) (events : List Event) (outcome : List Happened) (new : State) : Type 0 where
-  pub run : IsRun w (moves_in_turn events outcome)
-  pub matches : Matches (after_all w (moves_in_turn events outcome)) new
+  pub run : IsRun w (moves_in_turn w events outcome)
+  pub matches : Matches (after_all w (moves_in_turn w events outcome)) new
   pub forgets : AllByRecursion IsGoodForget outcome
-  pub answered : list_any is_posted outcome ≡ true → IsAnswered (after_all w (moves_in_turn events outcome)) old.broker.seat
+  pub answered : list_any is_posted outcome ≡ true → IsAnswered (after_all w (moves_in_turn w events outcome)) old.broker.seat
 
 or_in : (b c : Bool) → (b || c) ≡ true → (b ≡ true) ⊎ (c ≡ true)
 or_in true c e = inl refl
 or_in false c e = inr e
 
 -- one event, and then the others
-carried-on : (w : World) (old between : State) (event : Event) (events : List Event) (told : Happened) (rest : List Happened) (new : State) → MovesBy w (move_of event told) old told between →
-    Carried (after_all w (move_of event told)) between events rest new → (list_any is_posted rest ≡ true → between.broker.seat ≡ old.broker.seat) → Carried w old (event ∷ events) (told ∷ rest) new
+carried-on : (w : World) (old between : State) (event : Event) (events : List Event) (told : Happened) (rest : List Happened) (new : State) → MovesBy w (move_of w.seat event told) old told between →
+    Carried (after_all w (move_of w.seat event told)) between events rest new → (list_any is_posted rest ≡ true → between.broker.seat ≡ old.broker.seat) → Carried w old (event ∷ events) (told ∷ rest) new
 carried-on w old between event events told rest new one more seat = record {
-  run = run-append w (move_of event told) (moves_in_turn events rest) one.run more.run;
+  run = run-append w (move_of w.seat event told) (moves_in_turn (after_all w (move_of w.seat event told)) events rest) one.run more.run;
   matches = subst (λ (x : World). Matches x new) (sym joined) more.matches;
   forgets = (one.forget, more.forgets);
   answered = λ e. subst (λ (x : World). IsAnswered x old.broker.seat) (sym joined) (answered_in (or_in (is_posted told) (list_any is_posted rest) e));
 } where
-  joined : after_all w (move_of event told ++ moves_in_turn events rest) ≡ after_all (after_all w (move_of event told)) (moves_in_turn events rest)
-  joined = after_all-append w (move_of event told) (moves_in_turn events rest)
+  joined : after_all w (move_of w.seat event told ++ moves_in_turn (after_all w (move_of w.seat event told)) events rest) ≡ after_all (after_all w (move_of w.seat event told)) (moves_in_turn (after_all w (move_of w.seat event told)) events rest)
+  joined = after_all-append w (move_of w.seat event told) (moves_in_turn (after_all w (move_of w.seat event told)) events rest)
 
-  answered_in : (is_posted told ≡ true) ⊎ (list_any is_posted rest ≡ true) → IsAnswered (after_all (after_all w (move_of event told)) (moves_in_turn events rest)) old.broker.seat
-  answered_in (inl e) = answered-after_all (after_all w (move_of event told)) (moves_in_turn events rest) old.broker.seat (one.answered e)
-  answered_in (inr e) = subst (λ (o : Option Seat). IsAnswered (after_all (after_all w (move_of event told)) (moves_in_turn events rest)) o) (seat e) (more.answered e)
+  answered_in : (is_posted told ≡ true) ⊎ (list_any is_posted rest ≡ true) → IsAnswered (after_all (after_all w (move_of w.seat event told)) (moves_in_turn (after_all w (move_of w.seat event told)) events rest)) old.broker.seat
+  answered_in (inl e) = answered-after_all (after_all w (move_of w.seat event told)) (moves_in_turn (after_all w (move_of w.seat event told)) events rest) old.broker.seat (one.answered e)
+  answered_in (inr e) = subst (λ (o : Option Seat). IsAnswered (after_all (after_all w (move_of w.seat event told)) (moves_in_turn (after_all w (move_of w.seat event told)) events rest)) o) (seat e) (more.answered e)
 
 -- nothing more happened
 carried-none : (w : World) (old new : State) (events : List Event) (rest : List Happened) → Matches w old → rest ≡ [] → new ≡ old → Carried w old events rest new
@@ -92,7 +94,7 @@ carried-none w old new events rest m none same = subst (λ (r : List Happened). 
   forgets = tt;
   answered = λ e. absurd (let x : ⊥ = cc in x);
 }) where
-  no_moves : (es : List Event) → moves_in_turn es [] ≡ []
+  no_moves : (es : List Event) → moves_in_turn w es [] ≡ []
   no_moves [] = refl
   no_moves (e ∷ es) = refl
 
@@ -105,15 +107,15 @@ carries-moved w old [] outcome new m stays (none, same) = carried-none w old new
 carries-moved w old (event ∷ events) [] new m stays carries = absurd carries
 carries-moved w old (event ∷ events) (told ∷ rest) new m stays (between, once, goes) =
     let one = once-moved w old event told between m once in
-    in_ (is_made told) one goes (λ more. carries-moved (after_all w (move_of event told)) between events rest new one.matches (stays-behind event events stays) more) where
+    in_ (is_made told) one goes (λ more. carries-moved (after_all w (move_of w.seat event told)) between events rest new one.matches (stays-behind event events stays) more) where
       seat_in : (es : List Event) → es ≡ events → StaysSeated (event ∷ es) → Carries between es rest new → list_any is_posted rest ≡ true → between.broker.seat ≡ old.broker.seat
       seat_in [] e s c posted = absurd (let p : list_any is_posted [] ≡ true = subst (λ (r : List Happened). list_any is_posted r ≡ true) c.0 posted in let x : ⊥ = cc in x)
       seat_in (next ∷ es) e s c posted = once-seat old event told between s.0 once
 
-      in_ : (b : Bool) → MovesBy w (move_of event told) old told between → IfMade b (Carries between events rest new) ((rest ≡ []) × (new ≡ between)) →
-          (Carries between events rest new → Carried (after_all w (move_of event told)) between events rest new) → Carried w old (event ∷ events) (told ∷ rest) new
+      in_ : (b : Bool) → MovesBy w (move_of w.seat event told) old told between → IfMade b (Carries between events rest new) ((rest ≡ []) × (new ≡ between)) →
+          (Carries between events rest new → Carried (after_all w (move_of w.seat event told)) between events rest new) → Carried w old (event ∷ events) (told ∷ rest) new
       in_ true one goes more = carried-on w old between event events told rest new one (more goes) (λ p. seat_in events refl stays goes p)
-      in_ false one (none, same) more = carried-on w old between event events told rest new one (carried-none (after_all w (move_of event told)) between new events rest one.matches none same)
+      in_ false one (none, same) more = carried-on w old between event events told rest new one (carried-none (after_all w (move_of w.seat event told)) between new events rest one.matches none same)
           (λ p. absurd (let q : list_any is_posted [] ≡ true = subst (λ (r : List Happened). list_any is_posted r ≡ true) none p in let x : ⊥ = cc in x))
 
 -- ---- every event
@@ -133,6 +135,7 @@ stays-parts seat (Take daemon) = tt
 stays-parts seat (Work daemon place fails) = tt
 stays-parts seat (Post daemon place) = tt
 stays-parts seat Deliver = tt
+stays-parts seat (Crash daemon) = tt
 stays-parts seat (Do request) = stays-do seat request
 stays-parts seat Show = tt
 
@@ -144,12 +147,12 @@ step-matched w old event outcome new m step = record {
   forgets = carried.forgets;
   answered = subst (λ (ms : List Move). IsAnswered (after_all w ms) (posted_from old outcome)) (sym moves) (answered_in (list_any is_posted outcome) refl);
 } where
-  moves : moves_of w event outcome ≡ moves_in_turn (parts_of old.broker.seat event) outcome
-  moves = ap (λ (o : Option Seat). moves_in_turn (parts_of o event) outcome) (m.books).seat
+  moves : moves_of w event outcome ≡ moves_in_turn w (parts_of old.broker.seat event) outcome
+  moves = ap (λ (o : Option Seat). moves_in_turn w (parts_of o event) outcome) (m.books).seat
 
   carried : Carried w old (parts_of old.broker.seat event) outcome new
   carried = carries-moved w old (parts_of old.broker.seat event) outcome new m (stays-parts old.broker.seat event) step
 
-  answered_in : (b : Bool) → list_any is_posted outcome ≡ b → IsAnswered (after_all w (moves_in_turn (parts_of old.broker.seat event) outcome)) (if b then old.broker.seat else None)
+  answered_in : (b : Bool) → list_any is_posted outcome ≡ b → IsAnswered (after_all w (moves_in_turn w (parts_of old.broker.seat event) outcome)) (if b then old.broker.seat else None)
   answered_in true e = carried.answered e
   answered_in false e = tt

@@ -109,13 +109,13 @@ forgets-moved w old request item seat server m accepted at = record {
 
 -- A request that the broker takes is a move.
 pub issues-moved : (w : World) (old : State) (request : Request) (told : Happened) (new : State) (seat : Seat) (server : ServerState) → Matches w old → issue_fault old.broker request ≡ None → IsSeated old seat server → Issues old request told new →
-    MovesBy w (move_of (Issue request) told) old told new
+    MovesBy w (move_of w.seat (Issue request) told) old told new
 issues-moved w old request told new seat server m clear at (tells, makes) =
-    subst (λ (x : Happened). MovesBy w (move_of (Issue request) x) old x new) (sym tells)
-    (subst (λ (s : State). MovesBy w (move_of (Issue request) (happened.Asked (unique_of old.broker request))) old (happened.Asked (unique_of old.broker request)) s) (sym makes) (in_ (is_ask request) refl)) where
+    subst (λ (x : Happened). MovesBy w (move_of w.seat (Issue request) x) old x new) (sym tells)
+    (subst (λ (s : State). MovesBy w (move_of w.seat (Issue request) (happened.Asked (unique_of old.broker request))) old (happened.Asked (unique_of old.broker request)) s) (sym makes) (in_ (is_ask request) refl)) where
       Moved : Bool → Type 0
       Moved b = let unique : Option ℕ = if b then Some old.broker.next_unique else None in
-          MovesBy w (move_of (Issue request) (happened.Asked unique)) old (happened.Asked unique) (record old { broker = if b then asked old.broker request else option_map_or (forgot old.broker) (item_of request) old.broker })
+          MovesBy w (move_of w.seat (Issue request) (happened.Asked unique)) old (happened.Asked unique) (record old { broker = if b then asked old.broker request else option_map_or (forgot old.broker) (item_of request) old.broker })
 
       in_ : (b : Bool) → is_ask request ≡ b → Moved b
       in_ true e = asks-moved w old request seat server m clear e at

@@ -20,6 +20,7 @@ mod Moving
 mod Issuing
 mod Taking
 mod Working
+mod Crashing
 mod Events
 pub mod InTurn
 pub mod WholeRun

@@ -1,12 +1,12 @@
 -- What the world's calls did is one event, and events one after another.
-use Rattle.std.proofs.Common.{◌≡◌, ℕ, ◌-◌, ◌+◌, ◌<◌, Bool, true, if◌then◌else◌, List, [], ◌∷◌, ◌++◌, length, Option, Some, None, get_or, set, refl, sym, ap, ◌∙◌, subst, inl, inr}
+use Rattle.std.proofs.Common.{◌≡◌, ℕ, suc, zero, ◌-◌, ◌+◌, ◌<◌, Bool, true, if◌then◌else◌, List, [], ◌∷◌, ◌++◌, length, Option, Some, None, get_or, set, refl, sym, ap, ◌∙◌, subst, inl, inr, arith}
 use Rattle.std.proofs.lemmas.Option.{slice_get_read}
 use Rattle.std.specs.Prelude.{slice_get, is_none}
 use Rattle.std.specs.Option.{option_map}
 use Rattle.eden_base.specs.declared.number.DaemonId.{DaemonId}
 use Rattle.fuse_wire.specs.declared.request.Ask.{Ask}
 use Rattle.fuse_wire.specs.declared.reply.Reply.{Reply}
-use Rattle.broker_core.specs.Broker.{BrokerState, mount_fault, mounted, take_fault, post_fault}
+use Rattle.broker_core.specs.Broker.{BrokerState, mount_fault, mounted, take_fault, post_fault, without_daemon}
 use Rattle.broker_core.specs.declared.fault.TakeFault.{TakeFault}
 use Rattle.broker_core.specs.declared.fault.PostFault.{PostFault}
 use Rattle.fuse_ops.specs.Served.{ServedState, new_served}
@@ -15,13 +15,13 @@ use Rattle.world.specs.Serving.{is_waiting, beginning, IsIndex, ChangesAt, Takes
 use Rattle.world.specs.State.{State, daemon_of, with_daemon, fault, mount_refusal, refusal_of_mount, take_refusal, work_refusal, post_refusal, reply_refusal, refusal_of_take, refusal_of_post}
 use Rattle.world.specs.Step.{Refuses, Makes, TakesMemory, Once, OnceBy, Step, Steps}
 use Rattle.world.specs.declared.daemon.Daemon.{Daemon}
-use Rattle.world.specs.declared.daemon.Daemon.TheVariants.{Waiting, Serving}
+use Rattle.world.specs.declared.daemon.Daemon.TheVariants.{Waiting, Serving, Gone}
 use Rattle.world.specs.declared.event.Event.{Event}
-use Rattle.world.specs.declared.event.Event.TheVariants.{Mount, Take, Work, Post}
+use Rattle.world.specs.declared.event.Event.TheVariants.{Mount, Take, Work, Post, Crash}
 use Rattle.world.specs.declared.outcome.Happened.{Happened}
 use Rattle.world.specs.declared.outcome.Happened.TheVariants as happened
 use Rattle.world.specs.declared.outcome.Refusal.{Refusal}
-use Rattle.world.specs.declared.outcome.Refusal.TheVariants.{NoSuch, NoMemory}
+use Rattle.world.specs.declared.outcome.Refusal.TheVariants.{NoDaemon, NoSuch, NoMemory}
 use Rattle.world.proofs.DaemonWrites.{set-there, at-index}
 
 -- ---- one event by its first fault
@@ -95,8 +95,11 @@ takes-at : (old : State) (d : DaemonId) (index : ℕ) (was later : Daemon) (told
 takes-at old d index (Serving s) (Serving n) told left daemons at there makes h =
     takes-by old d index s n told left daemons (take_fault old.broker d s.generation) at there makes h
 takes-at old d index (Serving s) Waiting told left daemons at there makes h = absurd h
+takes-at old d index (Serving s) Gone told left daemons at there makes h = absurd h
 takes-at old d index Waiting later told left daemons at there makes h =
     refuses old index Waiting later left daemons _ told there makes h.tells h.same h.same_broker
+takes-at old d index Gone later told left daemons at there makes h =
+    refuses old index Gone later left daemons _ told there makes h.tells h.same h.same_broker
 
 -- a daemon took
 pub Once-takes : (old : State) (d : DaemonId) (index : ℕ) (told : Happened) (left : BrokerState) (daemons : List Daemon) →
@@ -134,8 +137,11 @@ works-at : (old : State) (d : DaemonId) (place : ℕ) (fails : Bool) (index : �
 works-at old d place fails index (Serving s) (Serving n) told daemons at there makes h =
     works-by old d place fails index s n told daemons (at_place s.hand place) refl at there makes h
 works-at old d place fails index (Serving s) Waiting told daemons at there makes h = absurd h
+works-at old d place fails index (Serving s) Gone told daemons at there makes h = absurd h
 works-at old d place fails index Waiting later told daemons at there makes h =
     refuses old index Waiting later old.broker daemons _ told there makes h.tells h.same refl
+works-at old d place fails index Gone later told daemons at there makes h =
+    refuses old index Gone later old.broker daemons _ told there makes h.tells h.same refl
 
 -- a daemon worked
 pub Once-works : (old : State) (d : DaemonId) (place : ℕ) (fails : Bool) (index : ℕ) (told : Happened) (daemons : List Daemon) →
@@ -175,8 +181,11 @@ posts-at : (old : State) (d : DaemonId) (place : ℕ) (index : ℕ) (was later :
 posts-at old d place index (Serving s) (Serving n) told left daemons at there makes h =
     posts-by old d place index s n told left daemons (at_place s.unposted place) refl at there makes h
 posts-at old d place index (Serving s) Waiting told left daemons at there makes h = absurd h
+posts-at old d place index (Serving s) Gone told left daemons at there makes h = absurd h
 posts-at old d place index Waiting later told left daemons at there makes h =
     refuses old index Waiting later left daemons _ told there makes h.tells h.same h.same_broker
+posts-at old d place index Gone later told left daemons at there makes h =
+    refuses old index Gone later left daemons _ told there makes h.tells h.same h.same_broker
 
 -- a daemon posted
 pub Once-posts : (old : State) (d : DaemonId) (place : ℕ) (index : ℕ) (told : Happened) (left : BrokerState) (daemons : List Daemon) →
@@ -192,6 +201,7 @@ Once-posts old d place index told left daemons at c =
 waiting : (x : Daemon) → true ≡ is_waiting x → x ≡ Waiting
 waiting Waiting e = refl
 waiting (Serving server) e = absurd (let none : ⊥ = cc in none)
+waiting Gone e = absurd (let none : ⊥ = cc in none)
 
 pub waits-read : (xs : List Daemon) (index : ℕ) (x : Daemon) → index < length xs → true ≡ is_waiting x → x ≡ get_or xs index x → slice_get xs index ≡ Some Waiting
 waits-read xs index x within waits read = slice_get_read xs (length xs) index x refl within read ∙ ap (λ (y : Daemon). Some y) (waiting x waits)
@@ -217,6 +227,24 @@ Once-mounts old d index server broker generation served at there fine begins new
     ap Serving (begins ∙ ap (λ (g : ℕ). beginning g served) next ∙ ap (beginning (old.broker.last + 1)) new) in
     Once-makes old (Mount d) (happened.Mounted generation) _ (may-mount old d index at there fine)
     (told, changes old d index broker (mounted old.broker d) (set old.daemons index (Serving server)) (Serving server) _ at refl is broke)
+
+-- ---- a crash
+
+-- there is a daemon at an index
+is-there : (ds : List Daemon) (i : ℕ) → i < length ds → (d : Daemon) × (slice_get ds i ≡ Some d)
+is-there [] i within = absurd (omega (arith, within))
+is-there (d ∷ ds) zero within = (d, refl)
+is-there (d ∷ ds) (suc i) within = is-there ds i (omega (arith, within))
+
+-- a daemon is gone
+pub Once-crashes : (old : State) (d : DaemonId) (index : ℕ) (broker : BrokerState) → IsIndex (length old.daemons) d.0 index → broker ≡ without_daemon old.broker d →
+    Once old (Crash d) happened.Crashed (record old { broker = broker; daemons = set old.daemons index Gone })
+Once-crashes old d index broker at leaves =
+    let was = is-there old.daemons index at.within in
+    Once-makes old (Crash d) happened.Crashed _ (ap (λ (o : Option Daemon). if is_none o then Some NoDaemon else None) (daemon-there old d index was.0 at was.1))
+    (refl, changes old d index broker (without_daemon old.broker d) (set old.daemons index Gone) Gone Gone at refl refl leaves)
+
+-- ---- events one after another
 
 -- one more event
 pub Steps-more : (first : State) (events : List Event) (outcomes : List (List Happened)) (between : State) (event : Event) (outcome : List Happened) (last : State) →

@@ -46,17 +46,17 @@ each-right : (P : Ask → Type 0) (xs ys : List Ask) → AllByRecursion P (xs ++
 each-right P [] ys every = every
 each-right P (x ∷ xs) ys every = each-right P xs ys every.1
 
-told-taken : (daemon : DaemonId) (ask : Ask) → (move_of (Take daemon) (told_taken ask) ≡ []) × IsGoodForget (told_taken ask) × (is_posted (told_taken ask) ≡ false)
-told-taken daemon ask = in_ (is_ask ask.what) where
+told-taken : (seat : Option Seat) (daemon : DaemonId) (ask : Ask) → (move_of seat (Take daemon) (told_taken ask) ≡ []) × IsGoodForget (told_taken ask) × (is_posted (told_taken ask) ≡ false)
+told-taken seat daemon ask = in_ (is_ask ask.what) where
   Says : Happened → Type 0
-  Says told = (move_of (Take daemon) told ≡ []) × IsGoodForget told × (is_posted told ≡ false)
+  Says told = (move_of seat (Take daemon) told ≡ []) × IsGoodForget told × (is_posted told ≡ false)
 
   in_ : (b : Bool) → Says (if b then happened.Took ask.unique else happened.TookForgets (length (items_of ask.what)))
   in_ true = (refl, tt, refl)
   in_ false = (refl, tt, refl)
 
-pub takes-moved : (w : World) (old : State) (daemon : DaemonId) (told : Happened) (new : State) → Matches w old → fault old (Take daemon) ≡ None → Takes old daemon told new → MovesBy w (move_of (Take daemon) told) old told new
-takes-moved w old daemon told new m clear t = subst (λ (x : Happened). MovesBy w (move_of (Take daemon) x) old x new) (sym t.tells)
+pub takes-moved : (w : World) (old : State) (daemon : DaemonId) (told : Happened) (new : State) → Matches w old → fault old (Take daemon) ≡ None → Takes old daemon told new → MovesBy w (move_of w.seat (Take daemon) told) old told new
+takes-moved w old daemon told new m clear t = subst (λ (x : Happened). MovesBy w (move_of w.seat (Take daemon) x) old x new) (sym t.tells)
     (subst (λ (ms : List Move). MovesBy w ms old (told_taken t.ask) new) (sym says.0) (record {
       run = tt;
       matches = subst (λ (s : State). Matches w s) (sym t.makes)
@@ -66,8 +66,8 @@ takes-moved w old daemon told new m clear t = subst (λ (x : Happened). MovesBy 
       forget = says.1;
       answered = λ e. absurd (let none : true ≡ false = sym e ∙ says.2 in let x : ⊥ = cc in x);
     })) where
-      says : (move_of (Take daemon) (told_taken t.ask) ≡ []) × IsGoodForget (told_taken t.ask) × (is_posted (told_taken t.ask) ≡ false)
-      says = told-taken daemon t.ask
+      says : (move_of w.seat (Take daemon) (told_taken t.ask) ≡ []) × IsGoodForget (told_taken t.ask) × (is_posted (told_taken t.ask) ≡ false)
+      says = told-taken w.seat daemon t.ask
 
       seat : Seat
       seat = record { generation = (t.server).generation; daemon = daemon }
@@ -94,8 +94,8 @@ post-seat old daemon server reply h = posted-seated old.broker daemon server.gen
   clear (Some f) e = absurd (let none : ⊥ = cc in none)
 
 pub posts-moved : (w : World) (old : State) (daemon : DaemonId) (place : ℕ) (told : Happened) (new : State) → Matches w old → fault old (Post daemon place) ≡ None → Posts old daemon place told new →
-    MovesBy w (move_of (Post daemon place) told) old told new
-posts-moved w old daemon place told new m clear p = subst (λ (x : Happened). MovesBy w (move_of (Post daemon place) x) old x new) (sym p.tells) (record {
+    MovesBy w (move_of w.seat (Post daemon place) told) old told new
+posts-moved w old daemon place told new m clear p = subst (λ (x : Happened). MovesBy w (move_of w.seat (Post daemon place) x) old x new) (sym p.tells) (record {
   run = ((ap is_some (posted-under w old.broker.traffic p.server place p.reply in_place holder.under).1, ((p.server).generation, here)), tt);
   matches = subst (λ (all : List Seat). Matches (record w { answered = all }) new) (sym by_seat)
       (subst (λ (s : State). Matches w' s) (sym p.makes)
@@ -151,8 +151,8 @@ delivered-owed w found n first =
     let s : count_by (carries n) w.replies ≡ mark (carries n found) + count_by (carries n) (without_where (is_replied found.unique) w.replies) = sum-without (λ (r : Reply). mark (carries n r)) (is_replied found.unique) w.replies found first in
     omega arith
 
-pub delivers-moved : (w : World) (old : State) (told : Happened) (new : State) → Matches w old → Delivers old told new → MovesBy w (move_of Deliver told) old told new
-delivers-moved w old told new m d = subst (λ (x : Happened). MovesBy w (move_of Deliver x) old x new) (sym d.tells) (record {
+pub delivers-moved : (w : World) (old : State) (told : Happened) (new : State) → Matches w old → Delivers old told new → MovesBy w (move_of w.seat Deliver told) old told new
+delivers-moved w old told new m d = subst (λ (x : Happened). MovesBy w (move_of w.seat Deliver x) old x new) (sym d.tells) (record {
   run = (ap is_some r.first, tt);
   matches = subst (λ (o : Option Reply). Matches (delivered w o) new) (sym r.first)
       (subst (λ (s : State). Matches w' s) (sym d.makes)

@@ -178,21 +178,21 @@ items-moved w old seat server place task item m at there forget is = record {
 
 by_answer : (w : World) (old : State) (daemon : DaemonId) (place : ℕ) (fails : Bool) (seat : Seat) (server : ServerState) (task : Ask) (answer : Option Answer) (later : ServedState) → Matches w old → IsSeated old seat server → slice_get server.hand (place - 1) ≡ Some task →
     Replay server.served task.what answer later →
-    MovesBy w (move_of (Work daemon place fails) (told_worked server.served task answer)) old (told_worked server.served task answer) (with_daemon old seat.daemon (Serving (with_worked server place task answer later)))
+    MovesBy w (move_of w.seat (Work daemon place fails) (told_worked server.served task answer)) old (told_worked server.served task answer) (with_daemon old seat.daemon (Serving (with_worked server place task answer later)))
 by_answer w old daemon place fails seat server task (Some answer) later m at there (is, legal) = answers-moved w old seat server place task answer later m at there is legal
 by_answer w old daemon place fails seat server task None later m at there (forget, same) =
     let single = (at-single (λ (x : Ask). is_single x ≡ true) server.hand (place - 1) task there ((holder-is w old seat server m.knows at).under).singles).0 in
     let item = single-item task single forget in
     let is : later ≡ record server.served { map = forgotten server.served.map item.0.node.0 item.0.k } = same ∙ ap (λ (all : List Item). record server.served { map = forgotten_all server.served.map all }) (items-one task.what item.0 item.1) in
-    subst (λ (o : Option Item). MovesBy w (move_of (Work daemon place fails) (told_item server.served o)) old (told_item server.served o) (with_daemon old seat.daemon (Serving (with_worked server place task None later)))) (sym item.1)
+    subst (λ (o : Option Item). MovesBy w (move_of w.seat (Work daemon place fails) (told_item server.served o)) old (told_item server.served o) (with_daemon old seat.daemon (Serving (with_worked server place task None later)))) (sym item.1)
     (subst (λ (s : ServedState). MovesBy w (work_item item.0 ∷ []) old (happened.Forgot item.0 (forgot server.served.map item.0.node.0 item.0.k)) (with_daemon old seat.daemon (Serving (with_worked server place task None s)))) (sym is)
     (items-moved w old seat server place task item.0 m at there forget item.1))
 
 -- An ask that is answered, or an item that is applied, is a move.
-pub works-moved : (w : World) (old : State) (daemon : DaemonId) (place : ℕ) (fails : Bool) (told : Happened) (new : State) → Matches w old → Works old daemon place fails told new → MovesBy w (move_of (Work daemon place fails) told) old told new
+pub works-moved : (w : World) (old : State) (daemon : DaemonId) (place : ℕ) (fails : Bool) (told : Happened) (new : State) → Matches w old → Works old daemon place fails told new → MovesBy w (move_of w.seat (Work daemon place fails) told) old told new
 works-moved w old daemon place fails told new m t =
     let h = hand-seated old daemon t.server (λ (s : ServerState). s.hand) place t.task m.others_idle (λ s idle. idle.hand) t.serves t.at in
-    subst (λ (x : Happened). MovesBy w (move_of (Work daemon place fails) x) old x new) (sym t.tells)
-    (subst (λ (s : State). MovesBy w (move_of (Work daemon place fails) (told_worked (t.server).served t.task t.answer)) old (told_worked (t.server).served t.task t.answer) s)
+    subst (λ (x : Happened). MovesBy w (move_of w.seat (Work daemon place fails) x) old x new) (sym t.tells)
+    (subst (λ (s : State). MovesBy w (move_of w.seat (Work daemon place fails) (told_worked (t.server).served t.task t.answer)) old (told_worked (t.server).served t.task t.answer) s)
     (ap (λ (d : DaemonId). with_daemon old d (Serving (with_worked t.server place t.task t.answer t.later))) h.1 ∙ sym t.makes)
     (by_answer w old daemon place fails h.0 t.server t.task t.answer t.later m h.2 (at-is (t.server).hand place t.task t.at) t.replay))

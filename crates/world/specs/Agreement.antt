@@ -21,34 +21,40 @@ use Rattle.inode_map.specs.declared.inode_map.Forgot.TheVariants.{Bad, Root}
 use Rattle.world.specs.Server.{ServerState, is_single}
 use Rattle.world.specs.State.{State, IsSeated, server_of}
 use Rattle.world.specs.Step.{Steps, parts_of}
-use Rattle.world.specs.World.{World, Move, issue, issue_item, work, work_item, accept, deliver, mount, first_world, file_named, times, owed, is_asked, is_replied, IsRun, after_all}
+use Rattle.world.specs.World.{World, Move, issue, issue_item, work, work_item, accept, deliver, mount, end as mount_end, first_world, file_named, times, owed, is_asked, is_replied, IsRun, after_all}
 use Rattle.world.specs.declared.event.Event.{Event}
-use Rattle.world.specs.declared.event.Event.TheVariants.{Mount, Issue, Work, Post, Deliver}
+use Rattle.world.specs.declared.event.Event.TheVariants.{Mount, Issue, Work, Post, Deliver, Crash}
 use Rattle.world.specs.declared.outcome.Happened.{Happened}
 use Rattle.world.specs.declared.outcome.Happened.TheVariants as happened
 
 -- ---- moves of events
 
--- The moves that an event made, by what is told of it. A take only hands on what is under way, and what was refused
--- made none.
-abbrev pub move_of : Event → Happened → List Move
-move_of (Mount daemon) (happened.Mounted generation) = mount daemon ∷ []
-move_of (Issue request) (happened.Asked (Some unique)) = issue (record { unique = unique; what = request }) ∷ []
-move_of (Issue request) (happened.Asked None) = option_map_or (λ (item : Item). issue_item item ∷ []) (item_of request) []
-move_of (Work daemon place fails) (happened.Made reply) = work reply.unique reply.answer ∷ []
-move_of (Work daemon place fails) (happened.Forgot item forgot) = work_item item ∷ []
-move_of (Post daemon place) (happened.Posted unique) = accept unique daemon ∷ []
-move_of Deliver (happened.Answered reply) = deliver reply.unique ∷ []
-move_of event told = []
+-- the daemon has the seat
+abbrev pub holds : Option Seat → DaemonId → Bool
+holds seat daemon = option_map_or (λ (seat : Seat). seat.daemon.0 == daemon.0) seat false
+
+-- The moves that an event made, by who had the seat and what is told of the event. A take only hands on what is under
+-- way, the end of a daemon without the seat changes nothing for the kernel, and what was refused made none.
+abbrev pub move_of : Option Seat → Event → Happened → List Move
+move_of seat (Mount daemon) (happened.Mounted generation) = mount daemon ∷ []
+move_of seat (Issue request) (happened.Asked (Some unique)) = issue (record { unique = unique; what = request }) ∷ []
+move_of seat (Issue request) (happened.Asked None) = option_map_or (λ (item : Item). issue_item item ∷ []) (item_of request) []
+move_of seat (Work daemon place fails) (happened.Made reply) = work reply.unique reply.answer ∷ []
+move_of seat (Work daemon place fails) (happened.Forgot item forgot) = work_item item ∷ []
+move_of seat (Post daemon place) (happened.Posted unique) = accept unique daemon ∷ []
+move_of seat Deliver (happened.Answered reply) = deliver reply.unique ∷ []
+move_of seat (Crash daemon) happened.Crashed = if holds seat daemon then mount_end ∷ [] else []
+move_of seat event told = []
 
 -- the moves of events one after another, none of which is a `do`
-abbrev pub moves_in_turn : List Event → List Happened → List Move
-moves_in_turn (event ∷ events) (told ∷ rest) = move_of event told ++ moves_in_turn events rest
-moves_in_turn events outcome = []
+abbrev pub moves_in_turn : World → List Event → List Happened → List Move
+moves_in_turn world (event ∷ events) (told ∷ rest) =
+    move_of world.seat event told ++ moves_in_turn (after_all world (move_of world.seat event told)) events rest
+moves_in_turn world events outcome = []
 
 -- the moves of an event; a `do` counts as the events that it made
 abbrev pub moves_of : World → Event → List Happened → List Move
-moves_of world event outcome = moves_in_turn (parts_of world.seat event) outcome
+moves_of world event outcome = moves_in_turn world (parts_of world.seat event) outcome
 
 -- the moves of events one after another
 abbrev pub all_moves : World → List Event → List (List Happened) → List Move

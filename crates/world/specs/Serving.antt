@@ -14,7 +14,7 @@ use Rattle.fuse_ops.specs.Served.{ServedState, Replay}
 use Rattle.world.specs.Server.{ServerState, at_place, told_taken, with_taken, told_worked, with_worked, with_posted}
 use Rattle.world.specs.State.{refusal_of_take, refusal_of_post}
 use Rattle.world.specs.declared.daemon.Daemon.{Daemon}
-use Rattle.world.specs.declared.daemon.Daemon.TheVariants.{Waiting, Serving}
+use Rattle.world.specs.declared.daemon.Daemon.TheVariants.{Waiting, Serving, Gone}
 use Rattle.world.specs.declared.outcome.Happened.{Happened}
 use Rattle.world.specs.declared.outcome.Happened.TheVariants.{Refused, Posted}
 use Rattle.world.specs.declared.outcome.Refusal.{Refusal}
@@ -43,7 +43,7 @@ pub record ChangesAt (does : Daemon → Daemon → Type 0) (old : List Daemon) (
 -- a daemon started and has not mounted
 abbrev pub is_waiting : Daemon → Bool
 is_waiting Waiting = true
-is_waiting (Serving server) = false
+is_waiting daemon = false
 
 -- ---- calls of a serving daemon
 
@@ -117,12 +117,14 @@ abbrev pub DaemonTakes : BrokerState → DaemonId → Happened → BrokerState �
 DaemonTakes broker daemon told left (Serving old) (Serving new) =
     TakesBy (take_fault broker daemon old.generation) old broker told new left
 DaemonTakes broker daemon told left Waiting new = Stays Waiting broker WrongPhase told new left
+DaemonTakes broker daemon told left Gone new = Stays Gone broker WrongPhase told new left
 DaemonTakes broker daemon told left old new = ⊥
 
 -- a daemon works
 abbrev pub DaemonWorks : ℕ → Bool → Happened → Daemon → Daemon → Type 0
 DaemonWorks place fails told (Serving old) (Serving new) = WorksBy (at_place old.hand place) old place fails told new
 DaemonWorks place fails told Waiting new = Keeps Waiting NoSuch told new
+DaemonWorks place fails told Gone new = Keeps Gone NoSuch told new
 DaemonWorks place fails told old new = ⊥
 
 -- a daemon posts
@@ -130,4 +132,5 @@ abbrev pub DaemonPosts : BrokerState → DaemonId → ℕ → Happened → Broke
 DaemonPosts broker daemon place told left (Serving old) (Serving new) =
     PostsBy (at_place old.unposted place) old broker daemon place told new left
 DaemonPosts broker daemon place told left Waiting new = Stays Waiting broker NoSuch told new left
+DaemonPosts broker daemon place told left Gone new = Stays Gone broker NoSuch told new left
 DaemonPosts broker daemon place told left old new = ⊥

@@ -21,7 +21,7 @@ use Rattle.world.specs.Server.{ServerState, at_place}
 use Rattle.world.specs.declared.daemon.Daemon.{Daemon}
 use Rattle.world.specs.declared.daemon.Daemon.TheVariants.{Waiting, Serving}
 use Rattle.world.specs.declared.event.Event.{Event}
-use Rattle.world.specs.declared.event.Event.TheVariants.{Start, Mount, Issue, Take, Work, Post, Deliver}
+use Rattle.world.specs.declared.event.Event.TheVariants.{Start, Mount, Issue, Take, Work, Post, Deliver, Crash}
 use Rattle.world.specs.declared.outcome.Refusal.{Refusal}
 use Rattle.world.specs.declared.outcome.Refusal.TheVariants as refusal
 
@@ -51,8 +51,8 @@ with_daemon state daemon now = record state { daemons = slice_set state.daemons 
 
 -- what a daemon serves and has in hand, by its phase
 abbrev pub server_in : Daemon → Option ServerState
-server_in Waiting = None
 server_in (Serving server) = Some server
+server_in daemon = None
 
 -- what a daemon serves and has in hand, if there is such a daemon and it serves
 abbrev pub server_of : State → DaemonId → Option ServerState
@@ -106,21 +106,21 @@ refusal_of_post post.NotAsked = refusal.NotAsked
 abbrev pub mount_refusal : State → Option Daemon → Option Refusal
 mount_refusal state None = Some refusal.NoDaemon
 mount_refusal state (Some Waiting) = option_map refusal_of_mount (mount_fault state.broker)
-mount_refusal state (Some (Serving server)) = Some refusal.WrongPhase
+mount_refusal state (Some daemon) = Some refusal.WrongPhase
 
 -- a daemon takes what waits at its generation
 abbrev pub take_refusal : State → DaemonId → Option Daemon → Option Refusal
 take_refusal state daemon None = Some refusal.NoDaemon
-take_refusal state daemon (Some Waiting) = Some refusal.WrongPhase
 take_refusal state daemon (Some (Serving server)) =
     option_map refusal_of_take (take_fault state.broker daemon server.generation)
+take_refusal state daemon (Some other) = Some refusal.WrongPhase
 
--- a daemon works what it has in hand, and one that waits has nothing
+-- a daemon works what it has in hand, and one that does not serve has nothing
 abbrev pub work_refusal : ℕ → Option Daemon → Option Refusal
 work_refusal place None = Some refusal.NoDaemon
-work_refusal place (Some Waiting) = Some refusal.NoSuch
 work_refusal place (Some (Serving server)) =
     if is_none (at_place server.hand place) then Some refusal.NoSuch else None
+work_refusal place (Some other) = Some refusal.NoSuch
 
 -- a reply is posted at the generation of its daemon
 abbrev pub reply_refusal : State → DaemonId → ServerState → Option Reply → Option Refusal
@@ -128,12 +128,12 @@ reply_refusal state daemon server None = Some refusal.NoSuch
 reply_refusal state daemon server (Some reply) =
     option_map refusal_of_post (post_fault state.broker daemon server.generation reply)
 
--- a daemon posts what it answered, and one that waits answered nothing
+-- a daemon posts what it answered, and one that does not serve has nothing to post
 abbrev pub post_refusal : State → DaemonId → ℕ → Option Daemon → Option Refusal
 post_refusal state daemon place None = Some refusal.NoDaemon
-post_refusal state daemon place (Some Waiting) = Some refusal.NoSuch
 post_refusal state daemon place (Some (Serving server)) =
     reply_refusal state daemon server (at_place server.unposted place)
+post_refusal state daemon place (Some other) = Some refusal.NoSuch
 
 -- Why an event is refused, if it is, out of memory apart: the first cause that holds. Nothing stands against a look,
 -- and a `do` is refused where one of its events is.
@@ -145,4 +145,5 @@ fault state (Take daemon) = take_refusal state daemon (daemon_of state daemon)
 fault state (Work daemon place fails) = work_refusal place (daemon_of state daemon)
 fault state (Post daemon place) = post_refusal state daemon place (daemon_of state daemon)
 fault state Deliver = if is_none (front state.broker.traffic.posted) then Some refusal.Empty else None
+fault state (Crash daemon) = if is_none (daemon_of state daemon) then Some refusal.NoDaemon else None
 fault state event = None

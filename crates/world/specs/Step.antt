@@ -3,7 +3,7 @@
 use Rattle.std.specs.Prelude.{◌≡◌, ◌≢◌, ℕ, ◌+◌, ◌⊎◌, Bool, true, false, List, [], ◌∷◌, ◌++◌, length, Option, Some, None, if◌then◌else◌}
 use Rattle.eden_base.specs.declared.errno.Errno.TheVariants.{EIO}
 use Rattle.eden_base.specs.declared.number.DaemonId.{DaemonId}
-use Rattle.broker_core.specs.Broker.{mounted, issued, unique_of, taken, posted, delivered}
+use Rattle.broker_core.specs.Broker.{mounted, issued, unique_of, taken, posted, delivered, without_daemon}
 use Rattle.broker_core.specs.Traffic.{front, next_taken}
 use Rattle.broker_core.specs.declared.seat.Seat.{Seat}
 use Rattle.fuse_wire.specs.Request.{is_ask}
@@ -15,9 +15,9 @@ use Rattle.fuse_wire.specs.declared.reply.Reply.{Reply}
 use Rattle.fuse_ops.specs.Served.{ServedState, Replay}
 use Rattle.world.specs.Server.{ServerState, new_server, at_place, told_taken, with_taken, told_worked, with_worked, with_posted}
 use Rattle.world.specs.State.{State, daemon_of, with_daemon, fault}
-use Rattle.world.specs.declared.daemon.Daemon.TheVariants.{Waiting, Serving}
+use Rattle.world.specs.declared.daemon.Daemon.TheVariants.{Waiting, Serving, Gone}
 use Rattle.world.specs.declared.event.Event.{Event}
-use Rattle.world.specs.declared.event.Event.TheVariants.{Start, Mount, Issue, Take, Work, Post, Deliver, Do, Show}
+use Rattle.world.specs.declared.event.Event.TheVariants.{Start, Mount, Issue, Take, Work, Post, Deliver, Crash, Do, Show}
 use Rattle.world.specs.declared.outcome.Happened.{Happened}
 use Rattle.world.specs.declared.outcome.Happened.TheVariants as happened
 use Rattle.world.specs.declared.outcome.Refusal.{Refusal}
@@ -86,6 +86,12 @@ pub record Delivers (old : State) (told : Happened) (new : State) : Type 0 where
   pub tells : told ≡ happened.Answered reply
   pub makes : new ≡ record old { broker = delivered old.broker }
 
+-- a daemon is gone with all that it had, and the mount is over where it had the seat
+abbrev pub Crashes : State → DaemonId → Happened → State → Type 0
+Crashes old daemon told new =
+    (told ≡ happened.Crashed)
+    × (new ≡ with_daemon (record old { broker = without_daemon old.broker daemon }) daemon Gone)
+
 -- what an event that no cause stands against makes
 abbrev pub Makes : State → Event → Happened → State → Type 0
 Makes old Start told new = Starts old told new
@@ -95,11 +101,13 @@ Makes old (Take daemon) told new = Takes old daemon told new
 Makes old (Work daemon place fails) told new = Works old daemon place fails told new
 Makes old (Post daemon place) told new = Posts old daemon place told new
 Makes old Deliver told new = Delivers old told new
+Makes old (Crash daemon) told new = Crashes old daemon told new
 Makes old event told new = ⊥
 
--- a post takes no memory
+-- a post and a crash take no memory
 abbrev pub TakesMemory : Event → Type 0
 TakesMemory (Post daemon place) = ⊥
+TakesMemory (Crash daemon) = ⊥
 TakesMemory event = Unit {0}
 
 -- by the first cause against it, if there is one; else it is made, or memory was wanting

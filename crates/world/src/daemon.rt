@@ -1,7 +1,7 @@
 //! One daemon of the world.
 ghost use Rattle.std.specs.Option.{option_copied};
 ghost use Rattle.std.specs.Prelude.{◌≡◌, ◌<◌, set, vec_len};
-ghost use Rattle.world.specs.declared.daemon.Daemon.TheVariants.{Serving};
+ghost use Rattle.world.specs.declared.daemon.Daemon.TheVariants.{Serving, Gone};
 ghost use Rattle.world.specs.State.{server_in};
 ghost use Rattle.world.specs.Serving.{is_waiting, ChangesAt, DaemonTakes, DaemonWorks, DaemonPosts};
 
@@ -11,11 +11,12 @@ use broker_core::Broker;
 use eden_base::DaemonId;
 use std::mem;
 
-/// A daemon: started, and then serving what it mounted.
+/// A daemon: started, then serving what it mounted, and then gone. It may be gone at any time.
 #[derive(Drop)]
 pub(crate) enum Daemon {
     Waiting,
     Serving(Server),
+    Gone,
 }
 
 impl Daemon {
@@ -25,7 +26,7 @@ impl Daemon {
     {
         match self {
             Daemon::Waiting => true,
-            Daemon::Serving(_) => false,
+            Daemon::Serving(_) | Daemon::Gone => false,
         }
     }
 
@@ -34,7 +35,7 @@ impl Daemon {
         ensures server { option_copied result ≡ server_in self.now }
     {
         match self {
-            Daemon::Waiting => None,
+            Daemon::Waiting | Daemon::Gone => None,
             Daemon::Serving(server) => Some(server),
         }
     }
@@ -44,7 +45,7 @@ impl Daemon {
         ensures takes { DaemonTakes broker.old daemon result broker.new self.old self.new }
     {
         match self {
-            Daemon::Waiting => Happened::Refused(Refusal::WrongPhase),
+            Daemon::Waiting | Daemon::Gone => Happened::Refused(Refusal::WrongPhase),
             Daemon::Serving(server) => server.take(broker, daemon),
         }
     }
@@ -54,7 +55,7 @@ impl Daemon {
         ensures works { DaemonWorks place fails result self.old self.new }
     {
         match self {
-            Daemon::Waiting => Happened::Refused(Refusal::NoSuch),
+            Daemon::Waiting | Daemon::Gone => Happened::Refused(Refusal::NoSuch),
             Daemon::Serving(server) => server.work(place, fails),
         }
     }
@@ -64,7 +65,7 @@ impl Daemon {
         ensures posts { DaemonPosts broker.old daemon place result broker.new self.old self.new }
     {
         match self {
-            Daemon::Waiting => Happened::Refused(Refusal::NoSuch),
+            Daemon::Waiting | Daemon::Gone => Happened::Refused(Refusal::NoSuch),
             Daemon::Serving(server) => server.post(broker, daemon, place),
         }
     }
@@ -74,7 +75,7 @@ impl Daemon {
         ensures same { self.new ≡ self.old }
     {
         match self {
-            Daemon::Waiting => true,
+            Daemon::Waiting | Daemon::Gone => true,
             Daemon::Serving(server) => server.make_room().is_ok(),
         }
     }
@@ -87,6 +88,15 @@ pub(crate) fn serve_at(daemons: &mut Vec<Daemon>, index: usize, server: Server)
 {
     let waited = mem::replace(&mut daemons[index], Daemon::Serving(server));
     drop(waited);
+}
+
+/// Ends the daemon at an index, and drops all that it had.
+pub(crate) fn end_at(daemons: &mut Vec<Daemon>, index: usize)
+    requires within { index < vec_len daemons.old }
+    ensures gone { daemons.new.items ≡ set daemons.old.items index Gone }
+{
+    let ended = mem::replace(&mut daemons[index], Daemon::Gone);
+    drop(ended);
 }
 
 /// Lets the daemon at an index take what waits first.

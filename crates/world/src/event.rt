@@ -26,6 +26,8 @@ pub enum Event {
     },
     /// The reply that was posted first reaches the kernel.
     Deliver,
+    /// The daemon ends, and all that it had with it; the mount ends where the daemon has the seat.
+    Crash(DaemonId),
     /// The request is issued; what waits first is taken, and the first of the hand worked, by the daemon that serves;
     /// of an ask, the first of its replies is posted, and the first posted reply delivered. It ends at the first of
     /// these that is refused.

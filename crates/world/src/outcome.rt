@@ -76,6 +76,8 @@ pub enum Happened {
     Posted(u64),
     /// The reply reached the kernel.
     Answered(Reply),
+    /// The daemon is gone.
+    Crashed,
     Refused(Refusal),
 }
 

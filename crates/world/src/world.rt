@@ -6,7 +6,7 @@ ghost use Rattle.world.specs.Step.{Once, Step};
 ghost use Rattle.world.specs.World.{first_world, World as Ideal};
 ghost use Rattle.world.specs.Agreement.{Matches, MovesOn};
 
-use crate::daemon::{Daemon, make_room_at, post_at, serve_at, take_at, work_at};
+use crate::daemon::{Daemon, end_at, make_room_at, post_at, serve_at, take_at, work_at};
 use crate::event::Event;
 use crate::outcome::{Happened, Outcome, Refusal};
 use crate::place::index_of;
@@ -143,6 +143,7 @@ impl World {
             } => outcome.tell(self.work(*daemon, *place, *fails)),
             Event::Post { daemon, place } => outcome.tell(self.post(*daemon, *place)),
             Event::Deliver => outcome.tell(self.deliver()),
+            Event::Crash(daemon) => outcome.tell(self.crash(*daemon)),
             Event::Do(request) => self.carry_out(request, outcome),
             Event::Show => {}
         }
@@ -234,6 +235,18 @@ impl World {
             Err(DeliverFault::Empty) => Happened::Refused(Refusal::Empty),
             Err(DeliverFault::NoMemory) => Happened::Refused(Refusal::NoMemory),
         }
+    }
+
+    /// Ends a daemon, and the mount where the daemon has the seat. It takes no memory.
+    fn crash(&mut self, daemon: DaemonId) -> Happened
+        ensures once { Once self.old (Event.Crash daemon) result self.new }
+    {
+        let Some(index) = index_of(daemon.0, self.daemons.len()) else {
+            return Happened::Refused(Refusal::NoDaemon);
+        };
+        end_at(&mut self.daemons, index);
+        self.broker.gone(daemon);
+        Happened::Crashed
     }
 
     /// Lets the events of a `do` happen. The room that they need in the daemon comes first.

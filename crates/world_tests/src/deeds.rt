@@ -33,6 +33,7 @@ pub enum Deed {
     WorkFails(u64, u64),
     Post(u64, u64),
     Deliver,
+    Crash(u64),
     Do(Wish),
     Show,
 }
@@ -69,6 +70,7 @@ pub enum Fact {
     Forgot(u64, u64, Forgot),
     Posted(u64),
     Delivered(u64, Said),
+    Crashed,
     Refused(Refusal),
 }
 
@@ -181,6 +183,7 @@ pub(crate) fn event(alloc: Global, deed: Deed) -> Option<Event> {
             place,
         }),
         Deed::Deliver => Some(Event::Deliver),
+        Deed::Crash(daemon) => Some(Event::Crash(DaemonId(daemon))),
         Deed::Do(wish) => Some(Event::Do(request(alloc, wish)?)),
         Deed::Show => Some(Event::Show),
     }
@@ -269,6 +272,7 @@ pub(crate) fn happened(fact: Fact) -> Happened {
         },
         Fact::Posted(unique) => Happened::Posted(unique),
         Fact::Delivered(unique, said) => Happened::Answered(reply(unique, said)),
+        Fact::Crashed => Happened::Crashed,
         Fact::Refused(refusal) => Happened::Refused(refusal),
     }
 }

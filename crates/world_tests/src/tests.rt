@@ -191,10 +191,61 @@ static NOT_THERE: [(Deed, Told); 21] = [
 ];
 
 /// NotAsked is told of no list of events: a daemon posts only what it answered, and it answered what it took. Nor are
-/// Ended and Stale, while nobody loses the seat.
+/// Ended and Stale: a daemon loses the seat by its end alone, and then takes and posts nothing.
 #[test]
 fn refuses_to_hand_on_what_is_not_there(rt: HostRuntime) {
     assert!(rt; all_go_so(rt.alloc(), &NOT_THERE, &[Found::Alone(2, 3)]));
+}
+
+/// What was asked, taken, answered and posted, and a file that was made, go with the daemon of the seat.
+static CRASHED: [(Deed, Told); 26] = [
+    (Deed::Start, Told::One(Fact::Started(1))),
+    (Deed::Start, Told::One(Fact::Started(2))),
+    (Deed::Start, Told::One(Fact::Started(3))),
+    (Deed::Mount(1), Told::One(Fact::Mounted(1))),
+    (
+        Deed::Do(Wish::Create(1, b"a")),
+        Told::Answered(1, Said::Opened(2, CREATED)),
+    ),
+    (Deed::Issue(LOOK_UP_SRC), Told::One(Fact::Asked(Some(2)))),
+    (Deed::Issue(LOOK_UP_SRC), Told::One(Fact::Asked(Some(3)))),
+    (Deed::Take(1), Told::One(Fact::Took(2))),
+    (Deed::Crash(3), Told::One(Fact::Crashed)),
+    (
+        Deed::Work(1, 1),
+        Told::One(Fact::Made(2, Said::Entry(3, Look::Directory))),
+    ),
+    (Deed::Post(1, 1), Told::One(Fact::Posted(2))),
+    (Deed::Crash(1), Told::One(Fact::Crashed)),
+    (Deed::Deliver, Told::One(Fact::Refused(Refusal::Empty))),
+    (
+        Deed::Do(LOOK_UP_SRC),
+        Told::One(Fact::Refused(Refusal::NotMounted)),
+    ),
+    (
+        Deed::Mount(1),
+        Told::One(Fact::Refused(Refusal::WrongPhase)),
+    ),
+    (Deed::Take(1), Told::One(Fact::Refused(Refusal::WrongPhase))),
+    (Deed::Work(1, 1), Told::One(Fact::Refused(Refusal::NoSuch))),
+    (Deed::Post(1, 1), Told::One(Fact::Refused(Refusal::NoSuch))),
+    (Deed::Crash(1), Told::One(Fact::Crashed)),
+    (Deed::Crash(4), Told::One(Fact::Refused(Refusal::NoDaemon))),
+    (Deed::Crash(0), Told::One(Fact::Refused(Refusal::NoDaemon))),
+    (Deed::Mount(2), Told::One(Fact::Mounted(2))),
+    (Deed::Take(2), Told::One(Fact::Refused(Refusal::Empty))),
+    (
+        Deed::Do(Wish::LookUp(1, b"a")),
+        Told::Answered(4, Said::Error(Errno::ENOENT)),
+    ),
+    (Deed::Do(LOOK_UP_SRC), Told::Answered(5, SRC)),
+    (Deed::Crash(1), Told::One(Fact::Crashed)),
+];
+
+#[test]
+fn ends_a_mount_with_the_daemon_of_the_seat(rt: HostRuntime) {
+    let found = [Found::Seat(2, 2), Found::NotServed(1)];
+    assert!(rt; all_go_so(rt.alloc(), &CRASHED, &found));
 }
 
 static NO_BATCH: [(Deed, Told); 8] = [

@@ -3,7 +3,7 @@ use Rattle.std.proofs.Common.{◌≡◌, List, [], ◌∷◌, ◌++◌, sym, sub
 use Rattle.world.specs.State.{State}
 use Rattle.world.specs.Step.{Once, Step, parts_of}
 use Rattle.world.specs.declared.event.Event.{Event}
-use Rattle.world.specs.declared.event.Event.TheVariants.{Start, Mount, Issue, Take, Work, Post, Deliver}
+use Rattle.world.specs.declared.event.Event.TheVariants.{Start, Mount, Issue, Take, Work, Post, Deliver, Crash}
 use Rattle.world.specs.declared.outcome.Happened.{Happened}
 use Rattle.world.proofs.Carrying.{Step-alone}
 use Rattle.world.proofs.world.World.decide.Goals as goal
@@ -48,4 +48,9 @@ returns-in-Post c = record {
 pub returns-in-Deliver : goal.returns-in-Deliver
 returns-in-Deliver c = record {
   step = alone c.args.self.now c.args.event.now Deliver c.deliver.result c.args.outcome.now c.tell-in-Deliver.new.self c.deliver.new.self refl c.in-Deliver.is c.deliver.ensures.once c.requires.nothing c.tell-in-Deliver.ensures.told;
+}
+
+pub returns-in-Crash : goal.returns-in-Crash
+returns-in-Crash c = record {
+  step = alone c.args.self.now c.args.event.now (Crash c.in-Crash.daemon) c.crash.result c.args.outcome.now c.tell-in-Crash.new.self c.crash.new.self refl c.in-Crash.is c.crash.ensures.once c.requires.nothing c.tell-in-Crash.ensures.told;
 }
