@@ -140,7 +140,11 @@ fn finds_each_in(alloc: Global, tree: &Tree) -> bool {
 /// Returns that of a tree of a hundred directories.
 fn finds_each_nested(alloc: Global) -> bool {
     match nested_tree(alloc) {
-        Some(tree) => finds_each_in(alloc, &tree),
+        Some(tree) => {
+            let finds = finds_each_in(alloc, &tree);
+            drop(tree);
+            finds
+        }
         None => false,
     }
 }
@@ -387,13 +391,15 @@ fn all_go_so(alloc: Global, limit: usize, deeds: &[Deed]) -> bool
     match map_of(alloc, limit) {
         Ok(map) => {
             let mut map = map;
-            each_goes_so(alloc, &mut map, deeds)
+            let goes_so = each_goes_so(alloc, &mut map, deeds);
+            drop(map);
+            goes_so
         }
         Err(NoMemory) => false,
     }
 }
 
-const ONE_NAME: [Deed; 4] = [
+static ONE_NAME: [Deed; 4] = [
     Deed::Give(1, b"a", 2),
     Deed::Give(1, b"b", 3),
     Deed::Give(1, b"a", 2),
@@ -405,7 +411,7 @@ fn gives_each_name_one_number(rt: HostRuntime) {
     assert!(rt; all_go_so(rt.alloc(), 4, &ONE_NAME));
 }
 
-const IN_ROOM: [Deed; 10] = [
+static IN_ROOM: [Deed; 10] = [
     Deed::GiveReady(1, b"a", 2),
     Deed::GiveReady(2, b"b", 3),
     Deed::GiveReady(2, b"b", 3),
@@ -423,7 +429,7 @@ fn gives_numbers_in_room_that_was_made_before(rt: HostRuntime) {
     assert!(rt; all_go_so(rt.alloc(), 2, &IN_ROOM));
 }
 
-const UPWARDS: [Deed; 19] = [
+static UPWARDS: [Deed; 19] = [
     Deed::Give(1, b"a", 2),
     Deed::Give(2, b"a", 3),
     Deed::Give(3, b"a", 4),
@@ -450,7 +456,7 @@ fn goes_over_its_numbers_and_forgets_upwards(rt: HostRuntime) {
     assert!(rt; all_go_so(rt.alloc(), 4, &UPWARDS));
 }
 
-const LOADED: [Deed; 17] = [
+static LOADED: [Deed; 17] = [
     Deed::GiveReady(1, b"src", 2),
     Deed::Load(2),
     Deed::Give(1, b"README", 3),
@@ -475,7 +481,7 @@ fn unloads_the_oldest_attribute_at_the_limit(rt: HostRuntime) {
     assert!(rt; all_go_so(rt.alloc(), 2, &LOADED));
 }
 
-const FORGOTTEN: [Deed; 12] = [
+static FORGOTTEN: [Deed; 12] = [
     Deed::Give(1, b"src", 2),
     Deed::Give(1, b"src", 2),
     Deed::Give(1, b"README", 3),
@@ -496,7 +502,7 @@ fn tells_what_each_forget_comes_to(rt: HostRuntime) {
 }
 
 /// A map of one entry, under a name of the root, whose number is the last, and which is held as often as may be but once.
-const AT_THE_ENDS: [Deed; 9] = [
+static AT_THE_ENDS: [Deed; 9] = [
     Deed::At(9223372036854775807, 0),
     Deed::Give(1, b"src", 9223372036854775806),
     Deed::Refuse(1, b"src", GiveFault::TooMany),
@@ -509,18 +515,25 @@ const AT_THE_ENDS: [Deed; 9] = [
 ];
 
 /// Returns whether the calls on that map go so.
-fn gives_up_at_the_ends(alloc: Global) -> Option<bool> {
+fn gives_up_at_the_ends(alloc: Global) -> bool {
     let spot = Spot::Named(b"src");
-    let mut map = map_of_one(alloc, Number(9223372036854775806), spot, 4294967294)?;
-    Some(each_goes_so(alloc, &mut map, &AT_THE_ENDS))
+    match map_of_one(alloc, Number(9223372036854775806), spot, 4294967294) {
+        Some(map) => {
+            let mut map = map;
+            let goes_so = each_goes_so(alloc, &mut map, &AT_THE_ENDS);
+            drop(map);
+            goes_so
+        }
+        None => false,
+    }
 }
 
 #[test]
 fn gives_up_at_the_greatest_count_and_behind_the_last_number(rt: HostRuntime) {
-    assert!(rt; gives_up_at_the_ends(rt.alloc()) == Some(true));
+    assert!(rt; gives_up_at_the_ends(rt.alloc()));
 }
 
-const MARKED: [Deed; 5] = [
+static MARKED: [Deed; 5] = [
     Deed::After(1, 5),
     Deed::Entries(&[(5, 0, 2)]),
     Deed::At(6, 0),
@@ -540,7 +553,9 @@ fn names_a_mark(alloc: Global, tree: &Tree) -> bool {
     match map_of_one(alloc, Number(5), Spot::Marked(7), 2) {
         Some(map) => {
             let mut map = map;
-            names_until_forgotten(alloc, &mut map, tree)
+            let names = names_until_forgotten(alloc, &mut map, tree);
+            drop(map);
+            names
         }
         None => false,
     }
@@ -549,7 +564,11 @@ fn names_a_mark(alloc: Global, tree: &Tree) -> bool {
 /// Returns that of a tree that has no files.
 fn names_a_mark_of_nothing(alloc: Global) -> bool {
     match tree_of(alloc, b"commit 0123456789abcdef0123456789abcdef01234567\n") {
-        Some(tree) => names_a_mark(alloc, &tree),
+        Some(tree) => {
+            let names = names_a_mark(alloc, &tree);
+            drop(tree);
+            names
+        }
         None => false,
     }
 }
