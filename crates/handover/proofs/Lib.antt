@@ -1,0 +1,2 @@
+pub mod HandedOver
+pub mod OneImage
