@@ -1,7 +1,8 @@
 -- What the daemons of a state serve and have in hand after one of them started, mounted, took, worked or posted.
-use Rattle.std.proofs.Common.{◌≡◌, ℕ, suc, zero, ◌-◌, Bool, true, false, List, [], ◌∷◌, ◌++◌, Option, Some, None, refl, sym, ap, ◌∙◌, subst, inl, inr, ◌⊎◌, arith}
+use Rattle.std.proofs.Common.{◌≡◌, ℕ, suc, zero, ◌-◌, ◌<◌, Bool, true, false, List, [], ◌∷◌, ◌++◌, Option, Some, None, refl, sym, ap, ◌∙◌, subst, inl, inr, ◌⊎◌, arith}
 use Rattle.std.specs.Prelude.{slice_get, slice_set, ◌==◌, if◌then◌else◌}
 use Rattle.std.specs.Option.{option_and_then, option_map}
+use Rattle.eden_base.specs.Limits.{last_generation}
 use Rattle.eden_base.proofs.NumberTests.{eq-or, false-ne}
 use Rattle.eden_base.specs.declared.number.DaemonId.{DaemonId}
 use Rattle.manifest.specs.Tree.{IsTree}
@@ -9,35 +10,36 @@ use Rattle.broker_core.specs.Broker.{BrokerState, mount_fault}
 use Rattle.broker_core.proofs.Accepted.{free_to_mount}
 use Rattle.broker_core.specs.declared.broker.MountFault.{MountFault}
 use Rattle.broker_core.specs.declared.seat.Seat.{Seat}
-use Rattle.world.specs.declared.daemon.Daemon.{Daemon}
-use Rattle.world.specs.declared.daemon.Daemon.TheVariants.{Waiting, Serving, Gone}
-use Rattle.world.specs.Server.{ServerState, at_place}
+use Rattle.takeover_core.specs.declared.message.Message.{Message}
+use Rattle.world.specs.Daemon.{DaemonState, new_daemon, is_waiting}
+use Rattle.world.specs.Server.{ServerState, IsIdle, at_place}
 use Rattle.world.specs.World.{World, owed}
-use Rattle.world.specs.Agreement.{Knows, HolderKnows, Books, SeatIsLast, IsUnderWay, IsIdle, IsHolder, OthersAreIdle, IsOrderly, AnsweredBefore, Matches}
-use Rattle.world.specs.State.{State, mount_refusal, refusal_of_mount, daemon_of, with_daemon, server_in, server_of, IsSeated}
+use Rattle.world.specs.Agreement.{Knows, HolderKnows, Books, SeatIsLast, IsUnderWay, IsHolder, OthersAreIdle, IsOrderly, AnsweredBefore, Follows}
+use Rattle.world.specs.State.{State, mount_refusal, refusal_of_mount, daemon_of, with_daemon, server_of, IsSeated}
+use Rattle.world.specs.declared.outcome.Refusal.TheVariants as refusal
 
 -- ---- one of many
 
--- one that waits serves nothing, as if it were not there
-more_in : (ds : List Daemon) (i : ℕ) → option_and_then server_in (slice_get (ds ++ Waiting ∷ []) i) ≡ option_and_then server_in (slice_get ds i)
+-- a new one serves nothing, as if it were not there
+more_in : (ds : List DaemonState) (i : ℕ) → option_and_then (λ (d : DaemonState). d.server) (slice_get (ds ++ new_daemon ∷ []) i) ≡ option_and_then (λ (d : DaemonState). d.server) (slice_get ds i)
 more_in [] zero = refl
 more_in [] (suc i) = refl
 more_in (d ∷ ds) zero = refl
 more_in (d ∷ ds) (suc i) = more_in ds i
 
-pub server_of-more : (old : State) (daemon : DaemonId) → server_of (record old { daemons = old.daemons ++ Waiting ∷ [] }) daemon ≡ server_of old daemon
-server_of-more old daemon = in_ (daemon.0 == 0) where
-  in_ : (b : Bool) → option_and_then server_in (if b then None else slice_get (old.daemons ++ Waiting ∷ []) (daemon.0 - 1)) ≡ option_and_then server_in (if b then None else slice_get old.daemons (daemon.0 - 1))
+pub server_of-more : (old : State) (messages : List Message) (daemon : DaemonId) → server_of (record old { daemons = old.daemons ++ new_daemon ∷ []; messages = messages }) daemon ≡ server_of old daemon
+server_of-more old messages daemon = in_ (daemon.0 == 0) where
+  in_ : (b : Bool) → option_and_then (λ (d : DaemonState). d.server) (if b then None else slice_get (old.daemons ++ new_daemon ∷ []) (daemon.0 - 1)) ≡ option_and_then (λ (d : DaemonState). d.server) (if b then None else slice_get old.daemons (daemon.0 - 1))
   in_ true = refl
   in_ false = more_in old.daemons (daemon.0 - 1)
 
 -- what was written at a daemon's place is there, and nowhere else
-set_in : (ds : List Daemon) (i : ℕ) (d later : Daemon) → slice_get ds i ≡ Some d → slice_get (slice_set ds i later) i ≡ Some later
+set_in : (ds : List DaemonState) (i : ℕ) (d later : DaemonState) → slice_get ds i ≡ Some d → slice_get (slice_set ds i later) i ≡ Some later
 set_in [] i d later h = absurd (let none : ⊥ = cc in none)
 set_in (x ∷ ds) zero d later h = refl
 set_in (x ∷ ds) (suc i) d later h = set_in ds i d later h
 
-other_in : (ds : List Daemon) (i j : ℕ) (later : Daemon) → (i ≡ j → ⊥) → slice_get (slice_set ds i later) j ≡ slice_get ds j
+other_in : (ds : List DaemonState) (i j : ℕ) (later : DaemonState) → (i ≡ j → ⊥) → slice_get (slice_set ds i later) j ≡ slice_get ds j
 other_in [] i j later apart = refl
 other_in (x ∷ ds) zero zero later apart = absurd (apart refl)
 other_in (x ∷ ds) zero (suc j) later apart = refl
@@ -45,44 +47,58 @@ other_in (x ∷ ds) (suc i) zero later apart = refl
 other_in (x ∷ ds) (suc i) (suc j) later apart = other_in ds i j later (λ e. apart (ap suc e))
 
 -- a daemon that is there has a number above 0
-daemon-some : (old : State) (daemon : DaemonId) (d : Daemon) → daemon_of old daemon ≡ Some d → ((daemon.0 == 0) ≡ false) × (slice_get old.daemons (daemon.0 - 1) ≡ Some d)
+daemon-some : (old : State) (daemon : DaemonId) (d : DaemonState) → daemon_of old daemon ≡ Some d → ((daemon.0 == 0) ≡ false) × (slice_get old.daemons (daemon.0 - 1) ≡ Some d)
 daemon-some old daemon d h = in_ (daemon.0 == 0) refl h where
   in_ : (b : Bool) → (daemon.0 == 0) ≡ b → (if b then None else slice_get old.daemons (daemon.0 - 1)) ≡ Some d → ((daemon.0 == 0) ≡ false) × (slice_get old.daemons (daemon.0 - 1) ≡ Some d)
   in_ true e s = absurd (let none : ⊥ = cc in none)
   in_ false e s = (e, s)
 
-pub server_of-with : (old : State) (broker : BrokerState) (daemon : DaemonId) (d later : Daemon) → daemon_of old daemon ≡ Some d →
-    server_of (with_daemon (record old { broker = broker }) daemon later) daemon ≡ server_in later
-server_of-with old broker daemon d later h =
-    let r = daemon-some old daemon d h in
+pub daemon_of-with : (state : State) (daemon : DaemonId) (d later : DaemonState) → daemon_of state daemon ≡ Some d → daemon_of (with_daemon state daemon later) daemon ≡ Some later
+daemon_of-with state daemon d later h =
+    let r = daemon-some state daemon d h in
     let other : (daemon.0 == 0) ≡ false = r.0 in
-    rw other (ap (option_and_then server_in) (set_in old.daemons (daemon.0 - 1) d later r.1))
+    rw other (set_in state.daemons (daemon.0 - 1) d later r.1)
 
-pub server_of-other : (old : State) (broker : BrokerState) (daemon other : DaemonId) (d later : Daemon) → daemon_of old daemon ≡ Some d → (daemon ≡ other → ⊥) →
-    server_of (with_daemon (record old { broker = broker }) daemon later) other ≡ server_of old other
-server_of-other old broker daemon other d later h apart = in_ (other.0 == 0) refl where
+pub daemon_of-other : (state : State) (daemon other : DaemonId) (d later : DaemonState) → daemon_of state daemon ≡ Some d → (daemon ≡ other → ⊥) →
+    daemon_of (with_daemon state daemon later) other ≡ daemon_of state other
+daemon_of-other state daemon other d later h apart = in_ (other.0 == 0) refl where
   first : (daemon.0 == 0) ≡ false
-  first = (daemon-some old daemon d h).0
+  first = (daemon-some state daemon d h).0
 
-  in_ : (b : Bool) → (other.0 == 0) ≡ b → option_and_then server_in (if b then None else slice_get (slice_set old.daemons (daemon.0 - 1) later) (other.0 - 1)) ≡ option_and_then server_in (if b then None else slice_get old.daemons (other.0 - 1))
+  in_ : (b : Bool) → (other.0 == 0) ≡ b → (if b then None else slice_get (slice_set state.daemons (daemon.0 - 1) later) (other.0 - 1)) ≡ (if b then None else slice_get state.daemons (other.0 - 1))
   in_ true e = refl
-  in_ false e = ap (option_and_then server_in) (other_in old.daemons (daemon.0 - 1) (other.0 - 1) later (λ s.
+  in_ false e = other_in state.daemons (daemon.0 - 1) (other.0 - 1) later (λ s.
       let low : daemon.0 ≡ 0 → ⊥ = false-ne daemon.0 0 first in
       let more : other.0 ≡ 0 → ⊥ = false-ne other.0 0 e in
       let same : daemon.0 ≡ other.0 = omega (arith, s, low, more) in
-      apart (λ i. record { 0 = same i })))
+      apart (λ i. record { 0 = same i }))
+
+-- the daemon of a number, once one was changed: that one, or what was there
+pub who : (state : State) (daemon other : DaemonId) (d later now : DaemonState) → daemon_of state daemon ≡ Some d → daemon_of (with_daemon state daemon later) other ≡ Some now →
+    ((other ≡ daemon) × (now ≡ later)) ⊎ ((other ≡ daemon → ⊥) × (daemon_of state other ≡ Some now))
+who state daemon other d later now h there = in_ (eq-or other.0 daemon.0) where
+  in_ : (other.0 ≡ daemon.0) ⊎ (other.0 ≡ daemon.0 → ⊥) → ((other ≡ daemon) × (now ≡ later)) ⊎ ((other ≡ daemon → ⊥) × (daemon_of state other ≡ Some now))
+  in_ (inl e) =
+      let same : other ≡ daemon = λ i. record { 0 = e i } in
+      let s : Some later ≡ Some now = sym (daemon_of-with state daemon d later h) ∙ ap (daemon_of (with_daemon state daemon later)) (sym same) ∙ there in
+      inl (same, (let is : now ≡ later = cc in is))
+  in_ (inr apart) =
+      let other' : other ≡ daemon → ⊥ = λ e. apart (ap (λ (x : DaemonId). x.0) e) in
+      inr (other', sym (daemon_of-other state daemon other d later h (λ e. other' (sym e))) ∙ there)
+
+pub server_of-with : (state : State) (daemon : DaemonId) (d later : DaemonState) → daemon_of state daemon ≡ Some d → server_of (with_daemon state daemon later) daemon ≡ later.server
+server_of-with state daemon d later h = ap (option_and_then (λ (x : DaemonState). x.server)) (daemon_of-with state daemon d later h)
+
+pub server_of-other : (state : State) (daemon other : DaemonId) (d later : DaemonState) → daemon_of state daemon ≡ Some d → (daemon ≡ other → ⊥) →
+    server_of (with_daemon state daemon later) other ≡ server_of state other
+server_of-other state daemon other d later h apart = ap (option_and_then (λ (x : DaemonState). x.server)) (daemon_of-other state daemon other d later h apart)
 
 -- who serves is there
-pub serving-is : (old : State) (daemon : DaemonId) (server : ServerState) → server_of old daemon ≡ Some server → daemon_of old daemon ≡ Some (Serving server)
-serving-is old daemon server h = in_ (daemon_of old daemon) h where
-  daemon_in : (d : Daemon) → server_in d ≡ Some server → Some d ≡ Some (Serving server)
-  daemon_in Waiting e = absurd (let none : ⊥ = cc in none)
-  daemon_in Gone e = absurd (let none : ⊥ = cc in none)
-  daemon_in (Serving s) e = let same : s ≡ server = cc in ap (λ (x : ServerState). Some (Serving x)) same
-
-  in_ : (o : Option Daemon) → option_and_then server_in o ≡ Some server → o ≡ Some (Serving server)
-  in_ None e = absurd (let none : ⊥ = cc in none)
-  in_ (Some d) e = daemon_in d e
+pub serving-there : (old : State) (daemon : DaemonId) (server : ServerState) → server_of old daemon ≡ Some server → (d : DaemonState) × (daemon_of old daemon ≡ Some d) × (d.server ≡ Some server)
+serving-there old daemon server h = in_ (daemon_of old daemon) refl h where
+  in_ : (o : Option DaemonState) → daemon_of old daemon ≡ o → option_and_then (λ (x : DaemonState). x.server) o ≡ Some server → (d : DaemonState) × (daemon_of old daemon ≡ Some d) × (d.server ≡ Some server)
+  in_ None e is = absurd (let none : ⊥ = cc in none)
+  in_ (Some d) e is = (d, e, is)
 
 -- ---- the holder
 
@@ -114,7 +130,7 @@ holder-or state daemon = in_ state.broker.seat refl where
     of_seat (inl same) = inl (seat, e, λ i. record { 0 = same i })
     of_seat (inr apart) = inr (λ h. let s : Some seat ≡ Some h.0 = sym e ∙ h.1 in let is : seat ≡ h.0 = cc in apart (ap (λ (x : Seat). x.daemon.0) is ∙ ap (λ (d : DaemonId). d.0) h.2))
 
-none-at : {X : Type 0} (place : ℕ) (x : X) → at_place [] place ≡ Some x → ⊥
+pub none-at : {X : Type 0} (place : ℕ) (x : X) → at_place [] place ≡ Some x → ⊥
 none-at {X = X} place x h = in_ (place == 0) h where
   in_ : (b : Bool) → (if b then None else slice_get [] (place - 1)) ≡ Some x → ⊥
   in_ true e = let none : ⊥ = cc in none
@@ -128,12 +144,9 @@ at-is {X = X} xs place x h = in_ (place == 0) h where
   in_ false e = e
 
 -- who has something in hand, or unposted, has the seat
-pub hand-seated : (state : State) (daemon : DaemonId) (server : ServerState) {X : Type 0} (of : ServerState → List X) (place : ℕ) (x : X) → OthersAreIdle state → ((s : ServerState) → IsIdle s → of s ≡ []) → daemon_of state daemon ≡ Some (Serving server) →
+pub hand-seated : (state : State) (daemon : DaemonId) (server : ServerState) {X : Type 0} (of : ServerState → List X) (place : ℕ) (x : X) → OthersAreIdle state → ((s : ServerState) → IsIdle s → of s ≡ []) → server_of state daemon ≡ Some server →
     at_place (of server) place ≡ Some x → (seat : Seat) × (seat.daemon ≡ daemon) × IsSeated state seat server
-hand-seated state daemon server of place x idle empty there at = in_ (holder-or state daemon) where
-  serves : server_of state daemon ≡ Some server
-  serves = ap (option_and_then server_in) there
-
+hand-seated state daemon server of place x idle empty serves at = in_ (holder-or state daemon) where
   in_ : IsHolder state daemon ⊎ (IsHolder state daemon → ⊥) → (seat : Seat) × (seat.daemon ≡ daemon) × IsSeated state seat server
   in_ (inl h) = (h.0, h.2, record { has_seat = h.1; serves = ap (server_of state) h.2 ∙ serves })
   in_ (inr other) = absurd (none-at place x (subst (λ xs. at_place xs place ≡ Some x) (empty server (idle daemon server serves other)) at))
@@ -141,10 +154,10 @@ hand-seated state daemon server of place x idle empty there at = in_ (holder-or 
 -- ---- after a call
 
 -- the state matches once the seat's daemon went on: what a call of the broker and one of the daemon keep
-pub goes-on : (w new : World) (old : State) (broker : BrokerState) (seat : Seat) (d : Daemon) (later : ServerState) → Matches w old → new.manifest ≡ w.manifest → IsTree new.tree → new.tree.manifest ≡ new.manifest → Books new broker →
+pub goes-on : (w new : World) (old : State) (broker : BrokerState) (seat : Seat) (d now : DaemonState) (later : ServerState) → Follows w old → now.server ≡ Some later → new.manifest ≡ w.manifest → IsTree new.tree → new.tree.manifest ≡ new.manifest → Books new broker →
     SeatIsLast new → IsOrderly new broker.next_unique → AnsweredBefore new → broker.seat ≡ Some seat → ((other : DaemonId) → IsHolder old other → seat.daemon ≡ other) → daemon_of old seat.daemon ≡ Some d →
-    Knows new.tree new.names (owed new) later.served → IsUnderWay new broker.traffic later → Matches new (with_daemon (record old { broker = broker }) seat.daemon (Serving later))
-goes-on w new old broker seat d later m manifest is of_manifest books last orderly answered at holder there knows under = record {
+    Knows new.tree new.names (owed new) later.served → IsUnderWay new broker.traffic later → Follows new (with_daemon (record old { broker = broker }) seat.daemon now)
+goes-on w new old broker seat d now later m serves manifest is of_manifest books last orderly answered at holder there knows under = record {
   manifest = manifest ∙ m.manifest;
   is_tree = m.is_tree;
   tree_is_tree = is;
@@ -158,24 +171,24 @@ goes-on w new old broker seat d later m manifest is of_manifest books last order
       let s : Some seat ≡ Some other = sym at ∙ has in
       let same : seat ≡ other = cc in (
         later,
-        subst (λ (x : Seat). IsSeated state x later) same (record { has_seat = at; serves = server_of-with old broker seat.daemon d (Serving later) there }),
+        subst (λ (x : Seat). IsSeated state x later) same (record { has_seat = at; serves = server_of-with (record old { broker = broker }) seat.daemon d now there ∙ serves }),
         knows,
         under,
       );
-  others_idle = λ other server serves no_holder.
+  others_idle = λ other server there' no_holder.
       let apart : seat.daemon ≡ other → ⊥ = λ e. no_holder (seat, at, e) in
-      m.others_idle other server (sym (server_of-other old broker seat.daemon other d (Serving later) there apart) ∙ serves) (λ h. apart (holder other h));
+      m.others_idle other server (sym (server_of-other (record old { broker = broker }) seat.daemon other d now there apart) ∙ there') (λ h. apart (holder other h));
 } where
   state : State
-  state = with_daemon (record old { broker = broker }) seat.daemon (Serving later)
+  state = with_daemon (record old { broker = broker }) seat.daemon now
 
 -- the seat's daemon is the only holder
 pub only-holder : (old : State) (seat : Seat) → old.broker.seat ≡ Some seat → (other : DaemonId) → IsHolder old other → seat.daemon ≡ other
 only-holder old seat at other h = let s : Some seat ≡ Some h.0 = sym at ∙ h.1 in let is : seat ≡ h.0 = cc in ap (λ (x : Seat). x.daemon) is ∙ h.2
 
 -- the state matches after a call of the broker alone
-pub broker-goes-on : (w new : World) (old : State) (broker : BrokerState) (seat : Seat) (server : ServerState) → Matches w old → new.manifest ≡ w.manifest → new.tree ≡ w.tree → Books new broker → SeatIsLast new → IsOrderly new broker.next_unique →
-    AnsweredBefore new → broker.seat ≡ old.broker.seat → IsSeated old seat server → Knows new.tree new.names (owed new) server.served → IsUnderWay new broker.traffic server → Matches new (record old { broker = broker })
+pub broker-goes-on : (w new : World) (old : State) (broker : BrokerState) (seat : Seat) (server : ServerState) → Follows w old → new.manifest ≡ w.manifest → new.tree ≡ w.tree → Books new broker → SeatIsLast new → IsOrderly new broker.next_unique →
+    AnsweredBefore new → broker.seat ≡ old.broker.seat → IsSeated old seat server → Knows new.tree new.names (owed new) server.served → IsUnderWay new broker.traffic server → Follows new (record old { broker = broker })
 broker-goes-on w new old broker seat server m manifest tree books last orderly answered same at knows under = record {
   manifest = manifest ∙ m.manifest;
   is_tree = m.is_tree;
@@ -198,11 +211,20 @@ broker-goes-on w new old broker seat server m manifest tree books last orderly a
 }
 
 -- who may mount waits, and nobody has the seat
-pub may_mount : (old : State) (o : Option Daemon) → mount_refusal old o ≡ None → (o ≡ Some Waiting) × (old.broker.seat ≡ None)
+pub record MayMount (old : State) (o : Option DaemonState) : Type 0 where
+  pub was : DaemonState
+  pub is : o ≡ Some was
+  pub waits : is_waiting was ≡ true
+  pub free : old.broker.seat ≡ None
+  pub below : old.broker.last < last_generation
+
+pub may_mount : (old : State) (o : Option DaemonState) → mount_refusal old o ≡ None → MayMount old o
 may_mount old None h = absurd (let none : ⊥ = cc in none)
-may_mount old (Some (Serving server)) h = absurd (let none : ⊥ = cc in none)
-may_mount old (Some Gone) h = absurd (let none : ⊥ = cc in none)
-may_mount old (Some Waiting) h = (refl, (free_to_mount old.broker (fault_in (mount_fault old.broker) h)).0) where
+may_mount old (Some d) h = waiting_in (is_waiting d) refl h where
   fault_in : (f : Option MountFault) → option_map refusal_of_mount f ≡ None → f ≡ None
   fault_in None e = refl
   fault_in (Some f) e = absurd (let none : ⊥ = cc in none)
+
+  waiting_in : (b : Bool) → is_waiting d ≡ b → (if b then option_map refusal_of_mount (mount_fault old.broker) else Some refusal.WrongPhase) ≡ None → MayMount old (Some d)
+  waiting_in false e x = absurd (let none : ⊥ = cc in none)
+  waiting_in true e x = record { was = d; is = refl; waits = e; free = (free_to_mount old.broker (fault_in (mount_fault old.broker) x)).0; below = (free_to_mount old.broker (fault_in (mount_fault old.broker) x)).1 }

@@ -1,5 +1,5 @@
 -- Each event is moves that may happen, and the state matches the world after them.
-use Rattle.std.proofs.Common.{◌≡◌, ℕ, ◌+◌, true, false, List, [], Option, Some, None, is_some, refl, sym, ap, ◌∙◌, subst, inl, inr, ◌⊎◌}
+use Rattle.std.proofs.Common.{◌≡◌, ℕ, ◌+◌, true, false, List, [], ◌∷◌, ◌++◌, Option, Some, None, is_some, refl, sym, ap, ◌∙◌, subst, inl, inr, ◌⊎◌}
 use Rattle.std.specs.Prelude.{sum_by}
 use Rattle.std.specs.Option.{option_map}
 use Rattle.eden_base.specs.declared.number.DaemonId.{DaemonId}
@@ -11,25 +11,29 @@ use Rattle.broker_core.specs.Traffic.{TrafficState, no_traffic}
 use Rattle.broker_core.specs.declared.broker.IssueFault.{IssueFault}
 use Rattle.broker_core.specs.declared.seat.Seat.{Seat}
 use Rattle.broker_core.proofs.Accepted.{accepted-seated}
+use Rattle.takeover_core.specs.declared.message.Message.TheVariants.{Offer}
+use Rattle.world.specs.Daemon.{DaemonState, versions}
 use Rattle.world.specs.Server.{new_server}
 use Rattle.world.specs.World.{World, Move, mount, owed, after}
-use Rattle.world.specs.Agreement.{Knows, IsQuiet, Matches, move_of}
+use Rattle.world.specs.Agreement.{Knows, IsQuiet, Follows, move_of}
+use Rattle.world.specs.Handing.{IsHanding}
 use Rattle.world.specs.State.{State, fault, refusal_of_issue, daemon_of}
-use Rattle.world.specs.Step.{Starts, Mounts, Makes, Refuses, TakesMemory, OnceBy, Once}
-use Rattle.world.specs.declared.daemon.Daemon.TheVariants.{Waiting}
+use Rattle.world.specs.Step.{Starts, Mounts, Makes, Refuses, Lacks, TakesMemory, OnceBy, Once}
 use Rattle.world.specs.declared.event.Event.{Event}
-use Rattle.world.specs.declared.event.Event.TheVariants.{Start, Mount, Issue, Take, Work, Post, Deliver, Crash, Do, Show}
+use Rattle.world.specs.declared.event.Event.TheVariants.{Start, Mount, Issue, Take, Work, Post, Deliver, Hear, Drained, GiveUp, Claim, Crash, Do, Show}
 use Rattle.world.specs.declared.outcome.Happened.{Happened}
 use Rattle.world.specs.declared.outcome.Happened.TheVariants as happened
 use Rattle.world.specs.declared.outcome.Refusal.{Refusal}
 use Rattle.world.specs.declared.outcome.Refusal.TheVariants as refusal
+use Rattle.world.proofs.Claiming.{claims-moved, unclaimed-moved}
 use Rattle.world.proofs.Crashing.{crashes-moved}
-use Rattle.world.proofs.Daemons.{goes-on, may_mount, server_of-more}
+use Rattle.world.proofs.Daemons.{goes-on, MayMount, may_mount, server_of-more}
 use Rattle.world.proofs.Issuing.{issues-moved}
 use Rattle.world.proofs.Keeping.{books-mounted, answered-mounted, seat-mounted}
 use Rattle.world.proofs.Knowing.{new-knows}
 use Rattle.world.proofs.Moving.{MovesBy, unmoved}
 use Rattle.world.proofs.Taking.{takes-moved, posts-moved, delivers-moved}
+use Rattle.world.proofs.Talks.{hears-moved, drains-moved, gives-up-moved}
 use Rattle.world.proofs.Working.{works-moved}
 
 -- ---- one event
@@ -42,17 +46,25 @@ refused-moves seat (Take daemon) r = refl
 refused-moves seat (Work daemon place fails) r = refl
 refused-moves seat (Post daemon place) r = refl
 refused-moves seat Deliver r = refl
+refused-moves seat (Hear daemon place) r = refl
+refused-moves seat (Drained daemon) r = refl
+refused-moves seat (GiveUp daemon) r = refl
+refused-moves seat (Claim daemon) r = refl
 refused-moves seat (Crash daemon) r = refl
 refused-moves seat (Do request) r = refl
 refused-moves seat Show r = refl
 
-refuses-moved : (w : World) (old : State) (event : Event) (r : Refusal) (told : Happened) (new : State) → Matches w old → Refuses old r told new → MovesBy w (move_of w.seat event told) old told new
-refuses-moved w old event r told new m (is, same) = subst (λ (x : Happened). MovesBy w (move_of w.seat event x) old x new) (sym is)
-    (subst (λ (ms : List Move). MovesBy w ms old (happened.Refused r) new) (sym (refused-moves w.seat event r)) (unmoved w old (happened.Refused r) new tt refl (subst (λ (s : State). Matches w s) (sym same) m)))
+lacks-moved : (w : World) (old : State) (event : Event) (r : Refusal) (told : Happened) (new : State) → Follows w old → told ≡ happened.Refused r → new ≡ old → MovesBy w (move_of w.seat event told) old told new
+lacks-moved w old event r told new m is same = subst (λ (x : Happened). MovesBy w (move_of w.seat event x) old x new) (sym is)
+    (subst (λ (ms : List Move). MovesBy w ms old (happened.Refused r) new) (sym (refused-moves w.seat event r)) (unmoved w old (happened.Refused r) new tt refl (subst (λ (s : State). Follows w s) (sym same) m)))
+
+refuses-moved : (w : World) (old : State) (event : Event) (r : Refusal) (told : Happened) (new : State) → Follows w old → IsHanding old → Refuses old event r told new → MovesBy w (move_of w.seat event told) old told new
+refuses-moved w old (Claim daemon) r told new m h (is, same) = unclaimed-moved w old daemon r told new m h is same
+refuses-moved w old event r told new m h (is, same) = lacks-moved w old event r told new m is same
 
 -- a daemon more leaves the broker, and whoever has the seat
-starts-moved : (w : World) (old : State) (told : Happened) (new : State) → Matches w old → Starts old told new → MovesBy w (move_of w.seat Start told) old told new
-starts-moved w old told new m (is, makes) = subst (λ (x : Happened). MovesBy w (move_of w.seat Start x) old x new) (sym is) (unmoved w old _ new tt refl (subst (λ (s : State). Matches w s) (sym makes) (record {
+starts-moved : (w : World) (old : State) (told : Happened) (new : State) → Follows w old → Starts old told new → MovesBy w (move_of w.seat Start told) old told new
+starts-moved w old told new m (is, makes) = subst (λ (x : Happened). MovesBy w (move_of w.seat Start x) old x new) (sym is) (unmoved w old _ new tt refl (subst (λ (s : State). Follows w s) (sym makes) (record {
   manifest = m.manifest;
   is_tree = m.is_tree;
   tree_is_tree = m.tree_is_tree;
@@ -62,22 +74,22 @@ starts-moved w old told new m (is, makes) = subst (λ (x : Happened). MovesBy w 
   quiet = m.quiet;
   orderly = m.orderly;
   answered = m.answered;
-  knows = λ seat at. let k = m.knows seat at in (k.0, record { has_seat = at; serves = server_of-more old seat.daemon ∙ (k.1).serves }, k.2, k.3);
-  others_idle = λ daemon server serves other. m.others_idle daemon server (sym (server_of-more old daemon) ∙ serves) other;
+  knows = λ seat at. let k = m.knows seat at in (k.0, record { has_seat = at; serves = server_of-more old (old.messages ++ Offer versions ∷ []) seat.daemon ∙ (k.1).serves }, k.2, k.3);
+  others_idle = λ daemon server serves other. m.others_idle daemon server (sym (server_of-more old (old.messages ++ Offer versions ∷ []) daemon) ∙ serves) other;
 })))
 
 -- nothing under way is owed for
 quiet-owed : (w : World) (n : ℕ) → IsQuiet w → w.held ≡ [] → owed w n ≡ 0
 quiet-owed w n quiet held = rw (quiet.replies, quiet.items, held) refl
 
-mounts-moved : (w : World) (old : State) (daemon : DaemonId) (told : Happened) (new : State) → Matches w old → fault old (Mount daemon) ≡ None → Mounts old daemon told new → MovesBy w (move_of w.seat (Mount daemon) told) old told new
-mounts-moved w old daemon told new m clear (is, makes) = subst (λ (x : Happened). MovesBy w (move_of w.seat (Mount daemon) x) old x new) (sym is) (record {
-  run = ((m.books).seat ∙ may.1, tt);
-  matches = subst (λ (s : State). Matches w' s) (sym makes) (goes-on w w' old (mounted old.broker daemon) seat Waiting (new_server old.manifest old.limit (old.broker.last + 1)) m refl is_tree refl (books-mounted w old.broker daemon m.books)
+mounts-moved : (w : World) (old : State) (daemon : DaemonId) (told : Happened) (new : State) → Follows w old → fault old (Mount daemon) ≡ None → Mounts old daemon told new → MovesBy w (move_of w.seat (Mount daemon) told) old told new
+mounts-moved w old daemon told new m clear made = subst (λ (x : Happened). MovesBy w (move_of w.seat (Mount daemon) x) old x new) (sym made.tells) (record {
+  run = ((m.books).seat ∙ may.free, tt);
+  matches = subst (λ (s : State). Follows w' s) (sym made.makes) (goes-on w w' old (mounted old.broker daemon) seat made.was made.later (new_server old.manifest old.limit (old.broker.last + 1)) m (ap (λ (d : DaemonState). d.server) made.does) refl is_tree refl (books-mounted w old.broker daemon m.books)
       (seat-mounted w daemon) (record { asked = (m.orderly).asked; once = (m.orderly).once; used = (m.orderly).used; good = (m.orderly).good }) (answered-mounted w daemon m.answered) refl
-      (λ other h. absurd (let n : None ≡ Some h.0 = sym may.1 ∙ h.1 in let none : ⊥ = cc in none)) may.0
+      (λ other h. absurd (let n : None ≡ Some h.0 = sym may.free ∙ h.1 in let none : ⊥ = cc in none)) made.there
       (subst (λ (x : Manifest). Knows w'.tree w'.names (owed w') (new_server x old.limit (old.broker.last + 1)).served) m.manifest
-      (new-knows w.manifest old.limit (owed w') is_tree (λ n. quiet-owed w n quiet.0 ((m.seat_is_last).empty ((m.books).seat ∙ may.1)))))
+      (new-knows w.manifest old.limit (owed w') is_tree (λ n. quiet-owed w n quiet.0 ((m.seat_is_last).empty ((m.books).seat ∙ may.free)))))
       (record {
         singles = tt;
         asks = (quiet.0).asks ∙ ap (λ (t : TrafficState). t.untaken) (sym quiet.1);
@@ -87,11 +99,11 @@ mounts-moved w old daemon told new m clear (is, makes) = subst (λ (x : Happened
   forget = tt;
   answered = λ e. absurd (let none : ⊥ = cc in none);
 }) where
-  may : (daemon_of old daemon ≡ Some Waiting) × (old.broker.seat ≡ None)
+  may : MayMount old (daemon_of old daemon)
   may = may_mount old (daemon_of old daemon) clear
 
   quiet : IsQuiet w × (old.broker.traffic ≡ no_traffic)
-  quiet = m.quiet may.1
+  quiet = m.quiet may.free
 
   w' : World
   w' = after w (mount daemon)
@@ -102,7 +114,7 @@ mounts-moved w old daemon told new m clear (is, makes) = subst (λ (x : Happened
   seat : Seat
   seat = record { generation = old.broker.last + 1; daemon = daemon }
 
-issues-seated : (w : World) (old : State) (request : Request) (told : Happened) (new : State) → Matches w old → fault old (Issue request) ≡ None → Makes old (Issue request) told new → MovesBy w (move_of w.seat (Issue request) told) old told new
+issues-seated : (w : World) (old : State) (request : Request) (told : Happened) (new : State) → Follows w old → fault old (Issue request) ≡ None → Makes old (Issue request) told new → MovesBy w (move_of w.seat (Issue request) told) old told new
 issues-seated w old request told new m clear made = in_ old.broker.seat refl (accepted-seated old.broker request free) where
   free : issue_fault old.broker request ≡ None
   free = fault_in (issue_fault old.broker request) clear where
@@ -115,24 +127,28 @@ issues-seated w old request told new m clear made = in_ old.broker.seat refl (ac
   in_ (Some seat) e some = let k = m.knows seat e in issues-moved w old request told new seat k.0 m free k.1 made
 
 -- an event that no cause stands against
-made-moved : (w : World) (old : State) (event : Event) (told : Happened) (new : State) → Matches w old → fault old event ≡ None → Makes old event told new → MovesBy w (move_of w.seat event told) old told new
-made-moved w old Start told new m clear made = starts-moved w old told new m made
-made-moved w old (Mount daemon) told new m clear made = mounts-moved w old daemon told new m clear made
-made-moved w old (Issue request) told new m clear made = issues-seated w old request told new m clear made
-made-moved w old (Take daemon) told new m clear made = takes-moved w old daemon told new m clear made
-made-moved w old (Work daemon place fails) told new m clear made = works-moved w old daemon place fails told new m made
-made-moved w old (Post daemon place) told new m clear made = posts-moved w old daemon place told new m clear made
-made-moved w old Deliver told new m clear made = delivers-moved w old told new m made
-made-moved w old (Crash daemon) told new m clear made = crashes-moved w old daemon told new m clear made
-made-moved w old event told new m clear made = absurd made
+made-moved : (w : World) (old : State) (event : Event) (told : Happened) (new : State) → Follows w old → IsHanding old → fault old event ≡ None → Makes old event told new → MovesBy w (move_of w.seat event told) old told new
+made-moved w old Start told new m h clear made = starts-moved w old told new m made
+made-moved w old (Mount daemon) told new m h clear made = mounts-moved w old daemon told new m clear made
+made-moved w old (Issue request) told new m h clear made = issues-seated w old request told new m clear made
+made-moved w old (Take daemon) told new m h clear made = takes-moved w old daemon told new m clear made
+made-moved w old (Work daemon place fails) told new m h clear made = works-moved w old daemon place fails told new m made
+made-moved w old (Post daemon place) told new m h clear made = posts-moved w old daemon place told new m clear made
+made-moved w old Deliver told new m h clear made = delivers-moved w old told new m made
+made-moved w old (Hear daemon place) told new m h clear made = hears-moved w old daemon place told new m h made
+made-moved w old (Drained daemon) told new m h clear made = drains-moved w old daemon told new m made
+made-moved w old (GiveUp daemon) told new m h clear made = gives-up-moved w old daemon told new m made
+made-moved w old (Claim daemon) told new m h clear made = claims-moved w old daemon told new m h clear made
+made-moved w old (Crash daemon) told new m h clear made = crashes-moved w old daemon told new m made
+made-moved w old event told new m h clear made = absurd made
 
 -- Every event that is no `do`, made or refused, is moves that may happen, and the state matches the world after them.
-pub once-moved : (w : World) (old : State) (event : Event) (told : Happened) (new : State) → Matches w old → Once old event told new → MovesBy w (move_of w.seat event told) old told new
-once-moved w old event told new m once = in_ (fault old event) refl once where
-  made_in : fault old event ≡ None → Makes old event told new ⊎ (TakesMemory event × Refuses old refusal.NoMemory told new) → MovesBy w (move_of w.seat event told) old told new
-  made_in clear (inl made) = made-moved w old event told new m clear made
-  made_in clear (inr (takes, r)) = refuses-moved w old event refusal.NoMemory told new m r
+pub once-moved : (w : World) (old : State) (event : Event) (told : Happened) (new : State) → Follows w old → IsHanding old → Once old event told new → MovesBy w (move_of w.seat event told) old told new
+once-moved w old event told new m h once = in_ (fault old event) refl once where
+  made_in : fault old event ≡ None → Makes old event told new ⊎ (TakesMemory event × Lacks old told new) → MovesBy w (move_of w.seat event told) old told new
+  made_in clear (inl made) = made-moved w old event told new m h clear made
+  made_in clear (inr (takes, r)) = lacks-moved w old event refusal.NoMemory told new m r.0 r.1
 
   in_ : (f : Option Refusal) → fault old event ≡ f → OnceBy old event f told new → MovesBy w (move_of w.seat event told) old told new
-  in_ (Some r) e s = refuses-moved w old event r told new m s
+  in_ (Some r) e s = refuses-moved w old event r told new m h s
   in_ None e s = made_in e s

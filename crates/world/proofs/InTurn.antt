@@ -10,21 +10,25 @@ use Rattle.broker_core.specs.Broker.{BrokerState, asked, forgot}
 use Rattle.broker_core.specs.declared.seat.Seat.{Seat}
 use Rattle.world.specs.World.{World, Move, IsRun, after_all}
 use Rattle.world.specs.Agreement.{is_posted, posted_from, IsGoodForget, IsAnswered, Matches, MovesOn, move_of, moves_in_turn, moves_of}
-use Rattle.world.specs.State.{State, fault}
-use Rattle.world.specs.Step.{Makes, OnceBy, Once, is_made, IfMade, Carries, events_of_do, parts_of, Step}
+use Rattle.takeover_core.specs.Phases.{claim_wanted}
+use Rattle.world.specs.Daemon.{DaemonState}
+use Rattle.world.specs.State.{State, daemon_of, with_daemon, fault}
+use Rattle.world.specs.Step.{after_refusal, unclaimed, Makes, OnceBy, Once, is_made, IfMade, Carries, events_of_do, parts_of, Step}
 use Rattle.world.specs.declared.event.Event.{Event}
-use Rattle.world.specs.declared.event.Event.TheVariants.{Start, Mount, Issue, Take, Work, Post, Deliver, Crash, Do, Show}
+use Rattle.world.specs.declared.event.Event.TheVariants.{Start, Mount, Issue, Take, Work, Post, Deliver, Hear, Drained, GiveUp, Claim, Crash, Do, Show}
 use Rattle.world.specs.declared.outcome.Happened.{Happened}
 use Rattle.world.specs.declared.outcome.Refusal.{Refusal}
 use Rattle.world.proofs.Events.{once-moved}
+use Rattle.world.proofs.HandingOn.{once-handing}
 use Rattle.world.proofs.Moving.{MovesBy}
 use Rattle.world.proofs.Runs.{run-append, after_all-append, answered-after_all}
 
 -- ---- the seat
 
--- all events but a mount and a crash leave the seat
+-- all events but a mount, a claim and a crash leave the seat
 abbrev pub KeepsSeat : Event → Type 0
 KeepsSeat (Mount daemon) = ⊥
+KeepsSeat (Claim daemon) = ⊥
 KeepsSeat (Crash daemon) = ⊥
 KeepsSeat event = Unit {0}
 
@@ -41,17 +45,29 @@ made-seat old (Take daemon) told new keeps made = ap (λ (s : State). s.broker.s
 made-seat old (Work daemon place fails) told new keeps made = ap (λ (s : State). s.broker.seat) made.makes
 made-seat old (Post daemon place) told new keeps made = ap (λ (s : State). s.broker.seat) made.makes
 made-seat old Deliver told new keeps made = ap (λ (s : State). s.broker.seat) made.makes
+made-seat old (Hear daemon place) told new keeps made = ap (λ (s : State). s.broker.seat) (made.reacts).makes
+made-seat old (Drained daemon) told new keeps made = ap (λ (s : State). s.broker.seat) made.makes
+made-seat old (GiveUp daemon) told new keeps made = ap (λ (s : State). s.broker.seat) made.makes
+made-seat old (Claim daemon) told new keeps made = absurd keeps
 made-seat old (Crash daemon) told new keeps made = absurd keeps
 made-seat old event told new keeps made = absurd made
+
+-- a refusal leaves the kernel's side
+refused-broker : (old : State) (event : Event) → (after_refusal old event).broker ≡ old.broker
+refused-broker old (Claim daemon) = in_ (daemon_of old daemon) where
+  in_ : (o : Option DaemonState) → (option_map_or (λ (was : DaemonState). with_daemon old daemon (unclaimed old was (claim_wanted was.node.phase))) o old).broker ≡ old.broker
+  in_ None = refl
+  in_ (Some was) = refl
+refused-broker old event = refl
 
 once-seat : (old : State) (event : Event) (told : Happened) (new : State) → KeepsSeat event → Once old event told new → new.broker.seat ≡ old.broker.seat
 once-seat old event told new keeps once = in_ (fault old event) once where
   in_ : (f : Option Refusal) → OnceBy old event f told new → new.broker.seat ≡ old.broker.seat
-  in_ (Some r) s = ap (λ (x : State). x.broker.seat) s.1
+  in_ (Some r) s = ap (λ (x : State). x.broker.seat) s.1 ∙ ap (λ (b : BrokerState). b.seat) (refused-broker old event)
   in_ None (inl made) = made-seat old event told new keeps made
   in_ None (inr lacks) = ap (λ (x : State). x.broker.seat) lacks.1.1
 
--- no event of a list but the last is a mount or a crash
+-- no event of a list but the last moves the seat
 abbrev pub StaysSeated : List Event → Type 0
 StaysSeated [] = Unit {0}
 StaysSeated (event ∷ []) = Unit {0}
@@ -106,8 +122,14 @@ pub carries-moved : (w : World) (old : State) (events : List Event) (outcome : L
 carries-moved w old [] outcome new m stays (none, same) = carried-none w old new [] outcome m none same
 carries-moved w old (event ∷ events) [] new m stays carries = absurd carries
 carries-moved w old (event ∷ events) (told ∷ rest) new m stays (between, once, goes) =
-    let one = once-moved w old event told between m once in
-    in_ (is_made told) one goes (λ more. carries-moved (after_all w (move_of w.seat event told)) between events rest new one.matches (stays-behind event events stays) more) where
+    let one = once-moved w old event told between m.follows m.handing once in
+    in_ (is_made told) one goes (λ more. carries-moved (after_all w (move_of w.seat event told)) between events rest new matched (stays-behind event events stays) more) where
+      matched : Matches (after_all w (move_of w.seat event told)) between
+      matched = record {
+        follows = (once-moved w old event told between m.follows m.handing once).matches;
+        handing = once-handing w old event told between m.follows m.handing once;
+      }
+
       seat_in : (es : List Event) → es ≡ events → StaysSeated (event ∷ es) → Carries between es rest new → list_any is_posted rest ≡ true → between.broker.seat ≡ old.broker.seat
       seat_in [] e s c posted = absurd (let p : list_any is_posted [] ≡ true = subst (λ (r : List Happened). list_any is_posted r ≡ true) c.0 posted in let x : ⊥ = cc in x)
       seat_in (next ∷ es) e s c posted = once-seat old event told between s.0 once
@@ -115,7 +137,7 @@ carries-moved w old (event ∷ events) (told ∷ rest) new m stays (between, onc
       in_ : (b : Bool) → MovesBy w (move_of w.seat event told) old told between → IfMade b (Carries between events rest new) ((rest ≡ []) × (new ≡ between)) →
           (Carries between events rest new → Carried (after_all w (move_of w.seat event told)) between events rest new) → Carried w old (event ∷ events) (told ∷ rest) new
       in_ true one goes more = carried-on w old between event events told rest new one (more goes) (λ p. seat_in events refl stays goes p)
-      in_ false one (none, same) more = carried-on w old between event events told rest new one (carried-none (after_all w (move_of w.seat event told)) between new events rest one.matches none same)
+      in_ false one (none, same) more = carried-on w old between event events told rest new one (carried-none (after_all w (move_of w.seat event told)) between new events rest matched none same)
           (λ p. absurd (let q : list_any is_posted [] ≡ true = subst (λ (r : List Happened). list_any is_posted r ≡ true) none p in let x : ⊥ = cc in x))
 
 -- ---- every event
@@ -135,6 +157,10 @@ stays-parts seat (Take daemon) = tt
 stays-parts seat (Work daemon place fails) = tt
 stays-parts seat (Post daemon place) = tt
 stays-parts seat Deliver = tt
+stays-parts seat (Hear daemon place) = tt
+stays-parts seat (Drained daemon) = tt
+stays-parts seat (GiveUp daemon) = tt
+stays-parts seat (Claim daemon) = tt
 stays-parts seat (Crash daemon) = tt
 stays-parts seat (Do request) = stays-do seat request
 stays-parts seat Show = tt
@@ -148,7 +174,7 @@ step-matched w old event outcome new m step = record {
   answered = subst (λ (ms : List Move). IsAnswered (after_all w ms) (posted_from old outcome)) (sym moves) (answered_in (list_any is_posted outcome) refl);
 } where
   moves : moves_of w event outcome ≡ moves_in_turn w (parts_of old.broker.seat event) outcome
-  moves = ap (λ (o : Option Seat). moves_in_turn w (parts_of o event) outcome) (m.books).seat
+  moves = ap (λ (o : Option Seat). moves_in_turn w (parts_of o event) outcome) ((m.follows).books).seat
 
   carried : Carried w old (parts_of old.broker.seat event) outcome new
   carried = carries-moved w old (parts_of old.broker.seat event) outcome new m (stays-parts old.broker.seat event) step

@@ -13,7 +13,7 @@ use Rattle.broker_core.specs.declared.seat.Seat.{Seat}
 use Rattle.broker_core.proofs.Accepted.{accepted-ask, IsAcceptedItem, accepted-forget}
 use Rattle.world.specs.Server.{ServerState}
 use Rattle.world.specs.World.{World, issue, issue_item, times, without_times, taken_back, carries, owed}
-use Rattle.world.specs.Agreement.{is_bad, Matches, move_of}
+use Rattle.world.specs.Agreement.{is_bad, Follows, move_of}
 use Rattle.world.specs.State.{State, IsSeated}
 use Rattle.world.specs.Step.{Issues}
 use Rattle.world.specs.declared.event.Event.TheVariants.{Issue}
@@ -28,7 +28,7 @@ use Rattle.world.proofs.Times.{times-without}
 use Rattle.world.proofs.UnderWay.{under-asked, under-forgot}
 
 -- an ask
-asks-moved : (w : World) (old : State) (request : Request) (seat : Seat) (server : ServerState) → Matches w old → issue_fault old.broker request ≡ None → is_ask request ≡ true → IsSeated old seat server →
+asks-moved : (w : World) (old : State) (request : Request) (seat : Seat) (server : ServerState) → Follows w old → issue_fault old.broker request ≡ None → is_ask request ≡ true → IsSeated old seat server →
     MovesBy w (issue (record { unique = old.broker.next_unique; what = request }) ∷ []) old (happened.Asked (Some old.broker.next_unique)) (record old { broker = asked old.broker request })
 asks-moved w old request seat server m clear is at = record {
   run = (
@@ -84,7 +84,7 @@ forgot-owed w item j few = in_ (item.node.0 == j) refl where
       omega arith
 
 -- a forget
-forgets-moved : (w : World) (old : State) (request : Request) (item : Item) (seat : Seat) (server : ServerState) → Matches w old → IsAcceptedItem old.broker request item → IsSeated old seat server →
+forgets-moved : (w : World) (old : State) (request : Request) (item : Item) (seat : Seat) (server : ServerState) → Follows w old → IsAcceptedItem old.broker request item → IsSeated old seat server →
     MovesBy w (issue_item item ∷ []) old (happened.Asked None) (record old { broker = forgot old.broker item })
 forgets-moved w old request item seat server m accepted at = record {
   run = (record { seat = ap is_some here; no_root = accepted.not_root; some = accepted.some; at_most = at_most }, tt);
@@ -108,7 +108,7 @@ forgets-moved w old request item seat server m accepted at = record {
   holder = holder-is w old seat server m.knows at
 
 -- A request that the broker takes is a move.
-pub issues-moved : (w : World) (old : State) (request : Request) (told : Happened) (new : State) (seat : Seat) (server : ServerState) → Matches w old → issue_fault old.broker request ≡ None → IsSeated old seat server → Issues old request told new →
+pub issues-moved : (w : World) (old : State) (request : Request) (told : Happened) (new : State) (seat : Seat) (server : ServerState) → Follows w old → issue_fault old.broker request ≡ None → IsSeated old seat server → Issues old request told new →
     MovesBy w (move_of w.seat (Issue request) told) old told new
 issues-moved w old request told new seat server m clear at (tells, makes) =
     subst (λ (x : Happened). MovesBy w (move_of w.seat (Issue request) x) old x new) (sym tells)

@@ -2,6 +2,7 @@ pub mod Carrying
 pub mod StepLemmas
 pub mod ServingLemmas
 pub mod DaemonWrites
+pub mod DaemonCalls
 mod Bags
 mod Hands
 mod UnderWay
@@ -21,6 +22,14 @@ mod Issuing
 mod Taking
 mod Working
 mod Crashing
+mod Turns
+mod Handing
+mod Standing
+mod Claims
+mod HandingTalks
+mod HandingOn
+mod Talks
+mod Claiming
 mod Events
 pub mod InTurn
 pub mod WholeRun

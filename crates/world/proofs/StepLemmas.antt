@@ -1,35 +1,34 @@
 -- What the world's calls did is one event, and events one after another.
-use Rattle.std.proofs.Common.{◌≡◌, ℕ, suc, zero, ◌-◌, ◌+◌, ◌<◌, Bool, true, if◌then◌else◌, List, [], ◌∷◌, ◌++◌, length, Option, Some, None, get_or, set, refl, sym, ap, ◌∙◌, subst, inl, inr, arith}
+use Rattle.std.proofs.Common.{◌≡◌, ℕ, suc, zero, ◌-◌, ◌+◌, ◌<◌, Bool, true, false, if◌then◌else◌, List, [], ◌∷◌, ◌++◌, length, Option, Some, None, Result, Ok, Err, get_or, set, refl, sym, ap, ◌∙◌, subst, inl, inr, arith}
 use Rattle.std.proofs.lemmas.Option.{slice_get_read}
 use Rattle.std.specs.Prelude.{slice_get, is_none}
-use Rattle.std.specs.Option.{option_map}
+use Rattle.std.specs.Option.{option_map, option_map_or}
+use Rattle.eden_base.specs.declared.claim.ClaimFault.{ClaimFault}
 use Rattle.eden_base.specs.declared.number.DaemonId.{DaemonId}
 use Rattle.fuse_wire.specs.declared.request.Ask.{Ask}
 use Rattle.fuse_wire.specs.declared.reply.Reply.{Reply}
-use Rattle.broker_core.specs.Broker.{BrokerState, mount_fault, mounted, take_fault, post_fault, without_daemon}
+use Rattle.broker_core.specs.Broker.{BrokerState, mount_fault, mounted, take_fault, post_fault, claim_fault, without_daemon}
 use Rattle.broker_core.specs.declared.fault.TakeFault.{TakeFault}
 use Rattle.broker_core.specs.declared.fault.PostFault.{PostFault}
 use Rattle.fuse_ops.specs.Served.{ServedState, new_served}
+use Rattle.takeover_core.specs.Phases.{may_take, claim_wanted, drain_fault}
+use Rattle.takeover_core.specs.declared.node.DrainFault.{DrainFault}
+use Rattle.world.specs.Daemon.{DaemonState, is_waiting, with_server, in_hand, unposted}
 use Rattle.world.specs.Server.{ServerState, new_server, at_place}
-use Rattle.world.specs.Serving.{is_waiting, beginning, IsIndex, ChangesAt, TakesBy, WorksBy, PostsBy, PostsReply, DaemonTakes, DaemonWorks, DaemonPosts}
-use Rattle.world.specs.State.{State, daemon_of, with_daemon, fault, mount_refusal, refusal_of_mount, take_refusal, work_refusal, post_refusal, reply_refusal, refusal_of_take, refusal_of_post}
-use Rattle.world.specs.Step.{Refuses, Makes, TakesMemory, Once, OnceBy, Step, Steps}
-use Rattle.world.specs.declared.daemon.Daemon.{Daemon}
-use Rattle.world.specs.declared.daemon.Daemon.TheVariants.{Waiting, Serving, Gone}
+use Rattle.world.specs.Serving.{beginning, IsIndex, ChangesAt, TakesBy, WorksBy, PostsBy, PostsReply, TakesIf, WorksIf, PostsIf, DaemonTakes, DaemonWorks, DaemonPosts}
+use Rattle.world.specs.State.{State, daemon_of, with_daemon, fault, mount_refusal, refusal_of_mount, take_refusal, server_refusal, work_refusal, hand_refusal, post_refusal, unposted_refusal, reply_refusal, drained_refusal, claim_refusal, wanted_refusal, absence, refusal_of_take, refusal_of_post, refusal_of_drain}
+use Rattle.world.specs.Talking.{MountsSo, EndsSo, DrainsBy, DrainsSo, after_claim}
+use Rattle.world.specs.declared.daemon.Reaction.{Reaction}
+use Rattle.world.specs.Step.{unclaimed, Makes, TakesMemory, Once, OnceBy, Step, Steps}
 use Rattle.world.specs.declared.event.Event.{Event}
-use Rattle.world.specs.declared.event.Event.TheVariants.{Mount, Take, Work, Post, Crash}
+use Rattle.world.specs.declared.event.Event.TheVariants.{Mount, Take, Work, Post, Drained, Claim, Crash}
 use Rattle.world.specs.declared.outcome.Happened.{Happened}
 use Rattle.world.specs.declared.outcome.Happened.TheVariants as happened
 use Rattle.world.specs.declared.outcome.Refusal.{Refusal}
-use Rattle.world.specs.declared.outcome.Refusal.TheVariants.{NoDaemon, NoSuch, NoMemory}
+use Rattle.world.specs.declared.outcome.Refusal.TheVariants.{NoDaemon, NoSuch, NoMemory, WrongPhase}
 use Rattle.world.proofs.DaemonWrites.{set-there, at-index}
 
 -- ---- one event by its first fault
-
--- a cause stands against it
-pub Once-refused : (old : State) (event : Event) (refusal : Refusal) (told : Happened) → fault old event ≡ Some refusal → told ≡ happened.Refused refusal →
-    Once old event told old
-Once-refused old event refusal told against tells = subst (λ (o : Option Refusal). OnceBy old event o told old) (sym against) (tells, refl)
 
 -- memory was wanting
 pub Once-lacks : (old : State) (event : Event) (told : Happened) → TakesMemory event → fault old event ≡ None → told ≡ happened.Refused NoMemory →
@@ -47,202 +46,245 @@ none-unless (Some x) never = absurd (never x refl)
 
 -- ---- one daemon changed
 
+-- the event is refused, and nothing changes
+abbrev Stays : State → Refusal → Happened → State → Type 0
+Stays old refusal told new = (told ≡ happened.Refused refusal) × (new ≡ old)
+
 -- a daemon that was written back as it was, and the broker as it was
-refuses : (old : State) (index : ℕ) (was later : Daemon) (left : BrokerState) (daemons : List Daemon) (refusal : Refusal) (told : Happened) →
+refuses : (old : State) (index : ℕ) (was later : DaemonState) (left : BrokerState) (daemons : List DaemonState) (refusal : Refusal) (told : Happened) →
     slice_get old.daemons index ≡ Some was → daemons ≡ set old.daemons index later → told ≡ happened.Refused refusal → later ≡ was → left ≡ old.broker →
-    Refuses old refusal told (record old { broker = left; daemons = daemons })
+    Stays old refusal told (record old { broker = left; daemons = daemons })
 refuses old index was later left daemons refusal told there makes tells same broker =
-    let back : daemons ≡ old.daemons = makes ∙ ap (λ (d : Daemon). set old.daemons index d) same ∙ set-there old.daemons index was there in
+    let back : daemons ≡ old.daemons = makes ∙ ap (λ (d : DaemonState). set old.daemons index d) same ∙ set-there old.daemons index was there in
     let all : record old { broker = left; daemons = daemons } ≡ old =
-    ap (λ (b : BrokerState). record old { broker = b; daemons = daemons }) broker ∙ ap (λ (ds : List Daemon). record old { daemons = ds }) back in
+    ap (λ (b : BrokerState). record old { broker = b; daemons = daemons }) broker ∙ ap (λ (ds : List DaemonState). record old { daemons = ds }) back in
     (tells, all)
 
 -- a daemon that changed, by its number
-changes : (old : State) (d : DaemonId) (index : ℕ) (left now : BrokerState) (daemons : List Daemon) (later is : Daemon) →
+pub changes : (old : State) (d : DaemonId) (index : ℕ) (left now : BrokerState) (daemons : List DaemonState) (later is : DaemonState) →
     IsIndex (length old.daemons) d.0 index → daemons ≡ set old.daemons index later → later ≡ is → left ≡ now →
     record old { broker = left; daemons = daemons } ≡ with_daemon (record old { broker = now }) d is
 changes old d index left now daemons later is at makes same broker =
     let written : daemons ≡ set old.daemons (d.0 - 1) is =
-    makes ∙ ap (λ (x : Daemon). set old.daemons index x) same ∙ ap (λ (i : ℕ). set old.daemons i is) at.is in
-    ap (λ (b : BrokerState). record old { broker = b; daemons = daemons }) broker ∙ ap (λ (ds : List Daemon). record old { broker = now; daemons = ds }) written
+    makes ∙ ap (λ (x : DaemonState). set old.daemons index x) same ∙ ap (λ (i : ℕ). set old.daemons i is) at.is in
+    ap (λ (b : BrokerState). record old { broker = b; daemons = daemons }) broker ∙ ap (λ (ds : List DaemonState). record old { broker = now; daemons = ds }) written
 
 -- the daemon of a number stands at its index
-daemon-there : (old : State) (d : DaemonId) (index : ℕ) (was : Daemon) → IsIndex (length old.daemons) d.0 index → slice_get old.daemons index ≡ Some was →
+pub daemon-there : (old : State) (d : DaemonId) (index : ℕ) (was : DaemonState) → IsIndex (length old.daemons) d.0 index → slice_get old.daemons index ≡ Some was →
     daemon_of old d ≡ Some was
 daemon-there old d index was at there = at-index old.daemons d.0 index at ∙ there
 
+-- what is served was put back as it was
+same-server : (was later : DaemonState) (s n : ServerState) → was.server ≡ Some s → later ≡ with_server was n → n ≡ s → later ≡ was
+same-server was later s n serves makes same = makes ∙ ap (with_server was) same ∙ (λ i. record was { server = sym serves i })
+
 -- ---- a take
 
-takes-by : (old : State) (d : DaemonId) (index : ℕ) (s n : ServerState) (told : Happened) (left : BrokerState) (daemons : List Daemon) (f : Option TakeFault) →
-    IsIndex (length old.daemons) d.0 index → slice_get old.daemons index ≡ Some (Serving s) → daemons ≡ set old.daemons index (Serving n) →
+takes-by : (old : State) (d : DaemonId) (index : ℕ) (was later : DaemonState) (s n : ServerState) (told : Happened) (left : BrokerState) (daemons : List DaemonState) (f : Option TakeFault) →
+    IsIndex (length old.daemons) d.0 index → slice_get old.daemons index ≡ Some was → daemons ≡ set old.daemons index later → was.server ≡ Some s → later ≡ with_server was n →
     TakesBy f s old.broker told n left → OnceBy old (Take d) (option_map refusal_of_take f) told (record old { broker = left; daemons = daemons })
-takes-by old d index s n told left daemons (Some f) at there makes h =
-    refuses old index (Serving s) (Serving n) left daemons (refusal_of_take f) told there makes h.tells (ap Serving h.same) h.same_broker
-takes-by old d index s n told left daemons None at there makes (inl h) = inl (record {
+takes-by old d index was later s n told left daemons (Some f) at there makes serves becomes h =
+    refuses old index was later left daemons (refusal_of_take f) told there makes h.tells (same-server was later s n serves becomes h.same) h.same_broker
+takes-by old d index was later s n told left daemons None at there makes serves becomes (inl h) = inl (record {
+  was = was;
   server = s;
   ask = h.ask;
-  serves = daemon-there old d index (Serving s) at there;
+  there = daemon-there old d index was at there;
+  serves = serves;
   first = h.first;
   tells = h.tells;
-  makes = changes old d index left _ daemons (Serving n) _ at makes (ap Serving h.makes) h.leaves;
+  makes = changes old d index left _ daemons later _ at makes (becomes ∙ ap (with_server was) h.makes) h.leaves;
 })
-takes-by old d index s n told left daemons None at there makes (inr h) =
-    inr (tt, refuses old index (Serving s) (Serving n) left daemons NoMemory told there makes h.tells (ap Serving h.same) h.same_broker)
+takes-by old d index was later s n told left daemons None at there makes serves becomes (inr h) =
+    inr (tt, refuses old index was later left daemons NoMemory told there makes h.tells (same-server was later s n serves becomes h.same) h.same_broker)
 
-takes-at : (old : State) (d : DaemonId) (index : ℕ) (was later : Daemon) (told : Happened) (left : BrokerState) (daemons : List Daemon) →
-    IsIndex (length old.daemons) d.0 index → slice_get old.daemons index ≡ Some was → daemons ≡ set old.daemons index later →
-    DaemonTakes old.broker d told left was later → OnceBy old (Take d) (take_refusal old d (Some was)) told (record old { broker = left; daemons = daemons })
-takes-at old d index (Serving s) (Serving n) told left daemons at there makes h =
-    takes-by old d index s n told left daemons (take_fault old.broker d s.generation) at there makes h
-takes-at old d index (Serving s) Waiting told left daemons at there makes h = absurd h
-takes-at old d index (Serving s) Gone told left daemons at there makes h = absurd h
-takes-at old d index Waiting later told left daemons at there makes h =
-    refuses old index Waiting later left daemons _ told there makes h.tells h.same h.same_broker
-takes-at old d index Gone later told left daemons at there makes h =
-    refuses old index Gone later left daemons _ told there makes h.tells h.same h.same_broker
+takes-if : (old : State) (d : DaemonId) (index : ℕ) (was later : DaemonState) (told : Happened) (left : BrokerState) (daemons : List DaemonState) (may : Bool) (server : Option ServerState) →
+    IsIndex (length old.daemons) d.0 index → slice_get old.daemons index ≡ Some was → daemons ≡ set old.daemons index later → was.server ≡ server →
+    TakesIf old.broker d told left may server was later → OnceBy old (Take d) (server_refusal old d may server) told (record old { broker = left; daemons = daemons })
+takes-if old d index was later told left daemons true (Some s) at there makes serves h =
+    takes-by old d index was later s h.later told left daemons (take_fault old.broker d s.generation) at there makes serves h.makes h.takes
+takes-if old d index was later told left daemons true None at there makes serves h =
+    refuses old index was later left daemons WrongPhase told there makes h.tells h.same h.same_broker
+takes-if old d index was later told left daemons false (Some s) at there makes serves h =
+    refuses old index was later left daemons WrongPhase told there makes h.tells h.same h.same_broker
+takes-if old d index was later told left daemons false None at there makes serves h =
+    refuses old index was later left daemons WrongPhase told there makes h.tells h.same h.same_broker
 
 -- a daemon took
-pub Once-takes : (old : State) (d : DaemonId) (index : ℕ) (told : Happened) (left : BrokerState) (daemons : List Daemon) →
+pub Once-takes : (old : State) (d : DaemonId) (index : ℕ) (told : Happened) (left : BrokerState) (daemons : List DaemonState) →
     IsIndex (length old.daemons) d.0 index → ChangesAt (DaemonTakes old.broker d told left) old.daemons index daemons →
     Once old (Take d) told (record old { broker = left; daemons = daemons })
 Once-takes old d index told left daemons at c =
-    subst (λ (o : Option Daemon). OnceBy old (Take d) (take_refusal old d o) told (record old { broker = left; daemons = daemons }))
-    (sym (daemon-there old d index c.was at c.is_there)) (takes-at old d index c.was c.later told left daemons at c.is_there c.makes c.does_so)
+    subst (λ (o : Option DaemonState). OnceBy old (Take d) (take_refusal old d o) told (record old { broker = left; daemons = daemons }))
+    (sym (daemon-there old d index c.was at c.is_there))
+    (takes-if old d index c.was c.later told left daemons (may_take (c.was).node.phase) (c.was).server at c.is_there c.makes refl c.does_so)
 
 -- ---- a work
 
-works-by : (old : State) (d : DaemonId) (place : ℕ) (fails : Bool) (index : ℕ) (s n : ServerState) (told : Happened) (daemons : List Daemon) (t : Option Ask) →
-    at_place s.hand place ≡ t → IsIndex (length old.daemons) d.0 index → slice_get old.daemons index ≡ Some (Serving s) → daemons ≡ set old.daemons index (Serving n) →
+works-by : (old : State) (d : DaemonId) (place : ℕ) (fails : Bool) (index : ℕ) (was later : DaemonState) (s n : ServerState) (told : Happened) (daemons : List DaemonState) (t : Option Ask) →
+    at_place s.hand place ≡ t → IsIndex (length old.daemons) d.0 index → slice_get old.daemons index ≡ Some was → daemons ≡ set old.daemons index later → was.server ≡ Some s → later ≡ with_server was n →
     WorksBy t s place fails told n → OnceBy old (Work d place fails) (if is_none t then Some NoSuch else None) told (record old { daemons = daemons })
-works-by old d place fails index s n told daemons None e at there makes h =
-    refuses old index (Serving s) (Serving n) old.broker daemons _ told there makes h.tells (ap Serving h.same) refl
-works-by old d place fails index s n told daemons (Some task) e at there makes (inl h) = inl (record {
+works-by old d place fails index was later s n told daemons None e at there makes serves becomes h =
+    refuses old index was later old.broker daemons _ told there makes h.tells (same-server was later s n serves becomes h.same) refl
+works-by old d place fails index was later s n told daemons (Some task) e at there makes serves becomes (inl h) = inl (record {
+  was = was;
   server = s;
   task = task;
   later = h.later;
   answer = h.answer;
-  serves = daemon-there old d index (Serving s) at there;
+  there = daemon-there old d index was at there;
+  serves = serves;
   at = e;
   replay = h.replay;
   fails_so = h.fails_so;
   tells = h.tells;
-  makes = changes old d index old.broker old.broker daemons (Serving n) _ at makes (ap Serving h.makes) refl;
+  makes = changes old d index old.broker old.broker daemons later _ at makes (becomes ∙ ap (with_server was) h.makes) refl;
 })
-works-by old d place fails index s n told daemons (Some task) e at there makes (inr h) =
-    inr (tt, refuses old index (Serving s) (Serving n) old.broker daemons NoMemory told there makes h.tells (ap Serving h.same) refl)
+works-by old d place fails index was later s n told daemons (Some task) e at there makes serves becomes (inr h) =
+    inr (tt, refuses old index was later old.broker daemons NoMemory told there makes h.tells (same-server was later s n serves becomes h.same) refl)
 
-works-at : (old : State) (d : DaemonId) (place : ℕ) (fails : Bool) (index : ℕ) (was later : Daemon) (told : Happened) (daemons : List Daemon) →
-    IsIndex (length old.daemons) d.0 index → slice_get old.daemons index ≡ Some was → daemons ≡ set old.daemons index later →
-    DaemonWorks place fails told was later → OnceBy old (Work d place fails) (work_refusal place (Some was)) told (record old { daemons = daemons })
-works-at old d place fails index (Serving s) (Serving n) told daemons at there makes h =
-    works-by old d place fails index s n told daemons (at_place s.hand place) refl at there makes h
-works-at old d place fails index (Serving s) Waiting told daemons at there makes h = absurd h
-works-at old d place fails index (Serving s) Gone told daemons at there makes h = absurd h
-works-at old d place fails index Waiting later told daemons at there makes h =
-    refuses old index Waiting later old.broker daemons _ told there makes h.tells h.same refl
-works-at old d place fails index Gone later told daemons at there makes h =
-    refuses old index Gone later old.broker daemons _ told there makes h.tells h.same refl
+works-if : (old : State) (d : DaemonId) (place : ℕ) (fails : Bool) (index : ℕ) (was later : DaemonState) (told : Happened) (daemons : List DaemonState) (server : Option ServerState) →
+    IsIndex (length old.daemons) d.0 index → slice_get old.daemons index ≡ Some was → daemons ≡ set old.daemons index later → was.server ≡ server →
+    WorksIf place fails told server was later → OnceBy old (Work d place fails) (hand_refusal place server) told (record old { daemons = daemons })
+works-if old d place fails index was later told daemons (Some s) at there makes serves h =
+    works-by old d place fails index was later s h.later told daemons (at_place s.hand place) refl at there makes serves h.makes h.works
+works-if old d place fails index was later told daemons None at there makes serves h =
+    refuses old index was later old.broker daemons _ told there makes h.tells h.same refl
 
 -- a daemon worked
-pub Once-works : (old : State) (d : DaemonId) (place : ℕ) (fails : Bool) (index : ℕ) (told : Happened) (daemons : List Daemon) →
+pub Once-works : (old : State) (d : DaemonId) (place : ℕ) (fails : Bool) (index : ℕ) (told : Happened) (daemons : List DaemonState) →
     IsIndex (length old.daemons) d.0 index → ChangesAt (DaemonWorks place fails told) old.daemons index daemons →
     Once old (Work d place fails) told (record old { daemons = daemons })
 Once-works old d place fails index told daemons at c =
-    subst (λ (o : Option Daemon). OnceBy old (Work d place fails) (work_refusal place o) told (record old { daemons = daemons }))
-    (sym (daemon-there old d index c.was at c.is_there)) (works-at old d place fails index c.was c.later told daemons at c.is_there c.makes c.does_so)
+    subst (λ (o : Option DaemonState). OnceBy old (Work d place fails) (work_refusal place o) told (record old { daemons = daemons }))
+    (sym (daemon-there old d index c.was at c.is_there)) (works-if old d place fails index c.was c.later told daemons (c.was).server at c.is_there c.makes refl c.does_so)
 
 -- ---- a post
 
-posts-reply : (old : State) (d : DaemonId) (place : ℕ) (index : ℕ) (s n : ServerState) (told : Happened) (left : BrokerState) (daemons : List Daemon) (reply : Reply) (f : Option PostFault) →
-    at_place s.unposted place ≡ Some reply → IsIndex (length old.daemons) d.0 index → slice_get old.daemons index ≡ Some (Serving s) → daemons ≡ set old.daemons index (Serving n) →
+posts-reply : (old : State) (d : DaemonId) (place : ℕ) (index : ℕ) (was later : DaemonState) (s n : ServerState) (told : Happened) (left : BrokerState) (daemons : List DaemonState) (reply : Reply) (f : Option PostFault) →
+    at_place s.unposted place ≡ Some reply → IsIndex (length old.daemons) d.0 index → slice_get old.daemons index ≡ Some was → daemons ≡ set old.daemons index later → was.server ≡ Some s → later ≡ with_server was n →
     PostsReply f s old.broker place reply told n left → OnceBy old (Post d place) (option_map refusal_of_post f) told (record old { broker = left; daemons = daemons })
-posts-reply old d place index s n told left daemons reply (Some f) e at there makes h =
-    refuses old index (Serving s) (Serving n) left daemons (refusal_of_post f) told there makes h.tells (ap Serving h.same) h.same_broker
-posts-reply old d place index s n told left daemons reply None e at there makes h = inl (record {
+posts-reply old d place index was later s n told left daemons reply (Some f) e at there makes serves becomes h =
+    refuses old index was later left daemons (refusal_of_post f) told there makes h.tells (same-server was later s n serves becomes h.same) h.same_broker
+posts-reply old d place index was later s n told left daemons reply None e at there makes serves becomes h = inl (record {
+  was = was;
   server = s;
   reply = reply;
-  serves = daemon-there old d index (Serving s) at there;
+  there = daemon-there old d index was at there;
+  serves = serves;
   at = e;
   tells = h.tells;
-  makes = changes old d index left _ daemons (Serving n) _ at makes (ap Serving h.makes) h.leaves;
+  makes = changes old d index left _ daemons later _ at makes (becomes ∙ ap (with_server was) h.makes) h.leaves;
 })
 
-posts-by : (old : State) (d : DaemonId) (place : ℕ) (index : ℕ) (s n : ServerState) (told : Happened) (left : BrokerState) (daemons : List Daemon) (r : Option Reply) →
-    at_place s.unposted place ≡ r → IsIndex (length old.daemons) d.0 index → slice_get old.daemons index ≡ Some (Serving s) → daemons ≡ set old.daemons index (Serving n) →
+posts-by : (old : State) (d : DaemonId) (place : ℕ) (index : ℕ) (was later : DaemonState) (s n : ServerState) (told : Happened) (left : BrokerState) (daemons : List DaemonState) (r : Option Reply) →
+    at_place s.unposted place ≡ r → IsIndex (length old.daemons) d.0 index → slice_get old.daemons index ≡ Some was → daemons ≡ set old.daemons index later → was.server ≡ Some s → later ≡ with_server was n →
     PostsBy r s old.broker d place told n left → OnceBy old (Post d place) (reply_refusal old d s r) told (record old { broker = left; daemons = daemons })
-posts-by old d place index s n told left daemons None e at there makes h =
-    refuses old index (Serving s) (Serving n) left daemons _ told there makes h.tells (ap Serving h.same) h.same_broker
-posts-by old d place index s n told left daemons (Some reply) e at there makes h =
-    posts-reply old d place index s n told left daemons reply (post_fault old.broker d s.generation reply) e at there makes h
+posts-by old d place index was later s n told left daemons None e at there makes serves becomes h =
+    refuses old index was later left daemons _ told there makes h.tells (same-server was later s n serves becomes h.same) h.same_broker
+posts-by old d place index was later s n told left daemons (Some reply) e at there makes serves becomes h =
+    posts-reply old d place index was later s n told left daemons reply (post_fault old.broker d s.generation reply) e at there makes serves becomes h
 
-posts-at : (old : State) (d : DaemonId) (place : ℕ) (index : ℕ) (was later : Daemon) (told : Happened) (left : BrokerState) (daemons : List Daemon) →
-    IsIndex (length old.daemons) d.0 index → slice_get old.daemons index ≡ Some was → daemons ≡ set old.daemons index later →
-    DaemonPosts old.broker d place told left was later → OnceBy old (Post d place) (post_refusal old d place (Some was)) told (record old { broker = left; daemons = daemons })
-posts-at old d place index (Serving s) (Serving n) told left daemons at there makes h =
-    posts-by old d place index s n told left daemons (at_place s.unposted place) refl at there makes h
-posts-at old d place index (Serving s) Waiting told left daemons at there makes h = absurd h
-posts-at old d place index (Serving s) Gone told left daemons at there makes h = absurd h
-posts-at old d place index Waiting later told left daemons at there makes h =
-    refuses old index Waiting later left daemons _ told there makes h.tells h.same h.same_broker
-posts-at old d place index Gone later told left daemons at there makes h =
-    refuses old index Gone later left daemons _ told there makes h.tells h.same h.same_broker
+posts-if : (old : State) (d : DaemonId) (place : ℕ) (index : ℕ) (was later : DaemonState) (told : Happened) (left : BrokerState) (daemons : List DaemonState) (server : Option ServerState) →
+    IsIndex (length old.daemons) d.0 index → slice_get old.daemons index ≡ Some was → daemons ≡ set old.daemons index later → was.server ≡ server →
+    PostsIf old.broker d place told left server was later → OnceBy old (Post d place) (unposted_refusal old d place server) told (record old { broker = left; daemons = daemons })
+posts-if old d place index was later told left daemons (Some s) at there makes serves h =
+    posts-by old d place index was later s h.later told left daemons (at_place s.unposted place) refl at there makes serves h.makes h.posts
+posts-if old d place index was later told left daemons None at there makes serves h =
+    refuses old index was later left daemons _ told there makes h.tells h.same h.same_broker
 
 -- a daemon posted
-pub Once-posts : (old : State) (d : DaemonId) (place : ℕ) (index : ℕ) (told : Happened) (left : BrokerState) (daemons : List Daemon) →
+pub Once-posts : (old : State) (d : DaemonId) (place : ℕ) (index : ℕ) (told : Happened) (left : BrokerState) (daemons : List DaemonState) →
     IsIndex (length old.daemons) d.0 index → ChangesAt (DaemonPosts old.broker d place told left) old.daemons index daemons →
     Once old (Post d place) told (record old { broker = left; daemons = daemons })
 Once-posts old d place index told left daemons at c =
-    subst (λ (o : Option Daemon). OnceBy old (Post d place) (post_refusal old d place o) told (record old { broker = left; daemons = daemons }))
-    (sym (daemon-there old d index c.was at c.is_there)) (posts-at old d place index c.was c.later told left daemons at c.is_there c.makes c.does_so)
+    subst (λ (o : Option DaemonState). OnceBy old (Post d place) (post_refusal old d place o) told (record old { broker = left; daemons = daemons }))
+    (sym (daemon-there old d index c.was at c.is_there)) (posts-if old d place index c.was c.later told left daemons (c.was).server at c.is_there c.makes refl c.does_so)
 
 -- ---- a mount
 
 -- who is read at an index and waits
-waiting : (x : Daemon) → true ≡ is_waiting x → x ≡ Waiting
-waiting Waiting e = refl
-waiting (Serving server) e = absurd (let none : ⊥ = cc in none)
-waiting Gone e = absurd (let none : ⊥ = cc in none)
-
-pub waits-read : (xs : List Daemon) (index : ℕ) (x : Daemon) → index < length xs → true ≡ is_waiting x → x ≡ get_or xs index x → slice_get xs index ≡ Some Waiting
-waits-read xs index x within waits read = slice_get_read xs (length xs) index x refl within read ∙ ap (λ (y : Daemon). Some y) (waiting x waits)
+pub waits-read : (xs : List DaemonState) (index : ℕ) (x : DaemonState) → index < length xs → true ≡ is_waiting x → x ≡ get_or xs index x →
+    (slice_get xs index ≡ Some x) × (is_waiting x ≡ true)
+waits-read xs index x within waits read = (slice_get_read xs (length xs) index x refl within read, sym waits)
 
 -- nothing stands against a daemon that waits, where the seat is free
-may-mount : (old : State) (d : DaemonId) (index : ℕ) → IsIndex (length old.daemons) d.0 index → slice_get old.daemons index ≡ Some Waiting → mount_fault old.broker ≡ None →
+may-mount : (old : State) (d : DaemonId) (index : ℕ) (was : DaemonState) → IsIndex (length old.daemons) d.0 index → slice_get old.daemons index ≡ Some was → is_waiting was ≡ true → mount_fault old.broker ≡ None →
     mount_refusal old (daemon_of old d) ≡ None
-may-mount old d index at there fine = ap (mount_refusal old) (daemon-there old d index Waiting at there) ∙ ap (option_map refusal_of_mount) fine
+may-mount old d index was at there waits fine =
+    ap (mount_refusal old) (daemon-there old d index was at there)
+    ∙ ap (λ (b : Bool). if b then option_map refusal_of_mount (mount_fault old.broker) else Some WrongPhase) waits ∙ ap (option_map refusal_of_mount) fine
 
 -- but memory may be wanting
-pub Once-mount-lacks : (old : State) (d : DaemonId) (index : ℕ) → IsIndex (length old.daemons) d.0 index → slice_get old.daemons index ≡ Some Waiting → mount_fault old.broker ≡ None →
+pub Once-mount-lacks : (old : State) (d : DaemonId) (index : ℕ) (was : DaemonState) → IsIndex (length old.daemons) d.0 index → slice_get old.daemons index ≡ Some was → is_waiting was ≡ true → mount_fault old.broker ≡ None →
     Once old (Mount d) (happened.Refused NoMemory) old
-Once-mount-lacks old d index at there fine = Once-lacks old (Mount d) (happened.Refused NoMemory) tt (may-mount old d index at there fine) refl
+Once-mount-lacks old d index was at there waits fine = Once-lacks old (Mount d) (happened.Refused NoMemory) tt (may-mount old d index was at there waits fine) refl
 
 -- a daemon that waited mounted
-pub Once-mounts : (old : State) (d : DaemonId) (index : ℕ) (server : ServerState) (broker : BrokerState) (generation : ℕ) (served : ServedState) →
-    IsIndex (length old.daemons) d.0 index → slice_get old.daemons index ≡ Some Waiting → mount_fault old.broker ≡ None →
+pub Once-mounts : (old : State) (d : DaemonId) (index : ℕ) (was : DaemonState) (server : ServerState) (broker : BrokerState) (generation : ℕ) (served : ServedState) (daemons : List DaemonState) →
+    IsIndex (length old.daemons) d.0 index → slice_get old.daemons index ≡ Some was → is_waiting was ≡ true → mount_fault old.broker ≡ None →
     server ≡ beginning generation served → served ≡ new_served old.manifest old.limit → generation ≡ old.broker.last + 1 → broker ≡ mounted old.broker d →
-    Once old (Mount d) (happened.Mounted generation) (record old { broker = broker; daemons = set old.daemons index (Serving server) })
-Once-mounts old d index server broker generation served at there fine begins new next broke =
-    let told : happened.Mounted generation ≡ happened.Mounted (old.broker.last + 1) = ap happened.Mounted next in
-    let is : Serving server ≡ Serving (new_server old.manifest old.limit (old.broker.last + 1)) =
-    ap Serving (begins ∙ ap (λ (g : ℕ). beginning g served) next ∙ ap (beginning (old.broker.last + 1)) new) in
-    Once-makes old (Mount d) (happened.Mounted generation) _ (may-mount old d index at there fine)
-    (told, changes old d index broker (mounted old.broker d) (set old.daemons index (Serving server)) (Serving server) _ at refl is broke)
+    ChangesAt (MountsSo generation server) old.daemons index daemons →
+    Once old (Mount d) (happened.Mounted generation) (record old { broker = broker; daemons = daemons })
+Once-mounts old d index was server broker generation served daemons at there waits fine begins new next broke c =
+    let is : server ≡ new_server old.manifest old.limit (old.broker.last + 1) =
+    begins ∙ ap (λ (g : ℕ). beginning g served) next ∙ ap (beginning (old.broker.last + 1)) new in
+    Once-makes old (Mount d) (happened.Mounted generation) _ (may-mount old d index was at there waits fine)
+    (record {
+      was = c.was;
+      later = c.later;
+      there = daemon-there old d index c.was at c.is_there;
+      does = subst (λ (g : ℕ). MountsSo g (new_server old.manifest old.limit (old.broker.last + 1)) c.was c.later) next
+          (subst (λ (s : ServerState). MountsSo generation s c.was c.later) is c.does_so);
+      tells = ap happened.Mounted next;
+      makes = changes old d index broker (mounted old.broker d) daemons c.later c.later at c.makes refl broke;
+    })
 
 -- ---- a crash
 
--- there is a daemon at an index
-is-there : (ds : List Daemon) (i : ℕ) → i < length ds → (d : Daemon) × (slice_get ds i ≡ Some d)
-is-there [] i within = absurd (omega (arith, within))
-is-there (d ∷ ds) zero within = (d, refl)
-is-there (d ∷ ds) (suc i) within = is-there ds i (omega (arith, within))
-
 -- a daemon is gone
-pub Once-crashes : (old : State) (d : DaemonId) (index : ℕ) (broker : BrokerState) → IsIndex (length old.daemons) d.0 index → broker ≡ without_daemon old.broker d →
-    Once old (Crash d) happened.Crashed (record old { broker = broker; daemons = set old.daemons index Gone })
-Once-crashes old d index broker at leaves =
-    let was = is-there old.daemons index at.within in
-    Once-makes old (Crash d) happened.Crashed _ (ap (λ (o : Option Daemon). if is_none o then Some NoDaemon else None) (daemon-there old d index was.0 at was.1))
-    (refl, changes old d index broker (without_daemon old.broker d) (set old.daemons index Gone) Gone Gone at refl refl leaves)
+pub Once-crashes : (old : State) (d : DaemonId) (index : ℕ) (broker : BrokerState) (daemons : List DaemonState) → IsIndex (length old.daemons) d.0 index → broker ≡ without_daemon old.broker d →
+    ChangesAt EndsSo old.daemons index daemons → Once old (Crash d) happened.Crashed (record old { broker = broker; daemons = daemons })
+Once-crashes old d index broker daemons at leaves c =
+    let there : daemon_of old d ≡ Some c.was = daemon-there old d index c.was at c.is_there in
+    Once-makes old (Crash d) happened.Crashed _ (ap absence there)
+    (record {
+      was = c.was;
+      later = c.later;
+      there = there;
+      does = c.does_so;
+      tells = refl;
+      makes = changes old d index broker (without_daemon old.broker d) daemons c.later c.later at c.makes refl leaves;
+    })
+
+-- ---- a daemon that is not drained
+
+undrained-by : (fault told : DrainFault) (f : Option DrainFault) (was later : DaemonState) → DrainsBy f was (Err told) later → (f ≡ Some told) × (later ≡ was)
+undrained-by fault told (Some g) was later (is, same) = (ap Some (sym is), same)
+undrained-by fault told None was later no_way = absurd no_way
+
+pub Once-undrained : (old : State) (d : DaemonId) (index : ℕ) (fault : DrainFault) (result : Result Reaction DrainFault) (refusal : Refusal) (daemons : List DaemonState) → IsIndex (length old.daemons) d.0 index → result ≡ Err fault →
+    ChangesAt (λ was. DrainsSo was result) old.daemons index daemons → refusal ≡ refusal_of_drain fault → Once old (Drained d) (happened.Refused refusal) (record old { daemons = daemons })
+Once-undrained old d index fault result refusal daemons at failed c is =
+    subst (λ (o : Option DaemonState). OnceBy old (Drained d) (drained_refusal o) (happened.Refused refusal) (record old { daemons = daemons })) (sym (daemon-there old d index c.was at c.is_there))
+    (subst (λ (f : Option DrainFault). OnceBy old (Drained d) (option_map refusal_of_drain f) (happened.Refused refusal) (record old { daemons = daemons })) (sym by.0)
+    (refuses old index c.was c.later old.broker daemons (refusal_of_drain fault) (happened.Refused refusal) c.is_there c.makes (ap happened.Refused is) by.1 refl)) where
+      by : (drain_fault (c.was).node.phase (in_hand c.was) (unposted c.was) ≡ Some fault) × (c.later ≡ c.was)
+      by = undrained-by fault fault (drain_fault (c.was).node.phase (in_hand c.was) (unposted c.was)) c.was c.later (subst (λ (r : Result Reaction DrainFault). DrainsSo c.was r c.later) failed c.does_so)
+
+-- ---- a claim
+
+-- a daemon that wants none
+pub Once-unwanted : (old : State) (d : DaemonId) (index : ℕ) (was : DaemonState) → IsIndex (length old.daemons) d.0 index → slice_get old.daemons index ≡ Some was → claim_wanted was.node.phase ≡ None → Once old (Claim d) (happened.Refused WrongPhase) old
+Once-unwanted old d index was at there wants =
+    let its : daemon_of old d ≡ Some was = daemon-there old d index was at there in
+    subst (λ (f : Option Refusal). OnceBy old (Claim d) f (happened.Refused WrongPhase) old) (sym (ap (claim_refusal old) its ∙ ap (wanted_refusal old) wants)) (
+      refl,
+      sym (ap (λ (o : Option DaemonState). option_map_or (λ (x : DaemonState). with_daemon old d (unclaimed old x (claim_wanted x.node.phase))) o old) its
+          ∙ ap (λ (w : Option ℕ). with_daemon old d (unclaimed old was w)) wants ∙ back),
+    ) where
+      back : with_daemon old d was ≡ old
+      back = ap (λ (i : ℕ). record old { daemons = set old.daemons i was }) (sym at.is) ∙ ap (λ (ds : List DaemonState). record old { daemons = ds }) (set-there old.daemons index was there)
 
 -- ---- events one after another
 

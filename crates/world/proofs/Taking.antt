@@ -15,13 +15,13 @@ use Rattle.broker_core.specs.declared.fault.PostFault.{PostFault}
 use Rattle.broker_core.specs.declared.seat.Seat.{Seat}
 use Rattle.broker_core.proofs.SeatFaults.{taken-seated, posted-seated}
 use Rattle.broker_core.proofs.TakeLaws.{IsAskTaken, take-is}
+use Rattle.takeover_core.specs.Phases.{may_take}
+use Rattle.world.specs.Daemon.{DaemonState, with_server}
 use Rattle.world.specs.Server.{ServerState, told_taken, with_taken, with_posted}
 use Rattle.world.specs.World.{World, Move, is_asked, is_replied, times, carries, held_after, owed, delivered, answered_by}
-use Rattle.world.specs.Agreement.{IsGoodForget, IsAnswered, is_posted, asks_in, Books, Matches, move_of}
-use Rattle.world.specs.State.{State, fault, refusal_of_take, refusal_of_post, take_refusal, post_refusal, reply_refusal, server_in, IsSeated}
+use Rattle.world.specs.Agreement.{IsGoodForget, IsAnswered, is_posted, asks_in, Books, Follows, move_of}
+use Rattle.world.specs.State.{State, fault, refusal_of_take, refusal_of_post, take_refusal, server_refusal, post_refusal, unposted_refusal, reply_refusal, IsSeated}
 use Rattle.world.specs.Step.{Takes, Posts, Delivers}
-use Rattle.world.specs.declared.daemon.Daemon.{Daemon}
-use Rattle.world.specs.declared.daemon.Daemon.TheVariants.{Serving}
 use Rattle.world.specs.declared.event.Event.TheVariants.{Take, Post, Deliver}
 use Rattle.world.specs.declared.outcome.Happened.{Happened}
 use Rattle.world.specs.declared.outcome.Happened.TheVariants as happened
@@ -36,11 +36,15 @@ use Rattle.world.proofs.UnderWay.{under-taken, under-posted, posted-under, IsRea
 -- ---- take
 
 -- a daemon that serves where no cause stands against a take has the seat
-take-seat : (old : State) (daemon : DaemonId) (server : ServerState) → take_refusal old daemon (Some (Serving server)) ≡ None → old.broker.seat ≡ Some (record { generation = server.generation; daemon = daemon })
-take-seat old daemon server h = taken-seated old.broker daemon server.generation (clear (take_fault old.broker daemon server.generation) h) where
+take-seat : (old : State) (daemon : DaemonId) (was : DaemonState) (server : ServerState) → was.server ≡ Some server → take_refusal old daemon (Some was) ≡ None → old.broker.seat ≡ Some (record { generation = server.generation; daemon = daemon })
+take-seat old daemon was server serves h = in_ (may_take was.node.phase) (subst (λ (o : Option ServerState). server_refusal old daemon (may_take was.node.phase) o ≡ None) serves h) where
   clear : (f : Option TakeFault) → option_map refusal_of_take f ≡ None → f ≡ None
   clear None e = refl
   clear (Some f) e = absurd (let none : ⊥ = cc in none)
+
+  in_ : (b : Bool) → server_refusal old daemon b (Some server) ≡ None → old.broker.seat ≡ Some (record { generation = server.generation; daemon = daemon })
+  in_ true e = taken-seated old.broker daemon server.generation (clear (take_fault old.broker daemon server.generation) e)
+  in_ false e = absurd (let none : ⊥ = cc in none)
 
 each-right : (P : Ask → Type 0) (xs ys : List Ask) → AllByRecursion P (xs ++ ys) → AllByRecursion P ys
 each-right P [] ys every = every
@@ -55,13 +59,13 @@ told-taken seat daemon ask = in_ (is_ask ask.what) where
   in_ true = (refl, tt, refl)
   in_ false = (refl, tt, refl)
 
-pub takes-moved : (w : World) (old : State) (daemon : DaemonId) (told : Happened) (new : State) → Matches w old → fault old (Take daemon) ≡ None → Takes old daemon told new → MovesBy w (move_of w.seat (Take daemon) told) old told new
+pub takes-moved : (w : World) (old : State) (daemon : DaemonId) (told : Happened) (new : State) → Follows w old → fault old (Take daemon) ≡ None → Takes old daemon told new → MovesBy w (move_of w.seat (Take daemon) told) old told new
 takes-moved w old daemon told new m clear t = subst (λ (x : Happened). MovesBy w (move_of w.seat (Take daemon) x) old x new) (sym t.tells)
     (subst (λ (ms : List Move). MovesBy w ms old (told_taken t.ask) new) (sym says.0) (record {
       run = tt;
-      matches = subst (λ (s : State). Matches w s) (sym t.makes)
-          (goes-on w w old (taken old.broker) seat (Serving t.server) (with_taken t.server t.ask) m refl m.tree_is_tree m.of_manifest (books-queued w old.broker (left_by_take old.broker.traffic) m.books) m.seat_is_last m.orderly m.answered
-          at.has_seat (only-holder old seat at.has_seat) t.serves holder.knows
+      matches = subst (λ (s : State). Follows w s) (sym t.makes)
+          (goes-on w w old (taken old.broker) seat t.was (with_server t.was (with_taken t.server t.ask)) (with_taken t.server t.ask) m refl refl m.tree_is_tree m.of_manifest (books-queued w old.broker (left_by_take old.broker.traffic) m.books) m.seat_is_last m.orderly m.answered
+          at.has_seat (only-holder old seat at.has_seat) t.there holder.knows
           (under-taken w old.broker.traffic t.server t.ask holder.under (take-is old.broker.traffic t.ask t.first) asks));
       forget = says.1;
       answered = λ e. absurd (let none : true ≡ false = sym e ∙ says.2 in let x : ⊥ = cc in x);
@@ -74,8 +78,8 @@ takes-moved w old daemon told new m clear t = subst (λ (x : Happened). MovesBy 
 
       at : IsSeated old seat t.server
       at = record {
-        has_seat = take-seat old daemon t.server (subst (λ (o : Option Daemon). take_refusal old daemon o ≡ None) t.serves clear);
-        serves = ap (option_and_then server_in) t.serves;
+        has_seat = take-seat old daemon t.was t.server t.serves (subst (λ (o : Option DaemonState). take_refusal old daemon o ≡ None) t.there clear);
+        serves = ap (option_and_then (λ (d : DaemonState). d.server)) t.there ∙ t.serves;
       }
 
       holder : HolderIs w old t.server
@@ -93,14 +97,14 @@ post-seat old daemon server reply h = posted-seated old.broker daemon server.gen
   clear None e = refl
   clear (Some f) e = absurd (let none : ⊥ = cc in none)
 
-pub posts-moved : (w : World) (old : State) (daemon : DaemonId) (place : ℕ) (told : Happened) (new : State) → Matches w old → fault old (Post daemon place) ≡ None → Posts old daemon place told new →
+pub posts-moved : (w : World) (old : State) (daemon : DaemonId) (place : ℕ) (told : Happened) (new : State) → Follows w old → fault old (Post daemon place) ≡ None → Posts old daemon place told new →
     MovesBy w (move_of w.seat (Post daemon place) told) old told new
 posts-moved w old daemon place told new m clear p = subst (λ (x : Happened). MovesBy w (move_of w.seat (Post daemon place) x) old x new) (sym p.tells) (record {
   run = ((ap is_some (posted-under w old.broker.traffic p.server place p.reply in_place holder.under).1, ((p.server).generation, here)), tt);
-  matches = subst (λ (all : List Seat). Matches (record w { answered = all }) new) (sym by_seat)
-      (subst (λ (s : State). Matches w' s) (sym p.makes)
-      (goes-on w w' old (posted old.broker p.reply) seat (Serving p.server) (with_posted p.server place) m refl m.tree_is_tree m.of_manifest books (seat-stays w w' seat m.seat_is_last here here refl)
-      (record { asked = (m.orderly).asked; once = (m.orderly).once; used = (m.orderly).used; good = (m.orderly).good }) (answered-posted w seat m.answered m.seat_is_last here) at.has_seat (only-holder old seat at.has_seat) p.serves
+  matches = subst (λ (all : List Seat). Follows (record w { answered = all }) new) (sym by_seat)
+      (subst (λ (s : State). Follows w' s) (sym p.makes)
+      (goes-on w w' old (posted old.broker p.reply) seat p.was (with_server p.was (with_posted p.server place)) (with_posted p.server place) m refl refl m.tree_is_tree m.of_manifest books (seat-stays w w' seat m.seat_is_last here here refl)
+      (record { asked = (m.orderly).asked; once = (m.orderly).once; used = (m.orderly).used; good = (m.orderly).good }) (answered-posted w seat m.answered m.seat_is_last here) at.has_seat (only-holder old seat at.has_seat) p.there
       holder.knows (under-posted w old.broker.traffic p.server place p.reply (seat ∷ w.answered) in_place holder.under)));
   forget = tt;
   answered = λ e. subst (λ (all : List Seat). IsAnswered (record w { answered = all }) old.broker.seat) (sym by_seat)
@@ -115,8 +119,10 @@ posts-moved w old daemon place told new m clear p = subst (λ (x : Happened). Mo
   at : IsSeated old seat p.server
   at = record {
     has_seat = post-seat old daemon p.server p.reply
-        (subst (λ (o : Option Reply). reply_refusal old daemon p.server o ≡ None) p.at (subst (λ (o : Option Daemon). post_refusal old daemon place o ≡ None) p.serves clear));
-    serves = ap (option_and_then server_in) p.serves;
+        (subst (λ (o : Option Reply). reply_refusal old daemon p.server o ≡ None) p.at
+        (subst (λ (o : Option ServerState). unposted_refusal old daemon place o ≡ None) p.serves
+        (subst (λ (o : Option DaemonState). post_refusal old daemon place o ≡ None) p.there clear)));
+    serves = ap (option_and_then (λ (d : DaemonState). d.server)) p.there ∙ p.serves;
   }
 
   here : w.seat ≡ Some seat
@@ -137,7 +143,7 @@ posts-moved w old daemon place told new m clear p = subst (λ (x : Happened). Mo
 -- ---- delivery
 
 -- where a reply waits, somebody has the seat
-waits-seated : (w : World) (old : State) (reply : Reply) → Matches w old → front old.broker.traffic.posted ≡ Some reply → (seat : Seat) × (old.broker.seat ≡ Some seat)
+waits-seated : (w : World) (old : State) (reply : Reply) → Follows w old → front old.broker.traffic.posted ≡ Some reply → (seat : Seat) × (old.broker.seat ≡ Some seat)
 waits-seated w old reply m first = in_ old.broker.seat refl where
   in_ : (o : Option Seat) → old.broker.seat ≡ o → (seat : Seat) × (o ≡ Some seat)
   in_ (Some seat) e = (seat, refl)
@@ -151,11 +157,11 @@ delivered-owed w found n first =
     let s : count_by (carries n) w.replies ≡ mark (carries n found) + count_by (carries n) (without_where (is_replied found.unique) w.replies) = sum-without (λ (r : Reply). mark (carries n r)) (is_replied found.unique) w.replies found first in
     omega arith
 
-pub delivers-moved : (w : World) (old : State) (told : Happened) (new : State) → Matches w old → Delivers old told new → MovesBy w (move_of w.seat Deliver told) old told new
+pub delivers-moved : (w : World) (old : State) (told : Happened) (new : State) → Follows w old → Delivers old told new → MovesBy w (move_of w.seat Deliver told) old told new
 delivers-moved w old told new m d = subst (λ (x : Happened). MovesBy w (move_of w.seat Deliver x) old x new) (sym d.tells) (record {
   run = (ap is_some r.first, tt);
-  matches = subst (λ (o : Option Reply). Matches (delivered w o) new) (sym r.first)
-      (subst (λ (s : State). Matches w' s) (sym d.makes)
+  matches = subst (λ (o : Option Reply). Follows (delivered w o) new) (sym r.first)
+      (subst (λ (s : State). Follows w' s) (sym d.makes)
       (broker-goes-on w w' old (broker_delivered old.broker) seat server m refl refl (books-delivered w old.broker d.reply r.found (without_where (is_replied (r.found).unique) w.replies) d.first r.measured m.books)
       (seat-stays w w' seat m.seat_is_last here here refl) (orderly-delivered w old.broker.next_unique (d.reply).unique r.found (held_after w.held (r.found).answer) r.first m.orderly) (answered-still w w' refl refl refl m.answered) refl at
       (knows-along w.tree w.names (owed w) (owed w') server.served (λ n. delivered-owed w r.found n its) holder.knows)

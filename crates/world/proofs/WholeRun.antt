@@ -1,27 +1,33 @@
 -- A whole list of events is a run of moves, and the state matches the world after them.
-use Rattle.std.proofs.Common.{◌≡◌, ℕ, Bool, true, false, List, [], ◌∷◌, Some, None, refl, sym, subst, arith}
+use Rattle.std.proofs.Common.{◌≡◌, ℕ, ◌-◌, Bool, true, false, List, [], ◌∷◌, Some, None, refl, sym, subst, arith}
 use Rattle.std.specs.Prelude.{◌==◌, Contains, if◌then◌else◌}
 use Rattle.std.specs.Option.{option_and_then}
 use Rattle.eden_base.specs.declared.number.DaemonId.{DaemonId}
 use Rattle.std.specs.List.{AllByRecursion}
-use Rattle.manifest.specs.Manifest.{Manifest}
+use Rattle.manifest.specs.Manifest.{Manifest, IsManifest}
 use Rattle.manifest.specs.Tree.{IsTree, tree_of}
 use Rattle.broker_core.proofs.HeldLaws.{held_count-none}
 use Rattle.broker_core.specs.declared.seat.Seat.{Seat}
 use Rattle.world.specs.Server.{ServerState}
-use Rattle.world.specs.State.{State, started, server_in, server_of}
+use Rattle.takeover_core.specs.declared.message.Message.TheVariants.{Data}
+use Rattle.world.specs.Daemon.{DaemonState}
+use Rattle.world.specs.Handing.{MessageStands}
+use Rattle.world.specs.Server.{at_place}
+use Rattle.world.specs.State.{State, started, server_of}
 use Rattle.world.specs.Step.{Steps}
 use Rattle.world.specs.World.{World, first_world, IsRun, after_all}
-use Rattle.world.specs.Agreement.{Agrees, CountsAreOwed, NumbersNameTheirFirstFile, Matches, IsGoodForget, IsAnswered, posted_from, posters, moves_of, all_moves}
+use Rattle.world.specs.Agreement.{Agrees, CountsAreOwed, NumbersNameTheirFirstFile, DataIsCurrent, Follows, Matches, IsGoodForget, IsAnswered, posted_from, posters, moves_of, all_moves}
 use Rattle.world.specs.declared.event.Event.{Event}
 use Rattle.world.specs.declared.outcome.Happened.{Happened}
 use Rattle.world.proofs.InTurn.{step-matched}
-use Rattle.world.proofs.Daemons.{holder-is}
+use Rattle.world.proofs.Claiming.{HolderHas, holder-has, handed-over}
+use Rattle.world.proofs.Daemons.{holder-is, at-is}
+use Rattle.world.proofs.Handing.{all-at}
 use Rattle.world.proofs.Runs.{run-append, after_all-append, answered-after_all}
 
 -- ---- what a match says
 
-pub match-agrees : (w : World) (state : State) → Matches w state → Agrees w state
+pub match-agrees : (w : World) (state : State) → Follows w state → Agrees w state
 match-agrees w state m = record {
   manifest = m.manifest;
   books = m.books;
@@ -32,17 +38,35 @@ match-agrees w state m = record {
   tree = λ seat server at. ((holder-is w state seat server m.knows at).knows).tree_is;
 }
 
-pub match-counts : (w : World) (state : State) → Matches w state → CountsAreOwed w state
+pub match-counts : (w : World) (state : State) → Follows w state → CountsAreOwed w state
 match-counts w state m seat server at = ((holder-is w state seat server m.knows at).knows).counts
 
-pub match-names : (w : World) (state : State) → Matches w state → NumbersNameTheirFirstFile w state
+pub match-names : (w : World) (state : State) → Follows w state → NumbersNameTheirFirstFile w state
 match-names w state m seat server at = let k = (holder-is w state seat server m.knows at).knows in record { files = k.files; sound = k.sound; numbers = k.numbers }
+
+-- the seat's data, and whoever may claim the seat, knows the world
+pub match-current : (w : World) (state : State) → Matches w state → DataIsCurrent w state
+match-current w state m = record {
+  past = λ place session g bytes at. (message place session g bytes at).0;
+  handed = λ seat place session bytes seated at.
+      let h = holder seat seated in
+      let d = (message place session seat.generation bytes at).1 seat h.was h.server h.has refl in
+      ((h.server).served, d.1, d.2, h.knows);
+  held = λ seat daemon was seated there wants.
+      let k = handed-over w state daemon was seat m.follows m.handing there seated wants in
+      (k.server, k.serves, k.knows);
+} where
+  message : (place session g : ℕ) (bytes : List ℕ) → at_place state.messages place ≡ Some (Data session g bytes) → MessageStands state (Data session g bytes)
+  message place session g bytes at = all-at (MessageStands state) state.messages (place - 1) (Data session g bytes) (m.handing).messages (at-is state.messages place (Data session g bytes) at)
+
+  holder : (seat : Seat) → state.broker.seat ≡ Some seat → HolderHas w state seat
+  holder seat seated = holder-has w state seat m.follows seated
 
 -- ---- a list of events
 
 -- before anything happened
-pub first-matches : (manifest : Manifest) (limit : ℕ) → IsTree (tree_of manifest) → Matches (first_world manifest) (started manifest limit)
-first-matches manifest limit is = record {
+first-follows : (manifest : Manifest) (limit : ℕ) → IsTree (tree_of manifest) → Follows (first_world manifest) (started manifest limit)
+first-follows manifest limit is = record {
   manifest = refl;
   is_tree = is;
   tree_is_tree = is;
@@ -60,12 +84,21 @@ first-matches manifest limit is = record {
 
   no_server : (daemon : DaemonId) (server : ServerState) → server_of (started manifest limit) daemon ≡ Some server → ⊥
   no_server daemon server h = in_ (daemon.0 == 0) h where
-    in_ : (b : Bool) → option_and_then server_in (if b then None else None) ≡ Some server → ⊥
+    in_ : (b : Bool) → option_and_then (λ (d : DaemonState). d.server) (if b then None else None) ≡ Some server → ⊥
     in_ true e = let none : ⊥ = cc in none
     in_ false e = let none : ⊥ = cc in none
 
   nothing : {X : Type 0} (x : X) → Contains [] x → ⊥
   nothing x (k, low, e) = let none : ⊥ = omega (arith, low) in none
+
+pub first-matches : (manifest : Manifest) (limit : ℕ) → IsManifest manifest → IsTree (tree_of manifest) → Matches (first_world manifest) (started manifest limit)
+first-matches manifest limit is_manifest is = record {
+  follows = first-follows manifest limit is;
+  handing = record { is_manifest = is_manifest; low = omega arith; daemons = λ daemon was there. absurd (no_daemon (daemon.0 == 0) was there); messages = tt };
+} where
+  no_daemon : (b : Bool) (was : DaemonState) → (if b then None else None) ≡ Some was → ⊥
+  no_daemon true was e = let none : ⊥ = cc in none
+  no_daemon false was e = let none : ⊥ = cc in none
 
 -- what a list of events does
 pub record Ran (w : World) (events : List Event) (outcomes : List (List Happened)) (new : State) : Type 0 where

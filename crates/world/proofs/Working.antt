@@ -17,18 +17,19 @@ use Rattle.inode_map.specs.declared.inode_map.Forgot.{Forgot}
 use Rattle.fuse_ops.specs.Gifts.{IsTaken}
 use Rattle.fuse_ops.specs.Served.{ServedState, forgotten_all, IsLegal, Replay}
 use Rattle.fuse_ops.proofs.SameManifest.{answered-manifest}
+use Rattle.std.specs.Option.{option_and_then}
+use Rattle.world.specs.Daemon.{DaemonState, with_server}
 use Rattle.world.specs.Server.{ServerState, is_single, told_worked, told_item, with_worked}
 use Rattle.world.specs.World.{World, work, work_item, is_asked, is_replied, is_item, file_named, times, gives, carries, taken_back, owed, MayWork, worked}
-use Rattle.world.specs.Agreement.{Knows, IsGoodForget, is_bad, Matches, move_of}
-use Rattle.world.specs.State.{State, with_daemon, IsSeated}
+use Rattle.world.specs.Agreement.{Knows, IsGoodForget, is_bad, Follows, move_of}
+use Rattle.world.specs.State.{State, daemon_of, with_daemon, IsSeated}
 use Rattle.world.specs.Step.{Works}
-use Rattle.world.specs.declared.daemon.Daemon.TheVariants.{Serving}
 use Rattle.world.specs.declared.event.Event.TheVariants.{Work}
 use Rattle.world.specs.declared.outcome.Happened.{Happened}
 use Rattle.world.specs.declared.outcome.Happened.TheVariants as happened
 use Rattle.world.proofs.Answering.{answers-worked}
 use Rattle.world.proofs.Bags.{mark, count-push, sum-without}
-use Rattle.world.proofs.Daemons.{HolderIs, holder-is, goes-on, only-holder, hand-seated, at-is, serving-is}
+use Rattle.world.proofs.Daemons.{HolderIs, holder-is, goes-on, only-holder, hand-seated, at-is}
 use Rattle.world.proofs.Forgetting.{Forgotten, forgets-well, less_owed}
 use Rattle.world.proofs.Hands.{at-single, single-item}
 use Rattle.world.proofs.Keeping.{answered-still, seat-stays}
@@ -56,16 +57,16 @@ made-owed w task answer n = in_ (gives n answer) refl where
       let k : mark (gives n answer) ≡ 0 = ap mark e in
       omega arith
 
-pub answers-moved : (w : World) (old : State) (seat : Seat) (server : ServerState) (place : ℕ) (task : Ask) (answer : Answer) (later : ServedState) → Matches w old → IsSeated old seat server → slice_get server.hand (place - 1) ≡ Some task → is_ask task.what ≡ true →
+pub answers-moved : (w : World) (old : State) (seat : Seat) (was : DaemonState) (server : ServerState) (place : ℕ) (task : Ask) (answer : Answer) (later : ServedState) → Follows w old → IsSeated old seat server → daemon_of old seat.daemon ≡ Some was → slice_get server.hand (place - 1) ≡ Some task → is_ask task.what ≡ true →
     IsLegal server.served task.what answer later →
-    MovesBy w (work task.unique answer ∷ []) old (happened.Made (record { unique = task.unique; answer = answer })) (with_daemon old seat.daemon (Serving (with_worked server place task (Some answer) later)))
-answers-moved w old seat server place task answer later m at there is legal = record {
+    MovesBy w (work task.unique answer ∷ []) old (happened.Made (record { unique = task.unique; answer = answer })) (with_daemon old seat.daemon (with_server was (with_worked server place task (Some answer) later)))
+answers-moved w old seat was server place task answer later m at here_is there is legal = record {
   run = (subst (λ (o : Option Ask). MayWork w o answer) (sym own.first) done.may, tt);
-  matches = subst (λ (o : Option Ask). Matches (worked w answer o) new) (sym own.first)
-      (goes-on w w' old old.broker seat (Serving server) (with_worked server place task (Some answer) later) m refl done.is_tree (answered-manifest w.tree (file_named w.names) task.what answer ∙ m.of_manifest)
+  matches = subst (λ (o : Option Ask). Follows (worked w answer o) new) (sym own.first)
+      (goes-on w w' old old.broker seat was (with_server was (with_worked server place task (Some answer) later)) (with_worked server place task (Some answer) later) m refl refl done.is_tree (answered-manifest w.tree (file_named w.names) task.what answer ∙ m.of_manifest)
       (record { seat = (m.books).seat; last = (m.books).last; held = (m.books).held; uniques = (m.books).uniques }) (seat-stays w w' seat m.seat_is_last here here refl)
       (orderly-worked w w' old.broker.next_unique task reply own.first refl refl refl refl m.orderly) (answered-still w w' refl refl refl m.answered) at.has_seat (only-holder old seat at.has_seat)
-      (serving-is old seat.daemon server at.serves) (knows-along w'.tree w'.names (λ n. owed w n + (if gives n answer then 1 else 0)) (owed w') later (λ n. made-owed w task answer n) done.knows)
+      here_is (knows-along w'.tree w'.names (λ n. owed w n + (if gives n answer then 1 else 0)) (owed w') later (λ n. made-owed w task answer n) done.knows)
       (record {
         singles = (at-single (λ (x : Ask). is_single x ≡ true) server.hand (place - 1) task there (holder.under).singles).1;
         asks = own.left;
@@ -76,7 +77,7 @@ answers-moved w old seat server place task answer later m at there is legal = re
   answered = λ e. absurd (let none : ⊥ = cc in none);
 } where
   new : State
-  new = with_daemon old seat.daemon (Serving (with_worked server place task (Some answer) later))
+  new = with_daemon old seat.daemon (with_server was (with_worked server place task (Some answer) later))
 
   reply : Reply
   reply = record { unique = task.unique; answer = answer }
@@ -123,14 +124,14 @@ good-parts item good = in_ (item.node.0 == 1) (item.k == 0) refl refl good where
     (let low : item.k ≡ 0 → ⊥ = false-ne item.k 0 f in omega (arith, low)),
   )
 
-items-moved : (w : World) (old : State) (seat : Seat) (server : ServerState) (place : ℕ) (task : Ask) (item : Item) → Matches w old → IsSeated old seat server → slice_get server.hand (place - 1) ≡ Some task → is_ask task.what ≡ false → item_of task.what ≡ Some item →
+items-moved : (w : World) (old : State) (seat : Seat) (was : DaemonState) (server : ServerState) (place : ℕ) (task : Ask) (item : Item) → Follows w old → IsSeated old seat server → daemon_of old seat.daemon ≡ Some was → slice_get server.hand (place - 1) ≡ Some task → is_ask task.what ≡ false → item_of task.what ≡ Some item →
     MovesBy w (work_item item ∷ []) old (happened.Forgot item (forgot server.served.map item.node.0 item.k))
-    (with_daemon old seat.daemon (Serving (with_worked server place task None (record server.served { map = forgotten server.served.map item.node.0 item.k }))))
-items-moved w old seat server place task item m at there forget is = record {
+    (with_daemon old seat.daemon (with_server was (with_worked server place task None (record server.served { map = forgotten server.served.map item.node.0 item.k }))))
+items-moved w old seat was server place task item m at here_is there forget is = record {
   run = (ap is_some own.first, tt);
-  matches = goes-on w w' old old.broker seat (Serving server) (with_worked server place task None later) m refl m.tree_is_tree m.of_manifest
+  matches = goes-on w w' old old.broker seat was (with_server was (with_worked server place task None later)) (with_worked server place task None later) m refl refl m.tree_is_tree m.of_manifest
       (record { seat = (m.books).seat; last = (m.books).last; held = (m.books).held; uniques = (m.books).uniques }) (seat-stays w w' seat m.seat_is_last here here refl) (orderly-applied w old.broker.next_unique item own.first m.orderly)
-      (answered-still w w' refl refl refl m.answered) at.has_seat (only-holder old seat at.has_seat) (serving-is old seat.daemon server at.serves)
+      (answered-still w w' refl refl refl m.answered) at.has_seat (only-holder old seat at.has_seat) here_is
       (subst (λ (s : ServedState). Knows w.tree w.names (owed w') s) (λ i. record { map = forgotten server.served.map item.node.0 item.k; tree = sym (holder.knows).tree_is i })
       (knows-along w.tree w.names (less_owed (owed w) item.node.0 item.k) (owed w') _ (λ j. applied-owed w item j own.first) well.knows))
       (record {
@@ -176,23 +177,23 @@ items-moved w old seat server place task item m at there forget is = record {
 
 -- ---- both
 
-by_answer : (w : World) (old : State) (daemon : DaemonId) (place : ℕ) (fails : Bool) (seat : Seat) (server : ServerState) (task : Ask) (answer : Option Answer) (later : ServedState) → Matches w old → IsSeated old seat server → slice_get server.hand (place - 1) ≡ Some task →
+by_answer : (w : World) (old : State) (daemon : DaemonId) (place : ℕ) (fails : Bool) (seat : Seat) (was : DaemonState) (server : ServerState) (task : Ask) (answer : Option Answer) (later : ServedState) → Follows w old → IsSeated old seat server → daemon_of old seat.daemon ≡ Some was → slice_get server.hand (place - 1) ≡ Some task →
     Replay server.served task.what answer later →
-    MovesBy w (move_of w.seat (Work daemon place fails) (told_worked server.served task answer)) old (told_worked server.served task answer) (with_daemon old seat.daemon (Serving (with_worked server place task answer later)))
-by_answer w old daemon place fails seat server task (Some answer) later m at there (is, legal) = answers-moved w old seat server place task answer later m at there is legal
-by_answer w old daemon place fails seat server task None later m at there (forget, same) =
+    MovesBy w (move_of w.seat (Work daemon place fails) (told_worked server.served task answer)) old (told_worked server.served task answer) (with_daemon old seat.daemon (with_server was (with_worked server place task answer later)))
+by_answer w old daemon place fails seat was server task (Some answer) later m at here_is there (is, legal) = answers-moved w old seat was server place task answer later m at here_is there is legal
+by_answer w old daemon place fails seat was server task None later m at here_is there (forget, same) =
     let single = (at-single (λ (x : Ask). is_single x ≡ true) server.hand (place - 1) task there ((holder-is w old seat server m.knows at).under).singles).0 in
     let item = single-item task single forget in
     let is : later ≡ record server.served { map = forgotten server.served.map item.0.node.0 item.0.k } = same ∙ ap (λ (all : List Item). record server.served { map = forgotten_all server.served.map all }) (items-one task.what item.0 item.1) in
-    subst (λ (o : Option Item). MovesBy w (move_of w.seat (Work daemon place fails) (told_item server.served o)) old (told_item server.served o) (with_daemon old seat.daemon (Serving (with_worked server place task None later)))) (sym item.1)
-    (subst (λ (s : ServedState). MovesBy w (work_item item.0 ∷ []) old (happened.Forgot item.0 (forgot server.served.map item.0.node.0 item.0.k)) (with_daemon old seat.daemon (Serving (with_worked server place task None s)))) (sym is)
-    (items-moved w old seat server place task item.0 m at there forget item.1))
+    subst (λ (o : Option Item). MovesBy w (move_of w.seat (Work daemon place fails) (told_item server.served o)) old (told_item server.served o) (with_daemon old seat.daemon (with_server was (with_worked server place task None later)))) (sym item.1)
+    (subst (λ (s : ServedState). MovesBy w (work_item item.0 ∷ []) old (happened.Forgot item.0 (forgot server.served.map item.0.node.0 item.0.k)) (with_daemon old seat.daemon (with_server was (with_worked server place task None s)))) (sym is)
+    (items-moved w old seat was server place task item.0 m at here_is there forget item.1))
 
 -- An ask that is answered, or an item that is applied, is a move.
-pub works-moved : (w : World) (old : State) (daemon : DaemonId) (place : ℕ) (fails : Bool) (told : Happened) (new : State) → Matches w old → Works old daemon place fails told new → MovesBy w (move_of w.seat (Work daemon place fails) told) old told new
+pub works-moved : (w : World) (old : State) (daemon : DaemonId) (place : ℕ) (fails : Bool) (told : Happened) (new : State) → Follows w old → Works old daemon place fails told new → MovesBy w (move_of w.seat (Work daemon place fails) told) old told new
 works-moved w old daemon place fails told new m t =
-    let h = hand-seated old daemon t.server (λ (s : ServerState). s.hand) place t.task m.others_idle (λ s idle. idle.hand) t.serves t.at in
+    let h = hand-seated old daemon t.server (λ (s : ServerState). s.hand) place t.task m.others_idle (λ s idle. idle.hand) (ap (option_and_then (λ (d : DaemonState). d.server)) t.there ∙ t.serves) t.at in
     subst (λ (x : Happened). MovesBy w (move_of w.seat (Work daemon place fails) x) old x new) (sym t.tells)
     (subst (λ (s : State). MovesBy w (move_of w.seat (Work daemon place fails) (told_worked (t.server).served t.task t.answer)) old (told_worked (t.server).served t.task t.answer) s)
-    (ap (λ (d : DaemonId). with_daemon old d (Serving (with_worked t.server place t.task t.answer t.later))) h.1 ∙ sym t.makes)
-    (by_answer w old daemon place fails h.0 t.server t.task t.answer t.later m h.2 (at-is (t.server).hand place t.task t.at) t.replay))
+    (ap (λ (d : DaemonId). with_daemon old d (with_server t.was (with_worked t.server place t.task t.answer t.later))) h.1 ∙ sym t.makes)
+    (by_answer w old daemon place fails h.0 t.was t.server t.task t.answer t.later m h.2 (ap (daemon_of old) h.1 ∙ t.there) (at-is (t.server).hand place t.task t.at) t.replay))

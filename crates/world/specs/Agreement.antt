@@ -18,12 +18,17 @@ use Rattle.inode_map.specs.InodeMap.{IsFileOf, count_of}
 use Rattle.fuse_ops.specs.Served.{ServedState}
 use Rattle.fuse_ops.specs.Soundness.{IsSound}
 use Rattle.inode_map.specs.declared.inode_map.Forgot.TheVariants.{Bad, Root}
-use Rattle.world.specs.Server.{ServerState, is_single}
-use Rattle.world.specs.State.{State, IsSeated, server_of}
+use Rattle.handover.specs.Handover.{IsHandedOver}
+use Rattle.takeover_core.specs.Phases.{claim_wanted}
+use Rattle.takeover_core.specs.declared.message.Message.TheVariants.{Data}
+use Rattle.world.specs.Handing.{IsHanding}
+use Rattle.world.specs.Daemon.{DaemonState}
+use Rattle.world.specs.Server.{ServerState, IsIdle, at_place, is_single}
+use Rattle.world.specs.State.{State, IsSeated, daemon_of, server_of}
 use Rattle.world.specs.Step.{Steps, parts_of}
-use Rattle.world.specs.World.{World, Move, issue, issue_item, work, work_item, accept, deliver, mount, end as mount_end, first_world, file_named, times, owed, is_asked, is_replied, IsRun, after_all}
+use Rattle.world.specs.World.{World, Move, issue, issue_item, work, work_item, accept, deliver, mount, claim, end as mount_end, first_world, file_named, times, owed, is_asked, is_replied, IsRun, after_all}
 use Rattle.world.specs.declared.event.Event.{Event}
-use Rattle.world.specs.declared.event.Event.TheVariants.{Mount, Issue, Work, Post, Deliver, Crash}
+use Rattle.world.specs.declared.event.Event.TheVariants.{Mount, Issue, Work, Post, Deliver, Claim, Crash}
 use Rattle.world.specs.declared.outcome.Happened.{Happened}
 use Rattle.world.specs.declared.outcome.Happened.TheVariants as happened
 
@@ -34,7 +39,7 @@ abbrev pub holds : Option Seat → DaemonId → Bool
 holds seat daemon = option_map_or (λ (seat : Seat). seat.daemon.0 == daemon.0) seat false
 
 -- The moves that an event made, by who had the seat and what is told of the event. A take only hands on what is under
--- way, the end of a daemon without the seat changes nothing for the kernel, and what was refused made none.
+-- way, messages and the end of a daemon without the seat change nothing for the kernel, and what was refused made none.
 abbrev pub move_of : Option Seat → Event → Happened → List Move
 move_of seat (Mount daemon) (happened.Mounted generation) = mount daemon ∷ []
 move_of seat (Issue request) (happened.Asked (Some unique)) = issue (record { unique = unique; what = request }) ∷ []
@@ -43,6 +48,8 @@ move_of seat (Work daemon place fails) (happened.Made reply) = work reply.unique
 move_of seat (Work daemon place fails) (happened.Forgot item forgot) = work_item item ∷ []
 move_of seat (Post daemon place) (happened.Posted unique) = accept unique daemon ∷ []
 move_of seat Deliver (happened.Answered reply) = deliver reply.unique ∷ []
+move_of seat (Claim daemon) (happened.Claimed next) =
+    option_map_or (λ (now : Seat). claim now.generation daemon ∷ []) seat []
 move_of seat (Crash daemon) happened.Crashed = if holds seat daemon then mount_end ∷ [] else []
 move_of seat event told = []
 
@@ -100,11 +107,6 @@ pub record IsQuiet (world : World) : Type 0 where
 -- nothing is under way where nobody has the seat
 abbrev pub QuietWithoutSeat : World → BrokerState → Type 0
 QuietWithoutSeat world broker = broker.seat ≡ None → IsQuiet world × (broker.traffic ≡ no_traffic)
-
--- a daemon has nothing in hand, and everything posted
-pub record IsIdle (server : ServerState) : Type 0 where
-  pub hand : server.hand ≡ []
-  pub unposted : server.unposted ≡ []
 
 -- the daemon has the seat
 abbrev pub IsHolder : State → DaemonId → Type 0
@@ -169,6 +171,22 @@ pub record NamesAreFirst (world : World) (served : ServedState) : Type 0 where
 abbrev pub NumbersNameTheirFirstFile : World → State → Type 0
 NumbersNameTheirFirstFile world state =
     (seat : Seat) (server : ServerState) → IsSeated state seat server → NamesAreFirst world server.served
+
+-- what is served knows what the world has
+abbrev pub KnowsWorld : World → ServedState → Type 0
+KnowsWorld world served = Knows world.tree world.names (owed world) served
+
+-- data of the seat's generation is the image of what knows the world as it is now, though the kernel went on issuing and
+-- receiving; and so does what is served by each daemon that may claim the seat. No data is of a generation to come.
+pub record DataIsCurrent (world : World) (state : State) : Type 0 where
+  pub past : (place session generation : ℕ) (bytes : List ℕ) →
+      at_place state.messages place ≡ Some (Data session generation bytes) → generation ≤ state.broker.last
+  pub handed : (seat : Seat) (place session : ℕ) (bytes : List ℕ) → state.broker.seat ≡ Some seat →
+      at_place state.messages place ≡ Some (Data session seat.generation bytes) →
+      (served : ServedState) × (version : ℕ) × IsHandedOver served seat.generation version bytes × KnowsWorld world served
+  pub held : (seat : Seat) (daemon : DaemonId) (was : DaemonState) → state.broker.seat ≡ Some seat →
+      daemon_of state daemon ≡ Some was → claim_wanted was.node.phase ≡ Some seat.generation →
+      (server : ServerState) × (was.server ≡ Some server) × KnowsWorld world server.served
 
 -- all replies that were accepted at one generation came from one daemon
 abbrev pub OneDaemonForEachGeneration : World → Type 0
@@ -238,8 +256,8 @@ pub record IsOrderly (world : World) (next_unique : ℕ) : Type 0 where
       count_by (is_asked unique) world.asks + count_by (is_replied unique) world.replies ≡ 0
   pub good : count_by is_bad world.items ≡ 0
 
--- the state matches the world
-pub record Matches (world : World) (state : State) : Type 0 where
+-- the state is as the world has it
+pub record Follows (world : World) (state : State) : Type 0 where
   pub manifest : world.manifest ≡ state.manifest
   pub is_tree : IsTree (tree_of state.manifest)
   pub tree_is_tree : IsTree world.tree
@@ -251,6 +269,11 @@ pub record Matches (world : World) (state : State) : Type 0 where
   pub answered : AnsweredBefore world
   pub knows : HolderKnows world state
   pub others_idle : OthersAreIdle state
+
+-- the state matches the world, and whoever may take the seat over knows what its holder knows
+pub record Matches (world : World) (state : State) : Type 0 where
+  pub follows : Follows world state
+  pub handing : IsHanding state
 
 -- the events' moves are a run from before anything happened, and the world after it agrees with the state at the end
 pub record IsRunOfMoves (manifest : Manifest) (events : List Event) (outcomes : List (List Happened))

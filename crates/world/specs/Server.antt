@@ -1,5 +1,5 @@
 -- A daemon that mounted: what it serves, and what it has in hand. (This project's own.)
-use Rattle.std.specs.Prelude.{ℕ, ◌-◌, ◌==◌, Bool, List, [], ◌∷◌, ◌++◌, length, map, remove, slice_get, Option, Some, None, is_some, ◌||◌, if◌then◌else◌}
+use Rattle.std.specs.Prelude.{◌≡◌, ℕ, ◌-◌, ◌==◌, Bool, List, [], ◌∷◌, ◌++◌, length, map, remove, slice_get, Option, Some, None, is_some, ◌||◌, if◌then◌else◌}
 use Rattle.manifest.specs.Manifest.{Manifest}
 use Rattle.fuse_wire.specs.Request.{is_ask, item_of, items_of}
 use Rattle.fuse_wire.specs.declared.request.Ask.{Ask}
@@ -21,6 +21,11 @@ pub record ServerState : Type 0 where
   pub served : ServedState
   pub hand : List Ask
   pub unposted : List Reply
+
+-- a daemon has nothing in hand, and everything posted
+pub record IsIdle (server : ServerState) : Type 0 where
+  pub hand : server.hand ≡ []
+  pub unposted : server.unposted ≡ []
 
 -- it mounted, and has nothing in hand
 abbrev pub new_server : Manifest → ℕ → ℕ → ServerState

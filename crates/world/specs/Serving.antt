@@ -12,9 +12,9 @@ use Rattle.fuse_wire.specs.declared.reply.Answer.TheVariants.{Error}
 use Rattle.fuse_wire.specs.declared.reply.Reply.{Reply}
 use Rattle.fuse_ops.specs.Served.{ServedState, Replay}
 use Rattle.world.specs.Server.{ServerState, at_place, told_taken, with_taken, told_worked, with_worked, with_posted}
+use Rattle.takeover_core.specs.Phases.{may_take}
+use Rattle.world.specs.Daemon.{DaemonState, with_server}
 use Rattle.world.specs.State.{refusal_of_take, refusal_of_post}
-use Rattle.world.specs.declared.daemon.Daemon.{Daemon}
-use Rattle.world.specs.declared.daemon.Daemon.TheVariants.{Waiting, Serving, Gone}
 use Rattle.world.specs.declared.outcome.Happened.{Happened}
 use Rattle.world.specs.declared.outcome.Happened.TheVariants.{Refused, Posted}
 use Rattle.world.specs.declared.outcome.Refusal.{Refusal}
@@ -33,17 +33,13 @@ abbrev pub HasNone : ℕ → ℕ → Type 0
 HasNone count place = (place ≡ 0) ⊎ (count ≤ place - 1)
 
 -- the daemon at an index is changed so
-pub record ChangesAt (does : Daemon → Daemon → Type 0) (old : List Daemon) (index : ℕ) (new : List Daemon) : Type 0 where
-  pub was : Daemon
-  pub later : Daemon
+pub record ChangesAt (does : DaemonState → DaemonState → Type 0) (old : List DaemonState) (index : ℕ)
+    (new : List DaemonState) : Type 0 where
+  pub was : DaemonState
+  pub later : DaemonState
   pub is_there : slice_get old index ≡ Some was
   pub does_so : does was later
   pub makes : new ≡ slice_set old index later
-
--- a daemon started and has not mounted
-abbrev pub is_waiting : Daemon → Bool
-is_waiting Waiting = true
-is_waiting daemon = false
 
 -- ---- calls of a serving daemon
 
@@ -112,25 +108,48 @@ PostsBy (Some reply) old broker daemon place told new left =
 
 -- ---- calls of a daemon
 
+-- what is served takes, where its daemon may take
+pub record TakesWith (broker : BrokerState) (daemon : DaemonId) (told : Happened) (left : BrokerState)
+    (server : ServerState) (old new : DaemonState) : Type 0 where
+  pub later : ServerState
+  pub takes : TakesBy (take_fault broker daemon server.generation) server broker told later left
+  pub makes : new ≡ with_server old later
+
+abbrev pub TakesIf : BrokerState → DaemonId → Happened → BrokerState → Bool → Option ServerState → DaemonState → DaemonState → Type 0
+TakesIf broker daemon told left true (Some server) old new = TakesWith broker daemon told left server old new
+TakesIf broker daemon told left may server old new = Stays old broker WrongPhase told new left
+
 -- a daemon takes
-abbrev pub DaemonTakes : BrokerState → DaemonId → Happened → BrokerState → Daemon → Daemon → Type 0
-DaemonTakes broker daemon told left (Serving old) (Serving new) =
-    TakesBy (take_fault broker daemon old.generation) old broker told new left
-DaemonTakes broker daemon told left Waiting new = Stays Waiting broker WrongPhase told new left
-DaemonTakes broker daemon told left Gone new = Stays Gone broker WrongPhase told new left
-DaemonTakes broker daemon told left old new = ⊥
+abbrev pub DaemonTakes : BrokerState → DaemonId → Happened → BrokerState → DaemonState → DaemonState → Type 0
+DaemonTakes broker daemon told left old new =
+    TakesIf broker daemon told left (may_take old.node.phase) old.server old new
+
+-- what is served works
+pub record WorksWith (place : ℕ) (fails : Bool) (told : Happened) (server : ServerState) (old new : DaemonState) : Type 0 where
+  pub later : ServerState
+  pub works : WorksBy (at_place server.hand place) server place fails told later
+  pub makes : new ≡ with_server old later
+
+abbrev pub WorksIf : ℕ → Bool → Happened → Option ServerState → DaemonState → DaemonState → Type 0
+WorksIf place fails told (Some server) old new = WorksWith place fails told server old new
+WorksIf place fails told None old new = Keeps old NoSuch told new
 
 -- a daemon works
-abbrev pub DaemonWorks : ℕ → Bool → Happened → Daemon → Daemon → Type 0
-DaemonWorks place fails told (Serving old) (Serving new) = WorksBy (at_place old.hand place) old place fails told new
-DaemonWorks place fails told Waiting new = Keeps Waiting NoSuch told new
-DaemonWorks place fails told Gone new = Keeps Gone NoSuch told new
-DaemonWorks place fails told old new = ⊥
+abbrev pub DaemonWorks : ℕ → Bool → Happened → DaemonState → DaemonState → Type 0
+DaemonWorks place fails told old new = WorksIf place fails told old.server old new
+
+-- what is served posts
+pub record PostsWith (broker : BrokerState) (daemon : DaemonId) (place : ℕ) (told : Happened) (left : BrokerState)
+    (server : ServerState) (old new : DaemonState) : Type 0 where
+  pub later : ServerState
+  pub posts : PostsBy (at_place server.unposted place) server broker daemon place told later left
+  pub makes : new ≡ with_server old later
+
+abbrev pub PostsIf : BrokerState → DaemonId → ℕ → Happened → BrokerState → Option ServerState → DaemonState → DaemonState → Type 0
+PostsIf broker daemon place told left (Some server) old new =
+    PostsWith broker daemon place told left server old new
+PostsIf broker daemon place told left None old new = Stays old broker NoSuch told new left
 
 -- a daemon posts
-abbrev pub DaemonPosts : BrokerState → DaemonId → ℕ → Happened → BrokerState → Daemon → Daemon → Type 0
-DaemonPosts broker daemon place told left (Serving old) (Serving new) =
-    PostsBy (at_place old.unposted place) old broker daemon place told new left
-DaemonPosts broker daemon place told left Waiting new = Stays Waiting broker NoSuch told new left
-DaemonPosts broker daemon place told left Gone new = Stays Gone broker NoSuch told new left
-DaemonPosts broker daemon place told left old new = ⊥
+abbrev pub DaemonPosts : BrokerState → DaemonId → ℕ → Happened → BrokerState → DaemonState → DaemonState → Type 0
+DaemonPosts broker daemon place told left old new = PostsIf broker daemon place told left old.server old new

@@ -1,11 +1,13 @@
 -- All daemons and the kernel's side at one moment, and what stands against an event. (This project's own.)
-use Rattle.std.specs.Prelude.{◌≡◌, ℕ, ◌-◌, ◌==◌, nat_le, List, [], length, slice_get, slice_set, Option, Some, None, is_none, if◌then◌else◌}
+use Rattle.std.specs.Prelude.{◌≡◌, ℕ, ◌-◌, ◌==◌, Bool, true, nat_le, List, [], length, slice_get, slice_set, Option, Some, None, is_none, if◌then◌else◌}
 use Rattle.std.specs.Option.{option_map, option_and_then, option_map_or}
+use Rattle.eden_base.specs.declared.claim.ClaimFault.{ClaimFault}
+use Rattle.eden_base.specs.declared.claim.ClaimFault.TheVariants as claim
 use Rattle.eden_base.specs.declared.number.DaemonId.{DaemonId}
 use Rattle.manifest.specs.Manifest.{Manifest}
 use Rattle.fuse_wire.specs.declared.request.Ask.{Ask}
 use Rattle.fuse_wire.specs.declared.reply.Reply.{Reply}
-use Rattle.broker_core.specs.Broker.{BrokerState, new_broker, mount_fault, issue_fault, take_fault, post_fault}
+use Rattle.broker_core.specs.Broker.{BrokerState, new_broker, mount_fault, issue_fault, take_fault, post_fault, claim_fault}
 use Rattle.broker_core.specs.Traffic.{front}
 use Rattle.broker_core.specs.declared.broker.MountFault.{MountFault}
 use Rattle.broker_core.specs.declared.broker.MountFault.TheVariants as mount
@@ -17,46 +19,46 @@ use Rattle.broker_core.specs.declared.fault.PostFault.{PostFault}
 use Rattle.broker_core.specs.declared.fault.PostFault.TheVariants as post
 use Rattle.broker_core.specs.declared.seat.Seat.{Seat}
 use Rattle.fuse_ops.specs.Served.{ServedState}
+use Rattle.takeover_core.specs.Phases.{may_take, drain_fault, claim_wanted}
+use Rattle.takeover_core.specs.declared.message.Message.{Message}
+use Rattle.takeover_core.specs.declared.node.DrainFault.{DrainFault}
+use Rattle.takeover_core.specs.declared.node.DrainFault.TheVariants as drain
+use Rattle.world.specs.Daemon.{DaemonState, is_waiting, in_hand, unposted}
 use Rattle.world.specs.Server.{ServerState, at_place}
-use Rattle.world.specs.declared.daemon.Daemon.{Daemon}
-use Rattle.world.specs.declared.daemon.Daemon.TheVariants.{Waiting, Serving}
 use Rattle.world.specs.declared.event.Event.{Event}
-use Rattle.world.specs.declared.event.Event.TheVariants.{Start, Mount, Issue, Take, Work, Post, Deliver, Crash}
+use Rattle.world.specs.declared.event.Event.TheVariants.{Start, Mount, Issue, Take, Work, Post, Deliver, Hear, Drained, GiveUp, Claim, Crash}
 use Rattle.world.specs.declared.outcome.Refusal.{Refusal}
 use Rattle.world.specs.declared.outcome.Refusal.TheVariants as refusal
 
--- the manifest that every daemon is handed, how many loaded files a daemon keeps, the kernel's side, and the daemons
--- in the order in which they started
+-- the manifest that every daemon is handed, how many loaded files a daemon keeps, the kernel's side, the daemons in the
+-- order in which they started, and every message that a daemon said
 pub record State : Type 0 where
   pub manifest : Manifest
   pub limit : ℕ
   pub broker : BrokerState
-  pub daemons : List Daemon
+  pub daemons : List DaemonState
+  pub messages : List Message
 
 -- before anything happened
 abbrev pub started : Manifest → ℕ → State
-started manifest limit = record { manifest = manifest; limit = limit; broker = new_broker; daemons = [] }
+started manifest limit =
+    record { manifest = manifest; limit = limit; broker = new_broker; daemons = []; messages = [] }
 
 -- how many daemons a world starts at most
 abbrev pub most_daemons : ℕ
 most_daemons = 1024
 
 -- the daemon of a number, of which the first is 1
-abbrev pub daemon_of : State → DaemonId → Option Daemon
+abbrev pub daemon_of : State → DaemonId → Option DaemonState
 daemon_of state daemon = if daemon.0 == 0 then None else slice_get state.daemons (daemon.0 - 1)
 
 -- the state with this daemon changed
-abbrev pub with_daemon : State → DaemonId → Daemon → State
+abbrev pub with_daemon : State → DaemonId → DaemonState → State
 with_daemon state daemon now = record state { daemons = slice_set state.daemons (daemon.0 - 1) now }
-
--- what a daemon serves and has in hand, by its phase
-abbrev pub server_in : Daemon → Option ServerState
-server_in (Serving server) = Some server
-server_in daemon = None
 
 -- what a daemon serves and has in hand, if there is such a daemon and it serves
 abbrev pub server_of : State → DaemonId → Option ServerState
-server_of state daemon = option_and_then server_in (daemon_of state daemon)
+server_of state daemon = option_and_then (λ (of : DaemonState). of.server) (daemon_of state daemon)
 
 -- what a daemon serves, if there is such a daemon and it does
 abbrev pub served_of : State → DaemonId → Option ServedState
@@ -102,25 +104,37 @@ refusal_of_post post.Ended = refusal.Ended
 refusal_of_post (post.Stale now) = refusal.Stale now
 refusal_of_post post.NotAsked = refusal.NotAsked
 
--- a daemon that does not wait cannot mount, whoever has the seat
-abbrev pub mount_refusal : State → Option Daemon → Option Refusal
-mount_refusal state None = Some refusal.NoDaemon
-mount_refusal state (Some Waiting) = option_map refusal_of_mount (mount_fault state.broker)
-mount_refusal state (Some daemon) = Some refusal.WrongPhase
+-- those of a daemon that is not drained
+abbrev pub refusal_of_drain : DrainFault → Refusal
+refusal_of_drain drain.WrongPhase = refusal.WrongPhase
+refusal_of_drain (drain.Undrained in_hand unposted) = refusal.Undrained in_hand unposted
 
--- a daemon takes what waits at its generation
-abbrev pub take_refusal : State → DaemonId → Option Daemon → Option Refusal
-take_refusal state daemon None = Some refusal.NoDaemon
-take_refusal state daemon (Some (Serving server)) =
+-- a daemon that does not wait cannot mount, whoever has the seat
+abbrev pub mount_refusal : State → Option DaemonState → Option Refusal
+mount_refusal state None = Some refusal.NoDaemon
+mount_refusal state (Some of) =
+    if is_waiting of then option_map refusal_of_mount (mount_fault state.broker) else Some refusal.WrongPhase
+
+-- what is served takes what waits at its generation, where its daemon may take
+abbrev pub server_refusal : State → DaemonId → Bool → Option ServerState → Option Refusal
+server_refusal state daemon true (Some server) =
     option_map refusal_of_take (take_fault state.broker daemon server.generation)
-take_refusal state daemon (Some other) = Some refusal.WrongPhase
+server_refusal state daemon may server = Some refusal.WrongPhase
+
+-- a daemon takes while it serves or drains
+abbrev pub take_refusal : State → DaemonId → Option DaemonState → Option Refusal
+take_refusal state daemon None = Some refusal.NoDaemon
+take_refusal state daemon (Some of) = server_refusal state daemon (may_take of.node.phase) of.server
+
+-- a request is worked that is in hand
+abbrev pub hand_refusal : ℕ → Option ServerState → Option Refusal
+hand_refusal place None = Some refusal.NoSuch
+hand_refusal place (Some server) = if is_none (at_place server.hand place) then Some refusal.NoSuch else None
 
 -- a daemon works what it has in hand, and one that does not serve has nothing
-abbrev pub work_refusal : ℕ → Option Daemon → Option Refusal
+abbrev pub work_refusal : ℕ → Option DaemonState → Option Refusal
 work_refusal place None = Some refusal.NoDaemon
-work_refusal place (Some (Serving server)) =
-    if is_none (at_place server.hand place) then Some refusal.NoSuch else None
-work_refusal place (Some other) = Some refusal.NoSuch
+work_refusal place (Some of) = hand_refusal place of.server
 
 -- a reply is posted at the generation of its daemon
 abbrev pub reply_refusal : State → DaemonId → ServerState → Option Reply → Option Refusal
@@ -128,12 +142,49 @@ reply_refusal state daemon server None = Some refusal.NoSuch
 reply_refusal state daemon server (Some reply) =
     option_map refusal_of_post (post_fault state.broker daemon server.generation reply)
 
--- a daemon posts what it answered, and one that does not serve has nothing to post
-abbrev pub post_refusal : State → DaemonId → ℕ → Option Daemon → Option Refusal
-post_refusal state daemon place None = Some refusal.NoDaemon
-post_refusal state daemon place (Some (Serving server)) =
+-- a reply is posted that was not
+abbrev pub unposted_refusal : State → DaemonId → ℕ → Option ServerState → Option Refusal
+unposted_refusal state daemon place None = Some refusal.NoSuch
+unposted_refusal state daemon place (Some server) =
     reply_refusal state daemon server (at_place server.unposted place)
-post_refusal state daemon place (Some other) = Some refusal.NoSuch
+
+-- a daemon posts what it answered, and one that does not serve has nothing to post
+abbrev pub post_refusal : State → DaemonId → ℕ → Option DaemonState → Option Refusal
+post_refusal state daemon place None = Some refusal.NoDaemon
+post_refusal state daemon place (Some of) = unposted_refusal state daemon place of.server
+
+-- a message is heard that was said
+abbrev pub hear_refusal : State → ℕ → Option DaemonState → Option Refusal
+hear_refusal state place None = Some refusal.NoDaemon
+hear_refusal state place (Some of) =
+    if is_none (at_place state.messages place) then Some refusal.NoSuch else None
+
+-- a daemon is ready that drains and has nothing left
+abbrev pub drained_refusal : Option DaemonState → Option Refusal
+drained_refusal None = Some refusal.NoDaemon
+drained_refusal (Some of) = option_map refusal_of_drain (drain_fault of.node.phase (in_hand of) (unposted of))
+
+-- those of a claim
+abbrev pub refusal_of_claim : ClaimFault → Refusal
+refusal_of_claim claim.Ended = refusal.Ended
+refusal_of_claim (claim.Stale now) = refusal.Stale now
+refusal_of_claim (claim.Unanswered asks) = refusal.Unanswered asks
+refusal_of_claim claim.LastGeneration = refusal.LastGeneration
+
+-- the seat is claimed from the generation that is wanted
+abbrev pub wanted_refusal : State → Option ℕ → Option Refusal
+wanted_refusal state None = Some refusal.WrongPhase
+wanted_refusal state (Some generation) = option_map refusal_of_claim (claim_fault state.broker generation)
+
+-- by a daemon that wants it
+abbrev pub claim_refusal : State → Option DaemonState → Option Refusal
+claim_refusal state None = Some refusal.NoDaemon
+claim_refusal state (Some of) = wanted_refusal state (claim_wanted of.node.phase)
+
+-- there has to be a daemon
+abbrev pub absence : Option DaemonState → Option Refusal
+absence None = Some refusal.NoDaemon
+absence (Some of) = None
 
 -- Why an event is refused, if it is, out of memory apart: the first cause that holds. Nothing stands against a look,
 -- and a `do` is refused where one of its events is.
@@ -145,5 +196,9 @@ fault state (Take daemon) = take_refusal state daemon (daemon_of state daemon)
 fault state (Work daemon place fails) = work_refusal place (daemon_of state daemon)
 fault state (Post daemon place) = post_refusal state daemon place (daemon_of state daemon)
 fault state Deliver = if is_none (front state.broker.traffic.posted) then Some refusal.Empty else None
-fault state (Crash daemon) = if is_none (daemon_of state daemon) then Some refusal.NoDaemon else None
+fault state (Hear daemon place) = hear_refusal state place (daemon_of state daemon)
+fault state (Drained daemon) = drained_refusal (daemon_of state daemon)
+fault state (GiveUp daemon) = absence (daemon_of state daemon)
+fault state (Claim daemon) = claim_refusal state (daemon_of state daemon)
+fault state (Crash daemon) = absence (daemon_of state daemon)
 fault state event = None

@@ -1,9 +1,11 @@
 -- One event: it is refused for the first cause that holds, or made; a `do` as the list of its events, until one is
 -- refused; and a list of events.
-use Rattle.std.specs.Prelude.{◌≡◌, ◌≢◌, ℕ, ◌+◌, ◌⊎◌, Bool, true, false, List, [], ◌∷◌, ◌++◌, length, Option, Some, None, if◌then◌else◌}
+use Rattle.std.specs.Prelude.{◌≡◌, ◌≢◌, ℕ, ◌+◌, ◌⊎◌, Bool, true, false, List, [], ◌∷◌, ◌++◌, length, Option, Some, None, Result, Ok, Err, if◌then◌else◌}
+use Rattle.std.specs.Option.{option_map_or}
+use Rattle.eden_base.specs.declared.claim.ClaimFault.{ClaimFault}
 use Rattle.eden_base.specs.declared.errno.Errno.TheVariants.{EIO}
 use Rattle.eden_base.specs.declared.number.DaemonId.{DaemonId}
-use Rattle.broker_core.specs.Broker.{mounted, issued, unique_of, taken, posted, delivered, without_daemon}
+use Rattle.broker_core.specs.Broker.{mounted, issued, unique_of, taken, posted, delivered, claim_fault, claimed, without_daemon}
 use Rattle.broker_core.specs.Traffic.{front, next_taken}
 use Rattle.broker_core.specs.declared.seat.Seat.{Seat}
 use Rattle.fuse_wire.specs.Request.{is_ask}
@@ -14,10 +16,16 @@ use Rattle.fuse_wire.specs.declared.reply.Answer.TheVariants.{Error}
 use Rattle.fuse_wire.specs.declared.reply.Reply.{Reply}
 use Rattle.fuse_ops.specs.Served.{ServedState, Replay}
 use Rattle.world.specs.Server.{ServerState, new_server, at_place, told_taken, with_taken, told_worked, with_worked, with_posted}
+use Rattle.takeover_core.specs.Phases.{claim_wanted}
+use Rattle.takeover_core.specs.declared.message.Message.{Message}
+use Rattle.takeover_core.specs.declared.message.Message.TheVariants.{Offer}
+use Rattle.world.specs.Daemon.{DaemonState, versions, new_daemon, with_server}
 use Rattle.world.specs.State.{State, daemon_of, with_daemon, fault}
-use Rattle.world.specs.declared.daemon.Daemon.TheVariants.{Waiting, Serving, Gone}
+use Rattle.world.specs.Talking.{HearsSo, IsReady, GivesUpSo, MountsSo, EndsSo, ClaimsSo, after_claim}
+use Rattle.world.specs.declared.daemon.Reaction.{Reaction}
+use Rattle.world.specs.declared.daemon.Reaction.TheVariants.{Ignores, Heeds, Says}
 use Rattle.world.specs.declared.event.Event.{Event}
-use Rattle.world.specs.declared.event.Event.TheVariants.{Start, Mount, Issue, Take, Work, Post, Deliver, Crash, Do, Show}
+use Rattle.world.specs.declared.event.Event.TheVariants.{Start, Mount, Issue, Take, Work, Post, Deliver, Hear, Drained, GiveUp, Claim, Crash, Do, Show}
 use Rattle.world.specs.declared.outcome.Happened.{Happened}
 use Rattle.world.specs.declared.outcome.Happened.TheVariants as happened
 use Rattle.world.specs.declared.outcome.Refusal.{Refusal}
@@ -25,22 +33,44 @@ use Rattle.world.specs.declared.outcome.Refusal.TheVariants.{NoMemory}
 
 -- ---- one event that is no `do`
 
--- the event is refused, and nothing changes
-abbrev pub Refuses : State → Refusal → Happened → State → Type 0
-Refuses old refusal told new = (told ≡ happened.Refused refusal) × (new ≡ old)
+-- a daemon after its claim was refused, by the generation that it wanted
+abbrev pub unclaimed : State → DaemonState → Option ℕ → DaemonState
+unclaimed old was None = was
+unclaimed old was (Some generation) =
+    option_map_or (λ (fault : ClaimFault). after_claim was (Err fault)) (claim_fault old.broker generation) was
 
--- a new daemon waits behind the others
+-- A refusal changes nothing, but that a daemon whose claim is refused may have no other chance, and is gone then.
+abbrev pub after_refusal : State → Event → State
+after_refusal old (Claim daemon) =
+    option_map_or (λ (was : DaemonState). with_daemon old daemon (unclaimed old was (claim_wanted was.node.phase)))
+    (daemon_of old daemon) old
+after_refusal old event = old
+
+-- the event is refused
+abbrev pub Refuses : State → Event → Refusal → Happened → State → Type 0
+Refuses old event refusal told new = (told ≡ happened.Refused refusal) × (new ≡ after_refusal old event)
+
+-- memory ran out, and nothing changes
+abbrev pub Lacks : State → Happened → State → Type 0
+Lacks old told new = (told ≡ happened.Refused NoMemory) × (new ≡ old)
+
+-- a new daemon waits behind the others, and its offer was said
 abbrev pub Starts : State → Happened → State → Type 0
 Starts old told new =
     (told ≡ happened.Started (record { 0 = length old.daemons + 1 }))
-    × (new ≡ record old { daemons = old.daemons ++ Waiting ∷ [] })
+    × (new ≡ record old {
+      daemons = old.daemons ++ new_daemon ∷ [];
+      messages = old.messages ++ Offer versions ∷ [];
+    })
 
 -- a daemon has the seat, and serves the manifest's tree
-abbrev pub Mounts : State → DaemonId → Happened → State → Type 0
-Mounts old daemon told new =
-    (told ≡ happened.Mounted (old.broker.last + 1))
-    × (new ≡ with_daemon (record old { broker = mounted old.broker daemon })
-    daemon (Serving (new_server old.manifest old.limit (old.broker.last + 1))))
+pub record Mounts (old : State) (daemon : DaemonId) (told : Happened) (new : State) : Type 0 where
+  pub was : DaemonState
+  pub later : DaemonState
+  pub there : daemon_of old daemon ≡ Some was
+  pub does : MountsSo (old.broker.last + 1) (new_server old.manifest old.limit (old.broker.last + 1)) was later
+  pub tells : told ≡ happened.Mounted (old.broker.last + 1)
+  pub makes : new ≡ with_daemon (record old { broker = mounted old.broker daemon }) daemon later
 
 -- the kernel asks or forgets
 abbrev pub Issues : State → Request → Happened → State → Type 0
@@ -49,35 +79,43 @@ Issues old request told new =
 
 -- what waits first joins the end of a daemon's hand
 pub record Takes (old : State) (daemon : DaemonId) (told : Happened) (new : State) : Type 0 where
+  pub was : DaemonState
   pub server : ServerState
   pub ask : Ask
-  pub serves : daemon_of old daemon ≡ Some (Serving server)
+  pub there : daemon_of old daemon ≡ Some was
+  pub serves : was.server ≡ Some server
   pub first : next_taken old.broker.traffic ≡ Some ask
   pub tells : told ≡ told_taken ask
-  pub makes : new ≡ with_daemon (record old { broker = taken old.broker }) daemon (Serving (with_taken server ask))
+  pub makes : new ≡ with_daemon (record old { broker = taken old.broker }) daemon
+      (with_server was (with_taken server ask))
 
 -- A daemon answers the ask, or applies the item, at a place of its hand. An error of its backing comes only where the
 -- event says that it fails.
 pub record Works (old : State) (daemon : DaemonId) (place : ℕ) (fails : Bool) (told : Happened) (new : State) : Type 0 where
+  pub was : DaemonState
   pub server : ServerState
   pub task : Ask
   pub later : ServedState
   pub answer : Option Answer
-  pub serves : daemon_of old daemon ≡ Some (Serving server)
+  pub there : daemon_of old daemon ≡ Some was
+  pub serves : was.server ≡ Some server
   pub at : at_place server.hand place ≡ Some task
   pub replay : Replay server.served task.what answer later
   pub fails_so : fails ≡ false → answer ≢ Some (Error EIO)
   pub tells : told ≡ told_worked server.served task answer
-  pub makes : new ≡ with_daemon old daemon (Serving (with_worked server place task answer later))
+  pub makes : new ≡ with_daemon old daemon (with_server was (with_worked server place task answer later))
 
 -- the reply at a place of a daemon's replies waits for the kernel
 pub record Posts (old : State) (daemon : DaemonId) (place : ℕ) (told : Happened) (new : State) : Type 0 where
+  pub was : DaemonState
   pub server : ServerState
   pub reply : Reply
-  pub serves : daemon_of old daemon ≡ Some (Serving server)
+  pub there : daemon_of old daemon ≡ Some was
+  pub serves : was.server ≡ Some server
   pub at : at_place server.unposted place ≡ Some reply
   pub tells : told ≡ happened.Posted reply.unique
-  pub makes : new ≡ with_daemon (record old { broker = posted old.broker reply }) daemon (Serving (with_posted server place))
+  pub makes : new ≡ with_daemon (record old { broker = posted old.broker reply }) daemon
+      (with_server was (with_posted server place))
 
 -- the first posted reply reaches the kernel
 pub record Delivers (old : State) (told : Happened) (new : State) : Type 0 where
@@ -86,11 +124,53 @@ pub record Delivers (old : State) (told : Happened) (new : State) : Type 0 where
   pub tells : told ≡ happened.Answered reply
   pub makes : new ≡ record old { broker = delivered old.broker }
 
+-- what is told of what a daemon made of a message: what it says is told by its place, behind so many
+abbrev pub told_reaction : ℕ → Reaction → Happened
+told_reaction count Ignores = happened.Ignored
+told_reaction count Heeds = happened.Heard
+told_reaction count (Says said) = happened.Said (count + 1)
+
+-- what it says
+abbrev pub what_is_said : Reaction → List Message
+what_is_said (Says said) = said ∷ []
+what_is_said reaction = []
+
+-- a daemon turned to something, and what it says is said
+pub record Reacts (old : State) (daemon : DaemonId) (turns : DaemonState → Reaction → DaemonState → Type 0)
+    (told : Happened) (new : State) : Type 0 where
+  pub was : DaemonState
+  pub reaction : Reaction
+  pub later : DaemonState
+  pub there : daemon_of old daemon ≡ Some was
+  pub does : turns was reaction later
+  pub tells : told ≡ told_reaction (length old.messages) reaction
+  pub makes : new ≡ with_daemon (record old { messages = old.messages ++ what_is_said reaction }) daemon later
+
+-- a daemon heard what was said at a place
+pub record Hears (old : State) (daemon : DaemonId) (place : ℕ) (told : Happened) (new : State) : Type 0 where
+  pub said : Message
+  pub at : at_place old.messages place ≡ Some said
+  pub reacts : Reacts old daemon (λ was. HearsSo old.manifest old.limit was said) told new
+
+-- a daemon has the seat from here on, one generation later
+pub record Claims (old : State) (daemon : DaemonId) (told : Happened) (new : State) : Type 0 where
+  pub was : DaemonState
+  pub generation : ℕ
+  pub later : DaemonState
+  pub there : daemon_of old daemon ≡ Some was
+  pub wants : claim_wanted was.node.phase ≡ Some generation
+  pub does : ClaimsSo (Ok (generation + 1)) was later
+  pub tells : told ≡ happened.Claimed (generation + 1)
+  pub makes : new ≡ with_daemon (record old { broker = claimed old.broker daemon generation }) daemon later
+
 -- a daemon is gone with all that it had, and the mount is over where it had the seat
-abbrev pub Crashes : State → DaemonId → Happened → State → Type 0
-Crashes old daemon told new =
-    (told ≡ happened.Crashed)
-    × (new ≡ with_daemon (record old { broker = without_daemon old.broker daemon }) daemon Gone)
+pub record Crashes (old : State) (daemon : DaemonId) (told : Happened) (new : State) : Type 0 where
+  pub was : DaemonState
+  pub later : DaemonState
+  pub there : daemon_of old daemon ≡ Some was
+  pub does : EndsSo was later
+  pub tells : told ≡ happened.Crashed
+  pub makes : new ≡ with_daemon (record old { broker = without_daemon old.broker daemon }) daemon later
 
 -- what an event that no cause stands against makes
 abbrev pub Makes : State → Event → Happened → State → Type 0
@@ -101,19 +181,24 @@ Makes old (Take daemon) told new = Takes old daemon told new
 Makes old (Work daemon place fails) told new = Works old daemon place fails told new
 Makes old (Post daemon place) told new = Posts old daemon place told new
 Makes old Deliver told new = Delivers old told new
+Makes old (Hear daemon place) told new = Hears old daemon place told new
+Makes old (Drained daemon) told new = Reacts old daemon IsReady told new
+Makes old (GiveUp daemon) told new = Reacts old daemon GivesUpSo told new
+Makes old (Claim daemon) told new = Claims old daemon told new
 Makes old (Crash daemon) told new = Crashes old daemon told new
 Makes old event told new = ⊥
 
--- a post and a crash take no memory
+-- a post, a claim and a crash take no memory
 abbrev pub TakesMemory : Event → Type 0
+TakesMemory (Claim daemon) = ⊥
 TakesMemory (Post daemon place) = ⊥
 TakesMemory (Crash daemon) = ⊥
 TakesMemory event = Unit {0}
 
 -- by the first cause against it, if there is one; else it is made, or memory was wanting
 abbrev pub OnceBy : State → Event → Option Refusal → Happened → State → Type 0
-OnceBy old event (Some refusal) told new = Refuses old refusal told new
-OnceBy old event None told new = Makes old event told new ⊎ (TakesMemory event × Refuses old NoMemory told new)
+OnceBy old event (Some refusal) told new = Refuses old event refusal told new
+OnceBy old event None told new = Makes old event told new ⊎ (TakesMemory event × Lacks old told new)
 
 -- one event that is no `do` and no look, with what is told of it
 abbrev pub Once : State → Event → Happened → State → Type 0

@@ -26,6 +26,17 @@ pub enum Event {
     },
     /// The reply that was posted first reaches the kernel.
     Deliver,
+    /// The daemon hears the message at a place of all that were said, however often and whoever else heard it.
+    Hear {
+        daemon: DaemonId,
+        place: u64,
+    },
+    /// The daemon says that it is ready to hand over, where it has nothing in hand and nothing unposted.
+    Drained(DaemonId),
+    /// The daemon gives its takeover up, as where the connection to the other daemon has closed.
+    GiveUp(DaemonId),
+    /// The daemon claims the seat from the generation whose data it holds.
+    Claim(DaemonId),
     /// The daemon ends, and all that it had with it; the mount ends where the daemon has the seat.
     Crash(DaemonId),
     /// The request is issued; what waits first is taken, and the first of the hand worked, by the daemon that serves;

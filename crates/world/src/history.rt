@@ -3,7 +3,7 @@ ghost use Rattle.std.specs.Prelude.{IfOk};
 ghost use Rattle.world.specs.State.{started};
 ghost use Rattle.std.specs.List.{AllByRecursion};
 ghost use Rattle.world.specs.Step.{Steps};
-ghost use Rattle.world.specs.Agreement.{world_after, IsRunOfMoves, CountsAreOwed, NumbersNameTheirFirstFile, OneDaemonForEachGeneration, IsGoodForget, RepliesAreAnswered};
+ghost use Rattle.world.specs.Agreement.{world_after, IsRunOfMoves, CountsAreOwed, NumbersNameTheirFirstFile, OneDaemonForEachGeneration, DataIsCurrent, IsGoodForget, RepliesAreAnswered};
 
 use crate::event::Event;
 use crate::outcome::Outcome;
@@ -27,14 +27,17 @@ pub fn run(
     ensures events_are_a_run_of_moves { IfOk result (λ r.
         IsRunOfMoves manifest.now events.now r.1.items r.0) }
 
-    // The seated daemon's counts and numbers are the world's; each generation was answered by one daemon, and each
-    // reply was posted by a daemon that the world saw posting.
+    // The seated daemon's counts and numbers are the world's; each generation was answered by one daemon; data of the
+    // seat's generation, and whoever may claim it, knows the same; and each reply was posted by a daemon that the world
+    // saw posting.
     ensures counts_are_what_is_owed { IfOk result (λ r.
         CountsAreOwed (world_after manifest.now events.now r.1.items) r.0) }
     ensures numbers_name_their_first_file { IfOk result (λ r.
         NumbersNameTheirFirstFile (world_after manifest.now events.now r.1.items) r.0) }
     ensures one_daemon_for_each_generation { IfOk result (λ r.
         OneDaemonForEachGeneration (world_after manifest.now events.now r.1.items)) }
+    ensures handed_data_is_current { IfOk result (λ r.
+        DataIsCurrent (world_after manifest.now events.now r.1.items) r.0) }
     ensures replies_are_answered { IfOk result (λ r.
         RepliesAreAnswered (world_after manifest.now events.now r.1.items) (started manifest.now limit) events.now r.1.items r.0) }
     ensures no_bad_forget { IfOk result (λ r.

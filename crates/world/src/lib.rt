@@ -3,6 +3,7 @@
 
 mod backing;
 mod daemon;
+mod daemon_at;
 mod event;
 mod history;
 pub mod laws;

@@ -1,17 +1,18 @@
 //! What came of an event.
 ghost use Rattle.std.specs.Prelude.{◌≡◌, ◌<◌, ◌++◌, [], ◌∷◌, length};
 ghost use Rattle.world.specs.Words.{refusal_name};
-ghost use Rattle.world.specs.State.{refusal_of_mount, refusal_of_issue, refusal_of_take, refusal_of_post};
+ghost use Rattle.world.specs.State.{refusal_of_mount, refusal_of_issue, refusal_of_take, refusal_of_post, refusal_of_drain, refusal_of_claim};
 ghost use Rattle.world.specs.Step.{is_made};
 
 use arrayvec::ArrayVec;
 use broker_core::{IssueFault, MountFault, PostFault, TakeFault};
-use eden_base::DaemonId;
+use eden_base::{ClaimFault, DaemonId};
 use fuse_wire::{Item, Reply};
 use inode_map::Forgot;
 use std::marker::Model;
+use takeover_core::DrainFault;
 
-/// Why an event was refused. A refusal changes nothing.
+/// Why an event was refused. A refusal changes nothing, but that a daemon is gone whose claim cannot succeed any more.
 #[derive(Clone, Copy, PartialEq, Eq)]
 pub enum Refusal {
     NoDaemon,
@@ -29,6 +30,10 @@ pub enum Refusal {
     Stale(u64),
     Empty,
     NotAsked,
+    /// So many asks that were taken have no reply yet.
+    Unanswered(u64),
+    /// The daemon has so many requests in hand, and so many replies not posted.
+    Undrained { in_hand: usize, unposted: usize },
     NoMemory,
 }
 
@@ -51,6 +56,8 @@ impl Refusal {
             Refusal::Stale(_) => "Stale",
             Refusal::Empty => "Empty",
             Refusal::NotAsked => "NotAsked",
+            Refusal::Unanswered(_) => "Unanswered",
+            Refusal::Undrained { .. } => "Undrained",
             Refusal::NoMemory => "NoMemory",
         }
     }
@@ -76,6 +83,14 @@ pub enum Happened {
     Posted(u64),
     /// The reply reached the kernel.
     Answered(Reply),
+    /// The daemon said the message of this place.
+    Said(usize),
+    /// The daemon took the message in, or gave up, and said nothing.
+    Heard,
+    /// The message is not for the daemon's phase or session, or there was nothing to give up.
+    Ignored,
+    /// The daemon has the seat, at this generation.
+    Claimed(u64),
     /// The daemon is gone.
     Crashed,
     Refused(Refusal),
@@ -135,6 +150,30 @@ impl From<PostFault> for Refusal {
             PostFault::Ended => Refusal::Ended,
             PostFault::Stale(now) => Refusal::Stale(now),
             PostFault::NotAsked => Refusal::NotAsked,
+        }
+    }
+}
+
+impl From<ClaimFault> for Refusal {
+    ghost from_gives = { λ fault refusal. refusal ≡ refusal_of_claim fault };
+
+    fn from(fault: ClaimFault) -> Refusal {
+        match fault {
+            ClaimFault::Ended => Refusal::Ended,
+            ClaimFault::Stale { now } => Refusal::Stale(now),
+            ClaimFault::Unanswered { asks } => Refusal::Unanswered(asks),
+            ClaimFault::LastGeneration => Refusal::LastGeneration,
+        }
+    }
+}
+
+impl From<DrainFault> for Refusal {
+    ghost from_gives = { λ fault refusal. refusal ≡ refusal_of_drain fault };
+
+    fn from(fault: DrainFault) -> Refusal {
+        match fault {
+            DrainFault::WrongPhase => Refusal::WrongPhase,
+            DrainFault::Undrained { in_hand, unposted } => Refusal::Undrained { in_hand, unposted },
         }
     }
 }

@@ -4,6 +4,7 @@ ghost use Rattle.broker_core.specs.Broker.{take_fault};
 ghost use Rattle.fuse_ops.specs.Served.{new_served};
 ghost use Rattle.world.specs.Server.{at_place, handed, single, told_taken, told_item};
 ghost use Rattle.world.specs.Serving.{beginning, TakesBy, WorksBy, PostsBy};
+ghost use Rattle.world.specs.Talking.{at_generation};
 
 use crate::backing::apply;
 use crate::outcome::{Happened, Refusal};
@@ -63,6 +64,13 @@ impl Server {
             hand: Vec::new(alloc),
             unposted: Vec::new(alloc),
         }
+    }
+
+    /// Goes on at a generation, at which the daemon claimed the seat.
+    pub(crate) fn serve_at(&mut self, generation: u64)
+        ensures at { self.new ≡ at_generation generation self.old }
+    {
+        self.generation = generation;
     }
 
     /// Returns what the daemon serves.

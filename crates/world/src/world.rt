@@ -1,12 +1,16 @@
 //! All daemons and the kernel's side of their mount.
-ghost use Rattle.std.specs.Prelude.{◌≡◌, [], IfOk, IfSome};
+ghost use Rattle.std.specs.Prelude.{◌≡◌, ◌≤◌, ◌+◌, ◌++◌, [], IfOk, IfSome, vec_len, vec_capacity};
 ghost use Rattle.std.specs.Option.{option_copied};
 ghost use Rattle.world.specs.State.{started, server_of, served_of, hand_of, unposted_of};
-ghost use Rattle.world.specs.Step.{Once, Step};
+ghost use Rattle.world.specs.Step.{Once, Step, told_reaction, what_is_said};
 ghost use Rattle.world.specs.World.{first_world, World as Ideal};
 ghost use Rattle.world.specs.Agreement.{Matches, MovesOn};
 
-use crate::daemon::{Daemon, end_at, make_room_at, post_at, serve_at, take_at, work_at};
+use crate::daemon::{Daemon, Reaction};
+use crate::daemon_at::{
+    answer_at, crash_at, drain_at, give_up_at, hear_at, make_room_at, mount_at, post_at, take_at,
+    work_at,
+};
 use crate::event::Event;
 use crate::outcome::{Happened, Outcome, Refusal};
 use crate::place::index_of;
@@ -18,8 +22,10 @@ use fuse_wire::{Ask, Reply, Request};
 use manifest::Manifest;
 use std::alloc::Global;
 use std::marker::Model;
+use takeover_core::Message;
 
-/// The daemons of one mount, in the order in which they started, and the kernel.
+/// The daemons of one mount, in the order in which they started, the kernel, and all that a daemon said to another: a
+/// message stays, so that it can be heard by any daemon, any number of times or never.
 #[derive(Drop)]
 pub struct World {
     alloc: Global,
@@ -27,6 +33,7 @@ pub struct World {
     limit: usize,
     broker: Broker,
     daemons: Vec<Daemon>,
+    messages: Vec<Message>,
 }
 
 impl Model for World {
@@ -44,6 +51,7 @@ impl Model for World {
       limit = w.limit;
       broker = w.broker;
       daemons = w.daemons.items;
+      messages = w.messages.items;
     } };
 }
 
@@ -64,6 +72,7 @@ impl World {
             limit,
             broker,
             daemons: Vec::new(alloc),
+            messages: Vec::new(alloc),
         })
     }
 
@@ -99,6 +108,13 @@ impl World {
             Some(server) => server.unposted(),
             None => &[],
         }
+    }
+
+    /// Returns every message that a daemon said, in their order.
+    pub fn messages(&self) -> &[Message]
+        ensures messages { result.now ≡ self.now.messages }
+    {
+        self.messages.as_slice()
     }
 
     /// Lets one event happen, or refuses it for the first cause that holds. A refusal changes nothing.
@@ -143,25 +159,34 @@ impl World {
             } => outcome.tell(self.work(*daemon, *place, *fails)),
             Event::Post { daemon, place } => outcome.tell(self.post(*daemon, *place)),
             Event::Deliver => outcome.tell(self.deliver()),
+            Event::Hear { daemon, place } => outcome.tell(self.hear(*daemon, *place)),
+            Event::Drained(daemon) => outcome.tell(self.drained(*daemon)),
+            Event::GiveUp(daemon) => outcome.tell(self.give_up(*daemon)),
+            Event::Claim(daemon) => outcome.tell(self.claim(*daemon)),
             Event::Crash(daemon) => outcome.tell(self.crash(*daemon)),
             Event::Do(request) => self.carry_out(request, outcome),
             Event::Show => {}
         }
     }
 
-    /// Starts a daemon, unless there are as many as there may be.
+    /// Starts a daemon, unless there are as many as there may be, and says its offer.
     fn start(&mut self) -> Happened
         ensures once { Once self.old Event.Start result self.new }
     {
         if self.daemons.len() >= World::MOST_DAEMONS {
             return Happened::Refused(Refusal::Full);
         }
-        let daemon = DaemonId(self.daemons.len() as u64 + 1);
+        let number = DaemonId(self.daemons.len() as u64 + 1);
         if self.daemons.reserve(1).is_err() {
             return Happened::Refused(Refusal::NoMemory);
         }
-        self.daemons.push_reserved(Daemon::Waiting);
-        Happened::Started(daemon)
+        if self.messages.reserve(1).is_err() {
+            return Happened::Refused(Refusal::NoMemory);
+        }
+        let daemon = Daemon::new();
+        self.messages.push_reserved(daemon.offer());
+        self.daemons.push_reserved(daemon);
+        Happened::Started(number)
     }
 
     /// Gives a waiting daemon the seat. Its refusals are looked for before what it serves is made.
@@ -182,7 +207,7 @@ impl World {
         };
         let generation = self.broker.mount(daemon);
         let server = Server::new(self.alloc, generation, manifest, served);
-        serve_at(&mut self.daemons, index, server);
+        mount_at(&mut self.daemons, index, generation, server);
         Happened::Mounted(generation)
     }
 
@@ -237,6 +262,88 @@ impl World {
         }
     }
 
+    /// Lets a daemon hear what was said at a place. The room for what it says comes first.
+    fn hear(&mut self, daemon: DaemonId, place: u64) -> Happened
+        ensures once { Once self.old (Event.Hear daemon place) result self.new }
+    {
+        let Some(index) = index_of(daemon.0, self.daemons.len()) else {
+            return Happened::Refused(Refusal::NoDaemon);
+        };
+        let Some(at) = index_of(place, self.messages.len()) else {
+            return Happened::Refused(Refusal::NoSuch);
+        };
+        if self.messages.reserve(1).is_err() {
+            return Happened::Refused(Refusal::NoMemory);
+        }
+        let said = &self.messages[at];
+        let Ok(reaction) = hear_at(
+            &mut self.daemons,
+            index,
+            self.alloc,
+            &self.manifest,
+            self.limit,
+            said,
+        ) else {
+            return Happened::Refused(Refusal::NoMemory);
+        };
+        say(&mut self.messages, reaction)
+    }
+
+    /// Lets a daemon say that it is ready to hand over. What stands against it comes before out of memory.
+    fn drained(&mut self, daemon: DaemonId) -> Happened
+        ensures once { Once self.old (Event.Drained daemon) result self.new }
+    {
+        let Some(index) = index_of(daemon.0, self.daemons.len()) else {
+            return Happened::Refused(Refusal::NoDaemon);
+        };
+        if self.messages.reserve(1).is_err() {
+            return match self.daemons[index].drain_refusal() {
+                Some(fault) => Happened::Refused(Refusal::from(fault)),
+                None => Happened::Refused(Refusal::NoMemory),
+            };
+        }
+        match drain_at(&mut self.daemons, index) {
+            Ok(reaction) => say(&mut self.messages, reaction),
+            Err(fault) => Happened::Refused(Refusal::from(fault)),
+        }
+    }
+
+    /// Lets a daemon give its takeover up. The room for what it says comes first.
+    fn give_up(&mut self, daemon: DaemonId) -> Happened
+        ensures once { Once self.old (Event.GiveUp daemon) result self.new }
+    {
+        let Some(index) = index_of(daemon.0, self.daemons.len()) else {
+            return Happened::Refused(Refusal::NoDaemon);
+        };
+        if self.messages.reserve(1).is_err() {
+            return Happened::Refused(Refusal::NoMemory);
+        }
+        let reaction = give_up_at(&mut self.daemons, index);
+        say(&mut self.messages, reaction)
+    }
+
+    /// Lets a daemon claim the seat. One whose claim cannot succeed any more is gone. It takes no memory.
+    fn claim(&mut self, daemon: DaemonId) -> Happened
+        ensures once { Once self.old (Event.Claim daemon) result self.new }
+    {
+        let Some(index) = index_of(daemon.0, self.daemons.len()) else {
+            return Happened::Refused(Refusal::NoDaemon);
+        };
+        let Some(generation) = self.daemons[index].claim_wanted() else {
+            return Happened::Refused(Refusal::WrongPhase);
+        };
+        match self.broker.claim(daemon, generation) {
+            Ok(next) => {
+                answer_at(&mut self.daemons, index, Ok(next));
+                Happened::Claimed(next)
+            }
+            Err(fault) => {
+                answer_at(&mut self.daemons, index, Err(fault));
+                Happened::Refused(Refusal::from(fault))
+            }
+        }
+    }
+
     /// Ends a daemon, and the mount where the daemon has the seat. It takes no memory.
     fn crash(&mut self, daemon: DaemonId) -> Happened
         ensures once { Once self.old (Event.Crash daemon) result self.new }
@@ -244,7 +351,7 @@ impl World {
         let Some(index) = index_of(daemon.0, self.daemons.len()) else {
             return Happened::Refused(Refusal::NoDaemon);
         };
-        end_at(&mut self.daemons, index);
+        crash_at(&mut self.daemons, index);
         self.broker.gone(daemon);
         Happened::Crashed
     }
@@ -302,6 +409,22 @@ impl World {
         match self.broker.refusal(request) {
             Some(fault) => Some(Refusal::from(fault)),
             None => Some(Refusal::NoMemory),
+        }
+    }
+}
+
+/// Says what a daemon has to say, behind what was said before, and returns what is told of it.
+fn say(messages: &mut Vec<Message>, reaction: Reaction) -> Happened
+    requires room { vec_len messages.old + 1 ≤ vec_capacity messages.old }
+    ensures told { result ≡ told_reaction (vec_len messages.old) reaction }
+    ensures said { messages.new.items ≡ messages.old.items ++ what_is_said reaction }
+{
+    match reaction {
+        Reaction::Ignores => Happened::Ignored,
+        Reaction::Heeds => Happened::Heard,
+        Reaction::Says(said) => {
+            messages.push_reserved(said);
+            Happened::Said(messages.len())
         }
     }
 }

@@ -3,23 +3,26 @@ use Rattle.std.proofs.Common.{subst}
 use Rattle.world.specs.Agreement.{Matches}
 use Rattle.world.specs.State.{State, started}
 use Rattle.world.specs.World.{first_world}
-use Rattle.world.proofs.WholeRun.{Ran, match-agrees, match-counts, match-names, steps-matched, posters-answered}
+use Rattle.world.proofs.WholeRun.{Ran, match-agrees, match-counts, match-names, match-current, steps-matched, posters-answered}
 use Rattle.world.proofs.history.run.Goals as goal
 
 whole : (c : goal.In_ok-outcomes) → Ran (first_world c.args.manifest.now) c.args.events.now c.in_ok-outcomes.outcomes.items c.outcomes_of.new.world
 whole c = steps-matched (first_world c.args.manifest.now) c.in_ok-world.world c.args.events.now c.in_ok-outcomes.outcomes.items c.outcomes_of.new.world c.in_ok-world.ensures.matches c.in_ok-outcomes.ensures.steps
 
 pub returns-clause-events_are_a_run_of_moves : goal.returns-clause-events_are_a_run_of_moves
-returns-clause-events_are_a_run_of_moves c = record { run = (whole c).run; agrees = match-agrees _ _ (whole c).matches }
+returns-clause-events_are_a_run_of_moves c = record { run = (whole c).run; agrees = match-agrees _ _ (whole c).matches.follows }
 
 pub returns-clause-counts_are_what_is_owed : goal.returns-clause-counts_are_what_is_owed
-returns-clause-counts_are_what_is_owed c = match-counts _ _ (whole c).matches
+returns-clause-counts_are_what_is_owed c = match-counts _ _ (whole c).matches.follows
 
 pub returns-clause-numbers_name_their_first_file : goal.returns-clause-numbers_name_their_first_file
-returns-clause-numbers_name_their_first_file c = match-names _ _ (whole c).matches
+returns-clause-numbers_name_their_first_file c = match-names _ _ (whole c).matches.follows
 
 pub returns-clause-one_daemon_for_each_generation : goal.returns-clause-one_daemon_for_each_generation
-returns-clause-one_daemon_for_each_generation c = (whole c).matches.answered.one_daemon
+returns-clause-one_daemon_for_each_generation c = (whole c).matches.follows.answered.one_daemon
+
+pub returns-clause-handed_data_is_current : goal.returns-clause-handed_data_is_current
+returns-clause-handed_data_is_current c = match-current _ _ (whole c).matches
 
 pub returns-clause-replies_are_answered : goal.returns-clause-replies_are_answered
 returns-clause-replies_are_answered c = λ steps.

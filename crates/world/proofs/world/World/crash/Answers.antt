@@ -1,9 +1,8 @@
 -- Who is gone.
-use Rattle.std.proofs.Common.{List, length, sym, subst, arith}
+use Rattle.std.proofs.Common.{length, subst, arith}
 use Rattle.world.specs.Serving.{IsIndex}
 use Rattle.world.specs.State.{State}
 use Rattle.world.specs.Step.{Once}
-use Rattle.world.specs.declared.daemon.Daemon.{Daemon}
 use Rattle.world.specs.declared.event.Event.TheVariants.{Crash}
 use Rattle.world.specs.declared.outcome.Happened.TheVariants as happened
 use Rattle.world.proofs.StepLemmas.{Once-crashes}
@@ -11,14 +10,13 @@ use Rattle.world.proofs.world.World.crash.Goals as goal
 
 pub returns : goal.returns
 returns c =
-    let old : State = record { manifest = c.self.inside.manifest; limit = c.self.inside.limit; broker = c.self.inside.broker; daemons = c.self.inside.daemons.items } in
+    let old : State = record { manifest = c.self.inside.manifest; limit = c.self.inside.limit; broker = c.self.inside.broker; daemons = c.self.inside.daemons.items; messages = c.self.inside.messages.items } in
     let at : IsIndex (length old.daemons) c.args.daemon.0 c.in-Some.index = record {
       counted = c.in-Some.ensures.index.counted;
       is = c.in-Some.ensures.index.is;
       within = omega (arith, c.in-Some.ensures.index.within, c.len.ensures, c.self.inside.daemons.ok.0);
     } in
-    let crashes = subst (λ (ds : List Daemon). Once old (Crash c.args.daemon) happened.Crashed (record old { broker = c.gone.new.self; daemons = ds })) (sym c.end_at.ensures.gone)
-    (Once-crashes old c.args.daemon c.in-Some.index c.gone.new.self at c.gone.ensures.gone) in
     record {
-      once = subst (λ (s : State). Once s (Crash c.args.daemon) happened.Crashed (record old { broker = c.gone.new.self; daemons = c.end_at.new.daemons.items })) c.self.view_is crashes;
+      once = subst (λ (s : State). Once s (Crash c.args.daemon) happened.Crashed (record old { broker = c.gone.new.self; daemons = c.crash_at.new.daemons.items })) c.self.view_is
+          (Once-crashes old c.args.daemon c.in-Some.index c.gone.new.self c.crash_at.new.daemons.items at c.gone.ensures.gone c.crash_at.ensures.gone);
     }

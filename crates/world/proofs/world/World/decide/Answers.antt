@@ -3,7 +3,7 @@ use Rattle.std.proofs.Common.{◌≡◌, List, [], ◌∷◌, ◌++◌, sym, sub
 use Rattle.world.specs.State.{State}
 use Rattle.world.specs.Step.{Once, Step, parts_of}
 use Rattle.world.specs.declared.event.Event.{Event}
-use Rattle.world.specs.declared.event.Event.TheVariants.{Start, Mount, Issue, Take, Work, Post, Deliver, Crash}
+use Rattle.world.specs.declared.event.Event.TheVariants.{Start, Mount, Issue, Take, Work, Post, Deliver, Hear, Drained, GiveUp, Claim, Crash}
 use Rattle.world.specs.declared.outcome.Happened.{Happened}
 use Rattle.world.proofs.Carrying.{Step-alone}
 use Rattle.world.proofs.world.World.decide.Goals as goal
@@ -53,4 +53,24 @@ returns-in-Deliver c = record {
 pub returns-in-Crash : goal.returns-in-Crash
 returns-in-Crash c = record {
   step = alone c.args.self.now c.args.event.now (Crash c.in-Crash.daemon) c.crash.result c.args.outcome.now c.tell-in-Crash.new.self c.crash.new.self refl c.in-Crash.is c.crash.ensures.once c.requires.nothing c.tell-in-Crash.ensures.told;
+}
+
+pub returns-in-Hear : goal.returns-in-Hear
+returns-in-Hear c = record {
+  step = alone c.args.self.now c.args.event.now (Hear c.in-Hear.daemon c.in-Hear.place) c.hear.result c.args.outcome.now c.tell-in-Hear.new.self c.hear.new.self refl c.in-Hear.is c.hear.ensures.once c.requires.nothing c.tell-in-Hear.ensures.told;
+}
+
+pub returns-in-Drained : goal.returns-in-Drained
+returns-in-Drained c = record {
+  step = alone c.args.self.now c.args.event.now (Drained c.in-Drained.daemon) c.drained.result c.args.outcome.now c.tell-in-Drained.new.self c.drained.new.self refl c.in-Drained.is c.drained.ensures.once c.requires.nothing c.tell-in-Drained.ensures.told;
+}
+
+pub returns-in-GiveUp : goal.returns-in-GiveUp
+returns-in-GiveUp c = record {
+  step = alone c.args.self.now c.args.event.now (GiveUp c.in-GiveUp.daemon) c.give_up.result c.args.outcome.now c.tell-in-GiveUp.new.self c.give_up.new.self refl c.in-GiveUp.is c.give_up.ensures.once c.requires.nothing c.tell-in-GiveUp.ensures.told;
+}
+
+pub returns-in-Claim : goal.returns-in-Claim
+returns-in-Claim c = record {
+  step = alone c.args.self.now c.args.event.now (Claim c.in-Claim.daemon) c.claim.result c.args.outcome.now c.tell-in-Claim.new.self c.claim.new.self refl c.in-Claim.is c.claim.ensures.once c.requires.nothing c.tell-in-Claim.ensures.told;
 }

@@ -1,7 +1,5 @@
 -- Who waited has the seat and serves.
-use Rattle.std.proofs.Common.{List, length, set, sym, ◌∙◌, subst, arith}
-use Rattle.world.specs.declared.daemon.Daemon.{Daemon}
-use Rattle.world.specs.declared.daemon.Daemon.TheVariants.{Serving}
+use Rattle.std.proofs.Common.{List, length, sym, ◌∙◌, subst, arith}
 use Rattle.world.specs.Serving.{IsIndex}
 use Rattle.world.specs.State.{State}
 use Rattle.world.specs.Step.{Once}
@@ -13,7 +11,7 @@ use Rattle.world.proofs.world.World.mount.Goals as goal
 
 pub returns-in_default-opening : goal.returns-in_default-opening
 returns-in_default-opening c =
-    let old : State = record { manifest = c.self.inside.manifest; limit = c.self.inside.limit; broker = c.self.inside.broker; daemons = c.self.inside.daemons.items } in
+    let old : State = record { manifest = c.self.inside.manifest; limit = c.self.inside.limit; broker = c.self.inside.broker; daemons = c.self.inside.daemons.items; messages = c.self.inside.messages.items } in
     let at : IsIndex (length old.daemons) c.args.daemon.0 c.in-Some.index = record {
       counted = c.in-Some.ensures.index.counted;
       is = c.in-Some.ensures.index.is;
@@ -21,25 +19,24 @@ returns-in_default-opening c =
     } in
     record {
       once = subst (λ (s : State). Once s (Mount c.args.daemon) (happened.Refused NoMemory) s) c.self.view_is
-          (Once-mount-lacks old c.args.daemon c.in-Some.index at
-          (waits-read old.daemons c.in-Some.index c.index.result.now at.within c.if-not-is_waiting.ensures.waiting c.index.ensures)
+          (Once-mount-lacks old c.args.daemon c.in-Some.index c.index.result.now at
+          (waits-read old.daemons c.in-Some.index c.index.result.now at.within c.if-not-is_waiting.ensures.waiting c.index.ensures).0
+          (waits-read old.daemons c.in-Some.index c.index.result.now at.within c.if-not-is_waiting.ensures.waiting c.index.ensures).1
           (sym c.mount_refusal.ensures.fault ∙ none-unless c.mount_refusal.result c.in_default-mount_refusal.not-Some));
     }
 
 pub returns : goal.returns
 returns c =
-    let old : State = record { manifest = c.self.inside.manifest; limit = c.self.inside.limit; broker = c.self.inside.broker; daemons = c.self.inside.daemons.items } in
+    let old : State = record { manifest = c.self.inside.manifest; limit = c.self.inside.limit; broker = c.self.inside.broker; daemons = c.self.inside.daemons.items; messages = c.self.inside.messages.items } in
     let at : IsIndex (length old.daemons) c.args.daemon.0 c.in-Some.index = record {
       counted = c.in-Some.ensures.index.counted;
       is = c.in-Some.ensures.index.is;
       within = omega (arith, c.in-Some.ensures.index.within, c.len.ensures, c.self.inside.daemons.ok.0);
     } in
-    let mounts : Once old (Mount c.args.daemon) (happened.Mounted c.mount-generation.result) (record old { broker = c.mount-generation.new.self; daemons = set old.daemons c.in-Some.index (Serving c.new-server.result) }) =
-    Once-mounts old c.args.daemon c.in-Some.index c.new-server.result c.mount-generation.new.self c.mount-generation.result c.in-Ok.served at
-    (waits-read old.daemons c.in-Some.index c.index.result.now at.within c.if-not-is_waiting.ensures.waiting c.index.ensures)
-    (sym c.mount_refusal.ensures.fault ∙ none-unless c.mount_refusal.result c.in_default-mount_refusal.not-Some)
-    c.new-server.ensures.new c.in-Ok.ensures.served c.mount-generation.ensures.generation c.mount-generation.ensures.mounted in
-    let seated = subst (λ (ds : List Daemon). Once old (Mount c.args.daemon) (happened.Mounted c.mount-generation.result) (record old { broker = c.mount-generation.new.self; daemons = ds })) (sym c.serve_at.ensures.serves) mounts in
+    let waits = waits-read old.daemons c.in-Some.index c.index.result.now at.within c.if-not-is_waiting.ensures.waiting c.index.ensures in
     record {
-      once = subst (λ (s : State). Once s (Mount c.args.daemon) (happened.Mounted c.mount-generation.result) (record old { broker = c.mount-generation.new.self; daemons = c.serve_at.new.daemons.items })) c.self.view_is seated;
+      once = subst (λ (s : State). Once s (Mount c.args.daemon) (happened.Mounted c.mount-generation.result) (record old { broker = c.mount-generation.new.self; daemons = c.mount_at.new.daemons.items })) c.self.view_is
+          (Once-mounts old c.args.daemon c.in-Some.index c.index.result.now c.new-server.result c.mount-generation.new.self c.mount-generation.result c.in-Ok.served c.mount_at.new.daemons.items at waits.0 waits.1
+          (sym c.mount_refusal.ensures.fault ∙ none-unless c.mount_refusal.result c.in_default-mount_refusal.not-Some)
+          c.new-server.ensures.new c.in-Ok.ensures.served c.mount-generation.ensures.generation c.mount-generation.ensures.mounted c.mount_at.ensures.mounts);
     }

@@ -9,7 +9,7 @@ use Rattle.world.proofs.world.World.post.Goals as goal
 
 pub returns : goal.returns
 returns c =
-    let old : State = record { manifest = c.self.inside.manifest; limit = c.self.inside.limit; broker = c.self.inside.broker; daemons = c.self.inside.daemons.items } in
+    let old : State = record { manifest = c.self.inside.manifest; limit = c.self.inside.limit; broker = c.self.inside.broker; daemons = c.self.inside.daemons.items; messages = c.self.inside.messages.items } in
     let at : IsIndex (length old.daemons) c.args.daemon.0 c.in-Some.index = record {
       counted = c.in-Some.ensures.index.counted;
       is = c.in-Some.ensures.index.is;

@@ -1,0 +1,308 @@
+-- Every event leaves daemons and messages standing.
+use Rattle.std.proofs.Common.{◌≡◌, ℕ, suc, zero, ◌+◌, ◌-◌, ◌<◌, ◌≤◌, Bool, true, false, List, [], ◌∷◌, ◌++◌, Option, Some, None, Result, Ok, Err, refl, sym, ap, ◌∙◌, subst, inl, inr, ◌⊎◌, arith}
+use Rattle.std.specs.Prelude.{◌==◌, slice_get, if◌then◌else◌}
+use Rattle.std.specs.Option.{option_map, option_map_or, option_and_then}
+use Rattle.std.specs.List.{AllByRecursion}
+use Rattle.eden_base.specs.Limits.{last_generation}
+use Rattle.eden_base.specs.declared.claim.ClaimFault.{ClaimFault}
+use Rattle.eden_base.specs.declared.claim.ClaimFault.TheVariants as claim
+use Rattle.eden_base.specs.declared.number.DaemonId.{DaemonId}
+use Rattle.fuse_wire.specs.Request.{is_ask, item_of}
+use Rattle.fuse_wire.specs.declared.item.Item.{Item}
+use Rattle.fuse_wire.specs.declared.request.Request.{Request}
+use Rattle.broker_core.specs.Broker.{BrokerState, asked, forgot, mounted, ended, has_seat, without_daemon, claim_fault}
+use Rattle.broker_core.specs.declared.seat.Seat.{Seat}
+use Rattle.takeover_core.specs.Phases as table
+use Rattle.takeover_core.specs.declared.message.Message.{Message}
+use Rattle.takeover_core.specs.declared.message.Message.TheVariants.{Offer}
+use Rattle.takeover_core.specs.declared.phase.Phase.{Phase}
+use Rattle.takeover_core.specs.declared.phase.Phase.TheVariants.{Gone, Serving, Holding}
+use Rattle.world.specs.World.{World}
+use Rattle.world.specs.Agreement.{Follows}
+use Rattle.world.specs.Daemon.{DaemonState, versions, new_daemon, is_waiting, with_server}
+use Rattle.world.specs.Handing.{part_at, is_drained, HasTheSeat, MessageStands, DaemonStands, IsHanding}
+use Rattle.world.specs.Server.{ServerState, IsIdle, at_place, with_taken, with_worked, with_posted}
+use Rattle.world.specs.State.{State, daemon_of, with_daemon, server_of, fault, take_refusal, server_refusal, absence}
+use Rattle.world.specs.Step.{Starts, Mounts, Issues, Takes, Works, Posts, Delivers, Claims, Crashes, Makes, Lacks, TakesMemory, OnceBy, Once, after_refusal, unclaimed}
+use Rattle.world.specs.Talking.{after_claim, at_generation}
+use Rattle.world.specs.declared.event.Event.{Event}
+use Rattle.world.specs.declared.event.Event.TheVariants.{Start, Mount, Issue, Take, Work, Post, Deliver, Hear, Drained, GiveUp, Claim, Crash}
+use Rattle.world.specs.declared.outcome.Happened.{Happened}
+use Rattle.world.specs.declared.outcome.Refusal.{Refusal}
+use Rattle.world.proofs.Claims.{IsClaim, claim-is, refused-no-holder, claimed-phase, fatal-phase, waiting-phase, mounted-phase, crashed-phase}
+use Rattle.world.proofs.Daemons.{MayMount, may_mount, serving-there, none-at}
+use Rattle.world.proofs.Handing.{KeepsSeat, WasHolder, KeepsOut, IsBase, IsLater, daemon-along, message-along, daemon-later, message-later, daemon-free, message-free, all-along, all-append, handing-where, handing-stays, stays, holding-part}
+use Rattle.world.proofs.HandingTalks.{hears-handing, gives-up-handing, drains-handing}
+use Rattle.world.proofs.Standing.{busy-stands, busy-out, seated-stands, gone-stands}
+
+-- ---- no daemon changes
+
+-- the kernel's side alone
+broker-handing : (old : State) (broker : BrokerState) → broker.seat ≡ old.broker.seat → broker.last ≡ old.broker.last → IsHanding old → IsHanding (record old { broker = broker })
+broker-handing old broker seat last h = record {
+  is_manifest = h.is_manifest;
+  low = subst (λ (l : ℕ). l ≤ last_generation) (sym last) h.low;
+  daemons = λ daemon was there. daemon-along old new daemon was k (h.daemons daemon was there);
+  messages = all-along (MessageStands old) (MessageStands new) (λ m s. message-along old new m k s) old.messages h.messages;
+} where
+  new : State
+  new = record old { broker = broker }
+
+  k : KeepsSeat old new
+  k = record {
+    seat = seat;
+    last = last;
+    holder = λ at now server has. record { was = now; before = server; has = record { seated = sym seat ∙ has.seated; there = has.there; serves = has.serves }; out = λ o. (o, refl) };
+  }
+
+issues-handing : (old : State) (request : Request) (told : Happened) (new : State) → IsHanding old → Issues old request told new → IsHanding new
+issues-handing old request told new h (tells, makes) = subst IsHanding (sym makes) (in_ (is_ask request) (item_of request)) where
+  in_ : (b : Bool) (o : Option Item) → IsHanding (record old { broker = if b then asked old.broker request else option_map_or (forgot old.broker) o old.broker })
+  in_ true o = broker-handing old (asked old.broker request) refl refl h
+  in_ false None = broker-handing old old.broker refl refl h
+  in_ false (Some item) = broker-handing old (forgot old.broker item) refl refl h
+
+-- ---- requests
+
+same-base : (old : State) (broker : BrokerState) → IsBase old (record old { broker = broker }) []
+same-base old broker = record { manifest = refl; daemons = refl; messages = sym (append-nil old.messages) } where
+  append-nil : (ms : List Message) → ms ++ [] ≡ ms
+  append-nil [] = refl
+  append-nil (m ∷ ms) = ap (λ (xs : List Message). m ∷ xs) (append-nil ms)
+
+busy-handing : (old : State) (broker : BrokerState) (daemon : DaemonId) (was : DaemonState) (before server : ServerState) (new : State) → IsHanding old → daemon_of old daemon ≡ Some was → was.server ≡ Some before → is_drained was.node.phase ≡ false →
+    broker.seat ≡ old.broker.seat → broker.last ≡ old.broker.last → new ≡ with_daemon (record old { broker = broker }) daemon (with_server was server) → IsHanding new
+busy-handing old broker daemon was before server new h there serves busy seat last makes =
+    handing-stays old (record old { broker = broker }) new daemon was (with_server was server) [] (same-base old broker) makes there h
+    (stays old (record old { broker = broker }) new daemon was (with_server was server) [] (same-base old broker) makes there h seat last (λ at e here. busy-out was before server busy serves))
+    (busy-stands old daemon was server busy (h.daemons daemon was there)) tt
+
+-- who may take is not drained
+may-busy : (p : Phase) → table.may_take p ≡ true → is_drained p ≡ false
+may-busy (Serving g) e = refl
+may-busy (Rattle.takeover_core.specs.declared.phase.Phase.TheVariants.Draining g s v) e = refl
+may-busy p e = absurd (let none : ⊥ = cc in none)
+
+takes-handing : (old : State) (daemon : DaemonId) (told : Happened) (new : State) → IsHanding old → fault old (Take daemon) ≡ None → Takes old daemon told new → IsHanding new
+takes-handing old daemon told new h clear t =
+    busy-handing old _ daemon t.was t.server (with_taken t.server t.ask) new h t.there t.serves (may-busy (t.was).node.phase (may_in (table.may_take (t.was).node.phase) refl refused)) refl refl t.makes where
+      refused : server_refusal old daemon (table.may_take (t.was).node.phase) (t.was).server ≡ None
+      refused = ap (take_refusal old daemon) (sym t.there) ∙ clear
+
+      may_in : (b : Bool) → table.may_take (t.was).node.phase ≡ b → server_refusal old daemon b (t.was).server ≡ None → table.may_take (t.was).node.phase ≡ true
+      may_in true e r = e
+      may_in false e r = absurd (let none : ⊥ = cc in none)
+
+-- who has something left is not drained
+left-busy : {X : Type 0} (old : State) (daemon : DaemonId) (was : DaemonState) (server : ServerState) (of : ServerState → List X) (place : ℕ) (x : X) → IsHanding old → daemon_of old daemon ≡ Some was → was.server ≡ Some server → ((s : ServerState) → IsIdle s → of s ≡ []) → at_place (of server) place ≡ Some x →
+    is_drained was.node.phase ≡ false
+left-busy {X} old daemon was server of place x h there serves empty at = in_ (is_drained was.node.phase) refl where
+  in_ : (b : Bool) → is_drained was.node.phase ≡ b → is_drained was.node.phase ≡ false
+  in_ false e = e
+  in_ true e = absurd (none-at place x (subst (λ (xs : List X). at_place xs place ≡ Some x) (empty server (((h.daemons daemon was there).drained) server serves e)) at))
+
+works-handing : (old : State) (daemon : DaemonId) (place : ℕ) (fails : Bool) (told : Happened) (new : State) → IsHanding old → Works old daemon place fails told new → IsHanding new
+works-handing old daemon place fails told new h t =
+    busy-handing old old.broker daemon t.was t.server (with_worked t.server place t.task t.answer t.later) new h t.there t.serves
+    (left-busy old daemon t.was t.server (λ (s : ServerState). s.hand) place t.task h t.there t.serves (λ s idle. idle.hand) t.at) refl refl t.makes
+
+posts-handing : (old : State) (daemon : DaemonId) (place : ℕ) (told : Happened) (new : State) → IsHanding old → Posts old daemon place told new → IsHanding new
+posts-handing old daemon place told new h t =
+    busy-handing old _ daemon t.was t.server (with_posted t.server place) new h t.there t.serves
+    (left-busy old daemon t.was t.server (λ (s : ServerState). s.unposted) place t.reply h t.there t.serves (λ s idle. idle.unposted) t.at) refl refl t.makes
+
+-- ---- a start
+
+-- who is there once a daemon more was started: who was, or the new one where nobody was
+started-in : (ds : List DaemonState) (i : ℕ) (now : DaemonState) → slice_get (ds ++ new_daemon ∷ []) i ≡ Some now → (slice_get ds i ≡ Some now) ⊎ ((slice_get ds i ≡ None) × (now ≡ new_daemon))
+started-in [] zero now e = inr (refl, (let same : new_daemon ≡ now = cc in sym same))
+started-in [] (suc i) now e = absurd (let none : ⊥ = cc in none)
+started-in (d ∷ ds) zero now e = inl e
+started-in (d ∷ ds) (suc i) now e = started-in ds i now e
+
+started-there : (old : State) (messages : List Message) (daemon : DaemonId) (now : DaemonState) → daemon_of (record old { daemons = old.daemons ++ new_daemon ∷ []; messages = messages }) daemon ≡ Some now →
+    (daemon_of old daemon ≡ Some now) ⊎ ((daemon_of old daemon ≡ None) × (now ≡ new_daemon))
+started-there old messages daemon now e = in_ (daemon.0 == 0) e where
+  in_ : (b : Bool) → (if b then None else slice_get (old.daemons ++ new_daemon ∷ []) (daemon.0 - 1)) ≡ Some now →
+      ((if b then None else slice_get old.daemons (daemon.0 - 1)) ≡ Some now) ⊎ (((if b then None else slice_get old.daemons (daemon.0 - 1)) ≡ None) × (now ≡ new_daemon))
+  in_ true x = absurd (let none : ⊥ = cc in none)
+  in_ false x = started-in old.daemons (daemon.0 - 1) now x
+
+starts-handing : (w : World) (old : State) (told : Happened) (new : State) → Follows w old → IsHanding old → Starts old told new → IsHanding new
+starts-handing w old told new m h (tells, makes) = subst IsHanding (sym makes) (record {
+  is_manifest = h.is_manifest;
+  low = h.low;
+  daemons = λ daemon now there. daemon_in daemon now (started-there old (old.messages ++ Offer versions ∷ []) daemon now there);
+  messages = all-append (MessageStands later) old.messages (Offer versions ∷ []) (all-along (MessageStands old) (MessageStands later) (λ x s. message-along old later x k s) old.messages h.messages) (tt, tt);
+}) where
+  later : State
+  later = record old { daemons = old.daemons ++ new_daemon ∷ []; messages = old.messages ++ Offer versions ∷ [] }
+
+  holder_in : (at : Seat) (now : DaemonState) (server : ServerState) → HasTheSeat later at now server → (daemon_of old at.daemon ≡ Some now) ⊎ ((daemon_of old at.daemon ≡ None) × (now ≡ new_daemon)) → WasHolder old at now server
+  holder_in at now server has (inl e) = record { was = now; before = server; has = record { seated = has.seated; there = e; serves = has.serves }; out = λ o. (o, refl) }
+  holder_in at now server has (inr (nobody, is)) = absurd (let two : None ≡ Some server = sym (ap (λ (d : DaemonState). d.server) is) ∙ has.serves in let none : ⊥ = cc in none)
+
+  k : KeepsSeat old later
+  k = record { seat = refl; last = refl; holder = λ at now server has. holder_in at now server has (started-there old (old.messages ++ Offer versions ∷ []) at.daemon now has.there) }
+
+  -- the seat's daemon was there
+  no_seat : (daemon : DaemonId) → daemon_of old daemon ≡ None → (seat : Seat) → old.broker.seat ≡ Some seat → daemon ≡ seat.daemon → ⊥
+  no_seat daemon nobody seat e here =
+      let serving = m.knows seat e in
+      let there = serving-there old seat.daemon serving.0 (serving.1).serves in
+      let two : None ≡ Some there.0 = sym nobody ∙ ap (daemon_of old) here ∙ there.1 in
+      let none : ⊥ = cc in none
+
+  daemon_in : (daemon : DaemonId) (now : DaemonState) → (daemon_of old daemon ≡ Some now) ⊎ ((daemon_of old daemon ≡ None) × (now ≡ new_daemon)) → DaemonStands later daemon now
+  daemon_in daemon now (inl e) = daemon-along old later daemon now k (h.daemons daemon now e)
+  daemon_in daemon now (inr (nobody, is)) = subst (λ (d : DaemonState). DaemonStands later daemon d) (sym is) (record {
+    at_most = λ g e. absurd (let none : ⊥ = cc in none);
+    serves = λ g e. absurd (let none : ⊥ = cc in none);
+    drained = λ server serves d. absurd (let none : ⊥ = cc in none);
+    only = λ seat e x. absurd (let none : ⊥ = cc in none);
+    part = λ seat e x. absurd (no_seat daemon nobody seat e x);
+    goes_on = λ seat e x in_s. absurd (let none : ⊥ = cc in none);
+    held = λ seat holder handed server has claims serves. absurd (let none : ⊥ = cc in none);
+  })
+
+-- ---- the seat is one generation later
+
+later-handing : (old : State) (broker : BrokerState) (seat : Seat) (daemon : DaemonId) (was later : DaemonState) (server : ServerState) (new : State) → IsHanding old → later.server ≡ Some server → daemon_of old daemon ≡ Some was → later.node.phase ≡ Serving seat.generation → broker.seat ≡ Some seat → seat.daemon ≡ daemon →
+    old.broker.last < seat.generation → broker.last ≡ seat.generation → seat.generation ≤ last_generation → new ≡ with_daemon (record old { broker = broker }) daemon later → IsHanding new
+later-handing old broker seat daemon was later server new h has there serving seated here rises last low makes =
+    handing-where old (record old { broker = broker }) new daemon was later [] (same-base old broker) makes there h
+    (subst (λ (l : ℕ). l ≤ last_generation) (sym new_last) low)
+    (seated-stands new seat daemon later server has serving new_seat (sym here) (subst (λ (l : ℕ). seat.generation ≤ l) (sym new_last) (let r : seat.generation ≤ seat.generation = omega arith in r)))
+    (λ other d apart s. daemon-later old new seat other d is_later (λ e. apart (e ∙ here)) s) (λ x s. message-later old new seat x is_later s) tt where
+      new_seat : new.broker.seat ≡ Some seat
+      new_seat = ap (λ (s : State). s.broker.seat) makes ∙ seated
+
+      new_last : new.broker.last ≡ seat.generation
+      new_last = ap (λ (s : State). s.broker.last) makes ∙ last
+
+      is_later : IsLater old new seat
+      is_later = record { seated = new_seat; later = rises; last = (let l : new.broker.last ≡ seat.generation = new_last in omega arith) }
+
+mounts-handing : (old : State) (daemon : DaemonId) (told : Happened) (new : State) → IsHanding old → fault old (Mount daemon) ≡ None → Mounts old daemon told new → IsHanding new
+mounts-handing old daemon told new h clear t =
+    later-handing old (mounted old.broker daemon) (record { generation = old.broker.last + 1; daemon = daemon }) daemon t.was t.later _ new h (ap (λ (d : DaemonState). d.server) t.does) t.there serving refl refl (omega arith) refl low t.makes where
+      may : MayMount old (daemon_of old daemon)
+      may = may_mount old (daemon_of old daemon) clear
+
+      same : may.was ≡ t.was
+      same = let two : Some may.was ≡ Some t.was = sym may.is ∙ t.there in cc
+
+      serving : (t.later).node.phase ≡ Serving (old.broker.last + 1)
+      serving = ap (λ (d : DaemonState). d.node.phase) t.does ∙ mounted-phase (t.was).node.versions (t.was).node.sessions (t.was).node.phase (old.broker.last + 1) (subst (λ (d : DaemonState). is_waiting d ≡ true) same may.waits)
+
+      low : old.broker.last + 1 ≤ last_generation
+      low = let l : old.broker.last < last_generation = may.below in omega arith
+
+claims-handing : (w : World) (old : State) (daemon : DaemonId) (told : Happened) (new : State) → Follows w old → IsHanding old → fault old (Claim daemon) ≡ None → Claims old daemon told new → IsHanding new
+claims-handing w old daemon told new m h clear t =
+    later-handing old _ (record { generation = t.generation + 1; daemon = daemon }) daemon t.was t.later _ new h (ap (λ (d : DaemonState). d.server) t.does ∙ ap (option_map (at_generation (t.generation + 1))) own.1) t.there serving refl refl rises refl low t.makes where
+      own : (server : ServerState) × ((t.was).server ≡ Some server)
+      own = ((h.daemons daemon t.was t.there).serves) t.generation (holding-part (t.was).node.phase t.generation t.wants)
+
+      c : IsClaim w old t.generation
+      c = claim-is w old daemon t.was t.generation m t.there t.wants clear
+
+      serving : (t.later).node.phase ≡ Serving (t.generation + 1)
+      serving = ap (λ (d : DaemonState). d.node.phase) t.does ∙ claimed-phase (t.was).node.versions (t.was).node.sessions (t.was).node.phase t.generation (t.generation + 1) t.wants
+
+      rises : old.broker.last < t.generation + 1
+      rises = let l : old.broker.last ≡ t.generation = c.last in omega arith
+
+      low : t.generation + 1 ≤ last_generation
+      low = let l : t.generation < last_generation = c.below in omega arith
+
+-- ---- a daemon is gone
+
+-- a daemon is gone that has not the seat
+gone-handing : (old : State) (daemon : DaemonId) (was later : DaemonState) (new : State) → IsHanding old → daemon_of old daemon ≡ Some was → later.node.phase ≡ Gone → ((seat : Seat) → old.broker.seat ≡ Some seat → daemon ≡ seat.daemon → ⊥) → new ≡ with_daemon old daemon later → IsHanding new
+gone-handing old daemon was later new h there gone no_seat makes =
+    handing-stays old old new daemon was later [] (same-base old old.broker) makes there h
+    (stays old old new daemon was later [] (same-base old old.broker) makes there h refl refl (λ at e here. absurd (no_seat at e here)))
+    (gone-stands old daemon later gone no_seat) tt
+
+-- the seat's daemon is gone
+ended-handing : (old : State) (daemon : DaemonId) (was later : DaemonState) (new : State) → IsHanding old → daemon_of old daemon ≡ Some was → later.node.phase ≡ Gone → new ≡ with_daemon (record old { broker = ended old.broker }) daemon later → IsHanding new
+ended-handing old daemon was later new h there gone makes =
+    handing-where old (record old { broker = ended old.broker }) new daemon was later [] (same-base old (ended old.broker)) makes there h
+    (subst (λ (l : ℕ). l ≤ last_generation) (sym last) h.low) (gone-stands new daemon later gone (λ at e here. absurd (let two : None ≡ Some at = sym free ∙ e in let none : ⊥ = cc in none)))
+    (λ other d apart s. daemon-free old new other d free last s) (λ x s. message-free old new x free last s) tt where
+      free : new.broker.seat ≡ None
+      free = ap (λ (s : State). s.broker.seat) makes
+
+      last : new.broker.last ≡ old.broker.last
+      last = ap (λ (s : State). s.broker.last) makes
+
+crashes-handing : (old : State) (daemon : DaemonId) (told : Happened) (new : State) → IsHanding old → Crashes old daemon told new → IsHanding new
+crashes-handing old daemon told new h t = in_ (has_seat old.broker daemon) refl t.makes where
+  gone : (t.later).node.phase ≡ Gone
+  gone = ap (λ (d : DaemonState). d.node.phase) t.does ∙ crashed-phase (t.was).node.versions (t.was).node.sessions (t.was).node.phase
+
+  no_seat : has_seat old.broker daemon ≡ false → (seat : Seat) → old.broker.seat ≡ Some seat → daemon ≡ seat.daemon → ⊥
+  no_seat e seat at here =
+      let its : (seat.daemon.0 == daemon.0) ≡ false = ap (λ (o : Option Seat). option_map_or (λ (s : Seat). s.daemon.0 == daemon.0) o false) (sym at) ∙ e in
+      Rattle.eden_base.proofs.NumberTests.false-ne seat.daemon.0 daemon.0 its (ap (λ (d : DaemonId). d.0) (sym here))
+
+  in_ : (b : Bool) → has_seat old.broker daemon ≡ b → new ≡ with_daemon (record old { broker = if b then ended old.broker else old.broker }) daemon t.later → IsHanding new
+  in_ true e makes = ended-handing old daemon t.was t.later new h t.there gone makes
+  in_ false e makes = gone-handing old daemon t.was t.later new h t.there gone (no_seat e) makes
+
+-- ---- a claim that is refused
+
+-- a daemon that stays as it was
+still-handing : (old : State) (daemon : DaemonId) (was later : DaemonState) → IsHanding old → daemon_of old daemon ≡ Some was → later ≡ was → IsHanding (with_daemon old daemon later)
+still-handing old daemon was later h there same =
+    handing-stays old old (with_daemon old daemon later) daemon was later [] (same-base old old.broker) refl there h
+    (stays old old (with_daemon old daemon later) daemon was later [] (same-base old old.broker) refl there h refl refl (λ at e here. record { server = λ server serves. (server, sym (ap (λ (d : DaemonState). d.server) same) ∙ serves, λ o. (ap (λ (d : DaemonState). Rattle.world.specs.Handing.is_out d.node.phase) same ∙ o, refl)) }))
+    (subst (λ (d : DaemonState). DaemonStands old daemon d) (sym same) (h.daemons daemon was there)) tt
+
+unclaimed-handing : (w : World) (old : State) (daemon : DaemonId) (new : State) → Follows w old → IsHanding old → new ≡ after_refusal old (Claim daemon) → IsHanding new
+unclaimed-handing w old daemon new m h makes = subst IsHanding (sym makes) (daemon_in (daemon_of old daemon) refl) where
+  fault_in : (was : DaemonState) (g : ℕ) (f : Option ClaimFault) → daemon_of old daemon ≡ Some was → table.claim_wanted was.node.phase ≡ Some g → claim_fault old.broker g ≡ f →
+      IsHanding (with_daemon old daemon (option_map_or (λ (x : ClaimFault). after_claim was (Err x)) f was))
+  fault_in was g None there wants e = still-handing old daemon was was h there refl
+  fault_in was g (Some (claim.Unanswered asks)) there wants e = still-handing old daemon was _ h there (waiting-phase was g asks wants)
+  fault_in was g (Some claim.Ended) there wants e = gone-handing old daemon was _ _ h there (fatal-phase was.node.versions was.node.sessions was.node.phase g claim.Ended tt wants) (refused-no-holder old daemon was g claim.Ended tt h there wants e) refl
+  fault_in was g (Some (claim.Stale now)) there wants e = gone-handing old daemon was _ _ h there (fatal-phase was.node.versions was.node.sessions was.node.phase g (claim.Stale now) tt wants) (refused-no-holder old daemon was g (claim.Stale now) tt h there wants e) refl
+  fault_in was g (Some claim.LastGeneration) there wants e = gone-handing old daemon was _ _ h there (fatal-phase was.node.versions was.node.sessions was.node.phase g claim.LastGeneration tt wants) (refused-no-holder old daemon was g claim.LastGeneration tt h there wants e) refl
+
+  wanted_in : (was : DaemonState) (o : Option ℕ) → daemon_of old daemon ≡ Some was → table.claim_wanted was.node.phase ≡ o → IsHanding (with_daemon old daemon (unclaimed old was o))
+  wanted_in was None there wants = still-handing old daemon was was h there refl
+  wanted_in was (Some g) there wants = fault_in was g (claim_fault old.broker g) there wants refl
+
+  daemon_in : (o : Option DaemonState) → daemon_of old daemon ≡ o → IsHanding (option_map_or (λ (was : DaemonState). with_daemon old daemon (unclaimed old was (table.claim_wanted was.node.phase))) o old)
+  daemon_in None e = h
+  daemon_in (Some was) e = wanted_in was (table.claim_wanted was.node.phase) e refl
+
+-- ---- any event
+
+makes-handing : (w : World) (old : State) (event : Event) (told : Happened) (new : State) → Follows w old → IsHanding old → fault old event ≡ None → Makes old event told new → IsHanding new
+makes-handing w old Start told new m h clear made = starts-handing w old told new m h made
+makes-handing w old (Mount daemon) told new m h clear made = mounts-handing old daemon told new h clear made
+makes-handing w old (Issue request) told new m h clear made = issues-handing old request told new h made
+makes-handing w old (Take daemon) told new m h clear made = takes-handing old daemon told new h clear made
+makes-handing w old (Work daemon place fails) told new m h clear made = works-handing old daemon place fails told new h made
+makes-handing w old (Post daemon place) told new m h clear made = posts-handing old daemon place told new h made
+makes-handing w old Deliver told new m h clear made = subst IsHanding (sym made.makes) (broker-handing old _ refl refl h)
+makes-handing w old (Hear daemon place) told new m h clear made = hears-handing w old daemon place told new m h made
+makes-handing w old (Drained daemon) told new m h clear made = drains-handing old daemon told new h made
+makes-handing w old (GiveUp daemon) told new m h clear made = gives-up-handing old daemon told new h made
+makes-handing w old (Claim daemon) told new m h clear made = claims-handing w old daemon told new m h clear made
+makes-handing w old (Crash daemon) told new m h clear made = crashes-handing old daemon told new h made
+makes-handing w old event told new m h clear made = absurd made
+
+refuses-handing : (w : World) (old : State) (event : Event) (new : State) → Follows w old → IsHanding old → new ≡ after_refusal old event → IsHanding new
+refuses-handing w old (Claim daemon) new m h same = unclaimed-handing w old daemon new m h same
+refuses-handing w old event new m h same = subst IsHanding (sym same) h
+
+-- Every event that is no `do`, made or refused, leaves daemons and messages standing.
+pub once-handing : (w : World) (old : State) (event : Event) (told : Happened) (new : State) → Follows w old → IsHanding old → Once old event told new → IsHanding new
+once-handing w old event told new m h once = in_ (fault old event) refl once where
+  in_ : (f : Option Refusal) → fault old event ≡ f → OnceBy old event f told new → IsHanding new
+  in_ (Some r) e s = refuses-handing w old event new m h s.1
+  in_ None e (inl made) = makes-handing w old event told new m h e made
+  in_ None e (inr lacks) = subst IsHanding (sym lacks.1.1) h

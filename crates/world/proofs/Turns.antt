@@ -1,0 +1,130 @@
+-- What a message, or giving up, makes of a daemon's phase: its part stays, and what is out stays out.
+use Rattle.std.proofs.Common.{◌≡◌, ◌⊎◌, ℕ, Bool, true, false, List, [], Option, Some, None, refl, sym, ap, ◌∙◌, subst, inl, inr, arith, rules}
+use Rattle.std.specs.Prelude.{◌==◌, ◌&&◌, if◌then◌else◌}
+use Rattle.eden_base.specs.Limits.{last_generation}
+use Rattle.takeover_core.specs.Histories.{seat_of}
+use Rattle.takeover_core.specs.Node.{NodeState}
+use Rattle.takeover_core.specs.Phases.{Event, Hear, GiveUp, DataMade, DataFailed, Raised, Drained, after, heard, said, claim_wanted, answer_of, provided, Goes, Row}
+use Rattle.takeover_core.specs.declared.heard.Heard.{Heard as Answer}
+use Rattle.takeover_core.specs.declared.heard.Heard.TheVariants.{Say, MakeData, GotData}
+use Rattle.takeover_core.specs.declared.message.Message.{Message}
+use Rattle.takeover_core.specs.declared.message.Message.TheVariants.{Offer, Choice, NoCommon, Busy, Ready, Pong, Data, Failed}
+use Rattle.takeover_core.specs.declared.phase.Phase.{Phase}
+use Rattle.takeover_core.specs.declared.phase.Phase.TheVariants.{Waiting, Chosen, Raising, Holding, Serving, Draining, Pinged, Making, Handed, Gone}
+use Rattle.world.specs.Handing.{part_at, is_drained, is_out, in_session}
+use Rattle.world.specs.Talking.{bytes_of}
+
+-- a daemon by its parts
+abbrev pub node_of : List ℕ → ℕ → Phase → NodeState
+node_of versions sessions phase = record { phase = phase; versions = versions; sessions = sessions }
+
+-- the message is data
+abbrev pub is_data : Message → Bool
+is_data (Data s g bytes) = true
+is_data other = false
+
+abbrev pub says_data : Answer → Bool
+says_data (Say m) = is_data m
+says_data answer = false
+
+-- a phase that a daemon turned to, seen at a generation, by whether it has nothing left: its part is what it was; it is
+-- drained where it was, or has nothing left; what is out stays out; a session is begun only where a claim may follow;
+-- and what is held was held, or is the holder's own
+pub record IsTurn (g : ℕ) (idle : Bool) (old new : Phase) : Type 0 where
+  pub part_back : part_at new ≡ Some g → part_at old ≡ Some g
+  pub part_on : part_at old ≡ Some g → part_at new ≡ Some g
+  pub seat_back : seat_of new ≡ Some g → seat_of old ≡ Some g
+  pub out_on : is_out old ≡ true → is_out new ≡ true
+  pub drained_back : is_drained new ≡ true → (is_drained old ≡ true) ⊎ (idle ≡ true)
+  pub session_back : in_session new ≡ true → part_at old ≡ Some g → (in_session old ≡ true) ⊎ ((g == last_generation) ≡ false)
+  pub held_back : claim_wanted new ≡ Some g → (claim_wanted old ≡ Some g) ⊎ ((seat_of old ≡ Some g) × (is_out old ≡ true))
+
+pub turn-hear : (vs : List ℕ) (n : ℕ) (phase : Phase) (m : Message) (g : ℕ) → IsTurn g false phase (after (node_of vs n phase) (Hear m)).phase
+turn-hear vs n Waiting (Choice t v) g = grind (arith, rules)
+turn-hear vs n (Chosen s v) (Ready t h) g = grind (arith, rules)
+turn-hear vs n (Chosen s v) (Data t h bytes) g = grind (arith, rules)
+turn-hear vs n (Chosen s v) (Failed t) g = grind (arith, rules)
+turn-hear vs n (Serving h) (Offer offered) g = grind (arith, rules)
+turn-hear vs n (Pinged h s v) (Pong t) g = grind (arith, rules)
+turn-hear vs n (Draining h s v) (Failed t) g = grind (arith, rules)
+turn-hear vs n (Pinged h s v) (Failed t) g = grind (arith, rules)
+turn-hear vs n (Making h s v) (Failed t) g = grind (arith, rules)
+turn-hear vs n (Handed h s) (Failed t) g = grind (arith, rules)
+turn-hear vs n phase m g = grind (arith, rules)
+
+pub turn-give_up : (vs : List ℕ) (n : ℕ) (phase : Phase) (g : ℕ) → IsTurn g false phase (after (node_of vs n phase) GiveUp).phase
+turn-give_up vs n phase g = grind (arith, rules)
+
+pub turn-drained : (vs : List ℕ) (n : ℕ) (phase : Phase) (h u : ℕ) (g : ℕ) → IsTurn g (h == 0 && u == 0) phase (after (node_of vs n phase) (Drained h u)).phase
+turn-drained vs n (Draining g' s v) h u g = grind (arith, rules)
+turn-drained vs n phase h u g = grind (arith, rules)
+
+pub turn-made : (s v h : ℕ) (g : ℕ) → IsTurn g false (Pinged h s v) (Handed h s)
+turn-made s v h g = grind (arith, rules)
+
+pub turn-failed : (s v h : ℕ) (g : ℕ) → IsTurn g false (Pinged h s v) (Serving h)
+turn-failed s v h g = grind (arith, rules)
+
+pub turn-gone : (s v : ℕ) (g : ℕ) → IsTurn g false (Chosen s v) Gone
+turn-gone s v g = grind (arith, rules)
+
+-- ---- what is said
+
+pub hear-no-data : (vs : List ℕ) (n : ℕ) (phase : Phase) (m : Message) → says_data (heard (node_of vs n phase) (Hear m)) ≡ false
+hear-no-data vs n Waiting (Choice t v) = grind (arith, rules)
+hear-no-data vs n (Chosen s v) (Ready t h) = grind (arith, rules)
+hear-no-data vs n (Chosen s v) (Data t h bytes) = grind (arith, rules)
+hear-no-data vs n (Chosen s v) (Failed t) = grind (arith, rules)
+hear-no-data vs n (Serving h) (Offer offered) = grind (arith, rules)
+hear-no-data vs n (Pinged h s v) (Pong t) = grind (arith, rules)
+hear-no-data vs n (Draining h s v) (Failed t) = grind (arith, rules)
+hear-no-data vs n (Pinged h s v) (Failed t) = grind (arith, rules)
+hear-no-data vs n (Making h s v) (Failed t) = grind (arith, rules)
+hear-no-data vs n (Handed h s) (Failed t) = grind (arith, rules)
+hear-no-data vs n phase m = grind (arith, rules)
+
+pub give_up-no-data : (vs : List ℕ) (n : ℕ) (phase : Phase) → says_data (heard (node_of vs n phase) GiveUp) ≡ false
+give_up-no-data vs n phase = grind (arith, rules)
+
+pub drained-no-data : (vs : List ℕ) (n : ℕ) (phase : Phase) (h u : ℕ) → says_data (heard (node_of vs n phase) (Drained h u)) ≡ false
+drained-no-data vs n (Draining g s v) h u = grind (arith, rules)
+drained-no-data vs n phase h u = grind (arith, rules)
+
+-- ---- the data
+
+-- who is to make the data had drained, and makes it now
+pub record MakesIt (vs : List ℕ) (n : ℕ) (old : Phase) (m : Message) (s g v : ℕ) : Type 0 where
+  pub was : old ≡ Pinged g s v
+  pub now : (after (node_of vs n old) (Hear m)).phase ≡ Making g s v
+
+pub makes-it : (vs : List ℕ) (n : ℕ) (phase : Phase) (m : Message) (s g v : ℕ) → heard (node_of vs n phase) (Hear m) ≡ MakeData s g v → MakesIt vs n phase m s g v
+makes-it vs n (Pinged h t w) (Pong u) s g v e = grind (arith, rules)
+makes-it vs n (Waiting) (Choice t w) s g v e = absurd (let none : ⊥ = grind (arith, rules) in none)
+makes-it vs n (Chosen r w) (Ready t h) s g v e = absurd (let none : ⊥ = grind (arith, rules) in none)
+makes-it vs n (Chosen r w) (Data t h bytes) s g v e = absurd (let none : ⊥ = grind (arith, rules) in none)
+makes-it vs n (Chosen r w) (Failed t) s g v e = absurd (let none : ⊥ = grind (arith, rules) in none)
+makes-it vs n (Serving h) (Offer offered) s g v e = absurd (let none : ⊥ = grind (arith, rules) in none)
+makes-it vs n (Draining h r w) (Failed t) s g v e = absurd (let none : ⊥ = grind (arith, rules) in none)
+makes-it vs n (Pinged h r w) (Failed t) s g v e = absurd (let none : ⊥ = grind (arith, rules) in none)
+makes-it vs n (Making h r w) (Failed t) s g v e = absurd (let none : ⊥ = grind (arith, rules) in none)
+makes-it vs n (Handed h r) (Failed t) s g v e = absurd (let none : ⊥ = grind (arith, rules) in none)
+makes-it vs n phase m s g v e = absurd (let none : ⊥ = cc in none)
+
+-- who got data was chosen for it, and has its bytes
+pub record TakesIt (vs : List ℕ) (n : ℕ) (old : Phase) (m : Message) (s g v : ℕ) : Type 0 where
+  pub was : old ≡ Chosen s v
+  pub now : (after (node_of vs n old) (Hear m)).phase ≡ Raising s g
+  pub got : m ≡ Data s g (bytes_of m)
+
+pub takes-it : (vs : List ℕ) (n : ℕ) (phase : Phase) (m : Message) (s g v : ℕ) → heard (node_of vs n phase) (Hear m) ≡ GotData s g v → TakesIt vs n phase m s g v
+takes-it vs n (Chosen r w) (Data t h bytes) s g v e = grind (arith, rules)
+takes-it vs n (Waiting) (Choice t w) s g v e = absurd (let none : ⊥ = grind (arith, rules) in none)
+takes-it vs n (Chosen r w) (Ready t h) s g v e = absurd (let none : ⊥ = grind (arith, rules) in none)
+takes-it vs n (Chosen r w) (Failed t) s g v e = absurd (let none : ⊥ = grind (arith, rules) in none)
+takes-it vs n (Serving h) (Offer offered) s g v e = absurd (let none : ⊥ = grind (arith, rules) in none)
+takes-it vs n (Pinged h r w) (Pong t) s g v e = absurd (let none : ⊥ = grind (arith, rules) in none)
+takes-it vs n (Draining h r w) (Failed t) s g v e = absurd (let none : ⊥ = grind (arith, rules) in none)
+takes-it vs n (Pinged h r w) (Failed t) s g v e = absurd (let none : ⊥ = grind (arith, rules) in none)
+takes-it vs n (Making h r w) (Failed t) s g v e = absurd (let none : ⊥ = grind (arith, rules) in none)
+takes-it vs n (Handed h r) (Failed t) s g v e = absurd (let none : ⊥ = grind (arith, rules) in none)
+takes-it vs n phase m s g v e = absurd (let none : ⊥ = cc in none)
