@@ -5,7 +5,7 @@ use Rattle.fuse_wire.specs.declared.request.Request.{Request}
 use Rattle.fuse_wire.specs.declared.request.Request.TheVariants.{Lookup, Getattr, Create, Mkdir, Unlink, Rmdir, Forget}
 use Rattle.fuse_wire.specs.Request.{other_of}
 use Rattle.world.specs.declared.event.Event.{Event}
-use Rattle.world.specs.declared.event.Event.TheVariants.{Start, Mount, Issue, Take, Work, Post, Deliver, Crash, Do, Show}
+use Rattle.world.specs.declared.event.Event.TheVariants.{Start, Mount, Issue, Take, Work, Post, Deliver, Hear, Drained, GiveUp, Claim, Crash, Do, Show}
 use Rattle.eden_base.specs.Name.{name_fault}
 use Rattle.eden_base.specs.declared.attr.Perm.{Perm}
 use Rattle.eden_base.specs.declared.number.DaemonId.{DaemonId}
@@ -154,9 +154,40 @@ abbrev pub post_of : List ℕ → Option Event
 post_of words =
     option_and_then (λ (parts : List ℕ × List ℕ). post_both (number_of parts.0) (number_of parts.1)) (cut 32 words)
 
+-- a daemon hears what was said at a place
+abbrev pub hear_both : Option ℕ → Option ℕ → Option Event
+hear_both (Some daemon) (Some place) = Some (Hear (daemon_said daemon) place)
+hear_both _ _ = None
+
+-- `D K`
+abbrev pub hear_of : List ℕ → Option Event
+hear_of words =
+    option_and_then (λ (parts : List ℕ × List ℕ). hear_both (number_of parts.0) (number_of parts.1)) (cut 32 words)
+
+-- `D`
+abbrev pub drained_of : List ℕ → Option Event
+drained_of words = option_map (λ (daemon : ℕ). Drained (daemon_said daemon)) (number_of words)
+
+-- `D`
+abbrev pub give_up_of : List ℕ → Option Event
+give_up_of words = option_map (λ (daemon : ℕ). GiveUp (daemon_said daemon)) (number_of words)
+
+-- `D`
+abbrev pub claim_of : List ℕ → Option Event
+claim_of words = option_map (λ (daemon : ℕ). Claim (daemon_said daemon)) (number_of words)
+
 -- `D`
 abbrev pub crash_of : List ℕ → Option Event
 crash_of words = option_map (λ (daemon : ℕ). Crash (daemon_said daemon)) (number_of words)
+
+-- a command of a takeover, by its first word
+abbrev pub takeover_event_by : List ℕ → List ℕ → Option Event
+takeover_event_by word rest =
+    if is_word word (codes "hear") then hear_of rest
+    else if is_word word (codes "drained") then drained_of rest
+    else if is_word word (codes "giveup") then give_up_of rest
+    else if is_word word (codes "claim") then claim_of rest
+    else None
 
 -- a daemon's command, by its first word
 abbrev pub daemon_event_by : List ℕ → List ℕ → Option Event
@@ -166,7 +197,7 @@ daemon_event_by word rest =
     else if is_word word (codes "work") then work_of rest
     else if is_word word (codes "post") then post_of rest
     else if is_word word (codes "crash") then crash_of rest
-    else None
+    else takeover_event_by word rest
 
 -- a request that waits
 abbrev pub issue_of : List ℕ → Option Event
@@ -183,8 +214,8 @@ event_by word rest =
     else if is_word word (codes "issue") then issue_of rest
     else daemon_event_by word rest
 
--- `start`, `show`, `deliver`, `do REQUEST`, `issue REQUEST`, `mount D`, `take D`, `work D I`, `work D I fail` or
--- `post D I`
+-- `start`, `show`, `deliver`, `do REQUEST`, `issue REQUEST`, `mount D`, `take D`, `work D I`, `work D I fail`,
+-- `post D I`, `hear D K`, `drained D`, `giveup D`, `claim D` or `crash D`
 abbrev pub event_of : List ℕ → Option Event
 event_of line =
     if is_word line (codes "start") then Some Start

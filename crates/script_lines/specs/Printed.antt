@@ -17,6 +17,9 @@ use Rattle.fuse_wire.specs.declared.request.Ask.{Ask}
 use Rattle.fuse_wire.specs.declared.reply.Answer.{Answer}
 use Rattle.fuse_wire.specs.declared.reply.Answer.TheVariants.{Entry, Opened, Attrs, Done, Error}
 use Rattle.fuse_wire.specs.declared.reply.Reply.{Reply}
+use Rattle.takeover_core.specs.declared.message.Message.{Message}
+use Rattle.takeover_core.specs.declared.message.Message.TheVariants.{Offer, Choice, NoCommon, Busy, Ready, Pong, Data, Failed}
+use Rattle.world.specs.Server.{at_place}
 use Rattle.world.specs.State.{State, served_of, hand_of, unposted_of}
 use Rattle.inode_map.specs.Words.{forgot_name}
 use Rattle.world.specs.Words.{refusal_name}
@@ -24,9 +27,9 @@ use Rattle.world.specs.declared.event.Event.{Event}
 use Rattle.world.specs.declared.event.Event.TheVariants.{Show}
 use Rattle.inode_map.specs.declared.inode_map.Kept.{Kept}
 use Rattle.world.specs.declared.outcome.Happened.{Happened}
-use Rattle.world.specs.declared.outcome.Happened.TheVariants.{Started, Mounted, Asked, Took, TookForgets, Made, Forgot, Posted, Answered, Crashed, Refused}
+use Rattle.world.specs.declared.outcome.Happened.TheVariants.{Started, Mounted, Asked, Took, TookForgets, Made, Forgot, Posted, Answered, Said, Heard, Ignored, Claimed, Crashed, Refused}
 use Rattle.world.specs.declared.outcome.Refusal.{Refusal}
-use Rattle.world.specs.declared.outcome.Refusal.TheVariants.{Stale}
+use Rattle.world.specs.declared.outcome.Refusal.TheVariants.{Stale, Unanswered, Undrained}
 
 -- words parted by one space each, and LF
 abbrev pub line : List (List ℕ) → List ℕ
@@ -72,21 +75,48 @@ asked_words None = codes "asked" ∷ []
 -- what a refusal says beside its name
 abbrev pub refusal_values : Refusal → List (List ℕ)
 refusal_values (Stale now) = decimal now ∷ []
+refusal_values (Unanswered asks) = decimal asks ∷ []
+refusal_values (Undrained in_hand unposted) = decimal in_hand ∷ decimal unposted ∷ []
 refusal_values refusal = []
 
--- the line of what happened
-abbrev pub line_of : Happened → List ℕ
-line_of (Started daemon) = line (codes "daemon" ∷ decimal daemon.0 ∷ [])
-line_of (Mounted generation) = line (codes "mounted" ∷ decimal generation ∷ [])
-line_of (Asked unique) = line (asked_words unique)
-line_of (Took unique) = line (codes "took" ∷ decimal unique ∷ [])
-line_of (TookForgets count) = line (codes "took" ∷ codes "forgets" ∷ decimal count ∷ [])
-line_of (Made reply) = reply_line (codes "made") reply
-line_of (Forgot item forgot) = line (codes "forgot" ∷ forgot_name forgot ∷ [])
-line_of (Posted unique) = line (codes "posted" ∷ decimal unique ∷ [])
-line_of (Answered reply) = reply_line (codes "answer") reply
-line_of Crashed = line (codes "crashed" ∷ [])
-line_of (Refused refusal) = line (codes "refused" ∷ refusal_name refusal ∷ refusal_values refusal)
+-- a refusal, with its values
+abbrev pub refusal_line : Refusal → List ℕ
+refusal_line refusal = line (codes "refused" ∷ refusal_name refusal ∷ refusal_values refusal)
+
+-- a message, by its kind; of data, how many bytes there are
+abbrev pub message_words : Message → List (List ℕ)
+message_words (Offer versions) = codes "offer" ∷ []
+message_words (Choice session version) = codes "choice" ∷ decimal session ∷ decimal version ∷ []
+message_words NoCommon = codes "nocommon" ∷ []
+message_words Busy = codes "busy" ∷ []
+message_words (Ready session generation) = codes "ready" ∷ decimal session ∷ decimal generation ∷ []
+message_words (Pong session) = codes "pong" ∷ decimal session ∷ []
+message_words (Data session generation bytes) =
+    codes "data" ∷ decimal session ∷ decimal generation ∷ decimal (length bytes) ∷ []
+message_words (Failed session) = codes "failed" ∷ decimal session ∷ []
+
+-- `said K MESSAGE`; nothing where nothing was said at the place
+abbrev pub said_line : ℕ → Option Message → List ℕ
+said_line place None = []
+said_line place (Some message) = spaced (codes "said" ∷ decimal place ∷ []) ++ line (message_words message)
+
+-- the line of what happened, where so much was said
+abbrev pub line_of : List Message → Happened → List ℕ
+line_of messages (Started daemon) = line (codes "daemon" ∷ decimal daemon.0 ∷ [])
+line_of messages (Mounted generation) = line (codes "mounted" ∷ decimal generation ∷ [])
+line_of messages (Asked unique) = line (asked_words unique)
+line_of messages (Took unique) = line (codes "took" ∷ decimal unique ∷ [])
+line_of messages (TookForgets count) = line (codes "took" ∷ codes "forgets" ∷ decimal count ∷ [])
+line_of messages (Made reply) = reply_line (codes "made") reply
+line_of messages (Forgot item forgot) = line (codes "forgot" ∷ forgot_name forgot ∷ [])
+line_of messages (Posted unique) = line (codes "posted" ∷ decimal unique ∷ [])
+line_of messages (Answered reply) = reply_line (codes "answer") reply
+line_of messages (Said place) = said_line place (at_place messages place)
+line_of messages Heard = line (codes "heard" ∷ [])
+line_of messages Ignored = line (codes "ignored" ∷ [])
+line_of messages (Claimed generation) = line (codes "claimed" ∷ decimal generation ∷ [])
+line_of messages Crashed = line (codes "crashed" ∷ [])
+line_of messages (Refused refusal) = refusal_line refusal
 
 -- where a number stands: `at PARENT NAME`, the name byte for byte, or `unlinked FILE`
 abbrev pub place_line : Place → List ℕ
@@ -147,11 +177,11 @@ world_lines state =
     (option_and_then (λ (seat : Seat). served_of state seat.daemon) state.broker.seat)
 
 -- the line of the last thing that happened, if anything did
-abbrev pub last_line : Option Happened → List ℕ
-last_line None = []
-last_line (Some happened) = line_of happened
+abbrev pub last_line : List Message → Option Happened → List ℕ
+last_line messages None = []
+last_line messages (Some happened) = line_of messages happened
 
 -- what an event prints, with the world after it
 abbrev pub printed : State → Event → List Happened → List ℕ
 printed state Show outcome = world_lines state
-printed state event outcome = last_line (slice_get outcome (length outcome - 1))
+printed state event outcome = last_line state.messages (slice_get outcome (length outcome - 1))

@@ -1,6 +1,6 @@
 //! A line that says what happens.
 ghost use Rattle.std.specs.Prelude.{◌≡◌, IfOk};
-ghost use Rattle.script_lines.specs.EventLine.{event_of, daemon_event_by, mount_of, take_of, work_of, tried_of, tried_at, post_of, crash_of, issue_of, do_of, request_of, lookup_of, create_of, mkdir_of, unlink_of, rmdir_of, forget_of, getattr_of, other_said, named_of, made_of, name_of};
+ghost use Rattle.script_lines.specs.EventLine.{event_of, daemon_event_by, mount_of, take_of, work_of, tried_of, tried_at, post_of, takeover_event_by, hear_of, drained_of, give_up_of, claim_of, crash_of, issue_of, do_of, request_of, lookup_of, create_of, mkdir_of, unlink_of, rmdir_of, forget_of, getattr_of, other_said, named_of, made_of, name_of};
 
 use crate::decimal::number;
 use eden_base::{DaemonId, Name, NameFault, NoMemory, Number, Perm, cut};
@@ -52,6 +52,25 @@ fn read_daemon_event(word: &[u8], rest: &[u8]) -> Option<Event>
     }
     if word == b"crash".as_slice() {
         return read_crash(rest);
+    }
+    read_takeover_event(word, rest)
+}
+
+/// Reads what a daemon does in a takeover, by the line's first word.
+fn read_takeover_event(word: &[u8], rest: &[u8]) -> Option<Event>
+    ensures { result ≡ takeover_event_by word.now rest.now }
+{
+    if word == b"hear".as_slice() {
+        return read_hear(rest);
+    }
+    if word == b"drained".as_slice() {
+        return read_drained(rest);
+    }
+    if word == b"giveup".as_slice() {
+        return read_give_up(rest);
+    }
+    if word == b"claim".as_slice() {
+        return read_claim(rest);
     }
     None
 }
@@ -109,6 +128,40 @@ fn read_post(words: &[u8]) -> Option<Event>
     let daemon = DaemonId(number(daemon)?);
     let place = number(place)?;
     Some(Event::Post { daemon, place })
+}
+
+/// Reads the daemon that hears, and the place of the message.
+fn read_hear(words: &[u8]) -> Option<Event>
+    ensures { result ≡ hear_of words.now }
+{
+    let (daemon, place) = cut(words, b' ')?;
+    let daemon = DaemonId(number(daemon)?);
+    let place = number(place)?;
+    Some(Event::Hear { daemon, place })
+}
+
+/// Reads the daemon that is to be drained.
+fn read_drained(words: &[u8]) -> Option<Event>
+    ensures { result ≡ drained_of words.now }
+{
+    let daemon = number(words)?;
+    Some(Event::Drained(DaemonId(daemon)))
+}
+
+/// Reads the daemon that gives its takeover up.
+fn read_give_up(words: &[u8]) -> Option<Event>
+    ensures { result ≡ give_up_of words.now }
+{
+    let daemon = number(words)?;
+    Some(Event::GiveUp(DaemonId(daemon)))
+}
+
+/// Reads the daemon that claims the seat.
+fn read_claim(words: &[u8]) -> Option<Event>
+    ensures { result ≡ claim_of words.now }
+{
+    let daemon = number(words)?;
+    Some(Event::Claim(DaemonId(daemon)))
 }
 
 /// Reads the daemon that crashes.

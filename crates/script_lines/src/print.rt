@@ -1,9 +1,11 @@
 //! The lines that a script's events print.
 ghost use Rattle.std.specs.Prelude.{◌≡◌, ◌<◌, ◌^◌, sum_by, count_by, OnOk};
 ghost use Rattle.std.specs.Io.KnownBytes.{Appends};
+ghost use Rattle.std.specs.Option.{option_copied};
 ghost use Rattle.broker_core.specs.Traffic.{gives};
 ghost use Rattle.inode_map.specs.declared.inode_map.Kept.{Kept};
-ghost use Rattle.script_lines.specs.Printed.{printed, line, line_of, asked_words, spaced, reply_line, answer_words, file_words, octal, world_lines, served_lines, kept_lines, kept_line, count_words, taken_back_by, taken_back_under_way, given_under_way, place_line};
+ghost use Rattle.world.specs.Server.{at_place};
+ghost use Rattle.script_lines.specs.Printed.{printed, line, line_of, said_line, message_words, refusal_line, asked_words, spaced, reply_line, answer_words, file_words, octal, world_lines, served_lines, kept_lines, kept_line, count_words, taken_back_by, taken_back_under_way, given_under_way, place_line};
 
 use broker_core::Seat;
 use eden_base::{Attr, DaemonId, Number, Perm, Place};
@@ -11,6 +13,7 @@ use fuse_ops::Served;
 use fuse_wire::{Answer, Ask, Reply};
 use inode_map::InodeMap;
 use std::io::{self, Write};
+use takeover_core::Message;
 use world::{Event, Happened, Outcome, Refusal, World};
 
 /// Prints what came of an event, and the world where the event was to show it.
@@ -27,15 +30,19 @@ pub fn print_event<W: Write>(
         return print_world(out, world);
     }
     match outcome.happened().last() {
-        Some(happened) => print_happened(out, happened),
+        Some(happened) => print_happened(out, world.messages(), happened),
         None => Ok(()),
     }
 }
 
-/// Prints the line of what happened.
-fn print_happened<W: Write>(out: &mut W, happened: &Happened) -> io::Result<()>
+/// Prints the line of what happened, where so much was said.
+fn print_happened<W: Write>(
+    out: &mut W,
+    messages: &[Message],
+    happened: &Happened,
+) -> io::Result<()>
     ensures { OnOk result (Appends (W.contents out.old) (W.contents out.new)
-        (line_of happened.now)) }
+        (line_of messages.now happened.now)) }
 {
     match happened {
         Happened::Started(daemon) => {
@@ -53,8 +60,61 @@ fn print_happened<W: Write>(out: &mut W, happened: &Happened) -> io::Result<()>
         }
         Happened::Posted(unique) => writeln!(out, "posted {unique}"),
         Happened::Answered(reply) => print_reply(out, "answer", reply),
+        Happened::Said(place) => print_said(out, messages, *place),
+        Happened::Heard => writeln!(out, "heard"),
+        Happened::Ignored => writeln!(out, "ignored"),
+        Happened::Claimed(generation) => writeln!(out, "claimed {generation}"),
         Happened::Crashed => writeln!(out, "crashed"),
         Happened::Refused(refusal) => print_refusal(out, *refusal),
+    }
+}
+
+/// Prints the message at a place, counted from 1: nothing, where nothing was said there.
+fn print_said<W: Write>(out: &mut W, messages: &[Message], place: usize) -> io::Result<()>
+    ensures { OnOk result (Appends (W.contents out.old) (W.contents out.new)
+        (said_line place (at_place messages.now place))) }
+{
+    match message_at(messages, place) {
+        Some(message) => {
+            write!(out, "said {place} ")?;
+            print_message(out, message)
+        }
+        None => Ok(()),
+    }
+}
+
+/// Returns the message at a place, counted from 1.
+fn message_at(messages: &[Message], place: usize) -> Option<&Message>
+    ensures { option_copied result ≡ at_place messages.now place }
+{
+    let index = place.checked_sub(1)?;
+    messages.get(index)
+}
+
+/// Prints a message, by its kind.
+fn print_message<W: Write>(out: &mut W, message: &Message) -> io::Result<()>
+    ensures { OnOk result (Appends (W.contents out.old) (W.contents out.new)
+        (line (message_words message.now))) }
+{
+    match message {
+        Message::Offer(_) => writeln!(out, "offer"),
+        Message::Choice { session, version } => writeln!(out, "choice {session} {version}"),
+        Message::NoCommon => writeln!(out, "nocommon"),
+        Message::Busy => writeln!(out, "busy"),
+        Message::Ready {
+            session,
+            generation,
+        } => writeln!(out, "ready {session} {generation}"),
+        Message::Pong { session } => writeln!(out, "pong {session}"),
+        Message::Data {
+            session,
+            generation,
+            bytes,
+        } => {
+            let length = bytes.as_slice().len();
+            writeln!(out, "data {session} {generation} {length}")
+        }
+        Message::Failed { session } => writeln!(out, "failed {session}"),
     }
 }
 
@@ -72,11 +132,15 @@ fn print_asked<W: Write>(out: &mut W, unique: Option<u64>) -> io::Result<()>
 /// Prints a refusal, with its values.
 fn print_refusal<W: Write>(out: &mut W, refusal: Refusal) -> io::Result<()>
     ensures { OnOk result (Appends (W.contents out.old) (W.contents out.new)
-        (line_of (Happened.Refused refusal))) }
+        (refusal_line refusal)) }
 {
     let name = refusal.name();
     match refusal {
         Refusal::Stale(now) => writeln!(out, "refused {name} {now}"),
+        Refusal::Unanswered(asks) => writeln!(out, "refused {name} {asks}"),
+        Refusal::Undrained { in_hand, unposted } => {
+            writeln!(out, "refused {name} {in_hand} {unposted}")
+        }
         _ => writeln!(out, "refused {name}"),
     }
 }
