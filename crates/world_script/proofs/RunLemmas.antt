@@ -9,7 +9,7 @@ use Rattle.world.specs.Step.{Steps}
 use Rattle.world.specs.World.{first_world}
 use Rattle.world.specs.Agreement.{Matches, world_after}
 use Rattle.world.specs.declared.outcome.Happened.{Happened}
-use Rattle.world.proofs.WholeRun.{match-agrees, match-counts, match-names, steps-matched, posters-answered}
+use Rattle.world.proofs.WholeRun.{match-agrees, match-counts, match-names, match-current, steps-matched, posters-answered}
 use Rattle.world.specs.declared.event.Event.{Event}
 use Rattle.world_script.specs.declared.fault.Fault.{Fault}
 use Rattle.world_script.specs.declared.fault.Fault.TheVariants.{CannotWrite}
@@ -31,10 +31,11 @@ promised manifest limit events outcomes last matches steps =
     record {
       run = ran.run;
       matches = ran.matches;
-      events_are_a_run_of_moves = record { run = ran.run; agrees = match-agrees (world_after manifest events outcomes) last ran.matches };
-      counts_are_what_is_owed = match-counts (world_after manifest events outcomes) last ran.matches;
-      numbers_name_their_first_file = match-names (world_after manifest events outcomes) last ran.matches;
-      one_daemon_for_each_generation = ran.matches.answered.one_daemon;
+      events_are_a_run_of_moves = record { run = ran.run; agrees = match-agrees (world_after manifest events outcomes) last ran.matches.follows };
+      counts_are_what_is_owed = match-counts (world_after manifest events outcomes) last ran.matches.follows;
+      numbers_name_their_first_file = match-names (world_after manifest events outcomes) last ran.matches.follows;
+      one_daemon_for_each_generation = ran.matches.follows.answered.one_daemon;
+      handed_data_is_current = match-current (world_after manifest events outcomes) last ran.matches;
       replies_are_answered = λ way. posters-answered (first_world manifest) (started manifest limit) events outcomes last matches way;
       no_bad_forget = ran.forgets;
     }

@@ -8,7 +8,7 @@ use Rattle.manifest.specs.declared.fault.ManifestFault.{ManifestFault}
 use Rattle.world.specs.State.{State, started}
 use Rattle.world.specs.Step.{Step}
 use Rattle.world.specs.World.{IsRun, first_world}
-use Rattle.world.specs.Agreement.{all_moves, world_after, Matches, IsRunOfMoves, CountsAreOwed, NumbersNameTheirFirstFile, OneDaemonForEachGeneration, RepliesAreAnswered, IsGoodForget}
+use Rattle.world.specs.Agreement.{all_moves, world_after, Matches, IsRunOfMoves, CountsAreOwed, NumbersNameTheirFirstFile, OneDaemonForEachGeneration, DataIsCurrent, RepliesAreAnswered, IsGoodForget}
 use Rattle.world.specs.declared.event.Event.{Event}
 use Rattle.world.specs.declared.outcome.Happened.{Happened}
 use Rattle.world_script.specs.Parts.{IsSplit, SaysEvents}
@@ -56,6 +56,8 @@ pub record IsPromised (manifest : Manifest) (limit : ℕ) (events : List Event)
   pub numbers_name_their_first_file : NumbersNameTheirFirstFile (world_after manifest events outcomes) last
   -- all replies that were accepted at one generation came from one daemon
   pub one_daemon_for_each_generation : OneDaemonForEachGeneration (world_after manifest events outcomes)
+  -- data of the seat's generation, and what is served by each daemon that may claim the seat, knows the world
+  pub handed_data_is_current : DataIsCurrent (world_after manifest events outcomes) last
   -- each reply that was posted is one that the world saw posted, by that daemon at that generation
   pub replies_are_answered :
       RepliesAreAnswered (world_after manifest events outcomes) (started manifest limit) events outcomes last

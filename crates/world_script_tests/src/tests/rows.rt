@@ -3,7 +3,7 @@ use super::{MANIFEST, prints};
 use std::alloc::Global;
 
 /// The start of a script, its rest, and the printed lines.
-const ROWS: [(&[u8], &[u8], &[u8]); 34] = [
+const ROWS: [(&[u8], &[u8], &[u8]); 40] = [
     (
         MANIFEST,
         b"start\nmount 1\nshow\n",
@@ -173,6 +173,42 @@ const ROWS: [(&[u8], &[u8], &[u8]); 34] = [
     (b"dir src/\n", b"start\n", b"fault: no events\n"),
     // A second line `--` is a bad line.
     (MANIFEST, b"start\n--\n", b"fault: line 8: bad line\n"),
+    // A daemon takes over, and a number whose file has no name any more goes on naming it.
+    (
+        MANIFEST,
+        b"start\nmount 1\ndo lookup 1 src\ndo lookup 1 README\ndo lookup 1 README\ndo lookup 1 README\ndo create 1 0600 t\ndo unlink 1 t\nstart\nhear 1 2\nhear 2 3\ndrained 1\nhear 2 4\nhear 1 5\nhear 2 6\nclaim 2\ndo getattr 4\ndo forget 3 2\nshow\n",
+        b"daemon 1\nmounted 1\nanswer 1 entry 2 dir 0755 0 2\nanswer 2 entry 3 file 0644 7 1\nanswer 3 entry 3 file 0644 7 1\nanswer 4 entry 3 file 0644 7 1\nanswer 5 opened 4 file 0600 0 1\nanswer 6 done\ndaemon 2\nsaid 3 choice 1 1\nheard\nsaid 4 ready 1 1\nsaid 5 pong 1\nsaid 6 data 1 1 147\nheard\nclaimed 2\nanswer 7 attr 4 file 0600 0 0\nforgot Lowered\nseat 2 2 next 5\nnumber 2 held 1 up 0 down 0 count 1 at 1 src\nnumber 3 held 1 up 0 down 0 count 1 at 1 README\nnumber 4 held 1 up 0 down 0 count 1 unlinked 6\n",
+    ),
+    // A daemon is ready only once nothing is in hand, and nothing unposted.
+    (
+        MANIFEST,
+        b"start\nmount 1\ndo lookup 1 src\ndo lookup 1 README\nissue forget 3 1\nissue getattr 2\ntake 1\ntake 1\nwork 1 1\nstart\nhear 1 2\ndrained 1\npost 1 1\ndrained 1\nwork 1 1\ndrained 1\ndeliver\n",
+        b"daemon 1\nmounted 1\nanswer 1 entry 2 dir 0755 0 2\nanswer 2 entry 3 file 0644 7 1\nasked\nasked 3\ntook 3\ntook forgets 1\nmade 3 attr 2 dir 0755 0 2\ndaemon 2\nsaid 3 choice 1 1\nrefused Undrained 1 1\nposted 3\nrefused Undrained 1 0\nforgot Dropped\nsaid 4 ready 1 1\nanswer 3 attr 2 dir 0755 0 2\n",
+    ),
+    // A reply reaches the kernel after the data was made, and a forget waits for the next daemon.
+    (
+        MANIFEST,
+        b"start\nmount 1\ndo lookup 1 src\nissue lookup 1 src\ntake 1\nwork 1 1\npost 1 1\nstart\nhear 1 2\nhear 2 3\ndrained 1\nhear 2 4\nhear 1 5\ndeliver\nissue forget 2 1\nhear 2 6\nclaim 2\nshow\ntake 2\nwork 2 1\nshow\n",
+        b"daemon 1\nmounted 1\nanswer 1 entry 2 dir 0755 0 2\nasked 2\ntook 2\nmade 2 entry 2 dir 0755 0 2\nposted 2\ndaemon 2\nsaid 3 choice 1 1\nheard\nsaid 4 ready 1 1\nsaid 5 pong 1\nsaid 6 data 1 1 87\nanswer 2 entry 2 dir 0755 0 2\nasked\nheard\nclaimed 2\nseat 2 2 next 3\nnumber 2 held 1 up 1 down 0 count 2 at 1 src\ntook forgets 1\nforgot Lowered\nseat 2 2 next 3\nnumber 2 held 1 up 0 down 0 count 1 at 1 src\n",
+    ),
+    // The old daemon resumes, and the new one claims too late.
+    (
+        MANIFEST,
+        b"start\nmount 1\nstart\nhear 1 2\nhear 2 3\ndrained 1\nhear 2 4\nhear 1 5\ngiveup 1\nclaim 1\nhear 2 6\nclaim 2\nshow\n",
+        b"daemon 1\nmounted 1\ndaemon 2\nsaid 3 choice 1 1\nheard\nsaid 4 ready 1 1\nsaid 5 pong 1\nsaid 6 data 1 1 62\nsaid 7 failed 1\nclaimed 2\nheard\nrefused Stale 2\nseat 2 1 next 2\n",
+    ),
+    // Two daemons hear the same data, and one has the seat.
+    (
+        MANIFEST,
+        b"start\nmount 1\nstart\nstart\nhear 1 2\nhear 2 4\nhear 3 4\ndrained 1\nhear 2 5\nhear 1 6\nhear 2 7\nhear 3 7\nhear 2 7\nclaim 3\nclaim 2\ngiveup 1\nclaim 1\nshow\n",
+        b"daemon 1\nmounted 1\ndaemon 2\ndaemon 3\nsaid 4 choice 1 1\nheard\nheard\nsaid 5 ready 1 1\nsaid 6 pong 1\nsaid 7 data 1 1 62\nheard\nheard\nignored\nclaimed 2\nrefused Stale 2\nsaid 8 failed 1\nrefused Stale 2\nseat 2 3 next 2\n",
+    ),
+    // After a crash the old data is of no use.
+    (
+        MANIFEST,
+        b"start\nmount 1\nstart\nhear 1 2\nhear 2 3\ndrained 1\nhear 2 4\nhear 1 5\nhear 2 6\ncrash 1\nclaim 2\nshow\nstart\nmount 3\nstart\nhear 4 3\nhear 4 6\nclaim 4\n",
+        b"daemon 1\nmounted 1\ndaemon 2\nsaid 3 choice 1 1\nheard\nsaid 4 ready 1 1\nsaid 5 pong 1\nsaid 6 data 1 1 62\nheard\ncrashed\nrefused Ended\nseat none\ndaemon 3\nmounted 2\ndaemon 4\nheard\nheard\nrefused Stale 2\n",
+    ),
 ];
 
 /// Returns whether each script prints its lines.
