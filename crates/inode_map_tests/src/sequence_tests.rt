@@ -148,6 +148,22 @@ fn unlink(map: &mut InodeMap, plain: &mut Plain, number: u64) {
     plain.unlink(number);
 }
 
+/// Gives the number of a name, in room that is made first where it is told so.
+fn given(
+    alloc: Global,
+    map: &mut InodeMap,
+    parent: Number,
+    name: Name,
+    is_reserved: bool,
+) -> Result<Number, GiveFault> {
+    if is_reserved && map.reserve(alloc).is_ok() {
+        return map.give_ready(parent, name);
+    }
+    let given = map.give(alloc, parent, &name);
+    drop(name);
+    given
+}
+
 /// Gives the number of a name in both. The map makes room for it first where it is told so.
 fn give(
     alloc: Global,
@@ -158,11 +174,7 @@ fn give(
     is_reserved: bool,
 ) -> Result<bool, NameFault> {
     let name = Name::parse(alloc, &[byte])?;
-    let given = if is_reserved && map.reserve(alloc).is_ok() {
-        map.give_ready(Number(parent), name)
-    } else {
-        map.give(alloc, Number(parent), &name)
-    };
+    let given = given(alloc, map, Number(parent), name, is_reserved);
     let listed = plain.give(parent, byte);
     Ok(matches!((given, listed), (Ok(number), Ok(other)) if number.0 == other))
 }

@@ -131,7 +131,9 @@ fn finds_each_in(alloc: Global, tree: &Tree) -> bool {
     match map_of(alloc, 4) {
         Ok(map) => {
             let mut map = map;
-            finds_each(alloc, &mut map, tree)
+            let finds = finds_each(alloc, &mut map, tree);
+            drop(map);
+            finds
         }
         Err(NoMemory) => false,
     }
