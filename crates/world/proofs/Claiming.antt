@@ -1,21 +1,19 @@
 -- A claim moves the seat; one that is refused moves nothing.
-use Rattle.std.proofs.Common.{◌≡◌, ℕ, ◌+◌, ◌<◌, ◌≤◌, Bool, true, false, List, [], ◌∷◌, ◌++◌, Option, Some, None, Err, refl, sym, ap, ◌∙◌, subst, inl, inr, ◌⊎◌, arith}
-use Rattle.std.specs.Prelude.{sum_by, Contains}
+use Rattle.std.proofs.Common.{◌≡◌, ℕ, ◌+◌, ◌≤◌, true, List, [], ◌∷◌, ◌++◌, Option, Some, None, Err, refl, sym, ap, ◌∙◌, subst, inl, inr, ◌⊎◌, arith}
+use Rattle.std.specs.Prelude.{sum_by}
 use Rattle.std.specs.Option.{option_map, option_map_or, option_and_then}
 use Rattle.eden_base.specs.declared.claim.ClaimFault.{ClaimFault}
 use Rattle.eden_base.specs.declared.claim.ClaimFault.TheVariants as fault_of
 use Rattle.eden_base.specs.declared.number.DaemonId.{DaemonId}
 use Rattle.fuse_wire.specs.declared.request.Ask.{Ask}
-use Rattle.broker_core.specs.Broker.{BrokerState, claim_fault, claimed}
+use Rattle.broker_core.specs.Broker.{claim_fault, claimed}
 use Rattle.broker_core.specs.declared.seat.Seat.{Seat}
 use Rattle.fuse_ops.specs.Served.{plain}
 use Rattle.takeover_core.specs.Phases as table
-use Rattle.takeover_core.specs.declared.phase.Phase.{Phase}
-use Rattle.takeover_core.specs.declared.phase.Phase.TheVariants.{Holding}
-use Rattle.world.specs.World.{World, Move, claim, owed, after}
+use Rattle.world.specs.World.{World, claim, owed, after}
 use Rattle.world.specs.Agreement.{Knows, Follows, IsHolder, IsUnderWay, AnsweredBefore, asks_in, items_in, move_of}
 use Rattle.world.specs.Daemon.{DaemonState}
-use Rattle.world.specs.Handing.{is_drained, is_out, HasTheSeat, DaemonStands, IsHanding}
+use Rattle.world.specs.Handing.{is_out, HasTheSeat, IsHanding}
 use Rattle.world.specs.Server.{ServerState, IsIdle}
 use Rattle.world.specs.State.{State, fault, daemon_of, with_daemon, server_of, IsSeated}
 use Rattle.world.specs.Step.{Claims, after_refusal, unclaimed}

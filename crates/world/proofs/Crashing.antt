@@ -3,7 +3,7 @@ use Rattle.std.proofs.Common.{◌≡◌, Bool, true, false, [], ◌∷◌, Optio
 use Rattle.std.specs.Prelude.{◌==◌, if◌then◌else◌}
 use Rattle.eden_base.proofs.NumberTests.{true-eq, false-ne}
 use Rattle.eden_base.specs.declared.number.DaemonId.{DaemonId}
-use Rattle.broker_core.specs.Broker.{BrokerState, ended}
+use Rattle.broker_core.specs.Broker.{ended}
 use Rattle.broker_core.specs.declared.seat.Seat.{Seat}
 use Rattle.broker_core.proofs.HeldLaws.{held_count-none}
 use Rattle.world.specs.Agreement.{IsHolder, Follows, holds, move_of}

@@ -1,27 +1,25 @@
 -- What stands of daemons and messages goes on standing, whatever happens to one daemon.
-use Rattle.std.proofs.Common.{◌≡◌, ℕ, suc, zero, ◌+◌, ◌<◌, ◌≤◌, Bool, true, false, List, [], ◌∷◌, ◌++◌, Option, Some, None, refl, sym, ap, ◌∙◌, subst, inl, inr, ◌⊎◌, arith}
+use Rattle.std.proofs.Common.{◌≡◌, ℕ, suc, zero, ◌<◌, ◌≤◌, true, false, List, [], ◌∷◌, ◌++◌, Some, None, refl, sym, ap, ◌∙◌, subst, inl, inr, ◌⊎◌, arith}
 use Rattle.std.specs.Prelude.{slice_get}
 use Rattle.std.specs.List.{AllByRecursion}
 use Rattle.eden_base.specs.Limits.{last_generation}
 use Rattle.manifest.specs.Manifest.{Manifest, IsManifest}
 use Rattle.eden_base.specs.declared.number.DaemonId.{DaemonId}
-use Rattle.eden_base.proofs.NumberTests.{false-ne}
-use Rattle.broker_core.specs.Broker.{BrokerState}
 use Rattle.broker_core.specs.declared.seat.Seat.{Seat}
 use Rattle.fuse_ops.specs.Served.{ServedState, plain}
 use Rattle.handover.specs.Handover.{IsHandedOver}
 use Rattle.takeover_core.specs.Histories.{seat_of}
 use Rattle.takeover_core.specs.Phases.{claim_wanted}
 use Rattle.takeover_core.specs.declared.message.Message.{Message}
-use Rattle.takeover_core.specs.declared.message.Message.TheVariants.{Offer, Choice, NoCommon, Busy, Ready, Pong, Data, Failed}
+use Rattle.takeover_core.specs.declared.message.Message.TheVariants.{Data}
 use Rattle.takeover_core.specs.declared.phase.Phase.{Phase}
-use Rattle.takeover_core.specs.declared.phase.Phase.TheVariants.{Waiting, Chosen, Raising, Holding, Serving, Draining, Pinged, Making, Handed, Gone}
+use Rattle.takeover_core.specs.declared.phase.Phase.TheVariants.{Holding, Serving, Draining, Pinged, Making, Handed}
 use Rattle.world.specs.Daemon.{DaemonState}
-use Rattle.world.specs.Handing.{part_at, is_drained, is_out, in_session, HasTheSeat, MessageStands, DaemonStands, IsHanding}
-use Rattle.world.specs.Server.{ServerState, IsIdle}
+use Rattle.world.specs.Handing.{part_at, is_drained, is_out, HasTheSeat, MessageStands, DaemonStands, IsHanding}
+use Rattle.world.specs.Server.{ServerState}
 use Rattle.world.specs.State.{State, daemon_of, with_daemon}
 use Rattle.world.proofs.Daemons.{who}
-use Rattle.world.proofs.Turns.{IsTurn, is_data}
+use Rattle.world.proofs.Turns.{is_data}
 
 -- ---- lists
 

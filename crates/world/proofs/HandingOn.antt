@@ -1,8 +1,7 @@
 -- Every event leaves daemons and messages standing.
-use Rattle.std.proofs.Common.{◌≡◌, ℕ, suc, zero, ◌+◌, ◌-◌, ◌<◌, ◌≤◌, Bool, true, false, List, [], ◌∷◌, ◌++◌, Option, Some, None, Result, Ok, Err, refl, sym, ap, ◌∙◌, subst, inl, inr, ◌⊎◌, arith}
+use Rattle.std.proofs.Common.{◌≡◌, ℕ, suc, zero, ◌+◌, ◌-◌, ◌<◌, ◌≤◌, Bool, true, false, List, [], ◌∷◌, ◌++◌, Option, Some, None, Err, refl, sym, ap, ◌∙◌, subst, inl, inr, ◌⊎◌, arith}
 use Rattle.std.specs.Prelude.{◌==◌, slice_get, if◌then◌else◌}
-use Rattle.std.specs.Option.{option_map, option_map_or, option_and_then}
-use Rattle.std.specs.List.{AllByRecursion}
+use Rattle.std.specs.Option.{option_map, option_map_or}
 use Rattle.eden_base.specs.Limits.{last_generation}
 use Rattle.eden_base.specs.declared.claim.ClaimFault.{ClaimFault}
 use Rattle.eden_base.specs.declared.claim.ClaimFault.TheVariants as claim
@@ -10,7 +9,7 @@ use Rattle.eden_base.specs.declared.number.DaemonId.{DaemonId}
 use Rattle.fuse_wire.specs.Request.{is_ask, item_of}
 use Rattle.fuse_wire.specs.declared.item.Item.{Item}
 use Rattle.fuse_wire.specs.declared.request.Request.{Request}
-use Rattle.broker_core.specs.Broker.{BrokerState, asked, forgot, mounted, ended, has_seat, without_daemon, claim_fault}
+use Rattle.broker_core.specs.Broker.{BrokerState, asked, forgot, mounted, ended, has_seat, claim_fault}
 use Rattle.broker_core.specs.declared.seat.Seat.{Seat}
 use Rattle.takeover_core.specs.Phases as table
 use Rattle.takeover_core.specs.declared.message.Message.{Message}
@@ -22,8 +21,8 @@ use Rattle.world.specs.Agreement.{Follows}
 use Rattle.world.specs.Daemon.{DaemonState, versions, new_daemon, is_waiting, with_server}
 use Rattle.world.specs.Handing.{part_at, is_drained, HasTheSeat, MessageStands, DaemonStands, IsHanding}
 use Rattle.world.specs.Server.{ServerState, IsIdle, at_place, with_taken, with_worked, with_posted}
-use Rattle.world.specs.State.{State, daemon_of, with_daemon, server_of, fault, take_refusal, server_refusal, absence}
-use Rattle.world.specs.Step.{Starts, Mounts, Issues, Takes, Works, Posts, Delivers, Claims, Crashes, Makes, Lacks, TakesMemory, OnceBy, Once, after_refusal, unclaimed}
+use Rattle.world.specs.State.{State, daemon_of, with_daemon, fault, take_refusal, server_refusal}
+use Rattle.world.specs.Step.{Starts, Mounts, Issues, Takes, Works, Posts, Claims, Crashes, Makes, OnceBy, Once, after_refusal, unclaimed}
 use Rattle.world.specs.Talking.{after_claim, at_generation}
 use Rattle.world.specs.declared.event.Event.{Event}
 use Rattle.world.specs.declared.event.Event.TheVariants.{Start, Mount, Issue, Take, Work, Post, Deliver, Hear, Drained, GiveUp, Claim, Crash}
@@ -31,7 +30,7 @@ use Rattle.world.specs.declared.outcome.Happened.{Happened}
 use Rattle.world.specs.declared.outcome.Refusal.{Refusal}
 use Rattle.world.proofs.Claims.{IsClaim, claim-is, refused-no-holder, claimed-phase, fatal-phase, waiting-phase, mounted-phase, crashed-phase}
 use Rattle.world.proofs.Daemons.{MayMount, may_mount, serving-there, none-at}
-use Rattle.world.proofs.Handing.{KeepsSeat, WasHolder, KeepsOut, IsBase, IsLater, daemon-along, message-along, daemon-later, message-later, daemon-free, message-free, all-along, all-append, handing-where, handing-stays, stays, holding-part}
+use Rattle.world.proofs.Handing.{KeepsSeat, WasHolder, IsBase, IsLater, daemon-along, message-along, daemon-later, message-later, daemon-free, message-free, all-along, all-append, handing-where, handing-stays, stays, holding-part}
 use Rattle.world.proofs.HandingTalks.{hears-handing, gives-up-handing, drains-handing}
 use Rattle.world.proofs.Standing.{busy-stands, busy-out, seated-stands, gone-stands}
 

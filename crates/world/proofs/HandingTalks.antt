@@ -1,16 +1,14 @@
 -- Daemons and messages stand after a message was heard, and after a daemon was drained or gave up.
-use Rattle.std.proofs.Common.{◌≡◌, ℕ, ◌-◌, ◌≤◌, Bool, true, false, ◌&&◌, List, [], ◌∷◌, ◌++◌, length, Option, Some, None, refl, sym, ap, ◌∙◌, subst, inl, inr, ◌⊎◌, arith, rules}
-use Rattle.std.specs.Prelude.{◌==◌, slice_get, if◌then◌else◌}
+use Rattle.std.proofs.Common.{◌≡◌, ℕ, ◌-◌, ◌≤◌, Bool, true, false, ◌&&◌, List, [], ◌∷◌, ◌++◌, length, Option, Some, None, refl, sym, ap, ◌∙◌, subst, inl, inr, arith}
+use Rattle.std.specs.Prelude.{◌==◌}
 use Rattle.std.specs.Option.{option_and_then, option_map_or}
 use Rattle.std.specs.List.{AllByRecursion}
 use Rattle.eden_base.specs.declared.number.DaemonId.{DaemonId}
 use Rattle.eden_base.proofs.NumberTests.{true-eq}
-use Rattle.manifest.specs.Manifest.{Manifest}
 use Rattle.manifest.specs.Tree.{Tree, IsTree}
 use Rattle.broker_core.specs.declared.seat.Seat.{Seat}
-use Rattle.fuse_ops.specs.Served.{ServedState, plain}
-use Rattle.fuse_ops.specs.Soundness.{IsSound}
-use Rattle.handover.specs.Handover.{IsHandedOver, IsTakenOver}
+use Rattle.fuse_ops.specs.Served.{plain}
+use Rattle.handover.specs.Handover.{IsHandedOver}
 use Rattle.handover.proofs.HandedOver.{taken_knows}
 use Rattle.takeover_core.specs.Phases as table
 use Rattle.takeover_core.specs.Histories.{seat_of}
@@ -20,7 +18,7 @@ use Rattle.takeover_core.specs.declared.heard.Heard.TheVariants as answer
 use Rattle.takeover_core.specs.declared.message.Message.{Message}
 use Rattle.takeover_core.specs.declared.message.Message.TheVariants.{Data}
 use Rattle.takeover_core.specs.declared.phase.Phase.{Phase}
-use Rattle.takeover_core.specs.declared.phase.Phase.TheVariants.{Chosen, Raising, Holding, Serving, Pinged, Making, Handed, Gone}
+use Rattle.takeover_core.specs.declared.phase.Phase.TheVariants.{Raising, Holding, Serving, Making, Handed, Gone}
 use Rattle.world.specs.World.{World}
 use Rattle.world.specs.Agreement.{Follows}
 use Rattle.world.specs.Daemon.{DaemonState, with_node, in_hand, unposted}
@@ -34,7 +32,7 @@ use Rattle.world.specs.declared.daemon.Reaction.{Reaction}
 use Rattle.world.specs.declared.daemon.Reaction.TheVariants.{Ignores, Heeds, Says}
 use Rattle.world.specs.declared.outcome.Happened.{Happened}
 use Rattle.world.proofs.Daemons.{daemon_of-with, holder-is, HolderIs, at-is}
-use Rattle.world.proofs.Handing.{KeepsOut, KeepsSeat, IsBase, all-at, no-data-stands, daemon-along, handing-stays, stays}
+use Rattle.world.proofs.Handing.{KeepsSeat, IsBase, all-at, no-data-stands, handing-stays, stays}
 use Rattle.world.proofs.Standing.{Turned, turned-out, turned-stands}
 use Rattle.world.proofs.Turns.{IsTurn, is_data, says_data, node_of, turn-hear, turn-give_up, turn-drained, turn-made, turn-failed, turn-gone, hear-no-data, give_up-no-data, drained-no-data, MakesIt, makes-it, TakesIt, takes-it}
 

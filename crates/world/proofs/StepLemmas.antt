@@ -1,13 +1,12 @@
 -- What the world's calls did is one event, and events one after another.
-use Rattle.std.proofs.Common.{◌≡◌, ℕ, suc, zero, ◌-◌, ◌+◌, ◌<◌, Bool, true, false, if◌then◌else◌, List, [], ◌∷◌, ◌++◌, length, Option, Some, None, Result, Ok, Err, get_or, set, refl, sym, ap, ◌∙◌, subst, inl, inr, arith}
+use Rattle.std.proofs.Common.{◌≡◌, ℕ, ◌-◌, ◌+◌, ◌<◌, Bool, true, false, if◌then◌else◌, List, [], ◌∷◌, ◌++◌, length, Option, Some, None, Result, Err, get_or, set, refl, sym, ap, ◌∙◌, subst, inl, inr}
 use Rattle.std.proofs.lemmas.Option.{slice_get_read}
 use Rattle.std.specs.Prelude.{slice_get, is_none}
 use Rattle.std.specs.Option.{option_map, option_map_or}
-use Rattle.eden_base.specs.declared.claim.ClaimFault.{ClaimFault}
 use Rattle.eden_base.specs.declared.number.DaemonId.{DaemonId}
 use Rattle.fuse_wire.specs.declared.request.Ask.{Ask}
 use Rattle.fuse_wire.specs.declared.reply.Reply.{Reply}
-use Rattle.broker_core.specs.Broker.{BrokerState, mount_fault, mounted, take_fault, post_fault, claim_fault, without_daemon}
+use Rattle.broker_core.specs.Broker.{BrokerState, mount_fault, mounted, take_fault, post_fault, without_daemon}
 use Rattle.broker_core.specs.declared.fault.TakeFault.{TakeFault}
 use Rattle.broker_core.specs.declared.fault.PostFault.{PostFault}
 use Rattle.fuse_ops.specs.Served.{ServedState, new_served}
@@ -17,7 +16,7 @@ use Rattle.world.specs.Daemon.{DaemonState, is_waiting, with_server, in_hand, un
 use Rattle.world.specs.Server.{ServerState, new_server, at_place}
 use Rattle.world.specs.Serving.{beginning, IsIndex, ChangesAt, TakesBy, WorksBy, PostsBy, PostsReply, TakesIf, WorksIf, PostsIf, DaemonTakes, DaemonWorks, DaemonPosts}
 use Rattle.world.specs.State.{State, daemon_of, with_daemon, fault, mount_refusal, refusal_of_mount, take_refusal, server_refusal, work_refusal, hand_refusal, post_refusal, unposted_refusal, reply_refusal, drained_refusal, claim_refusal, wanted_refusal, absence, refusal_of_take, refusal_of_post, refusal_of_drain}
-use Rattle.world.specs.Talking.{MountsSo, EndsSo, DrainsBy, DrainsSo, after_claim}
+use Rattle.world.specs.Talking.{MountsSo, EndsSo, DrainsBy, DrainsSo}
 use Rattle.world.specs.declared.daemon.Reaction.{Reaction}
 use Rattle.world.specs.Step.{unclaimed, Makes, TakesMemory, Once, OnceBy, Step, Steps}
 use Rattle.world.specs.declared.event.Event.{Event}
@@ -25,7 +24,7 @@ use Rattle.world.specs.declared.event.Event.TheVariants.{Mount, Take, Work, Post
 use Rattle.world.specs.declared.outcome.Happened.{Happened}
 use Rattle.world.specs.declared.outcome.Happened.TheVariants as happened
 use Rattle.world.specs.declared.outcome.Refusal.{Refusal}
-use Rattle.world.specs.declared.outcome.Refusal.TheVariants.{NoDaemon, NoSuch, NoMemory, WrongPhase}
+use Rattle.world.specs.declared.outcome.Refusal.TheVariants.{NoSuch, NoMemory, WrongPhase}
 use Rattle.world.proofs.DaemonWrites.{set-there, at-index}
 
 -- ---- one event by its first fault

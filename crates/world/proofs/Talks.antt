@@ -1,5 +1,5 @@
 -- Messages move nothing in the world.
-use Rattle.std.proofs.Common.{◌≡◌, ℕ, Bool, true, false, List, [], Option, Some, None, refl, sym, ap, ◌∙◌, subst, inl, inr, ◌⊎◌}
+use Rattle.std.proofs.Common.{◌≡◌, ℕ, false, List, [], Some, None, refl, sym, ap, ◌∙◌, subst, inl, inr, ◌⊎◌}
 use Rattle.std.specs.Option.{option_and_then}
 use Rattle.eden_base.specs.declared.number.DaemonId.{DaemonId}
 use Rattle.eden_base.proofs.NumberTests.{eq-or}
@@ -11,18 +11,17 @@ use Rattle.takeover_core.specs.declared.heard.Heard.TheVariants as answer
 use Rattle.takeover_core.specs.declared.message.Message.{Message}
 use Rattle.world.specs.World.{World, Move}
 use Rattle.world.specs.Agreement.{Follows, IsHolder, IsGoodForget, is_posted, move_of}
-use Rattle.world.specs.Daemon.{DaemonState, with_node}
-use Rattle.world.specs.Handing.{DaemonStands, IsHanding, part_at}
+use Rattle.world.specs.Daemon.{DaemonState}
+use Rattle.world.specs.Handing.{IsHanding, part_at}
 use Rattle.world.specs.Server.{ServerState, IsIdle}
 use Rattle.world.specs.State.{State, daemon_of, with_daemon, server_of}
-use Rattle.world.specs.Step.{Hears, Reacts, told_reaction, what_is_said}
-use Rattle.world.specs.Talking.{HearsSo, IsReady, GivesUpSo, ReactsBy, TurnsBy, Turns, bytes_of}
+use Rattle.world.specs.Step.{Hears, Reacts, told_reaction}
+use Rattle.world.specs.Talking.{IsReady, GivesUpSo, ReactsBy, TurnsBy, bytes_of}
 use Rattle.world.specs.declared.daemon.Reaction.{Reaction}
 use Rattle.world.specs.declared.daemon.Reaction.TheVariants.{Ignores, Heeds, Says}
 use Rattle.world.specs.declared.event.Event.{Event}
 use Rattle.world.specs.declared.event.Event.TheVariants.{Hear, Drained, GiveUp}
 use Rattle.world.specs.declared.outcome.Happened.{Happened}
-use Rattle.world.specs.declared.outcome.Happened.TheVariants as happened
 use Rattle.world.proofs.Daemons.{server_of-with, server_of-other}
 use Rattle.world.proofs.Moving.{MovesBy, unmoved}
 use Rattle.world.proofs.Turns.{takes-it}

@@ -1,16 +1,16 @@
 -- What a message, or giving up, makes of a daemon's phase: its part stays, and what is out stays out.
-use Rattle.std.proofs.Common.{◌≡◌, ◌⊎◌, ℕ, Bool, true, false, List, [], Option, Some, None, refl, sym, ap, ◌∙◌, subst, inl, inr, arith, rules}
-use Rattle.std.specs.Prelude.{◌==◌, ◌&&◌, if◌then◌else◌}
+use Rattle.std.proofs.Common.{◌≡◌, ◌⊎◌, ℕ, Bool, true, false, List, Some, arith, rules}
+use Rattle.std.specs.Prelude.{◌==◌, ◌&&◌}
 use Rattle.eden_base.specs.Limits.{last_generation}
 use Rattle.takeover_core.specs.Histories.{seat_of}
 use Rattle.takeover_core.specs.Node.{NodeState}
-use Rattle.takeover_core.specs.Phases.{Event, Hear, GiveUp, DataMade, DataFailed, Raised, Drained, after, heard, said, claim_wanted, answer_of, provided, Goes, Row}
+use Rattle.takeover_core.specs.Phases.{Hear, GiveUp, Drained, after, heard, claim_wanted}
 use Rattle.takeover_core.specs.declared.heard.Heard.{Heard as Answer}
 use Rattle.takeover_core.specs.declared.heard.Heard.TheVariants.{Say, MakeData, GotData}
 use Rattle.takeover_core.specs.declared.message.Message.{Message}
-use Rattle.takeover_core.specs.declared.message.Message.TheVariants.{Offer, Choice, NoCommon, Busy, Ready, Pong, Data, Failed}
+use Rattle.takeover_core.specs.declared.message.Message.TheVariants.{Offer, Choice, Ready, Pong, Data, Failed}
 use Rattle.takeover_core.specs.declared.phase.Phase.{Phase}
-use Rattle.takeover_core.specs.declared.phase.Phase.TheVariants.{Waiting, Chosen, Raising, Holding, Serving, Draining, Pinged, Making, Handed, Gone}
+use Rattle.takeover_core.specs.declared.phase.Phase.TheVariants.{Waiting, Chosen, Raising, Serving, Draining, Pinged, Making, Handed, Gone}
 use Rattle.world.specs.Handing.{part_at, is_drained, is_out, in_session}
 use Rattle.world.specs.Talking.{bytes_of}
 

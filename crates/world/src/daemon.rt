@@ -18,6 +18,9 @@ use std::marker::Model;
 use std::mem;
 use takeover_core::{DrainFault, Heard, ImageBytes, Message, Node, Phase, Versions};
 
+/// The versions of the image that every daemon reads and writes.
+const VERSIONS: [u16; 1] = [1];
+
 /// What a daemon makes of a message, or of a call in a takeover.
 #[derive(Drop)]
 pub(crate) enum Reaction {
@@ -57,7 +60,7 @@ impl Daemon {
         ensures new { result ≡ new_daemon }
     {
         Daemon {
-            node: Node::waiting(Versions::of(&[1])),
+            node: Node::waiting(Versions::of(&VERSIONS)),
             server: None,
         }
     }

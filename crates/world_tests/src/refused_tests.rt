@@ -90,6 +90,27 @@ fn goes_on_after_memory_was_refused(rt: HostRuntime) {
     assert!(rt; tells_last_from_nothing(rt.alloc(), &IN_STEPS));
 }
 
+static TAKEN_OVER: [(Deed, Option<Fact>); 11] = [
+    (Deed::Start, None),
+    (Deed::Mount(1), Some(Fact::Mounted(1))),
+    (Deed::Start, Some(Fact::Started(2))),
+    (Deed::Hear(1, 2), Some(Fact::Said(3))),
+    (Deed::Hear(2, 3), Some(Fact::Heard)),
+    (Deed::Drained(1), Some(Fact::Said(4))),
+    (Deed::Hear(2, 4), Some(Fact::Said(5))),
+    (Deed::Hear(1, 5), Some(Fact::Said(6))),
+    (Deed::Hear(2, 6), Some(Fact::Heard)),
+    (Deed::GiveUp(1), Some(Fact::Said(7))),
+    (Deed::Claim(2), Some(Fact::Claimed(2))),
+];
+
+/// Passes also where one allocation is refused: a message that was not heard, data that was not made and data that was
+/// not raised for want of room change nothing, and come again.
+#[test]
+fn takes_over_after_memory_was_refused(rt: HostRuntime) {
+    assert!(rt; tells_last_from_nothing(rt.alloc(), &TAKEN_OVER));
+}
+
 /// Returns what a `do` told last, or, where memory ran out, what was told last then: when its reply, which waited, was
 /// delivered, or when it came again.
 fn finished(world: &mut World, event: &Event) -> Option<Happened> {

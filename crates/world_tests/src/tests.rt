@@ -389,3 +389,58 @@ static WAITS_FIRST: [(Deed, Told); 10] = [
 fn does_what_waits_first(rt: HostRuntime) {
     assert!(rt; all_go_so(rt.alloc(), &WAITS_FIRST, &[Found::UnderWay(1, 1, 0)]));
 }
+
+static IN_A_TAKEOVER: [(Deed, Told); 23] = [
+    (
+        Deed::Hear(1, 1),
+        Told::One(Fact::Refused(Refusal::NoDaemon)),
+    ),
+    (
+        Deed::Drained(1),
+        Told::One(Fact::Refused(Refusal::NoDaemon)),
+    ),
+    (Deed::GiveUp(0), Told::One(Fact::Refused(Refusal::NoDaemon))),
+    (Deed::Claim(1), Told::One(Fact::Refused(Refusal::NoDaemon))),
+    (Deed::Start, Told::One(Fact::Started(1))),
+    (Deed::Mount(1), Told::One(Fact::Mounted(1))),
+    (Deed::Hear(1, 2), Told::One(Fact::Refused(Refusal::NoSuch))),
+    (Deed::Hear(1, 0), Told::One(Fact::Refused(Refusal::NoSuch))),
+    (Deed::GiveUp(1), Told::One(Fact::Ignored)),
+    (
+        Deed::Drained(1),
+        Told::One(Fact::Refused(Refusal::WrongPhase)),
+    ),
+    (
+        Deed::Claim(1),
+        Told::One(Fact::Refused(Refusal::WrongPhase)),
+    ),
+    (Deed::Issue(LOOK_UP_SRC), Told::One(Fact::Asked(Some(1)))),
+    (Deed::Take(1), Told::One(Fact::Took(1))),
+    (Deed::Start, Told::One(Fact::Started(2))),
+    (Deed::Hear(1, 2), Told::One(Fact::Said(3))),
+    (
+        Deed::Drained(1),
+        Told::One(Fact::Refused(Refusal::Undrained {
+            in_hand: 1,
+            unposted: 0,
+        })),
+    ),
+    (Deed::Work(1, 1), Told::One(Fact::Made(1, SRC))),
+    (
+        Deed::Drained(1),
+        Told::One(Fact::Refused(Refusal::Undrained {
+            in_hand: 0,
+            unposted: 1,
+        })),
+    ),
+    (Deed::Post(1, 1), Told::One(Fact::Posted(1))),
+    (Deed::Drained(1), Told::One(Fact::Said(4))),
+    (Deed::Take(1), Told::One(Fact::Refused(Refusal::WrongPhase))),
+    (Deed::Mount(2), Told::One(Fact::Refused(Refusal::Seated))),
+    (Deed::GiveUp(1), Told::One(Fact::Said(5))),
+];
+
+#[test]
+fn refuses_what_is_not_of_a_phase(rt: HostRuntime) {
+    assert!(rt; all_go_so(rt.alloc(), &IN_A_TAKEOVER, &[]));
+}

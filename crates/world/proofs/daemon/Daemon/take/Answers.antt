@@ -1,5 +1,5 @@
 -- What is served took.
-use Rattle.std.proofs.Common.{Some, subst, ap, sym, ◌∙◌}
+use Rattle.std.proofs.Common.{Some, subst}
 use Rattle.world.specs.Daemon.{DaemonState}
 use Rattle.world.specs.Serving.{DaemonTakes}
 use Rattle.world.proofs.DaemonCalls.{takes-with}

@@ -1,7 +1,6 @@
 -- What is raised is held; else the daemon is gone.
 use Rattle.std.proofs.Common.{true, Some, inl, inr, ap, ◌∙◌}
 use Rattle.takeover_core.specs.Phases as table
-use Rattle.world.specs.Daemon.{DaemonState}
 use Rattle.world.specs.Server.{ServerState}
 use Rattle.world.proofs.daemon.Daemon.take_data.Goals as goal
 

@@ -1,5 +1,5 @@
 -- Who waited has the seat and serves.
-use Rattle.std.proofs.Common.{List, length, sym, ◌∙◌, subst, arith}
+use Rattle.std.proofs.Common.{length, sym, ◌∙◌, subst, arith}
 use Rattle.world.specs.Serving.{IsIndex}
 use Rattle.world.specs.State.{State}
 use Rattle.world.specs.Step.{Once}
