@@ -19,17 +19,17 @@ use Rattle.fuse_wire.specs.declared.reply.Answer.TheVariants.{Entry, Opened, Att
 use Rattle.fuse_wire.specs.declared.reply.Reply.{Reply}
 use Rattle.takeover_core.specs.declared.message.Message.{Message}
 use Rattle.takeover_core.specs.declared.message.Message.TheVariants.{Offer, Choice, NoCommon, Busy, Ready, Pong, Data, Failed}
-use Rattle.world.specs.Server.{at_place}
+use Rattle.daemon.specs.Server.{at_place}
 use Rattle.world.specs.State.{State, served_of, hand_of, unposted_of}
 use Rattle.inode_map.specs.Words.{forgot_name}
-use Rattle.world.specs.Words.{refusal_name}
+use Rattle.daemon.specs.Refusals.{refusal_name}
 use Rattle.world.specs.declared.event.Event.{Event}
 use Rattle.world.specs.declared.event.Event.TheVariants.{Show}
 use Rattle.inode_map.specs.declared.inode_map.Kept.{Kept}
-use Rattle.world.specs.declared.outcome.Happened.{Happened}
-use Rattle.world.specs.declared.outcome.Happened.TheVariants.{Started, Mounted, Asked, Took, TookForgets, Made, Forgot, Posted, Answered, Said, Heard, Ignored, Claimed, Crashed, Refused}
-use Rattle.world.specs.declared.outcome.Refusal.{Refusal}
-use Rattle.world.specs.declared.outcome.Refusal.TheVariants.{Stale, Unanswered, Undrained}
+use Rattle.daemon.specs.declared.happened.Happened.{Happened}
+use Rattle.daemon.specs.declared.happened.Happened.TheVariants.{Started, Mounted, Asked, Took, TookForgets, Made, Forgot, Posted, Answered, Said, Heard, Ignored, Claimed, Crashed, Refused}
+use Rattle.daemon.specs.declared.happened.Refusal.{Refusal}
+use Rattle.daemon.specs.declared.happened.Refusal.TheVariants.{Stale, Unanswered, Undrained}
 
 -- words parted by one space each, and LF
 abbrev pub line : List (List ℕ) → List ℕ

@@ -7,10 +7,11 @@ use Rattle.broker_core.specs.declared.seat.Seat.{Seat}
 use Rattle.fuse_wire.specs.Request.{is_ask}
 use Rattle.fuse_wire.specs.declared.request.Request.{Request}
 use Rattle.world.specs.State.{State}
-use Rattle.world.specs.Step.{Once, Carries, IfMade, is_made, Step, parts_of, events_of_do}
+use Rattle.daemon.specs.Refusals.{is_made}
+use Rattle.world.specs.Step.{Once, Carries, IfMade, Step, parts_of, events_of_do}
 use Rattle.world.specs.declared.event.Event.{Event}
 use Rattle.world.specs.declared.event.Event.TheVariants.{Issue, Take, Work, Post, Deliver, Do}
-use Rattle.world.specs.declared.outcome.Happened.{Happened}
+use Rattle.daemon.specs.declared.happened.Happened.{Happened}
 
 -- the first is refused
 Carries-stop : (old : State) (event : Event) (events : List Event) (told : Happened) (new : State) → Once old event told new → false ≡ is_made told →

@@ -12,16 +12,16 @@ use Rattle.fuse_ops.specs.Served.{plain}
 use Rattle.takeover_core.specs.Phases as table
 use Rattle.world.specs.World.{World, claim, owed, after}
 use Rattle.world.specs.Agreement.{Knows, Follows, IsHolder, IsUnderWay, AnsweredBefore, asks_in, items_in, move_of}
-use Rattle.world.specs.Daemon.{DaemonState}
+use Rattle.daemon.specs.Daemon.{DaemonState}
 use Rattle.world.specs.Handing.{is_out, HasTheSeat, IsHanding}
-use Rattle.world.specs.Server.{ServerState, IsIdle}
+use Rattle.daemon.specs.Server.{ServerState, IsIdle}
 use Rattle.world.specs.State.{State, fault, daemon_of, with_daemon, server_of, IsSeated}
 use Rattle.world.specs.Step.{Claims, after_refusal, unclaimed}
-use Rattle.world.specs.Talking.{after_claim, at_generation}
+use Rattle.daemon.specs.Talking.{after_claim, at_generation}
 use Rattle.world.specs.declared.event.Event.TheVariants.{Claim}
-use Rattle.world.specs.declared.outcome.Happened.{Happened}
-use Rattle.world.specs.declared.outcome.Happened.TheVariants as happened
-use Rattle.world.specs.declared.outcome.Refusal.{Refusal}
+use Rattle.daemon.specs.declared.happened.Happened.{Happened}
+use Rattle.daemon.specs.declared.happened.Happened.TheVariants as happened
+use Rattle.daemon.specs.declared.happened.Refusal.{Refusal}
 use Rattle.world.proofs.Claims.{IsClaim, claim-is, refused-no-holder, waiting-phase}
 use Rattle.world.proofs.Daemons.{server_of-with, server_of-other, serving-there, holder-or}
 use Rattle.world.proofs.Handing.{out-drained, holding-out, holding-part}
@@ -121,7 +121,7 @@ module _ (w : World) (old : State) (daemon : DaemonId) (was later : DaemonState)
 
   under : IsUnderWay w' old.broker.traffic (at_generation (seat.generation + 1) k.server)
   under = record {
-    singles = subst (λ (hand : List Ask). Rattle.std.specs.List.AllByRecursion (λ (task : Ask). Rattle.world.specs.Server.is_single task ≡ true) hand) (sym own.hand) tt;
+    singles = subst (λ (hand : List Ask). Rattle.std.specs.List.AllByRecursion (λ (task : Ask). Rattle.daemon.specs.Server.is_single task ≡ true) hand) (sym own.hand) tt;
     asks = (k.under).asks ∙ ap (λ (hand : List Ask). asks_in hand ++ old.broker.traffic.untaken) ((k.idle).hand ∙ sym own.hand);
     items = λ f. (k.under).items f ∙ ap (λ (hand : List Ask). sum_by f (items_in hand ++ old.broker.traffic.items)) ((k.idle).hand ∙ sym own.hand);
     replies = λ f. (k.under).replies f ∙ ap (λ (rs : List Rattle.fuse_wire.specs.declared.reply.Reply.Reply). sum_by f (rs ++ old.broker.traffic.posted)) ((k.idle).unposted ∙ sym own.unposted);

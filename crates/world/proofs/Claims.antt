@@ -15,10 +15,11 @@ use Rattle.takeover_core.specs.declared.phase.Phase.{Phase}
 use Rattle.takeover_core.specs.declared.phase.Phase.TheVariants.{Waiting, Holding, Serving, Gone}
 use Rattle.world.specs.World.{World}
 use Rattle.world.specs.Agreement.{Follows}
-use Rattle.world.specs.Daemon.{DaemonState, is_waiting_in}
+use Rattle.daemon.specs.Daemon.{DaemonState, is_waiting_in}
 use Rattle.world.specs.Handing.{in_session, DaemonStands, IsHanding}
-use Rattle.world.specs.State.{State, daemon_of, fault, claim_refusal, wanted_refusal, refusal_of_claim}
-use Rattle.world.specs.Talking.{after_claim}
+use Rattle.daemon.specs.Refusals.{refusal_of_claim}
+use Rattle.world.specs.State.{State, daemon_of, fault, claim_refusal, wanted_refusal}
+use Rattle.daemon.specs.Talking.{after_claim}
 use Rattle.world.specs.declared.event.Event.TheVariants.{Claim}
 use Rattle.world.proofs.Handing.{holding-part}
 use Rattle.world.proofs.Turns.{node_of}

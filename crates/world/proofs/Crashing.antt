@@ -7,14 +7,14 @@ use Rattle.broker_core.specs.Broker.{ended}
 use Rattle.broker_core.specs.declared.seat.Seat.{Seat}
 use Rattle.broker_core.proofs.HeldLaws.{held_count-none}
 use Rattle.world.specs.Agreement.{IsHolder, Follows, holds, move_of}
-use Rattle.world.specs.Daemon.{DaemonState}
-use Rattle.world.specs.Server.{ServerState}
+use Rattle.daemon.specs.Daemon.{DaemonState}
+use Rattle.daemon.specs.Server.{ServerState}
 use Rattle.world.specs.State.{State, daemon_of, with_daemon, server_of}
 use Rattle.world.specs.Step.{Crashes}
 use Rattle.world.specs.World.{World, end, after}
 use Rattle.world.specs.declared.event.Event.TheVariants.{Crash}
-use Rattle.world.specs.declared.outcome.Happened.{Happened}
-use Rattle.world.specs.declared.outcome.Happened.TheVariants as happened
+use Rattle.daemon.specs.declared.happened.Happened.{Happened}
+use Rattle.daemon.specs.declared.happened.Happened.TheVariants as happened
 use Rattle.world.proofs.Daemons.{server_of-with, server_of-other, only-holder}
 use Rattle.world.proofs.Moving.{MovesBy, unmoved}
 

@@ -11,12 +11,13 @@ use Rattle.broker_core.proofs.Accepted.{free_to_mount}
 use Rattle.broker_core.specs.declared.broker.MountFault.{MountFault}
 use Rattle.broker_core.specs.declared.seat.Seat.{Seat}
 use Rattle.takeover_core.specs.declared.message.Message.{Message}
-use Rattle.world.specs.Daemon.{DaemonState, new_daemon, is_waiting}
-use Rattle.world.specs.Server.{ServerState, IsIdle, at_place}
+use Rattle.daemon.specs.Daemon.{DaemonState, new_daemon, is_waiting}
+use Rattle.daemon.specs.Server.{ServerState, IsIdle, at_place}
 use Rattle.world.specs.World.{World, owed}
 use Rattle.world.specs.Agreement.{Knows, HolderKnows, Books, SeatIsLast, IsUnderWay, IsHolder, OthersAreIdle, IsOrderly, AnsweredBefore, Follows}
-use Rattle.world.specs.State.{State, mount_refusal, refusal_of_mount, daemon_of, with_daemon, server_of, IsSeated}
-use Rattle.world.specs.declared.outcome.Refusal.TheVariants as refusal
+use Rattle.daemon.specs.Refusals.{refusal_of_mount}
+use Rattle.world.specs.State.{State, mount_refusal, daemon_of, with_daemon, server_of, IsSeated}
+use Rattle.daemon.specs.declared.happened.Refusal.TheVariants as refusal
 
 -- ---- one of many
 

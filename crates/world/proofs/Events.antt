@@ -12,19 +12,20 @@ use Rattle.broker_core.specs.declared.broker.IssueFault.{IssueFault}
 use Rattle.broker_core.specs.declared.seat.Seat.{Seat}
 use Rattle.broker_core.proofs.Accepted.{accepted-seated}
 use Rattle.takeover_core.specs.declared.message.Message.TheVariants.{Offer}
-use Rattle.world.specs.Daemon.{DaemonState, versions}
-use Rattle.world.specs.Server.{new_server}
+use Rattle.daemon.specs.Daemon.{DaemonState, versions}
+use Rattle.daemon.specs.Server.{new_server}
 use Rattle.world.specs.World.{World, Move, mount, owed, after}
 use Rattle.world.specs.Agreement.{Knows, IsQuiet, Follows, move_of}
 use Rattle.world.specs.Handing.{IsHanding}
-use Rattle.world.specs.State.{State, fault, refusal_of_issue, daemon_of}
+use Rattle.daemon.specs.Refusals.{refusal_of_issue}
+use Rattle.world.specs.State.{State, fault, daemon_of}
 use Rattle.world.specs.Step.{Starts, Mounts, Makes, Refuses, Lacks, TakesMemory, OnceBy, Once}
 use Rattle.world.specs.declared.event.Event.{Event}
 use Rattle.world.specs.declared.event.Event.TheVariants.{Start, Mount, Issue, Take, Work, Post, Deliver, Hear, Drained, GiveUp, Claim, Crash, Do, Show}
-use Rattle.world.specs.declared.outcome.Happened.{Happened}
-use Rattle.world.specs.declared.outcome.Happened.TheVariants as happened
-use Rattle.world.specs.declared.outcome.Refusal.{Refusal}
-use Rattle.world.specs.declared.outcome.Refusal.TheVariants as refusal
+use Rattle.daemon.specs.declared.happened.Happened.{Happened}
+use Rattle.daemon.specs.declared.happened.Happened.TheVariants as happened
+use Rattle.daemon.specs.declared.happened.Refusal.{Refusal}
+use Rattle.daemon.specs.declared.happened.Refusal.TheVariants as refusal
 use Rattle.world.proofs.Claiming.{claims-moved, unclaimed-moved}
 use Rattle.world.proofs.Crashing.{crashes-moved}
 use Rattle.world.proofs.Daemons.{goes-on, MayMount, may_mount, server_of-more}

@@ -14,9 +14,9 @@ use Rattle.takeover_core.specs.declared.message.Message.{Message}
 use Rattle.takeover_core.specs.declared.message.Message.TheVariants.{Data}
 use Rattle.takeover_core.specs.declared.phase.Phase.{Phase}
 use Rattle.takeover_core.specs.declared.phase.Phase.TheVariants.{Holding, Serving, Draining, Pinged, Making, Handed}
-use Rattle.world.specs.Daemon.{DaemonState}
+use Rattle.daemon.specs.Daemon.{DaemonState}
 use Rattle.world.specs.Handing.{part_at, is_drained, is_out, HasTheSeat, MessageStands, DaemonStands, IsHanding}
-use Rattle.world.specs.Server.{ServerState}
+use Rattle.daemon.specs.Server.{ServerState}
 use Rattle.world.specs.State.{State, daemon_of, with_daemon}
 use Rattle.world.proofs.Daemons.{who}
 use Rattle.world.proofs.Turns.{is_data}

@@ -18,16 +18,16 @@ use Rattle.takeover_core.specs.declared.phase.Phase.{Phase}
 use Rattle.takeover_core.specs.declared.phase.Phase.TheVariants.{Gone, Serving, Holding}
 use Rattle.world.specs.World.{World}
 use Rattle.world.specs.Agreement.{Follows}
-use Rattle.world.specs.Daemon.{DaemonState, versions, new_daemon, is_waiting, with_server}
+use Rattle.daemon.specs.Daemon.{DaemonState, versions, new_daemon, is_waiting, with_server}
 use Rattle.world.specs.Handing.{part_at, is_drained, HasTheSeat, MessageStands, DaemonStands, IsHanding}
-use Rattle.world.specs.Server.{ServerState, IsIdle, at_place, with_taken, with_worked, with_posted}
+use Rattle.daemon.specs.Server.{ServerState, IsIdle, at_place, with_taken, with_worked, with_posted}
 use Rattle.world.specs.State.{State, daemon_of, with_daemon, fault, take_refusal, server_refusal}
 use Rattle.world.specs.Step.{Starts, Mounts, Issues, Takes, Works, Posts, Claims, Crashes, Makes, OnceBy, Once, after_refusal, unclaimed}
-use Rattle.world.specs.Talking.{after_claim, at_generation}
+use Rattle.daemon.specs.Talking.{after_claim, at_generation}
 use Rattle.world.specs.declared.event.Event.{Event}
 use Rattle.world.specs.declared.event.Event.TheVariants.{Start, Mount, Issue, Take, Work, Post, Deliver, Hear, Drained, GiveUp, Claim, Crash}
-use Rattle.world.specs.declared.outcome.Happened.{Happened}
-use Rattle.world.specs.declared.outcome.Refusal.{Refusal}
+use Rattle.daemon.specs.declared.happened.Happened.{Happened}
+use Rattle.daemon.specs.declared.happened.Refusal.{Refusal}
 use Rattle.world.proofs.Claims.{IsClaim, claim-is, refused-no-holder, claimed-phase, fatal-phase, waiting-phase, mounted-phase, crashed-phase}
 use Rattle.world.proofs.Daemons.{MayMount, may_mount, serving-there, none-at}
 use Rattle.world.proofs.Handing.{KeepsSeat, WasHolder, IsBase, IsLater, daemon-along, message-along, daemon-later, message-later, daemon-free, message-free, all-along, all-append, handing-where, handing-stays, stays, holding-part}

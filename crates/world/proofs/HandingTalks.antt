@@ -21,16 +21,16 @@ use Rattle.takeover_core.specs.declared.phase.Phase.{Phase}
 use Rattle.takeover_core.specs.declared.phase.Phase.TheVariants.{Raising, Holding, Serving, Making, Handed, Gone}
 use Rattle.world.specs.World.{World}
 use Rattle.world.specs.Agreement.{Follows}
-use Rattle.world.specs.Daemon.{DaemonState, with_node, in_hand, unposted}
+use Rattle.daemon.specs.Daemon.{DaemonState, with_node, in_hand, unposted}
 use Rattle.world.specs.Handing.{part_at, is_out, HasTheSeat, MessageStands, DaemonStands, IsHanding}
-use Rattle.world.specs.Server.{ServerState, IsIdle, at_place}
-use Rattle.world.specs.Serving.{beginning}
+use Rattle.daemon.specs.Server.{ServerState, IsIdle, at_place}
+use Rattle.daemon.specs.Serving.{beginning}
 use Rattle.world.specs.State.{State, daemon_of, with_daemon, IsSeated}
 use Rattle.world.specs.Step.{Hears, Reacts, what_is_said}
-use Rattle.world.specs.Talking.{HasData, HandsOver, ServesOn, TakesOver, CannotTakeOver, ReactsBy, TurnsBy, IsReady, GivesUpSo, drained, bytes_of}
-use Rattle.world.specs.declared.daemon.Reaction.{Reaction}
-use Rattle.world.specs.declared.daemon.Reaction.TheVariants.{Ignores, Heeds, Says}
-use Rattle.world.specs.declared.outcome.Happened.{Happened}
+use Rattle.daemon.specs.Talking.{HasData, HandsOver, ServesOn, TakesOver, CannotTakeOver, ReactsBy, TurnsBy, IsReady, GivesUpSo, drained, bytes_of}
+use Rattle.daemon.specs.declared.daemon.Reaction.{Reaction}
+use Rattle.daemon.specs.declared.daemon.Reaction.TheVariants.{Ignores, Heeds, Says}
+use Rattle.daemon.specs.declared.happened.Happened.{Happened}
 use Rattle.world.proofs.Daemons.{daemon_of-with, holder-is, HolderIs, at-is}
 use Rattle.world.proofs.Handing.{KeepsSeat, IsBase, all-at, no-data-stands, handing-stays, stays}
 use Rattle.world.proofs.Standing.{Turned, turned-out, turned-stands}

@@ -8,7 +8,7 @@ use Rattle.fuse_wire.specs.Request.{is_ask, item_of, items_of}
 use Rattle.fuse_wire.specs.declared.request.Ask.{Ask}
 use Rattle.fuse_wire.specs.declared.item.Item.{Item}
 use Rattle.std.specs.List.{AllByRecursion}
-use Rattle.world.specs.Server.{single, handed, is_single}
+use Rattle.daemon.specs.Server.{single, handed, is_single}
 use Rattle.world.specs.World.{is_asked}
 use Rattle.world.specs.Agreement.{asks_in, items_in}
 use Rattle.fuse_wire.proofs.ItemLaws.{ask-items}

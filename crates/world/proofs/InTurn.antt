@@ -11,13 +11,14 @@ use Rattle.broker_core.specs.declared.seat.Seat.{Seat}
 use Rattle.world.specs.World.{World, Move, IsRun, after_all}
 use Rattle.world.specs.Agreement.{is_posted, posted_from, IsGoodForget, IsAnswered, Matches, MovesOn, move_of, moves_in_turn, moves_of}
 use Rattle.takeover_core.specs.Phases.{claim_wanted}
-use Rattle.world.specs.Daemon.{DaemonState}
+use Rattle.daemon.specs.Daemon.{DaemonState}
 use Rattle.world.specs.State.{State, daemon_of, with_daemon, fault}
-use Rattle.world.specs.Step.{after_refusal, unclaimed, Makes, OnceBy, Once, is_made, IfMade, Carries, events_of_do, parts_of, Step}
+use Rattle.daemon.specs.Refusals.{is_made}
+use Rattle.world.specs.Step.{after_refusal, unclaimed, Makes, OnceBy, Once, IfMade, Carries, events_of_do, parts_of, Step}
 use Rattle.world.specs.declared.event.Event.{Event}
 use Rattle.world.specs.declared.event.Event.TheVariants.{Start, Mount, Issue, Take, Work, Post, Deliver, Hear, Drained, GiveUp, Claim, Crash, Do, Show}
-use Rattle.world.specs.declared.outcome.Happened.{Happened}
-use Rattle.world.specs.declared.outcome.Refusal.{Refusal}
+use Rattle.daemon.specs.declared.happened.Happened.{Happened}
+use Rattle.daemon.specs.declared.happened.Refusal.{Refusal}
 use Rattle.world.proofs.Events.{once-moved}
 use Rattle.world.proofs.HandingOn.{once-handing}
 use Rattle.world.proofs.Moving.{MovesBy}

@@ -11,14 +11,14 @@ use Rattle.fuse_wire.specs.declared.item.Item.{Item}
 use Rattle.broker_core.specs.Broker.{issue_fault, asked, forgot, unique_of}
 use Rattle.broker_core.specs.declared.seat.Seat.{Seat}
 use Rattle.broker_core.proofs.Accepted.{accepted-ask, IsAcceptedItem, accepted-forget}
-use Rattle.world.specs.Server.{ServerState}
+use Rattle.daemon.specs.Server.{ServerState}
 use Rattle.world.specs.World.{World, issue, issue_item, times, without_times, taken_back, carries, owed}
 use Rattle.world.specs.Agreement.{is_bad, Follows, move_of}
 use Rattle.world.specs.State.{State, IsSeated}
 use Rattle.world.specs.Step.{Issues}
 use Rattle.world.specs.declared.event.Event.TheVariants.{Issue}
-use Rattle.world.specs.declared.outcome.Happened.{Happened}
-use Rattle.world.specs.declared.outcome.Happened.TheVariants as happened
+use Rattle.daemon.specs.declared.happened.Happened.{Happened}
+use Rattle.daemon.specs.declared.happened.Happened.TheVariants as happened
 use Rattle.world.proofs.Daemons.{HolderIs, holder-is, broker-goes-on}
 use Rattle.world.proofs.Keeping.{books-asked, books-forgot, answered-still, seat-stays, may_go}
 use Rattle.world.proofs.Knowing.{knows-along}

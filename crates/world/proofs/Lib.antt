@@ -1,8 +1,5 @@
 pub mod Carrying
 pub mod StepLemmas
-pub mod ServingLemmas
-pub mod DaemonWrites
-pub mod DaemonCalls
 mod Bags
 mod Hands
 mod UnderWay

@@ -3,7 +3,7 @@ use Rattle.std.proofs.Common.{◌≡◌, true, false, [], List, sym, ◌∙◌}
 use Rattle.world.specs.World.{World, Move, IsRun, after_all}
 use Rattle.world.specs.Agreement.{IsGoodForget, IsAnswered, is_posted, Follows}
 use Rattle.world.specs.State.{State}
-use Rattle.world.specs.declared.outcome.Happened.{Happened}
+use Rattle.daemon.specs.declared.happened.Happened.{Happened}
 
 pub record MovesBy (w : World) (moves : List Move) (old : State) (told : Happened) (new : State) : Type 0 where
   pub run : IsRun w moves

@@ -9,9 +9,9 @@ use Rattle.fuse_ops.specs.Served.{plain}
 use Rattle.takeover_core.specs.Histories.{seat_of}
 use Rattle.takeover_core.specs.Phases.{claim_wanted}
 use Rattle.takeover_core.specs.declared.phase.Phase.TheVariants.{Serving, Gone}
-use Rattle.world.specs.Daemon.{DaemonState, with_server}
+use Rattle.daemon.specs.Daemon.{DaemonState, with_server}
 use Rattle.world.specs.Handing.{part_at, is_drained, is_out, in_session, HasTheSeat, DaemonStands}
-use Rattle.world.specs.Server.{ServerState, IsIdle}
+use Rattle.daemon.specs.Server.{ServerState, IsIdle}
 use Rattle.world.specs.State.{State, daemon_of}
 use Rattle.world.proofs.Handing.{KeepsOut, holding-out, out-drained}
 use Rattle.world.proofs.Turns.{IsTurn}

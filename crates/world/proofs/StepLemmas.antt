@@ -12,20 +12,22 @@ use Rattle.broker_core.specs.declared.fault.PostFault.{PostFault}
 use Rattle.fuse_ops.specs.Served.{ServedState, new_served}
 use Rattle.takeover_core.specs.Phases.{may_take, claim_wanted, drain_fault}
 use Rattle.takeover_core.specs.declared.node.DrainFault.{DrainFault}
-use Rattle.world.specs.Daemon.{DaemonState, is_waiting, with_server, in_hand, unposted}
-use Rattle.world.specs.Server.{ServerState, new_server, at_place}
-use Rattle.world.specs.Serving.{beginning, IsIndex, ChangesAt, TakesBy, WorksBy, PostsBy, PostsReply, TakesIf, WorksIf, PostsIf, DaemonTakes, DaemonWorks, DaemonPosts}
-use Rattle.world.specs.State.{State, daemon_of, with_daemon, fault, mount_refusal, refusal_of_mount, take_refusal, server_refusal, work_refusal, hand_refusal, post_refusal, unposted_refusal, reply_refusal, drained_refusal, claim_refusal, wanted_refusal, absence, refusal_of_take, refusal_of_post, refusal_of_drain}
-use Rattle.world.specs.Talking.{MountsSo, EndsSo, DrainsBy, DrainsSo}
-use Rattle.world.specs.declared.daemon.Reaction.{Reaction}
+use Rattle.daemon.specs.Daemon.{DaemonState, is_waiting, with_server, in_hand, unposted}
+use Rattle.daemon.specs.Server.{ServerState, new_server, at_place}
+use Rattle.daemon.specs.Serving.{beginning, IsIndex, TakesBy, WorksBy, PostsBy, PostsReply, TakesIf, WorksIf, PostsIf, DaemonTakes, DaemonWorks, DaemonPosts}
+use Rattle.world.specs.State.{ChangesAt}
+use Rattle.daemon.specs.Refusals.{refusal_of_mount, refusal_of_take, refusal_of_post, refusal_of_drain}
+use Rattle.world.specs.State.{State, daemon_of, with_daemon, fault, mount_refusal, take_refusal, server_refusal, work_refusal, hand_refusal, post_refusal, unposted_refusal, reply_refusal, drained_refusal, claim_refusal, wanted_refusal, absence}
+use Rattle.daemon.specs.Talking.{MountsSo, EndsSo, DrainsBy, DrainsSo}
+use Rattle.daemon.specs.declared.daemon.Reaction.{Reaction}
 use Rattle.world.specs.Step.{unclaimed, Makes, TakesMemory, Once, OnceBy, Step, Steps}
 use Rattle.world.specs.declared.event.Event.{Event}
 use Rattle.world.specs.declared.event.Event.TheVariants.{Mount, Take, Work, Post, Drained, Claim, Crash}
-use Rattle.world.specs.declared.outcome.Happened.{Happened}
-use Rattle.world.specs.declared.outcome.Happened.TheVariants as happened
-use Rattle.world.specs.declared.outcome.Refusal.{Refusal}
-use Rattle.world.specs.declared.outcome.Refusal.TheVariants.{NoSuch, NoMemory, WrongPhase}
-use Rattle.world.proofs.DaemonWrites.{set-there, at-index}
+use Rattle.daemon.specs.declared.happened.Happened.{Happened}
+use Rattle.daemon.specs.declared.happened.Happened.TheVariants as happened
+use Rattle.daemon.specs.declared.happened.Refusal.{Refusal}
+use Rattle.daemon.specs.declared.happened.Refusal.TheVariants.{NoSuch, NoMemory, WrongPhase}
+use Rattle.daemon.proofs.Places.{set-there, at-index}
 
 -- ---- one event by its first fault
 
@@ -37,11 +39,6 @@ Once-lacks old event told takes fine tells = subst (λ (o : Option Refusal). Onc
 -- it was made
 pub Once-makes : (old : State) (event : Event) (told : Happened) (new : State) → fault old event ≡ None → Makes old event told new → Once old event told new
 Once-makes old event told new fine made = subst (λ (o : Option Refusal). OnceBy old event o told new) (sym fine) (inl made)
-
--- what is never there is missing
-pub none-unless : {X : Type 0} (o : Option X) → ((x : X) → o ≡ Some x → ⊥) → o ≡ None
-none-unless None never = refl
-none-unless (Some x) never = absurd (never x refl)
 
 -- ---- one daemon changed
 

@@ -16,15 +16,16 @@ use Rattle.broker_core.specs.declared.seat.Seat.{Seat}
 use Rattle.broker_core.proofs.SeatFaults.{taken-seated, posted-seated}
 use Rattle.broker_core.proofs.TakeLaws.{IsAskTaken, take-is}
 use Rattle.takeover_core.specs.Phases.{may_take}
-use Rattle.world.specs.Daemon.{DaemonState, with_server}
-use Rattle.world.specs.Server.{ServerState, told_taken, with_taken, with_posted}
+use Rattle.daemon.specs.Daemon.{DaemonState, with_server}
+use Rattle.daemon.specs.Server.{ServerState, told_taken, with_taken, with_posted}
 use Rattle.world.specs.World.{World, Move, is_asked, is_replied, times, carries, held_after, owed, delivered, answered_by}
 use Rattle.world.specs.Agreement.{IsGoodForget, IsAnswered, is_posted, asks_in, Books, Follows, move_of}
-use Rattle.world.specs.State.{State, fault, refusal_of_take, refusal_of_post, take_refusal, server_refusal, post_refusal, unposted_refusal, reply_refusal, IsSeated}
+use Rattle.daemon.specs.Refusals.{refusal_of_take, refusal_of_post}
+use Rattle.world.specs.State.{State, fault, take_refusal, server_refusal, post_refusal, unposted_refusal, reply_refusal, IsSeated}
 use Rattle.world.specs.Step.{Takes, Posts, Delivers}
 use Rattle.world.specs.declared.event.Event.TheVariants.{Take, Post, Deliver}
-use Rattle.world.specs.declared.outcome.Happened.{Happened}
-use Rattle.world.specs.declared.outcome.Happened.TheVariants as happened
+use Rattle.daemon.specs.declared.happened.Happened.{Happened}
+use Rattle.daemon.specs.declared.happened.Happened.TheVariants as happened
 use Rattle.world.proofs.Bags.{mark, sum-without}
 use Rattle.world.proofs.Daemons.{HolderIs, holder-is, goes-on, broker-goes-on, only-holder, at-is}
 use Rattle.world.proofs.Keeping.{books-queued, books-delivered, answered-still, answered-posted, seat-stays, times-held}

@@ -11,17 +11,18 @@ use Rattle.takeover_core.specs.declared.heard.Heard.TheVariants as answer
 use Rattle.takeover_core.specs.declared.message.Message.{Message}
 use Rattle.world.specs.World.{World, Move}
 use Rattle.world.specs.Agreement.{Follows, IsHolder, IsGoodForget, is_posted, move_of}
-use Rattle.world.specs.Daemon.{DaemonState}
+use Rattle.daemon.specs.Serving.{beginning}
+use Rattle.daemon.specs.Daemon.{DaemonState}
 use Rattle.world.specs.Handing.{IsHanding, part_at}
-use Rattle.world.specs.Server.{ServerState, IsIdle}
+use Rattle.daemon.specs.Server.{ServerState, IsIdle}
 use Rattle.world.specs.State.{State, daemon_of, with_daemon, server_of}
 use Rattle.world.specs.Step.{Hears, Reacts, told_reaction}
-use Rattle.world.specs.Talking.{IsReady, GivesUpSo, ReactsBy, TurnsBy, bytes_of}
-use Rattle.world.specs.declared.daemon.Reaction.{Reaction}
-use Rattle.world.specs.declared.daemon.Reaction.TheVariants.{Ignores, Heeds, Says}
+use Rattle.daemon.specs.Talking.{IsReady, GivesUpSo, ReactsBy, TurnsBy, bytes_of}
+use Rattle.daemon.specs.declared.daemon.Reaction.{Reaction}
+use Rattle.daemon.specs.declared.daemon.Reaction.TheVariants.{Ignores, Heeds, Says}
 use Rattle.world.specs.declared.event.Event.{Event}
 use Rattle.world.specs.declared.event.Event.TheVariants.{Hear, Drained, GiveUp}
-use Rattle.world.specs.declared.outcome.Happened.{Happened}
+use Rattle.daemon.specs.declared.happened.Happened.{Happened}
 use Rattle.world.proofs.Daemons.{server_of-with, server_of-other}
 use Rattle.world.proofs.Moving.{MovesBy, unmoved}
 use Rattle.world.proofs.Turns.{takes-it}
@@ -119,8 +120,8 @@ heard-on old daemon was said (answer.GotData s g v) reaction later h there e (in
     inr (
       chosen-no-holder old daemon was h there (ap part_at it.was),
       λ server serves.
-          let two : Some (Rattle.world.specs.Serving.beginning g t.served) ≡ Some server = sym (ap (λ (d : DaemonState). d.server) t.becomes) ∙ serves in
-          let is : Rattle.world.specs.Serving.beginning g t.served ≡ server = cc in
+          let two : Some (beginning g t.served) ≡ Some server = sym (ap (λ (d : DaemonState). d.server) t.becomes) ∙ serves in
+          let is : beginning g t.served ≡ server = cc in
           subst IsIdle is (record { hand = refl; unposted = refl }),
     )
 heard-on old daemon was said (answer.GotData s g v) reaction later h there e (inr t) = inl (ap (λ (d : DaemonState). d.server) (t.loses).becomes)

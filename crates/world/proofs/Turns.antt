@@ -12,7 +12,7 @@ use Rattle.takeover_core.specs.declared.message.Message.TheVariants.{Offer, Choi
 use Rattle.takeover_core.specs.declared.phase.Phase.{Phase}
 use Rattle.takeover_core.specs.declared.phase.Phase.TheVariants.{Waiting, Chosen, Raising, Serving, Draining, Pinged, Making, Handed, Gone}
 use Rattle.world.specs.Handing.{part_at, is_drained, is_out, in_session}
-use Rattle.world.specs.Talking.{bytes_of}
+use Rattle.daemon.specs.Talking.{bytes_of}
 
 -- a daemon by its parts
 abbrev pub node_of : List ℕ → ℕ → Phase → NodeState

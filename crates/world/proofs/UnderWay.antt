@@ -15,7 +15,7 @@ use Rattle.fuse_wire.specs.declared.reply.Reply.{Reply}
 use Rattle.broker_core.specs.Traffic.{TrafficState, front, ask_issued, item_issued, left_by_take, reply_posted, reply_delivered}
 use Rattle.broker_core.specs.declared.seat.Seat.{Seat}
 use Rattle.broker_core.proofs.TakeLaws.{IsAskTaken, AreItemsTaken}
-use Rattle.world.specs.Server.{ServerState, is_single, handed, with_taken, with_posted}
+use Rattle.daemon.specs.Server.{ServerState, is_single, handed, with_taken, with_posted}
 use Rattle.world.specs.World.{World, is_asked, is_replied, is_item}
 use Rattle.world.specs.Agreement.{IsSameBag, asks_in, items_in, IsUnderWay}
 use Rattle.world.proofs.Bags.{mark, counted-first, first-passes, sum-without, same-measure, sum-at, first-append}

@@ -8,17 +8,17 @@ use Rattle.manifest.specs.Manifest.{Manifest, IsManifest}
 use Rattle.manifest.specs.Tree.{IsTree, tree_of}
 use Rattle.broker_core.proofs.HeldLaws.{held_count-none}
 use Rattle.broker_core.specs.declared.seat.Seat.{Seat}
-use Rattle.world.specs.Server.{ServerState}
+use Rattle.daemon.specs.Server.{ServerState}
 use Rattle.takeover_core.specs.declared.message.Message.TheVariants.{Data}
-use Rattle.world.specs.Daemon.{DaemonState}
+use Rattle.daemon.specs.Daemon.{DaemonState}
 use Rattle.world.specs.Handing.{MessageStands}
-use Rattle.world.specs.Server.{at_place}
+use Rattle.daemon.specs.Server.{at_place}
 use Rattle.world.specs.State.{State, started, server_of}
 use Rattle.world.specs.Step.{Steps}
 use Rattle.world.specs.World.{World, first_world, IsRun, after_all}
 use Rattle.world.specs.Agreement.{Agrees, CountsAreOwed, NumbersNameTheirFirstFile, DataIsCurrent, Follows, Matches, IsGoodForget, IsAnswered, posted_from, posters, moves_of, all_moves}
 use Rattle.world.specs.declared.event.Event.{Event}
-use Rattle.world.specs.declared.outcome.Happened.{Happened}
+use Rattle.daemon.specs.declared.happened.Happened.{Happened}
 use Rattle.world.proofs.InTurn.{step-matched}
 use Rattle.world.proofs.Claiming.{HolderHas, holder-has, handed-over}
 use Rattle.world.proofs.Daemons.{holder-is, at-is}

@@ -18,15 +18,15 @@ use Rattle.fuse_ops.specs.Gifts.{IsTaken}
 use Rattle.fuse_ops.specs.Served.{ServedState, forgotten_all, IsLegal, Replay}
 use Rattle.fuse_ops.proofs.SameManifest.{answered-manifest}
 use Rattle.std.specs.Option.{option_and_then}
-use Rattle.world.specs.Daemon.{DaemonState, with_server}
-use Rattle.world.specs.Server.{ServerState, is_single, told_worked, told_item, with_worked}
+use Rattle.daemon.specs.Daemon.{DaemonState, with_server}
+use Rattle.daemon.specs.Server.{ServerState, is_single, told_worked, told_item, with_worked}
 use Rattle.world.specs.World.{World, work, work_item, is_asked, is_replied, is_item, file_named, times, gives, carries, taken_back, owed, MayWork, worked}
 use Rattle.world.specs.Agreement.{Knows, IsGoodForget, is_bad, Follows, move_of}
 use Rattle.world.specs.State.{State, daemon_of, with_daemon, IsSeated}
 use Rattle.world.specs.Step.{Works}
 use Rattle.world.specs.declared.event.Event.TheVariants.{Work}
-use Rattle.world.specs.declared.outcome.Happened.{Happened}
-use Rattle.world.specs.declared.outcome.Happened.TheVariants as happened
+use Rattle.daemon.specs.declared.happened.Happened.{Happened}
+use Rattle.daemon.specs.declared.happened.Happened.TheVariants as happened
 use Rattle.world.proofs.Answering.{answers-worked}
 use Rattle.world.proofs.Bags.{mark, count-push, sum-without}
 use Rattle.world.proofs.Daemons.{HolderIs, holder-is, goes-on, only-holder, hand-seated, at-is}

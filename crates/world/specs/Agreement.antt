@@ -22,15 +22,15 @@ use Rattle.handover.specs.Handover.{IsHandedOver}
 use Rattle.takeover_core.specs.Phases.{claim_wanted}
 use Rattle.takeover_core.specs.declared.message.Message.TheVariants.{Data}
 use Rattle.world.specs.Handing.{IsHanding}
-use Rattle.world.specs.Daemon.{DaemonState}
-use Rattle.world.specs.Server.{ServerState, IsIdle, at_place, is_single}
+use Rattle.daemon.specs.Daemon.{DaemonState}
+use Rattle.daemon.specs.Server.{ServerState, IsIdle, at_place, is_single}
 use Rattle.world.specs.State.{State, IsSeated, daemon_of, server_of}
 use Rattle.world.specs.Step.{Steps, parts_of}
 use Rattle.world.specs.World.{World, Move, issue, issue_item, work, work_item, accept, deliver, mount, claim, end as mount_end, first_world, file_named, times, owed, is_asked, is_replied, IsRun, after_all}
 use Rattle.world.specs.declared.event.Event.{Event}
 use Rattle.world.specs.declared.event.Event.TheVariants.{Mount, Issue, Work, Post, Deliver, Claim, Crash}
-use Rattle.world.specs.declared.outcome.Happened.{Happened}
-use Rattle.world.specs.declared.outcome.Happened.TheVariants as happened
+use Rattle.daemon.specs.declared.happened.Happened.{Happened}
+use Rattle.daemon.specs.declared.happened.Happened.TheVariants as happened
 
 -- ---- moves of events
 

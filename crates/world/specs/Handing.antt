@@ -14,8 +14,8 @@ use Rattle.takeover_core.specs.declared.message.Message.{Message}
 use Rattle.takeover_core.specs.declared.message.Message.TheVariants.{Data}
 use Rattle.takeover_core.specs.declared.phase.Phase.{Phase}
 use Rattle.takeover_core.specs.declared.phase.Phase.TheVariants.{Draining, Pinged, Making, Handed, Holding, Serving}
-use Rattle.world.specs.Daemon.{DaemonState}
-use Rattle.world.specs.Server.{ServerState, IsIdle}
+use Rattle.daemon.specs.Daemon.{DaemonState}
+use Rattle.daemon.specs.Server.{ServerState, IsIdle}
 use Rattle.world.specs.State.{State, daemon_of}
 
 -- ---- phases

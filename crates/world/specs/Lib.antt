@@ -1,12 +1,6 @@
-pub mod Server
-pub mod Daemon
 pub mod State
 pub mod Step
-pub mod Serving
-pub mod Talking
-pub mod Inside
 pub mod World
 pub mod Handing
 pub mod Agreement
 pub mod Laws
-pub mod Words

@@ -1,34 +1,23 @@
 -- All daemons and the kernel's side at one moment, and what stands against an event. (This project's own.)
 use Rattle.std.specs.Prelude.{◌≡◌, ℕ, ◌-◌, ◌==◌, Bool, true, nat_le, List, [], length, slice_get, slice_set, Option, Some, None, is_none, if◌then◌else◌}
 use Rattle.std.specs.Option.{option_map, option_and_then, option_map_or}
-use Rattle.eden_base.specs.declared.claim.ClaimFault.{ClaimFault}
-use Rattle.eden_base.specs.declared.claim.ClaimFault.TheVariants as claim
 use Rattle.eden_base.specs.declared.number.DaemonId.{DaemonId}
 use Rattle.manifest.specs.Manifest.{Manifest}
 use Rattle.fuse_wire.specs.declared.request.Ask.{Ask}
 use Rattle.fuse_wire.specs.declared.reply.Reply.{Reply}
 use Rattle.broker_core.specs.Broker.{BrokerState, new_broker, mount_fault, issue_fault, take_fault, post_fault, claim_fault}
 use Rattle.broker_core.specs.Traffic.{front}
-use Rattle.broker_core.specs.declared.broker.MountFault.{MountFault}
-use Rattle.broker_core.specs.declared.broker.MountFault.TheVariants as mount
-use Rattle.broker_core.specs.declared.broker.IssueFault.{IssueFault}
-use Rattle.broker_core.specs.declared.broker.IssueFault.TheVariants as issue
-use Rattle.broker_core.specs.declared.fault.TakeFault.{TakeFault}
-use Rattle.broker_core.specs.declared.fault.TakeFault.TheVariants as take
-use Rattle.broker_core.specs.declared.fault.PostFault.{PostFault}
-use Rattle.broker_core.specs.declared.fault.PostFault.TheVariants as post
 use Rattle.broker_core.specs.declared.seat.Seat.{Seat}
 use Rattle.fuse_ops.specs.Served.{ServedState}
 use Rattle.takeover_core.specs.Phases.{may_take, drain_fault, claim_wanted}
 use Rattle.takeover_core.specs.declared.message.Message.{Message}
-use Rattle.takeover_core.specs.declared.node.DrainFault.{DrainFault}
-use Rattle.takeover_core.specs.declared.node.DrainFault.TheVariants as drain
-use Rattle.world.specs.Daemon.{DaemonState, is_waiting, in_hand, unposted}
-use Rattle.world.specs.Server.{ServerState, at_place}
+use Rattle.daemon.specs.Refusals.{refusal_of_mount, refusal_of_issue, refusal_of_take, refusal_of_post, refusal_of_drain, refusal_of_claim}
+use Rattle.daemon.specs.Daemon.{DaemonState, is_waiting, in_hand, unposted}
+use Rattle.daemon.specs.Server.{ServerState, at_place}
 use Rattle.world.specs.declared.event.Event.{Event}
 use Rattle.world.specs.declared.event.Event.TheVariants.{Start, Mount, Issue, Take, Work, Post, Deliver, Hear, Drained, GiveUp, Claim, Crash}
-use Rattle.world.specs.declared.outcome.Refusal.{Refusal}
-use Rattle.world.specs.declared.outcome.Refusal.TheVariants as refusal
+use Rattle.daemon.specs.declared.happened.Refusal.{Refusal}
+use Rattle.daemon.specs.declared.happened.Refusal.TheVariants as refusal
 
 -- the manifest that every daemon is handed, how many loaded files a daemon keeps, the kernel's side, the daemons in the
 -- order in which they started, and every message that a daemon said
@@ -56,6 +45,15 @@ daemon_of state daemon = if daemon.0 == 0 then None else slice_get state.daemons
 abbrev pub with_daemon : State → DaemonId → DaemonState → State
 with_daemon state daemon now = record state { daemons = slice_set state.daemons (daemon.0 - 1) now }
 
+-- the daemon at an index is changed so
+pub record ChangesAt (does : DaemonState → DaemonState → Type 0) (old : List DaemonState) (index : ℕ)
+    (new : List DaemonState) : Type 0 where
+  pub was : DaemonState
+  pub later : DaemonState
+  pub is_there : slice_get old index ≡ Some was
+  pub does_so : does was later
+  pub makes : new ≡ slice_set old index later
+
 -- what a daemon serves and has in hand, if there is such a daemon and it serves
 abbrev pub server_of : State → DaemonId → Option ServerState
 server_of state daemon = option_and_then (λ (of : DaemonState). of.server) (daemon_of state daemon)
@@ -78,36 +76,6 @@ pub record IsSeated (state : State) (seat : Seat) (server : ServerState) : Type 
   pub serves : server_of state seat.daemon ≡ Some server
 
 -- ---- refusals
-
--- the broker's faults keep their names
-abbrev pub refusal_of_mount : MountFault → Refusal
-refusal_of_mount mount.Seated = refusal.Seated
-refusal_of_mount mount.LastGeneration = refusal.LastGeneration
-
--- so do those of a request
-abbrev pub refusal_of_issue : IssueFault → Refusal
-refusal_of_issue issue.NotMounted = refusal.NotMounted
-refusal_of_issue issue.NotHeld = refusal.NotHeld
-refusal_of_issue issue.BadForget = refusal.BadForget
-refusal_of_issue issue.Full = refusal.Full
-refusal_of_issue issue.NoMemory = refusal.NoMemory
-
--- those of a take
-abbrev pub refusal_of_take : TakeFault → Refusal
-refusal_of_take take.Ended = refusal.Ended
-refusal_of_take (take.Stale now) = refusal.Stale now
-refusal_of_take take.Empty = refusal.Empty
-
--- and those of a reply
-abbrev pub refusal_of_post : PostFault → Refusal
-refusal_of_post post.Ended = refusal.Ended
-refusal_of_post (post.Stale now) = refusal.Stale now
-refusal_of_post post.NotAsked = refusal.NotAsked
-
--- those of a daemon that is not drained
-abbrev pub refusal_of_drain : DrainFault → Refusal
-refusal_of_drain drain.WrongPhase = refusal.WrongPhase
-refusal_of_drain (drain.Undrained in_hand unposted) = refusal.Undrained in_hand unposted
 
 -- a daemon that does not wait cannot mount, whoever has the seat
 abbrev pub mount_refusal : State → Option DaemonState → Option Refusal
@@ -163,13 +131,6 @@ hear_refusal state place (Some of) =
 abbrev pub drained_refusal : Option DaemonState → Option Refusal
 drained_refusal None = Some refusal.NoDaemon
 drained_refusal (Some of) = option_map refusal_of_drain (drain_fault of.node.phase (in_hand of) (unposted of))
-
--- those of a claim
-abbrev pub refusal_of_claim : ClaimFault → Refusal
-refusal_of_claim claim.Ended = refusal.Ended
-refusal_of_claim (claim.Stale now) = refusal.Stale now
-refusal_of_claim (claim.Unanswered asks) = refusal.Unanswered asks
-refusal_of_claim claim.LastGeneration = refusal.LastGeneration
 
 -- the seat is claimed from the generation that is wanted
 abbrev pub wanted_refusal : State → Option ℕ → Option Refusal

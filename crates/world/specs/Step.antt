@@ -15,21 +15,22 @@ use Rattle.fuse_wire.specs.declared.reply.Answer.{Answer}
 use Rattle.fuse_wire.specs.declared.reply.Answer.TheVariants.{Error}
 use Rattle.fuse_wire.specs.declared.reply.Reply.{Reply}
 use Rattle.fuse_ops.specs.Served.{ServedState, Replay}
-use Rattle.world.specs.Server.{ServerState, new_server, at_place, told_taken, with_taken, told_worked, with_worked, with_posted}
+use Rattle.daemon.specs.Refusals.{is_made}
+use Rattle.daemon.specs.Server.{ServerState, new_server, at_place, told_taken, with_taken, told_worked, with_worked, with_posted}
 use Rattle.takeover_core.specs.Phases.{claim_wanted}
 use Rattle.takeover_core.specs.declared.message.Message.{Message}
 use Rattle.takeover_core.specs.declared.message.Message.TheVariants.{Offer}
-use Rattle.world.specs.Daemon.{DaemonState, versions, new_daemon, with_server}
+use Rattle.daemon.specs.Daemon.{DaemonState, versions, new_daemon, with_server}
 use Rattle.world.specs.State.{State, daemon_of, with_daemon, fault}
-use Rattle.world.specs.Talking.{HearsSo, IsReady, GivesUpSo, MountsSo, EndsSo, ClaimsSo, after_claim}
-use Rattle.world.specs.declared.daemon.Reaction.{Reaction}
-use Rattle.world.specs.declared.daemon.Reaction.TheVariants.{Ignores, Heeds, Says}
+use Rattle.daemon.specs.Talking.{HearsSo, IsReady, GivesUpSo, MountsSo, EndsSo, ClaimsSo, after_claim}
+use Rattle.daemon.specs.declared.daemon.Reaction.{Reaction}
+use Rattle.daemon.specs.declared.daemon.Reaction.TheVariants.{Ignores, Heeds, Says}
 use Rattle.world.specs.declared.event.Event.{Event}
 use Rattle.world.specs.declared.event.Event.TheVariants.{Start, Mount, Issue, Take, Work, Post, Deliver, Hear, Drained, GiveUp, Claim, Crash, Do, Show}
-use Rattle.world.specs.declared.outcome.Happened.{Happened}
-use Rattle.world.specs.declared.outcome.Happened.TheVariants as happened
-use Rattle.world.specs.declared.outcome.Refusal.{Refusal}
-use Rattle.world.specs.declared.outcome.Refusal.TheVariants.{NoMemory}
+use Rattle.daemon.specs.declared.happened.Happened.{Happened}
+use Rattle.daemon.specs.declared.happened.Happened.TheVariants as happened
+use Rattle.daemon.specs.declared.happened.Refusal.{Refusal}
+use Rattle.daemon.specs.declared.happened.Refusal.TheVariants.{NoMemory}
 
 -- ---- one event that is no `do`
 
@@ -205,11 +206,6 @@ abbrev pub Once : State → Event → Happened → State → Type 0
 Once old event told new = OnceBy old event (fault old event) told new
 
 -- ---- every event
-
--- an event was made
-abbrev pub is_made : Happened → Bool
-is_made (happened.Refused refusal) = false
-is_made told = true
 
 -- what holds where an event was made, and what where it was refused
 abbrev pub IfMade : Bool → Type 0 → Type 0 → Type 0

@@ -1,14 +1,13 @@
 //! The daemon at an index of the list of daemons.
 ghost use Rattle.std.specs.Prelude.{◌≡◌, ◌<◌, Some, IsTrue, IfOk, OnErr, slice_get, vec_len};
 ghost use Rattle.takeover_core.specs.Phases.{is_holding};
-ghost use Rattle.world.specs.Daemon.{DaemonState, is_waiting};
-ghost use Rattle.world.specs.Serving.{ChangesAt, DaemonTakes, DaemonWorks, DaemonPosts};
-ghost use Rattle.world.specs.Talking.{MountsSo, EndsSo, HearsSo, DrainsSo, GivesUpSo, ClaimsSo};
+ghost use Rattle.daemon.specs.Daemon.{DaemonState, is_waiting};
+ghost use Rattle.daemon.specs.Serving.{DaemonTakes, DaemonWorks, DaemonPosts};
+ghost use Rattle.world.specs.State.{ChangesAt};
+ghost use Rattle.daemon.specs.Talking.{MountsSo, EndsSo, HearsSo, DrainsSo, GivesUpSo, ClaimsSo};
 
-use crate::daemon::{Daemon, Reaction};
-use crate::outcome::Happened;
-use crate::server::Server;
 use broker_core::Broker;
+use daemon::{Daemon, Happened, Reaction, Server};
 use eden_base::{ClaimFault, DaemonId, NoMemory};
 use manifest::Manifest;
 use std::alloc::Global;

@@ -6,16 +6,14 @@ ghost use Rattle.world.specs.Step.{Once, Step, told_reaction, what_is_said};
 ghost use Rattle.world.specs.World.{first_world, World as Ideal};
 ghost use Rattle.world.specs.Agreement.{Matches, MovesOn};
 
-use crate::daemon::{Daemon, Reaction};
 use crate::daemon_at::{
     answer_at, crash_at, drain_at, give_up_at, hear_at, make_room_at, mount_at, post_at, take_at,
     work_at,
 };
 use crate::event::Event;
-use crate::outcome::{Happened, Outcome, Refusal};
-use crate::place::index_of;
-use crate::server::{Server, opening};
+use crate::outcome::Outcome;
 use broker_core::{Broker, DeliverFault};
+use daemon::{Daemon, Happened, Reaction, Refusal, Server, index_of, opening};
 use eden_base::{DaemonId, NoMemory};
 use fuse_ops::Served;
 use fuse_wire::{Ask, Reply, Request};

@@ -6,7 +6,7 @@ use Rattle.std.proofs.KnownBytes.{Appends-nil, Appends-trans, Appends-kept}
 use Rattle.world.specs.State.{State}
 use Rattle.world.specs.Step.{Step}
 use Rattle.world.specs.declared.event.Event.{Event}
-use Rattle.world.specs.declared.outcome.Happened.{Happened}
+use Rattle.daemon.specs.declared.happened.Happened.{Happened}
 use Rattle.script_lines.specs.Printed.{printed}
 use Rattle.world_script.specs.Script.{Prints, RunsEvents}
 

@@ -8,7 +8,7 @@ use Rattle.world.specs.State.{State, started}
 use Rattle.world.specs.Step.{Steps}
 use Rattle.world.specs.World.{first_world}
 use Rattle.world.specs.Agreement.{Matches, world_after}
-use Rattle.world.specs.declared.outcome.Happened.{Happened}
+use Rattle.daemon.specs.declared.happened.Happened.{Happened}
 use Rattle.world.proofs.WholeRun.{match-agrees, match-counts, match-names, match-current, steps-matched, posters-answered}
 use Rattle.world.specs.declared.event.Event.{Event}
 use Rattle.world_script.specs.declared.fault.Fault.{Fault}

@@ -10,7 +10,7 @@ use Rattle.world.specs.Step.{Step}
 use Rattle.world.specs.World.{IsRun, first_world}
 use Rattle.world.specs.Agreement.{all_moves, world_after, Matches, IsRunOfMoves, CountsAreOwed, NumbersNameTheirFirstFile, OneDaemonForEachGeneration, DataIsCurrent, RepliesAreAnswered, IsGoodForget}
 use Rattle.world.specs.declared.event.Event.{Event}
-use Rattle.world.specs.declared.outcome.Happened.{Happened}
+use Rattle.daemon.specs.declared.happened.Happened.{Happened}
 use Rattle.world_script.specs.Parts.{IsSplit, SaysEvents}
 use Rattle.script_lines.specs.Printed.{printed}
 

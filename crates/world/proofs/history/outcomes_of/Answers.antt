@@ -2,7 +2,7 @@ use Rattle.std.proofs.Common.{List, ◌≡◌, ◌+◌, ◌<◌, ◌++◌, lengt
 use Rattle.std.specs.Prelude.{◌∷◌}
 use Rattle.std.proofs.lemmas.List.{take_more}
 use Rattle.world.specs.declared.event.Event.{Event}
-use Rattle.world.specs.declared.outcome.Happened.{Happened}
+use Rattle.daemon.specs.declared.happened.Happened.{Happened}
 use Rattle.world.specs.State.{State}
 use Rattle.world.specs.Step.{Steps}
 use Rattle.world.proofs.StepLemmas.{Steps-more}

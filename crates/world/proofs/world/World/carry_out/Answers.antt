@@ -6,8 +6,8 @@ use Rattle.world.specs.State.{State}
 use Rattle.world.specs.Step.{Once, events_of_do}
 use Rattle.world.specs.declared.event.Event.{Event}
 use Rattle.world.specs.declared.event.Event.TheVariants.{Issue, Take, Work, Post, Deliver}
-use Rattle.world.specs.declared.outcome.Happened.{Happened}
-use Rattle.world.specs.declared.outcome.Happened.TheVariants.{Refused}
+use Rattle.daemon.specs.declared.happened.Happened.{Happened}
+use Rattle.daemon.specs.declared.happened.Happened.TheVariants.{Refused}
 use Rattle.world.proofs.Carrying.{Goes, goes-nothing, goes-on, goes-stop, goes-last, goes-end, Step-do, Step-do-refused}
 use Rattle.world.proofs.world.World.carry_out.Goals as goal
 

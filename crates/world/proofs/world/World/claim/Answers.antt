@@ -1,12 +1,12 @@
 -- Who wants no claim.
 use Rattle.std.proofs.Common.{length, refl, sym, ◌∙◌, subst, arith}
 use Rattle.std.proofs.lemmas.Option.{slice_get_read}
-use Rattle.world.specs.Serving.{IsIndex}
+use Rattle.daemon.specs.Serving.{IsIndex}
 use Rattle.world.specs.State.{State}
 use Rattle.world.specs.Step.{Once}
 use Rattle.world.specs.declared.event.Event.TheVariants.{Claim}
-use Rattle.world.specs.declared.outcome.Happened.TheVariants as happened
-use Rattle.world.specs.declared.outcome.Refusal.TheVariants.{WrongPhase}
+use Rattle.daemon.specs.declared.happened.Happened.TheVariants as happened
+use Rattle.daemon.specs.declared.happened.Refusal.TheVariants.{WrongPhase}
 use Rattle.world.proofs.StepLemmas.{Once-unwanted}
 use Rattle.world.proofs.world.World.claim.Goals as goal
 

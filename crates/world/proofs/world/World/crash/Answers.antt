@@ -1,10 +1,10 @@
 -- Who is gone.
 use Rattle.std.proofs.Common.{length, subst, arith}
-use Rattle.world.specs.Serving.{IsIndex}
+use Rattle.daemon.specs.Serving.{IsIndex}
 use Rattle.world.specs.State.{State}
 use Rattle.world.specs.Step.{Once}
 use Rattle.world.specs.declared.event.Event.TheVariants.{Crash}
-use Rattle.world.specs.declared.outcome.Happened.TheVariants as happened
+use Rattle.daemon.specs.declared.happened.Happened.TheVariants as happened
 use Rattle.world.proofs.StepLemmas.{Once-crashes}
 use Rattle.world.proofs.world.World.crash.Goals as goal
 

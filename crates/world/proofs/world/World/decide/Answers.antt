@@ -4,7 +4,7 @@ use Rattle.world.specs.State.{State}
 use Rattle.world.specs.Step.{Once, Step, parts_of}
 use Rattle.world.specs.declared.event.Event.{Event}
 use Rattle.world.specs.declared.event.Event.TheVariants.{Start, Mount, Issue, Take, Work, Post, Deliver, Hear, Drained, GiveUp, Claim, Crash}
-use Rattle.world.specs.declared.outcome.Happened.{Happened}
+use Rattle.daemon.specs.declared.happened.Happened.{Happened}
 use Rattle.world.proofs.Carrying.{Step-alone}
 use Rattle.world.proofs.world.World.decide.Goals as goal
 

@@ -1,11 +1,11 @@
 -- Who has something left.
 use Rattle.std.proofs.Common.{List, length, sym, subst, arith}
 use Rattle.takeover_core.specs.declared.message.Message.{Message}
-use Rattle.world.specs.Serving.{IsIndex}
+use Rattle.daemon.specs.Serving.{IsIndex}
 use Rattle.world.specs.State.{State}
 use Rattle.world.specs.Step.{Once}
 use Rattle.world.specs.declared.event.Event.TheVariants.{Drained}
-use Rattle.world.specs.declared.outcome.Happened.TheVariants as happened
+use Rattle.daemon.specs.declared.happened.Happened.TheVariants as happened
 use Rattle.world.proofs.StepLemmas.{Once-undrained}
 use Rattle.world.proofs.world.World.drained.Goals as goal
 

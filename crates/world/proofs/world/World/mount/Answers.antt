@@ -1,12 +1,13 @@
 -- Who waited has the seat and serves.
 use Rattle.std.proofs.Common.{length, sym, ◌∙◌, subst, arith}
-use Rattle.world.specs.Serving.{IsIndex}
+use Rattle.daemon.specs.Serving.{IsIndex}
 use Rattle.world.specs.State.{State}
 use Rattle.world.specs.Step.{Once}
-use Rattle.world.specs.declared.outcome.Happened.TheVariants as happened
-use Rattle.world.specs.declared.outcome.Refusal.TheVariants.{NoMemory}
+use Rattle.daemon.specs.declared.happened.Happened.TheVariants as happened
+use Rattle.daemon.specs.declared.happened.Refusal.TheVariants.{NoMemory}
 use Rattle.world.specs.declared.event.Event.TheVariants.{Mount}
-use Rattle.world.proofs.StepLemmas.{none-unless, waits-read, Once-mount-lacks, Once-mounts}
+use Rattle.daemon.proofs.Places.{none-unless}
+use Rattle.world.proofs.StepLemmas.{waits-read, Once-mount-lacks, Once-mounts}
 use Rattle.world.proofs.world.World.mount.Goals as goal
 
 pub returns-in_default-opening : goal.returns-in_default-opening

@@ -1,6 +1,6 @@
 -- Who posted.
 use Rattle.std.proofs.Common.{length, subst, arith}
-use Rattle.world.specs.Serving.{IsIndex}
+use Rattle.daemon.specs.Serving.{IsIndex}
 use Rattle.world.specs.State.{State}
 use Rattle.world.specs.Step.{Once}
 use Rattle.world.specs.declared.event.Event.TheVariants.{Post}

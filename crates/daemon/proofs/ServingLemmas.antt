@@ -1,0 +1,130 @@
+-- What a daemon's calls did, by the first fault.
+use Rattle.std.proofs.Common.{◌≡◌, ℕ, suc, zero, ◌+◌, ◌<◌, Bool, List, [], ◌∷◌, ◌++◌, length, Option, Some, None, get_or, refl, sym, ap, ◌∙◌, subst, inl, inr, arith}
+use Rattle.std.proofs.lemmas.List.{append-nil, map-append, take_more}
+use Rattle.std.proofs.lemmas.Option.{slice_get_read}
+use Rattle.std.specs.Prelude.{slice_get, remove, map, take, ◌≢◌, true, false, ◌||◌, is_some, if◌then◌else◌}
+use Rattle.std.specs.List.{AllByRecursion}
+use Rattle.eden_base.specs.declared.number.DaemonId.{DaemonId}
+use Rattle.eden_base.specs.declared.errno.Errno.TheVariants.{EIO}
+use Rattle.fuse_wire.specs.Request.{is_ask, item_of, items_of}
+use Rattle.fuse_wire.specs.declared.request.Ask.{Ask}
+use Rattle.fuse_wire.specs.declared.item.Item.{Item}
+use Rattle.fuse_wire.specs.declared.reply.Answer.{Answer}
+use Rattle.fuse_wire.specs.declared.reply.Answer.TheVariants.{Error}
+use Rattle.fuse_ops.specs.Served.{ServedState, Replay}
+use Rattle.fuse_wire.specs.declared.reply.Reply.{Reply}
+use Rattle.broker_core.specs.Broker.{BrokerState, post_fault}
+use Rattle.daemon.specs.Server.{ServerState, at_place, without_place, single, is_single, handed, told_item}
+use Rattle.daemon.specs.Serving.{IsIndex, HasNone, WorksBy, WorksOff, PostsBy, PostsReply}
+use Rattle.daemon.specs.declared.happened.Happened.{Happened}
+use Rattle.daemon.specs.declared.happened.Happened.TheVariants.{Refused, Made}
+use Rattle.daemon.specs.declared.happened.Refusal.TheVariants.{NoSuch, NoMemory}
+use Rattle.daemon.proofs.Places.{at-none, at-index}
+
+-- a list has a member at each index
+member : {X : Type 0} (xs : List X) (i : ℕ) → i < length xs → (x : X) × (slice_get xs i ≡ Some x)
+member [] i h = absurd (omega arith)
+member (x ∷ xs) zero h = (x, refl)
+member (x ∷ xs) (suc i) h = member xs i (omega arith)
+
+-- what was read at an index stands at its place
+pub at-read : {X : Type 0} (xs : List X) (place index : ℕ) (x : X) → IsIndex (length xs) place index → x ≡ get_or xs index x → at_place xs place ≡ Some x
+at-read xs place index x at read = at-index xs place index at ∙ slice_get_read xs (length xs) index x refl at.within read
+
+-- a list without the member at an index is without that of its place
+pub without-index : {X : Type 0} (xs : List X) (count place index : ℕ) → IsIndex count place index → remove xs index ≡ without_place xs place
+without-index xs count place index at = ap (λ (i : ℕ). remove xs i) at.is
+
+-- nothing of that place is in hand
+pub WorksBy-none : (s : ServerState) (place : ℕ) (fails : Bool) (told : Happened) → HasNone (length s.hand) place → told ≡ Refused NoSuch →
+    WorksBy (at_place s.hand place) s place fails told s
+WorksBy-none s place fails told none tells = subst (λ (o : Option Ask). WorksBy o s place fails told s) (sym (at-none s.hand place none)) (record { tells = tells; same = refl })
+
+-- there is no memory for a reply
+pub WorksBy-lacks : (s : ServerState) (place : ℕ) (fails : Bool) (index : ℕ) (told : Happened) → IsIndex (length s.hand) place index → told ≡ Refused NoMemory →
+    WorksBy (at_place s.hand place) s place fails told s
+WorksBy-lacks s place fails index told at tells =
+    let task = member s.hand index at.within in
+    subst (λ (o : Option Ask). WorksBy o s place fails told s) (sym (at-index s.hand place index at ∙ task.1)) (inr (record { tells = tells; same = refl }))
+
+-- a member of the hand was worked
+pub WorksBy-some : (s n : ServerState) (place : ℕ) (fails : Bool) (index : ℕ) (task : Ask) (told : Happened) → IsIndex (length s.hand) place index → task ≡ get_or s.hand index task →
+    WorksOff s place fails task told n → WorksBy (at_place s.hand place) s place fails told n
+WorksBy-some s n place fails index task told at read works =
+    subst (λ (o : Option Ask). WorksBy o s place fails told n) (sym (at-read s.hand place index task at read)) (inl works)
+
+-- no reply of that place is unposted
+pub PostsBy-none : (s : ServerState) (broker : BrokerState) (d : DaemonId) (place : ℕ) (told : Happened) → HasNone (length s.unposted) place → told ≡ Refused NoSuch →
+    PostsBy (at_place s.unposted place) s broker d place told s broker
+PostsBy-none s broker d place told none tells =
+    subst (λ (o : Option Reply). PostsBy o s broker d place told s broker) (sym (at-none s.unposted place none)) (record { tells = tells; same = refl; same_broker = refl })
+
+-- a reply was posted, or refused
+pub PostsBy-some : (s n : ServerState) (broker left : BrokerState) (d : DaemonId) (place index : ℕ) (reply : Reply) (told : Happened) →
+    IsIndex (length s.unposted) place index → reply ≡ get_or s.unposted index reply → PostsReply (post_fault broker d s.generation reply) s broker place reply told n left →
+    PostsBy (at_place s.unposted place) s broker d place told n left
+PostsBy-some s n broker left d place index reply told at read posts =
+    subst (λ (o : Option Reply). PostsBy o s broker d place told n left) (sym (at-read s.unposted place index reply at read)) posts
+
+-- ---- what was worked
+
+-- a daemon's fields after a work
+worked-fields : (old : ServerState) (later : ServedState) (hand now : List Ask) (unposted last : List Reply) → hand ≡ now → unposted ≡ last →
+    record old { served = later; hand = hand; unposted = unposted } ≡ record old { served = later; hand = now; unposted = last }
+worked-fields old later hand now unposted last e f =
+    ap (λ (h : List Ask). record old { served = later; hand = h; unposted = unposted }) e ∙ ap (λ (u : List Reply). record old { served = later; hand = now; unposted = u }) f
+
+-- a request without an answer
+pub WorksOff-forgets : (old : ServerState) (count place index : ℕ) (fails : Bool) (task : Ask) (item : Option Item) (told : Happened) (answer : Option Answer) (later : ServedState) (hand : List Ask) (unposted : List Reply) →
+    IsIndex count place index → answer ≡ None → Replay old.served task.what answer later → told ≡ told_item old.served item → item ≡ item_of task.what →
+    hand ≡ remove old.hand index → unposted ≡ old.unposted → WorksOff old place fails task told (record old { served = later; hand = hand; unposted = unposted })
+WorksOff-forgets old count place index fails task item told answer later hand unposted at none replay tells is left same = record {
+  later = later;
+  answer = None;
+  replay = subst (λ (o : Option Answer). Replay old.served task.what o later) none replay;
+  fails_so = λ _ e. (let no : ⊥ = cc in no);
+  tells = tells ∙ ap (told_item old.served) is;
+  makes = worked-fields old later hand _ unposted _ (left ∙ without-index old.hand count place index at) (same ∙ sym (append-nil old.unposted));
+}
+
+-- a request with one
+pub WorksOff-answers : (old : ServerState) (count place index : ℕ) (fails : Bool) (task : Ask) (answer : Answer) (given : Option Answer) (later : ServedState) (hand : List Ask) (before unposted : List Reply) →
+    IsIndex count place index → given ≡ Some answer → Replay old.served task.what given later → (fails ≡ false → given ≢ Some (Error EIO)) →
+    hand ≡ remove old.hand index → before ≡ old.unposted → unposted ≡ before ++ record { unique = task.unique; answer = answer } ∷ [] →
+    WorksOff old place fails task (Made (record { unique = task.unique; answer = answer })) (record old { served = later; hand = hand; unposted = unposted })
+WorksOff-answers old count place index fails task answer given later hand before unposted at is replay fails_so left same pushed = record {
+  later = later;
+  answer = Some answer;
+  replay = subst (λ (o : Option Answer). Replay old.served task.what o later) is replay;
+  fails_so = subst (λ (o : Option Answer). fails ≡ false → o ≢ Some (Error EIO)) is fails_so;
+  tells = refl;
+  makes = worked-fields old later hand _ unposted _ (left ∙ without-index old.hand count place index at) (pushed ∙ ap (λ (rs : List Reply). rs ++ record { unique = task.unique; answer = answer } ∷ []) same);
+}
+
+-- one item more, each by itself
+pub singles-more : (items : List Item) (i : ℕ) (d : Item) → i < length items → map single (take (i + 1) items) ≡ map single (take i items) ++ single (get_or items i d) ∷ []
+singles-more items i d within = ap (map single) (take_more items i d within) ∙ map-append single (take i items) (get_or items i d ∷ [])
+
+-- ---- what is in hand
+
+-- items by themselves
+singles : (items : List Item) → AllByRecursion (λ task. is_single task ≡ true) (map single items)
+singles [] = tt
+singles (item ∷ items) = (refl, singles items)
+
+-- what a take brings
+handed-single : (ask : Ask) → AllByRecursion (λ task. is_single task ≡ true) (handed ask)
+handed-single ask = by_kind (is_ask ask.what) refl where
+  by_kind : (b : Bool) → is_ask ask.what ≡ b → AllByRecursion (λ task. is_single task ≡ true) (if b then ask ∷ [] else map single (items_of ask.what))
+  by_kind true asks = (ap (λ (b : Bool). b || is_some (item_of ask.what)) asks, tt)
+  by_kind false forgets = singles (items_of ask.what)
+
+both-single : (xs ys : List Ask) → AllByRecursion (λ task. is_single task ≡ true) xs → AllByRecursion (λ task. is_single task ≡ true) ys → AllByRecursion (λ task. is_single task ≡ true) (xs ++ ys)
+both-single [] ys h k = k
+both-single (x ∷ xs) ys h k = (h.0, both-single xs ys h.1 k)
+
+-- a hand after a take
+pub hand-single : (old before new : List Ask) (ask : Ask) → before ≡ old → new ≡ before ++ handed ask → AllByRecursion (λ task. is_single task ≡ true) old →
+    AllByRecursion (λ task. is_single task ≡ true) new
+hand-single old before new ask same put single_before =
+    subst (AllByRecursion (λ task. is_single task ≡ true)) (sym (put ∙ ap (λ (xs : List Ask). xs ++ handed ask) same)) (both-single old (handed ask) single_before (handed-single ask))

@@ -1,0 +1,11 @@
+use Rattle.std.proofs.Common.{◌≡◌, ◌+◌, ◌≤◌, ◌++◌, take, length, vec_len, vec_capacity}
+use Rattle.std.specs.Prelude.{map}
+use Rattle.daemon.specs.Server.{single}
+use Rattle.daemon.proofs.server.put_each.Given as goal
+
+-- the items so far are in hand, and there is room for the others
+abbrev pub invariant-loop-item : goal.invariant-loop-item
+invariant-loop-item l = record {
+  put : l.hand.items ≡ l.fn.hand.items ++ map single (take l.item-index l.items);
+  room : vec_len l.hand + length l.items ≤ vec_capacity l.hand + l.item-index;
+}

@@ -1,0 +1,10 @@
+-- What a daemon keeps of its fields, whatever it is asked.
+use Rattle.std.specs.Prelude.{◌≡◌, true}
+use Rattle.std.specs.List.{AllByRecursion}
+use Rattle.daemon.specs.Server.{is_single}
+use Rattle.daemon.specs.declared.server.Server.TheInside.{Inside}
+
+-- it serves a tree of its own manifest, and has asks and single items in hand
+pub record IsConsistent (server : Inside) : Type 0 where
+  pub of_manifest : server.served.tree.manifest ≡ server.manifest
+  pub single : AllByRecursion (λ task. is_single task ≡ true) server.hand.items

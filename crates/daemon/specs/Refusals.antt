@@ -1,0 +1,83 @@
+-- Why an event is refused: the words that printed lines have for it, and the cause that each fault is. (This project's own.)
+use Rattle.std.specs.Prelude.{ℕ, Bool, true, false, List, codes}
+use Rattle.eden_base.specs.declared.claim.ClaimFault.{ClaimFault}
+use Rattle.eden_base.specs.declared.claim.ClaimFault.TheVariants as claim
+use Rattle.broker_core.specs.declared.broker.MountFault.{MountFault}
+use Rattle.broker_core.specs.declared.broker.MountFault.TheVariants as mount
+use Rattle.broker_core.specs.declared.broker.IssueFault.{IssueFault}
+use Rattle.broker_core.specs.declared.broker.IssueFault.TheVariants as issue
+use Rattle.broker_core.specs.declared.fault.TakeFault.{TakeFault}
+use Rattle.broker_core.specs.declared.fault.TakeFault.TheVariants as take
+use Rattle.broker_core.specs.declared.fault.PostFault.{PostFault}
+use Rattle.broker_core.specs.declared.fault.PostFault.TheVariants as post
+use Rattle.takeover_core.specs.declared.node.DrainFault.{DrainFault}
+use Rattle.takeover_core.specs.declared.node.DrainFault.TheVariants as drain
+use Rattle.daemon.specs.declared.happened.Happened.{Happened}
+use Rattle.daemon.specs.declared.happened.Happened.TheVariants as happened
+use Rattle.daemon.specs.declared.happened.Refusal.{Refusal}
+use Rattle.daemon.specs.declared.happened.Refusal.TheVariants as refusal
+
+-- why an event was refused
+abbrev pub refusal_name : Refusal → List ℕ
+refusal_name refusal.NoDaemon = codes "NoDaemon"
+refusal_name refusal.WrongPhase = codes "WrongPhase"
+refusal_name refusal.NoSuch = codes "NoSuch"
+refusal_name refusal.Seated = codes "Seated"
+refusal_name refusal.LastGeneration = codes "LastGeneration"
+refusal_name refusal.NotMounted = codes "NotMounted"
+refusal_name refusal.NotHeld = codes "NotHeld"
+refusal_name refusal.BadForget = codes "BadForget"
+refusal_name refusal.Full = codes "Full"
+refusal_name refusal.Ended = codes "Ended"
+refusal_name (refusal.Stale now) = codes "Stale"
+refusal_name refusal.Empty = codes "Empty"
+refusal_name refusal.NotAsked = codes "NotAsked"
+refusal_name (refusal.Unanswered asks) = codes "Unanswered"
+refusal_name (refusal.Undrained in_hand unposted) = codes "Undrained"
+refusal_name refusal.NoMemory = codes "NoMemory"
+
+-- ---- causes
+
+-- the broker's faults keep their names
+abbrev pub refusal_of_mount : MountFault → Refusal
+refusal_of_mount mount.Seated = refusal.Seated
+refusal_of_mount mount.LastGeneration = refusal.LastGeneration
+
+-- so do those of a request
+abbrev pub refusal_of_issue : IssueFault → Refusal
+refusal_of_issue issue.NotMounted = refusal.NotMounted
+refusal_of_issue issue.NotHeld = refusal.NotHeld
+refusal_of_issue issue.BadForget = refusal.BadForget
+refusal_of_issue issue.Full = refusal.Full
+refusal_of_issue issue.NoMemory = refusal.NoMemory
+
+-- those of a take
+abbrev pub refusal_of_take : TakeFault → Refusal
+refusal_of_take take.Ended = refusal.Ended
+refusal_of_take (take.Stale now) = refusal.Stale now
+refusal_of_take take.Empty = refusal.Empty
+
+-- and those of a reply
+abbrev pub refusal_of_post : PostFault → Refusal
+refusal_of_post post.Ended = refusal.Ended
+refusal_of_post (post.Stale now) = refusal.Stale now
+refusal_of_post post.NotAsked = refusal.NotAsked
+
+-- those of a daemon that is not drained
+abbrev pub refusal_of_drain : DrainFault → Refusal
+refusal_of_drain drain.WrongPhase = refusal.WrongPhase
+refusal_of_drain (drain.Undrained in_hand unposted) = refusal.Undrained in_hand unposted
+
+-- those of a claim
+abbrev pub refusal_of_claim : ClaimFault → Refusal
+refusal_of_claim claim.Ended = refusal.Ended
+refusal_of_claim (claim.Stale now) = refusal.Stale now
+refusal_of_claim (claim.Unanswered asks) = refusal.Unanswered asks
+refusal_of_claim claim.LastGeneration = refusal.LastGeneration
+
+-- ---- what was made
+
+-- an event was made
+abbrev pub is_made : Happened → Bool
+is_made (happened.Refused refusal) = false
+is_made told = true

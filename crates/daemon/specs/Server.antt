@@ -1,0 +1,95 @@
+-- A daemon that mounted: what it serves, and what it has in hand. (This project's own.)
+use Rattle.std.specs.Prelude.{◌≡◌, ℕ, ◌-◌, ◌==◌, Bool, List, [], ◌∷◌, ◌++◌, length, map, remove, slice_get, Option, Some, None, is_some, ◌||◌, if◌then◌else◌}
+use Rattle.manifest.specs.Manifest.{Manifest}
+use Rattle.fuse_wire.specs.Request.{is_ask, item_of, items_of}
+use Rattle.fuse_wire.specs.declared.request.Ask.{Ask}
+use Rattle.fuse_wire.specs.declared.request.Request.TheVariants.{Forget}
+use Rattle.fuse_wire.specs.declared.item.Item.{Item}
+use Rattle.fuse_wire.specs.declared.reply.Answer.{Answer}
+use Rattle.fuse_wire.specs.declared.reply.Reply.{Reply}
+use Rattle.broker_core.specs.Traffic.{without_unique}
+use Rattle.inode_map.specs.InodeMap.{forgot}
+use Rattle.fuse_ops.specs.Served.{ServedState, new_served}
+use Rattle.daemon.specs.declared.happened.Happened.{Happened}
+use Rattle.daemon.specs.declared.happened.Happened.TheVariants as happened
+use Rattle.daemon.specs.declared.happened.Refusal.TheVariants as refusal
+
+-- the generation at which it mounted, what it serves, the asks and single items that it took and did not work yet, and
+-- the replies that it did not post yet
+pub record ServerState : Type 0 where
+  pub generation : ℕ
+  pub served : ServedState
+  pub hand : List Ask
+  pub unposted : List Reply
+
+-- a daemon has nothing in hand, and everything posted
+pub record IsIdle (server : ServerState) : Type 0 where
+  pub hand : server.hand ≡ []
+  pub unposted : server.unposted ≡ []
+
+-- it mounted, and has nothing in hand
+abbrev pub new_server : Manifest → ℕ → ℕ → ServerState
+new_server manifest limit generation =
+    record { generation = generation; served = new_served manifest limit; hand = []; unposted = [] }
+
+-- the member at a place, of which the first is 1
+abbrev pub at_place : {X : Type 0} → List X → ℕ → Option X
+at_place xs place = if place == 0 then None else slice_get xs (place - 1)
+
+-- the list without that member
+abbrev pub without_place : {X : Type 0} → List X → ℕ → List X
+without_place xs place = remove xs (place - 1)
+
+-- ---- what it takes
+
+-- one item as a request of its own
+abbrev pub single : Item → Ask
+single item = without_unique (Forget item)
+
+-- what joins the hand: an ask as it is, and each item of a forget by itself
+abbrev pub handed : Ask → List Ask
+handed ask = if is_ask ask.what then ask ∷ [] else map single (items_of ask.what)
+
+-- what is told of a take
+abbrev pub told_taken : Ask → Happened
+told_taken ask =
+    if is_ask ask.what then happened.Took ask.unique else happened.TookForgets (length (items_of ask.what))
+
+-- after a take
+abbrev pub with_taken : ServerState → Ask → ServerState
+with_taken server ask = record server { hand = server.hand ++ handed ask }
+
+-- ---- what it works
+
+-- an ask, or one item
+abbrev pub is_single : Ask → Bool
+is_single task = is_ask task.what || is_some (item_of task.what)
+
+-- the reply to an ask; a forget has none
+abbrev pub reply_to : Ask → Option Answer → List Reply
+reply_to task None = []
+reply_to task (Some answer) = record { unique = task.unique; answer = answer } ∷ []
+
+-- what becomes of an item
+abbrev pub told_item : ServedState → Option Item → Happened
+told_item served (Some item) = happened.Forgot item (forgot served.map item.node.0 item.k)
+told_item served None = happened.Refused refusal.NoSuch
+
+-- what is told of a request that was worked
+abbrev pub told_worked : ServedState → Ask → Option Answer → Happened
+told_worked served task (Some answer) = happened.Made (record { unique = task.unique; answer = answer })
+told_worked served task None = told_item served (item_of task.what)
+
+-- after a request at a place of the hand was worked
+abbrev pub with_worked : ServerState → ℕ → Ask → Option Answer → ServedState → ServerState
+with_worked server place task answer later = record server {
+  served = later;
+  hand = without_place server.hand place;
+  unposted = server.unposted ++ reply_to task answer;
+}
+
+-- ---- what it posts
+
+-- after the reply at a place was posted
+abbrev pub with_posted : ServerState → ℕ → ServerState
+with_posted server place = record server { unposted = without_place server.unposted place }

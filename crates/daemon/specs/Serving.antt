@@ -1,0 +1,146 @@
+-- What a daemon's calls do to it and to the kernel's side, by the first fault. (This project's own.)
+use Rattle.std.specs.Prelude.{◌≡◌, ◌≢◌, ℕ, ◌-◌, ◌==◌, ◌<◌, ◌≤◌, ◌⊎◌, Bool, true, false, List, [], Option, Some, None, slice_get, slice_set}
+use Rattle.eden_base.specs.declared.errno.Errno.TheVariants.{EIO}
+use Rattle.eden_base.specs.declared.number.DaemonId.{DaemonId}
+use Rattle.broker_core.specs.Broker.{BrokerState, take_fault, taken, post_fault, posted}
+use Rattle.broker_core.specs.Traffic.{next_taken}
+use Rattle.broker_core.specs.declared.fault.TakeFault.{TakeFault}
+use Rattle.broker_core.specs.declared.fault.PostFault.{PostFault}
+use Rattle.fuse_wire.specs.declared.request.Ask.{Ask}
+use Rattle.fuse_wire.specs.declared.reply.Answer.{Answer}
+use Rattle.fuse_wire.specs.declared.reply.Answer.TheVariants.{Error}
+use Rattle.fuse_wire.specs.declared.reply.Reply.{Reply}
+use Rattle.fuse_ops.specs.Served.{ServedState, Replay}
+use Rattle.daemon.specs.Server.{ServerState, at_place, told_taken, with_taken, told_worked, with_worked, with_posted}
+use Rattle.takeover_core.specs.Phases.{may_take}
+use Rattle.daemon.specs.Daemon.{DaemonState, with_server}
+use Rattle.daemon.specs.Refusals.{refusal_of_take, refusal_of_post}
+use Rattle.daemon.specs.declared.happened.Happened.{Happened}
+use Rattle.daemon.specs.declared.happened.Happened.TheVariants.{Refused, Posted}
+use Rattle.daemon.specs.declared.happened.Refusal.{Refusal}
+use Rattle.daemon.specs.declared.happened.Refusal.TheVariants.{NoSuch, NoMemory, WrongPhase}
+
+-- ---- places
+
+-- the member of a place stands at this index
+pub record IsIndex (count place index : ℕ) : Type 0 where
+  pub counted : (place == 0) ≡ false
+  pub is : index ≡ place - 1
+  pub within : index < count
+
+-- a list of so many has no member of this place
+abbrev pub HasNone : ℕ → ℕ → Type 0
+HasNone count place = (place ≡ 0) ⊎ (count ≤ place - 1)
+
+-- ---- calls of a serving daemon
+
+-- it serves at a generation, and has nothing in hand
+abbrev pub beginning : ℕ → ServedState → ServerState
+beginning generation served = record { generation = generation; served = served; hand = []; unposted = [] }
+
+-- a call is refused, and nothing changes
+pub record Stays {X : Type 0} (old : X) (broker : BrokerState) (refusal : Refusal) (told : Happened)
+    (new : X) (left : BrokerState) : Type 0 where
+  pub tells : told ≡ Refused refusal
+  pub same : new ≡ old
+  pub same_broker : left ≡ broker
+
+-- what waits first is in hand
+pub record TakesFirst (old : ServerState) (broker : BrokerState) (told : Happened)
+    (new : ServerState) (left : BrokerState) : Type 0 where
+  pub ask : Ask
+  pub first : next_taken broker.traffic ≡ Some ask
+  pub tells : told ≡ told_taken ask
+  pub makes : new ≡ with_taken old ask
+  pub leaves : left ≡ taken broker
+
+-- by the first fault
+abbrev pub TakesBy : Option TakeFault → ServerState → BrokerState → Happened → ServerState → BrokerState → Type 0
+TakesBy (Some fault) old broker told new left = Stays old broker (refusal_of_take fault) told new left
+TakesBy None old broker told new left = TakesFirst old broker told new left ⊎ Stays old broker NoMemory told new left
+
+-- a request was worked
+pub record WorksOff (old : ServerState) (place : ℕ) (fails : Bool) (task : Ask) (told : Happened) (new : ServerState) : Type 0 where
+  pub later : ServedState
+  pub answer : Option Answer
+  pub replay : Replay old.served task.what answer later
+  pub fails_so : fails ≡ false → answer ≢ Some (Error EIO)
+  pub tells : told ≡ told_worked old.served task answer
+  pub makes : new ≡ with_worked old place task answer later
+
+-- a call that the kernel's side has no part in is refused, and nothing changes
+pub record Keeps {X : Type 0} (old : X) (refusal : Refusal) (told : Happened) (new : X) : Type 0 where
+  pub tells : told ≡ Refused refusal
+  pub same : new ≡ old
+
+-- by what stands at the place
+abbrev pub WorksBy : Option Ask → ServerState → ℕ → Bool → Happened → ServerState → Type 0
+WorksBy None old place fails told new = Keeps old NoSuch told new
+WorksBy (Some task) old place fails told new =
+    WorksOff old place fails task told new ⊎ Keeps old NoMemory told new
+
+-- a reply waits for the kernel
+pub record PostsOff (old : ServerState) (broker : BrokerState) (place : ℕ) (reply : Reply) (told : Happened)
+    (new : ServerState) (left : BrokerState) : Type 0 where
+  pub tells : told ≡ Posted reply.unique
+  pub makes : new ≡ with_posted old place
+  pub leaves : left ≡ posted broker reply
+
+-- by the first fault of a reply
+abbrev pub PostsReply : Option PostFault → ServerState → BrokerState → ℕ → Reply → Happened → ServerState → BrokerState → Type 0
+PostsReply (Some fault) old broker place reply told new left = Stays old broker (refusal_of_post fault) told new left
+PostsReply None old broker place reply told new left = PostsOff old broker place reply told new left
+
+-- by what stands at the place
+abbrev pub PostsBy : Option Reply → ServerState → BrokerState → DaemonId → ℕ → Happened → ServerState → BrokerState → Type 0
+PostsBy None old broker daemon place told new left = Stays old broker NoSuch told new left
+PostsBy (Some reply) old broker daemon place told new left =
+    PostsReply (post_fault broker daemon old.generation reply) old broker place reply told new left
+
+-- ---- calls of a daemon
+
+-- what is served takes, where its daemon may take
+pub record TakesWith (broker : BrokerState) (daemon : DaemonId) (told : Happened) (left : BrokerState)
+    (server : ServerState) (old new : DaemonState) : Type 0 where
+  pub later : ServerState
+  pub takes : TakesBy (take_fault broker daemon server.generation) server broker told later left
+  pub makes : new ≡ with_server old later
+
+abbrev pub TakesIf : BrokerState → DaemonId → Happened → BrokerState → Bool → Option ServerState → DaemonState → DaemonState → Type 0
+TakesIf broker daemon told left true (Some server) old new = TakesWith broker daemon told left server old new
+TakesIf broker daemon told left may server old new = Stays old broker WrongPhase told new left
+
+-- a daemon takes
+abbrev pub DaemonTakes : BrokerState → DaemonId → Happened → BrokerState → DaemonState → DaemonState → Type 0
+DaemonTakes broker daemon told left old new =
+    TakesIf broker daemon told left (may_take old.node.phase) old.server old new
+
+-- what is served works
+pub record WorksWith (place : ℕ) (fails : Bool) (told : Happened) (server : ServerState) (old new : DaemonState) : Type 0 where
+  pub later : ServerState
+  pub works : WorksBy (at_place server.hand place) server place fails told later
+  pub makes : new ≡ with_server old later
+
+abbrev pub WorksIf : ℕ → Bool → Happened → Option ServerState → DaemonState → DaemonState → Type 0
+WorksIf place fails told (Some server) old new = WorksWith place fails told server old new
+WorksIf place fails told None old new = Keeps old NoSuch told new
+
+-- a daemon works
+abbrev pub DaemonWorks : ℕ → Bool → Happened → DaemonState → DaemonState → Type 0
+DaemonWorks place fails told old new = WorksIf place fails told old.server old new
+
+-- what is served posts
+pub record PostsWith (broker : BrokerState) (daemon : DaemonId) (place : ℕ) (told : Happened) (left : BrokerState)
+    (server : ServerState) (old new : DaemonState) : Type 0 where
+  pub later : ServerState
+  pub posts : PostsBy (at_place server.unposted place) server broker daemon place told later left
+  pub makes : new ≡ with_server old later
+
+abbrev pub PostsIf : BrokerState → DaemonId → ℕ → Happened → BrokerState → Option ServerState → DaemonState → DaemonState → Type 0
+PostsIf broker daemon place told left (Some server) old new =
+    PostsWith broker daemon place told left server old new
+PostsIf broker daemon place told left None old new = Stays old broker NoSuch told new left
+
+-- a daemon posts
+abbrev pub DaemonPosts : BrokerState → DaemonId → ℕ → Happened → BrokerState → DaemonState → DaemonState → Type 0
+DaemonPosts broker daemon place told left old new = PostsIf broker daemon place told left old.server old new

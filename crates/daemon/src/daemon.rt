@@ -1,0 +1,368 @@
+//! One daemon of the world.
+ghost use Rattle.std.specs.Option.{option_copied, option_map};
+ghost use Rattle.std.specs.Prelude.{◌≡◌, ◌⊎◌, true, Some, IsTrue, IfOk, IfErr, OnErr};
+ghost use Rattle.takeover_core.specs.Phases.{after, Raised, is_making, is_raising, is_holding, drain_fault, claim_wanted};
+ghost use Rattle.daemon.specs.Daemon.{new_daemon, is_waiting, in_hand, unposted, with_node};
+ghost use Rattle.daemon.specs.Serving.{DaemonTakes, DaemonWorks, DaemonPosts};
+ghost use Rattle.daemon.specs.declared.daemon.Reaction.TheVariants.{Heeds};
+ghost use Rattle.daemon.specs.Talking.{MountsSo, EndsSo, HandsOver, ServesOn, TakesOver, CannotTakeOver, Loses, HearsSo, GivesUpSo, DrainsSo, ClaimsSo, HasData, HasNoData, bytes_of, at_generation};
+
+use crate::happened::{Happened, Refusal};
+use crate::server::Server;
+use broker_core::Broker;
+use eden_base::{ClaimFault, DaemonId, NoMemory};
+use handover::{HandoverFault, hand_over, take_over};
+use manifest::Manifest;
+use std::alloc::Global;
+use std::marker::Model;
+use std::mem;
+use takeover_core::{DrainFault, Heard, ImageBytes, Message, Node, Phase, Versions};
+
+/// The versions of the image that every daemon reads and writes.
+const VERSIONS: [u16; 1] = [1];
+
+/// What a daemon makes of a message, or of a call in a takeover.
+#[derive(Drop)]
+pub enum Reaction {
+    /// It is not for this phase or session.
+    Ignores,
+    /// It is taken, and nothing is to be said.
+    Heeds,
+    Says(Message),
+}
+
+/// A daemon's part in takeovers, and what it serves, if it does. Clauses see it as a `DaemonState`.
+#[derive(Drop)]
+pub struct Daemon {
+    node: Node,
+    server: Option<Server>,
+}
+
+impl Model for Daemon {
+    ghost use Rattle.std.specs.Coded.{codes};
+    ghost use Rattle.manifest.specs.Codes.{tree_code};
+    ghost use Rattle.takeover_core.specs.Node.{node_state_code};
+    ghost use Rattle.daemon.specs.Daemon.{DaemonState};
+
+    ghost Value = { DaemonState };
+
+    ghost coded = { Prim.hlevel (codes, tree_code, node_state_code) };
+
+    ghost view = { λ daemon. record {
+      node = daemon.node;
+      server = daemon.server;
+    } };
+}
+
+impl Daemon {
+    /// Returns a daemon that was just started.
+    pub fn new() -> Daemon
+        ensures new { result ≡ new_daemon }
+    {
+        Daemon {
+            node: Node::waiting(Versions::of(&VERSIONS)),
+            server: None,
+        }
+    }
+
+    /// Returns what it offers when it is started.
+    pub fn offer(&self) -> Message
+        ensures offer { result ≡ Message.Offer self.now.node.versions }
+    {
+        self.node.offer()
+    }
+
+    /// Returns whether it has started and not yet mounted, nor taken part in a takeover.
+    pub fn is_waiting(&self) -> bool
+        ensures waiting { result ≡ is_waiting self.now }
+    {
+        matches!(self.node.phase(), Phase::Waiting)
+    }
+
+    /// Returns what it serves and has in hand, if it does.
+    pub fn server(&self) -> Option<&Server>
+        ensures server { option_copied result ≡ self.now.server }
+    {
+        self.server.as_ref()
+    }
+
+    /// Takes what waits first at the broker.
+    pub fn take(&mut self, broker: &mut Broker, daemon: DaemonId) -> Happened
+        ensures takes { DaemonTakes broker.old daemon result broker.new self.old self.new }
+    {
+        if !self.node.may_take() {
+            return Happened::Refused(Refusal::WrongPhase);
+        }
+        let Some(server) = &mut self.server else {
+            return Happened::Refused(Refusal::WrongPhase);
+        };
+        server.take(broker, daemon)
+    }
+
+    /// Works what stands at a place of its hand.
+    pub fn work(&mut self, place: u64, fails: bool) -> Happened
+        ensures works { DaemonWorks place fails result self.old self.new }
+    {
+        let Some(server) = &mut self.server else {
+            return Happened::Refused(Refusal::NoSuch);
+        };
+        server.work(place, fails)
+    }
+
+    /// Posts the reply at a place of those that it did not post yet.
+    pub fn post(&mut self, broker: &mut Broker, daemon: DaemonId, place: u64) -> Happened
+        ensures posts { DaemonPosts broker.old daemon place result broker.new self.old self.new }
+    {
+        let Some(server) = &mut self.server else {
+            return Happened::Refused(Refusal::NoSuch);
+        };
+        server.post(broker, daemon, place)
+    }
+
+    /// Makes room for what a take, a work and a post may bring, and returns whether there is some.
+    pub fn make_room(&mut self) -> bool
+        ensures same { self.new ≡ self.old }
+    {
+        match &mut self.server {
+            Some(server) => server.make_room().is_ok(),
+            None => true,
+        }
+    }
+
+    /// Begins to serve at a generation, where the broker gave this daemon the seat.
+    pub fn mount(&mut self, generation: u64, server: Server)
+        requires waiting { IsTrue (is_waiting self.old) }
+        ensures mounts { MountsSo generation server self.old self.new }
+    {
+        self.node.mounted(generation);
+        self.server = Some(server);
+    }
+
+    /// Ends it, and drops all that it had.
+    pub fn crash(&mut self)
+        ensures gone { EndsSo self.old self.new }
+    {
+        self.node.crash();
+        self.server = None;
+    }
+
+    /// Hears a message of another daemon. Data that it is to hand over is made of what it serves, and data that is
+    /// handed to it is read and raised over the manifest. Where memory runs out nothing changes.
+    pub fn hear(
+        &mut self,
+        alloc: Global,
+        manifest: &Manifest,
+        limit: usize,
+        message: &Message,
+    ) -> Result<Reaction, NoMemory>
+        ensures hears { IfOk result (λ reaction.
+            HearsSo manifest.now limit self.old message.now reaction self.new) }
+        ensures unchanged { OnErr result (self.new ≡ self.old) }
+    {
+        let mut node = self.node.copy();
+        match node.hear(message) {
+            Heard::Ignored => Ok(self.turn(node, Reaction::Ignores)),
+            Heard::Heard => Ok(self.turn(node, Reaction::Heeds)),
+            Heard::Say(said) => Ok(self.turn(node, Reaction::Says(said))),
+            Heard::MakeData {
+                generation,
+                version,
+                ..
+            } => self.make_data(alloc, node, generation, version),
+            Heard::GotData { generation, .. } => {
+                self.take_data(alloc, manifest, limit, node, generation, bytes_of(message))
+            }
+        }
+    }
+
+    /// Goes on with this part in takeovers.
+    fn turn(&mut self, node: Node, reaction: Reaction) -> Reaction
+        ensures reacts { result ≡ reaction }
+        ensures becomes { self.new ≡ with_node self.old node }
+    {
+        self.node = node;
+        reaction
+    }
+
+    /// Hands over what it serves, or serves on where that cannot be written in this version.
+    fn make_data(
+        &mut self,
+        alloc: Global,
+        node: Node,
+        generation: u64,
+        version: u16,
+    ) -> Result<Reaction, NoMemory>
+        requires making { IsTrue (is_making node.phase) }
+        ensures made { IfOk result (λ reaction.
+            HandsOver self.old node generation version reaction self.new
+            ⊎ ServesOn self.old node generation version reaction self.new) }
+        ensures unchanged { OnErr result (self.new ≡ self.old) }
+    {
+        let mut node = node;
+        match self.data(alloc, generation, version) {
+            Ok(bytes) => {
+                let said = node.data_made(ImageBytes::of(bytes));
+                Ok(self.turn(node, Reaction::Says(said)))
+            }
+            Err(HandoverFault::Refused) => {
+                let said = node.data_failed();
+                Ok(self.turn(node, Reaction::Says(said)))
+            }
+            Err(HandoverFault::NoMemory) => Err(NoMemory),
+        }
+    }
+
+    /// Returns the image of what it serves, as bytes.
+    fn data(&self, alloc: Global, generation: u64, version: u16) -> Result<Vec<u8>, HandoverFault>
+        ensures data { IfOk result (λ bytes. HasData self.now.server generation version bytes.items) }
+        ensures refused { IfErr result (λ fault. fault ≡ HandoverFault.Refused
+            → HasNoData self.now.server generation version) }
+    {
+        match &self.server {
+            Some(server) => hand_over(alloc, server.served(), generation, version),
+            None => Err(HandoverFault::Refused),
+        }
+    }
+
+    /// Holds what is raised from the data, or is gone where nothing can be raised from it.
+    fn take_data(
+        &mut self,
+        alloc: Global,
+        manifest: &Manifest,
+        limit: usize,
+        node: Node,
+        generation: u64,
+        bytes: &[u8],
+    ) -> Result<Reaction, NoMemory>
+        requires raising { IsTrue (is_raising node.phase) }
+        ensures taken { IfOk result (λ reaction.
+            TakesOver manifest.now limit bytes.now node generation reaction self.new
+            ⊎ CannotTakeOver self.old manifest.now bytes.now node generation reaction self.new) }
+        ensures unchanged { OnErr result (self.new ≡ self.old) }
+    {
+        let shared = manifest.share()?;
+        match take_over(alloc, bytes, manifest, limit, generation) {
+            Ok(served) => Ok(self.hold(node, Server::new(alloc, generation, shared, served))),
+            Err(HandoverFault::Refused) => {
+                drop(shared);
+                Ok(self.lose(node))
+            }
+            Err(HandoverFault::NoMemory) => {
+                drop(shared);
+                Err(NoMemory)
+            }
+        }
+    }
+
+    /// Holds what was raised, until it claims the seat.
+    fn hold(&mut self, node: Node, server: Server) -> Reaction
+        requires raising { IsTrue (is_raising node.phase) }
+        ensures reacts { result ≡ Heeds }
+        ensures becomes { self.new ≡ record { node = after node (Raised true); server = Some server } }
+    {
+        let mut node = node;
+        drop(node.raised(true));
+        let before = mem::replace(
+            self,
+            Daemon {
+                node,
+                server: Some(server),
+            },
+        );
+        drop(before);
+        Reaction::Heeds
+    }
+
+    /// Takes in that nothing was raised.
+    fn lose(&mut self, node: Node) -> Reaction
+        requires raising { IsTrue (is_raising node.phase) }
+        ensures loses { Loses self.old node result self.new }
+    {
+        let mut node = node;
+        match node.raised(false) {
+            Some(said) => self.turn(node, Reaction::Says(said)),
+            None => unreachable!(),
+        }
+    }
+
+    /// Returns why it is not ready to hand over, if it is not: it does not drain, or has something left.
+    pub fn drain_refusal(&self) -> Option<DrainFault>
+        ensures refusal { result ≡ drain_fault self.now.node.phase (in_hand self.now) (unposted self.now) }
+    {
+        let (in_hand, unposted) = self.left();
+        self.node.copy().drained(in_hand, unposted).err()
+    }
+
+    /// Says that it is ready to hand over, where it drains and has nothing left.
+    pub fn drain(&mut self) -> Result<Reaction, DrainFault>
+        ensures drains { DrainsSo self.old result self.new }
+    {
+        let (in_hand, unposted) = self.left();
+        let said = self.node.drained(in_hand, unposted)?;
+        Ok(Reaction::Says(said))
+    }
+
+    /// Returns the generation that it wants to claim the seat from, if it does.
+    pub fn claim_wanted(&self) -> Option<u64>
+        ensures wanted { result ≡ claim_wanted self.now.node.phase }
+    {
+        self.node.claim_wanted()
+    }
+
+    /// Takes in the answer to its claim. Where the claim cannot succeed any more it drops all that it had.
+    pub fn take_answer(&mut self, answer: Result<u64, ClaimFault>)
+        requires holding { IsTrue (is_holding self.old.node.phase) }
+        ensures claims { ClaimsSo answer self.old self.new }
+    {
+        self.node.claimed(answer);
+        match answer {
+            Ok(generation) => self.serve_at(generation),
+            Err(ClaimFault::Unanswered { .. }) => {}
+            Err(_) => self.server = None,
+        }
+    }
+
+    /// Lets what it serves be served at a generation.
+    fn serve_at(&mut self, generation: u64)
+        ensures at { self.new ≡ record self.old {
+          server = option_map (at_generation generation) self.old.server;
+        } }
+    {
+        if let Some(server) = &mut self.server {
+            server.serve_at(generation);
+        }
+    }
+
+    /// Returns how many requests it has in hand, and how many replies it did not post.
+    fn left(&self) -> (usize, usize)
+        ensures in_hand { result.0 ≡ in_hand self.now }
+        ensures unposted { result.1 ≡ unposted self.now }
+    {
+        match &self.server {
+            Some(server) => (server.hand().len(), server.unposted().len()),
+            None => (0, 0),
+        }
+    }
+
+    /// Ends its part in a takeover, as where the other daemon cannot be reached any more.
+    pub fn give_up(&mut self) -> Reaction
+        ensures gives_up { GivesUpSo self.old result self.new }
+    {
+        match self.node.give_up() {
+            Heard::Ignored => Reaction::Ignores,
+            Heard::Heard => Reaction::Heeds,
+            Heard::Say(said) => Reaction::Says(said),
+            Heard::MakeData { .. } | Heard::GotData { .. } => unreachable!(),
+        }
+    }
+}
+
+/// Returns the bytes that a message carries: none, where it is no data.
+fn bytes_of(message: &Message) -> &[u8]
+    ensures bytes { result.now ≡ bytes_of message.now }
+{
+    match message {
+        Message::Data { bytes, .. } => bytes.as_slice(),
+        _ => &[],
+    }
+}

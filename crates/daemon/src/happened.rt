@@ -1,0 +1,182 @@
+//! What came of an event.
+ghost use Rattle.std.specs.Prelude.{◌≡◌};
+ghost use Rattle.daemon.specs.Refusals.{refusal_name, refusal_of_mount, refusal_of_issue, refusal_of_take, refusal_of_post, refusal_of_drain, refusal_of_claim, is_made};
+
+use broker_core::{IssueFault, MountFault, PostFault, TakeFault};
+use eden_base::{ClaimFault, DaemonId};
+use fuse_wire::{Item, Reply};
+use inode_map::Forgot;
+use takeover_core::DrainFault;
+
+/// Why an event was refused. A refusal changes nothing, but that a daemon is gone whose claim cannot succeed any more.
+#[derive(Clone, Copy, PartialEq, Eq)]
+pub enum Refusal {
+    NoDaemon,
+    WrongPhase,
+    /// There is no such place in the list.
+    NoSuch,
+    Seated,
+    LastGeneration,
+    NotMounted,
+    NotHeld,
+    BadForget,
+    Full,
+    Ended,
+    /// The seat is at this generation.
+    Stale(u64),
+    Empty,
+    NotAsked,
+    /// So many asks that were taken have no reply yet.
+    Unanswered(u64),
+    /// The daemon has so many requests in hand, and so many replies not posted.
+    Undrained { in_hand: usize, unposted: usize },
+    NoMemory,
+}
+
+impl Refusal {
+    /// Returns the word that a printed line has for it.
+    pub fn name(self) -> &'static str
+        ensures name { result.now ≡ refusal_name self }
+    {
+        match self {
+            Refusal::NoDaemon => "NoDaemon",
+            Refusal::WrongPhase => "WrongPhase",
+            Refusal::NoSuch => "NoSuch",
+            Refusal::Seated => "Seated",
+            Refusal::LastGeneration => "LastGeneration",
+            Refusal::NotMounted => "NotMounted",
+            Refusal::NotHeld => "NotHeld",
+            Refusal::BadForget => "BadForget",
+            Refusal::Full => "Full",
+            Refusal::Ended => "Ended",
+            Refusal::Stale(_) => "Stale",
+            Refusal::Empty => "Empty",
+            Refusal::NotAsked => "NotAsked",
+            Refusal::Unanswered(_) => "Unanswered",
+            Refusal::Undrained { .. } => "Undrained",
+            Refusal::NoMemory => "NoMemory",
+        }
+    }
+}
+
+/// One thing that an event made happen.
+#[derive(Clone, Copy, PartialEq, Eq)]
+pub enum Happened {
+    Started(DaemonId),
+    /// At this generation.
+    Mounted(u64),
+    /// The kernel's ask waits under this unique, or its forget waits without one.
+    Asked(Option<u64>),
+    /// The ask of this unique is in the daemon's hand.
+    Took(u64),
+    /// So many items are in the daemon's hand.
+    TookForgets(usize),
+    /// The daemon answered.
+    Made(Reply),
+    /// The daemon applied the item.
+    Forgot { item: Item, forgot: Forgot },
+    /// The reply of this unique waits for the kernel.
+    Posted(u64),
+    /// The reply reached the kernel.
+    Answered(Reply),
+    /// The daemon said the message of this place.
+    Said(usize),
+    /// The daemon took the message in, or gave up, and said nothing.
+    Heard,
+    /// The message is not for the daemon's phase or session, or there was nothing to give up.
+    Ignored,
+    /// The daemon has the seat, at this generation.
+    Claimed(u64),
+    /// The daemon is gone.
+    Crashed,
+    Refused(Refusal),
+}
+
+impl Happened {
+    /// Returns whether the event was made.
+    pub fn is_made(&self) -> bool
+        ensures made { result ≡ is_made self.now }
+    {
+        !matches!(self, Happened::Refused(_))
+    }
+}
+
+impl From<MountFault> for Refusal {
+    ghost from_gives = { λ fault refusal. refusal ≡ refusal_of_mount fault };
+
+    fn from(fault: MountFault) -> Refusal {
+        match fault {
+            MountFault::Seated => Refusal::Seated,
+            MountFault::LastGeneration => Refusal::LastGeneration,
+        }
+    }
+}
+
+impl From<IssueFault> for Refusal {
+    ghost from_gives = { λ fault refusal. refusal ≡ refusal_of_issue fault };
+
+    fn from(fault: IssueFault) -> Refusal {
+        match fault {
+            IssueFault::NotMounted => Refusal::NotMounted,
+            IssueFault::NotHeld => Refusal::NotHeld,
+            IssueFault::BadForget => Refusal::BadForget,
+            IssueFault::Full => Refusal::Full,
+            IssueFault::NoMemory => Refusal::NoMemory,
+        }
+    }
+}
+
+impl From<TakeFault> for Refusal {
+    ghost from_gives = { λ fault refusal. refusal ≡ refusal_of_take fault };
+
+    fn from(fault: TakeFault) -> Refusal {
+        match fault {
+            TakeFault::Ended => Refusal::Ended,
+            TakeFault::Stale(now) => Refusal::Stale(now),
+            TakeFault::Empty => Refusal::Empty,
+        }
+    }
+}
+
+impl From<PostFault> for Refusal {
+    ghost from_gives = { λ fault refusal. refusal ≡ refusal_of_post fault };
+
+    fn from(fault: PostFault) -> Refusal {
+        match fault {
+            PostFault::Ended => Refusal::Ended,
+            PostFault::Stale(now) => Refusal::Stale(now),
+            PostFault::NotAsked => Refusal::NotAsked,
+        }
+    }
+}
+
+impl From<ClaimFault> for Refusal {
+    ghost from_gives = { λ fault refusal. refusal ≡ refusal_of_claim fault };
+
+    fn from(fault: ClaimFault) -> Refusal {
+        match fault {
+            ClaimFault::Ended => Refusal::Ended,
+            ClaimFault::Stale { now } => Refusal::Stale(now),
+            ClaimFault::Unanswered { asks } => Refusal::Unanswered(asks),
+            ClaimFault::LastGeneration => Refusal::LastGeneration,
+        }
+    }
+}
+
+impl From<DrainFault> for Refusal {
+    ghost from_gives = { λ fault refusal. refusal ≡ refusal_of_drain fault };
+
+    fn from(fault: DrainFault) -> Refusal {
+        match fault {
+            DrainFault::WrongPhase => Refusal::WrongPhase,
+            DrainFault::Undrained { in_hand, unposted } => Refusal::Undrained { in_hand, unposted },
+        }
+    }
+}
+
+/// The value of the unused places of an outcome.
+impl Default for Happened {
+    fn default() -> Happened {
+        Happened::Refused(Refusal::NoMemory)
+    }
+}

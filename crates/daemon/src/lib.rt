@@ -1,0 +1,13 @@
+//! One daemon: what it serves and has in hand, its part in a takeover, and what comes of its calls.
+#![tactic(auto)]
+
+mod backing;
+mod daemon;
+mod happened;
+mod place;
+mod server;
+
+pub use daemon::{Daemon, Reaction};
+pub use happened::{Happened, Refusal};
+pub use place::index_of;
+pub use server::{Server, opening};

@@ -1,0 +1,232 @@
+//! A daemon that mounted.
+ghost use Rattle.std.specs.Prelude.{◌≡◌, ◌++◌, ◌+◌, ◌≤◌, map, length, vec_len, vec_capacity, IfOk};
+ghost use Rattle.broker_core.specs.Broker.{take_fault};
+ghost use Rattle.fuse_ops.specs.Served.{new_served};
+ghost use Rattle.daemon.specs.Server.{at_place, handed, single, told_taken, told_item};
+ghost use Rattle.daemon.specs.Serving.{beginning, TakesBy, WorksBy, PostsBy};
+ghost use Rattle.daemon.specs.Talking.{at_generation};
+
+use crate::backing::apply;
+use crate::happened::{Happened, Refusal};
+use crate::place::index_of;
+use broker_core::Broker;
+use eden_base::{DaemonId, NoMemory};
+use fuse_ops::Served;
+use fuse_wire::{Ask, Item, Items, Reply, Request};
+use manifest::Manifest;
+use std::alloc::Global;
+use std::marker::Model;
+
+/// What a daemon serves, what it took and did not work yet, and what it answered and did not post yet. Clauses see it
+/// as a `ServerState`.
+#[derive(Drop)]
+pub struct Server {
+    alloc: Global,
+    generation: u64,
+    manifest: Manifest,
+    served: Served,
+    /// Asks, and forgets of one item each.
+    hand: Vec<Ask>,
+    unposted: Vec<Reply>,
+}
+
+impl Model for Server {
+    ghost use Rattle.std.specs.Coded.{codes};
+    ghost use Rattle.manifest.specs.Codes.{tree_code};
+    ghost use Rattle.daemon.specs.Server.{ServerState};
+    ghost use Rattle.daemon.specs.Inside.{IsConsistent};
+
+    ghost Value = { ServerState };
+
+    ghost coded = { Prim.hlevel (codes, tree_code) };
+
+    ghost view = { λ server. record {
+      generation = server.generation;
+      served = server.served;
+      hand = server.hand.items;
+      unposted = server.unposted.items;
+    } };
+
+    ghost invariant = { IsConsistent };
+}
+
+impl Server {
+    /// Returns a daemon that mounts at a generation. It takes no memory.
+    pub fn new(alloc: Global, generation: u64, manifest: Manifest, served: Served) -> Server
+        requires over { served.tree.manifest ≡ manifest }
+        ensures new { result ≡ beginning generation served }
+    {
+        Server {
+            alloc,
+            generation,
+            manifest,
+            served,
+            hand: Vec::new(alloc),
+            unposted: Vec::new(alloc),
+        }
+    }
+
+    /// Goes on at a generation, at which the daemon claimed the seat.
+    pub(crate) fn serve_at(&mut self, generation: u64)
+        ensures at { self.new ≡ at_generation generation self.old }
+    {
+        self.generation = generation;
+    }
+
+    /// Returns what the daemon serves.
+    pub fn served(&self) -> &Served
+        ensures served { result.now ≡ self.now.served }
+    {
+        &self.served
+    }
+
+    /// Returns the asks and single items that the daemon took and did not work yet.
+    pub fn hand(&self) -> &[Ask]
+        ensures hand { result.now ≡ self.now.hand }
+    {
+        self.hand.as_slice()
+    }
+
+    /// Returns the replies that the daemon did not post yet.
+    pub fn unposted(&self) -> &[Reply]
+        ensures unposted { result.now ≡ self.now.unposted }
+    {
+        self.unposted.as_slice()
+    }
+
+    /// Makes room for what a take may bring, and for one reply.
+    pub(crate) fn make_room(&mut self) -> Result<(), NoMemory>
+        ensures same { self.new ≡ self.old }
+    {
+        self.hand.reserve(Items::MAX_LEN)?;
+        self.unposted.reserve(1)?;
+        Ok(())
+    }
+
+    /// Takes what waits first at the broker. The room for it comes first, but the broker's refusals before out of memory.
+    pub(crate) fn take(&mut self, broker: &mut Broker, daemon: DaemonId) -> Happened
+        ensures takes { TakesBy (take_fault broker.old daemon self.old.generation)
+            self.old broker.old result self.new broker.new }
+    {
+        if self.hand.reserve(Items::MAX_LEN).is_err() {
+            return match broker.take_refusal(daemon, self.generation) {
+                Some(fault) => Happened::Refused(Refusal::from(fault)),
+                None => Happened::Refused(Refusal::NoMemory),
+            };
+        }
+        match broker.take(daemon, self.generation) {
+            Ok(ask) => put_in_hand(&mut self.hand, ask),
+            Err(fault) => Happened::Refused(Refusal::from(fault)),
+        }
+    }
+
+    /// Answers the ask, or applies the item, at a place of the hand, counted from 1.
+    pub(crate) fn work(&mut self, place: u64, fails: bool) -> Happened
+        ensures works { WorksBy (at_place self.old.hand place) self.old place fails result self.new }
+    {
+        let Some(index) = index_of(place, self.hand.len()) else {
+            return Happened::Refused(Refusal::NoSuch);
+        };
+        if self.unposted.reserve(1).is_err() {
+            return Happened::Refused(Refusal::NoMemory);
+        }
+        let task = self.hand.remove(index);
+        let told = told_of_item(&self.served, task.what.item());
+        let answer = apply(
+            &mut self.served,
+            self.alloc,
+            &self.manifest,
+            fails,
+            &task.what,
+        );
+        let unique = task.unique;
+        drop(task);
+        let Some(answer) = answer else {
+            return told;
+        };
+        let reply = Reply { unique, answer };
+        self.unposted.push_reserved(reply);
+        Happened::Made(reply)
+    }
+
+    /// Posts the reply at a place of those that are not posted, counted from 1. It takes no memory.
+    pub(crate) fn post(&mut self, broker: &mut Broker, daemon: DaemonId, place: u64) -> Happened
+        ensures posts { PostsBy (at_place self.old.unposted place)
+            self.old broker.old daemon place result self.new broker.new }
+    {
+        let Some(index) = index_of(place, self.unposted.len()) else {
+            return Happened::Refused(Refusal::NoSuch);
+        };
+        let reply = self.unposted[index];
+        if let Err(fault) = broker.post(daemon, self.generation, reply) {
+            return Happened::Refused(Refusal::from(fault));
+        }
+        let _posted = self.unposted.remove(index);
+        Happened::Posted(reply.unique)
+    }
+}
+
+/// Makes what a daemon serves that mounts, and its share of the manifest.
+pub fn opening(
+    alloc: Global,
+    manifest: &Manifest,
+    limit: usize,
+) -> Result<(Manifest, Served), NoMemory>
+    ensures shared { IfOk result (λ opening. opening.0 ≡ manifest.now) }
+    ensures served { IfOk result (λ opening. opening.1 ≡ new_served manifest.now limit) }
+{
+    let shared = manifest.share()?;
+    let served = Served::new(alloc, manifest, limit)?;
+    Ok((shared, served))
+}
+
+/// Returns what becomes of an item; what is no item is refused.
+fn told_of_item(served: &Served, item: Option<Item>) -> Happened
+    ensures { result ≡ told_item served.now item }
+{
+    match item {
+        Some(item) => Happened::Forgot {
+            item,
+            forgot: served.map().forgot(item.node, item.k),
+        },
+        None => Happened::Refused(Refusal::NoSuch),
+    }
+}
+
+/// Puts what was taken into the hand: an ask as it is, each item of a forget by itself.
+fn put_in_hand(hand: &mut Vec<Ask>, taken: Ask) -> Happened
+    requires room { vec_len hand.old + 256 ≤ vec_capacity hand.old }
+    ensures hand { hand.new.items ≡ hand.old.items ++ handed taken }
+    ensures told { result ≡ told_taken taken }
+{
+    if !taken.what.is_ask() {
+        let count = put_each(hand, taken.what.items());
+        drop(taken);
+        return Happened::TookForgets(count);
+    }
+    let unique = taken.unique;
+    hand.push_reserved(taken);
+    Happened::Took(unique)
+}
+
+/// Puts each item into the hand by itself, and returns how many there are.
+fn put_each(hand: &mut Vec<Ask>, items: &[Item]) -> usize
+    requires room { vec_len hand.old + length items.now ≤ vec_capacity hand.old }
+    ensures hand { hand.new.items ≡ hand.old.items ++ map single items.now }
+    ensures count { result ≡ length items.now }
+{
+    for item in items {
+        hand.push_reserved(by_itself(*item));
+    }
+    items.len()
+}
+
+/// Returns a forget of one item.
+fn by_itself(item: Item) -> Ask
+    ensures { result ≡ single item }
+{
+    Ask {
+        unique: 0,
+        what: Request::Forget(item),
+    }
+}
