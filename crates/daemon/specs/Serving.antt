@@ -1,5 +1,5 @@
 -- What a daemon's calls do to it and to the kernel's side, by the first fault. (This project's own.)
-use Rattle.std.specs.Prelude.{◌≡◌, ◌≢◌, ℕ, ◌-◌, ◌==◌, ◌<◌, ◌≤◌, ◌⊎◌, Bool, true, false, List, [], Option, Some, None, slice_get, slice_set}
+use Rattle.std.specs.Prelude.{◌≡◌, ◌≢◌, ℕ, ◌-◌, ◌==◌, ◌<◌, ◌≤◌, ◌⊎◌, Bool, true, false, [], Option, Some, None}
 use Rattle.eden_base.specs.declared.errno.Errno.TheVariants.{EIO}
 use Rattle.eden_base.specs.declared.number.DaemonId.{DaemonId}
 use Rattle.broker_core.specs.Broker.{BrokerState, take_fault, taken, post_fault, posted}

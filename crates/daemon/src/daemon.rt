@@ -135,7 +135,7 @@ impl Daemon {
         ensures mounts { MountsSo generation server self.old self.new }
     {
         self.node.mounted(generation);
-        self.server = Some(server);
+        drop(self.server.replace(server));
     }
 
     /// Ends it, and drops all that it had.
@@ -143,7 +143,7 @@ impl Daemon {
         ensures gone { EndsSo self.old self.new }
     {
         self.node.crash();
-        self.server = None;
+        drop(self.server.take());
     }
 
     /// Hears a message of another daemon. Data that it is to hand over is made of what it serves, and data that is
@@ -318,7 +318,7 @@ impl Daemon {
         match answer {
             Ok(generation) => self.serve_at(generation),
             Err(ClaimFault::Unanswered { .. }) => {}
-            Err(_) => self.server = None,
+            Err(_) => drop(self.server.take()),
         }
     }
 
