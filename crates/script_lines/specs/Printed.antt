@@ -25,7 +25,7 @@ use Rattle.inode_map.specs.Words.{forgot_name}
 use Rattle.world.specs.Words.{refusal_name}
 use Rattle.world.specs.declared.event.Event.{Event}
 use Rattle.world.specs.declared.event.Event.TheVariants.{Show}
-use Rattle.inode_map.specs.declared.inode_map.Kept.{Kept}
+use Rattle.entry_table.specs.declared.kept.Kept.{Kept}
 use Rattle.world.specs.declared.outcome.Happened.{Happened}
 use Rattle.world.specs.declared.outcome.Happened.TheVariants.{Started, Mounted, Asked, Took, TookForgets, Made, Forgot, Posted, Answered, Said, Heard, Ignored, Claimed, Crashed, Refused}
 use Rattle.world.specs.declared.outcome.Refusal.{Refusal}
