@@ -5,8 +5,9 @@ use Rattle.std.specs.Prelude.{IsSome}
 use Rattle.eden_base.specs.declared.attr.Attr.{Attr}
 use Rattle.eden_base.specs.declared.number.Number.{Number}
 use Rattle.manifest.specs.Tree.{IsTree, attr_of as file_attr}
-use Rattle.inode_map.specs.InodeMap.{MapState, entry_of, entry_at, give_fault, given, number_given, number_of_kept, remembered, attr_of, load, IsFileOf}
-use Rattle.inode_map.specs.declared.inode_map.Kept.{Kept}
+use Rattle.entry_table.specs.Entries.{entry_of, entry_at, number_of_kept, remembered, IsFileOf}
+use Rattle.inode_map.specs.InodeMap.{MapState, give_fault, given, number_given, attr_of, load}
+use Rattle.entry_table.specs.declared.kept.Kept.{Kept}
 use Rattle.inode_map.specs.declared.loaded.LoadedAttr.{LoadedAttr}
 use Rattle.fuse_ops.specs.Loading.{LoadsTold}
 use Rattle.fuse_ops.specs.Gifts.{served_over, Gave}

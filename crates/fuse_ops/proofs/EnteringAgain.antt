@@ -13,13 +13,14 @@ use Rattle.eden_base.specs.declared.place.Place.TheVariants.{Linked}
 use Rattle.manifest.specs.Tree.{IsTree, child_of, attr_of as file_attr, file_of as tree_file, is_unlinked}
 use Rattle.fuse_wire.specs.declared.reply.Answer.{Answer}
 use Rattle.fuse_wire.specs.declared.reply.Answer.TheVariants.{Entry, Error}
-use Rattle.inode_map.proofs.EntryLemmas.{entry_of-first}
-use Rattle.inode_map.proofs.FileLemmas.{linked-marked, linked-dir, linked-name}
-use Rattle.inode_map.proofs.Places.{stands-place}
-use Rattle.inode_map.specs.InodeMap.{MapState, entry_of, entry_at, stands_at, number_of_kept, number_given, give_fault, give_fault_at, given, IsFileOf, IsGiveRefusal, is_root, is_child, is_marked}
+use Rattle.entry_table.proofs.EntryLemmas.{entry_of-first}
+use Rattle.entry_table.proofs.FileLemmas.{linked-marked, linked-dir, linked-name}
+use Rattle.entry_table.proofs.Places.{stands-place}
+use Rattle.entry_table.specs.Entries.{entry_of, entry_at, stands_at, number_of_kept, IsFileOf, is_root, is_child, is_marked}
+use Rattle.inode_map.specs.InodeMap.{MapState, number_given, give_fault, give_fault_at, given, IsGiveRefusal}
 use Rattle.inode_map.specs.declared.inode_map.GiveFault.{GiveFault}
 use Rattle.inode_map.specs.declared.inode_map.GiveFault.TheVariants.{NoNumber, TooMany, NoMemory}
-use Rattle.inode_map.specs.declared.inode_map.Kept.{Kept}
+use Rattle.entry_table.specs.declared.kept.Kept.{Kept}
 use Rattle.fuse_ops.specs.Answers.{IsBacked, found_in}
 use Rattle.fuse_ops.specs.Gifts.{served_over, Gave}
 use Rattle.fuse_ops.specs.Loading.{loaded_told}

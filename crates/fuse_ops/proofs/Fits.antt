@@ -8,12 +8,12 @@ use Rattle.eden_base.specs.declared.number.FileId.{FileId}
 use Rattle.eden_base.specs.declared.place.Place.TheVariants.{Linked, Unlinked}
 use Rattle.checkout.proofs.LinkLaws.{linked_from_child}
 use Rattle.manifest.specs.Tree.{Tree, IsTree, child_of, root, file_of as tree_file, is_unlinked, is_linked}
-use Rattle.inode_map.proofs.EntryLemmas.{numbers-entry, entry_of-first}
-use Rattle.inode_map.proofs.FileLemmas.{IsFileOf-same, named-known}
-use Rattle.inode_map.proofs.Places.{place-stands, stands-place}
-use Rattle.inode_map.specs.EntryPlaces.{AreOfUseBut}
-use Rattle.inode_map.specs.InodeMap.{has_number, stands_at, entry_of, entry_at, is_of_use, AreNumbers, IsFileOf, is_root, is_child, is_marked}
-use Rattle.inode_map.specs.declared.inode_map.Kept.{Kept}
+use Rattle.entry_table.proofs.EntryLemmas.{numbers-entry, entry_of-first}
+use Rattle.entry_table.proofs.FileLemmas.{IsFileOf-same, named-known}
+use Rattle.entry_table.proofs.Places.{place-stands, stands-place}
+use Rattle.entry_table.specs.EntryPlaces.{AreOfUseBut}
+use Rattle.entry_table.specs.Entries.{has_number, stands_at, entry_of, entry_at, is_of_use, AreNumbers, IsFileOf, is_root, is_child, is_marked}
+use Rattle.entry_table.specs.declared.kept.Kept.{Kept}
 use Rattle.fuse_ops.specs.Served.{ServedState}
 use Rattle.fuse_ops.specs.Soundness.{IsSound, IsUnlinkedPlace}
 

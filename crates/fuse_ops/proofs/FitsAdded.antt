@@ -8,13 +8,12 @@ use Rattle.eden_base.specs.declared.number.Number.{Number}
 use Rattle.eden_base.specs.declared.place.Place.TheVariants.{Linked}
 use Rattle.checkout.proofs.LinkLaws.{linked_from_child}
 use Rattle.manifest.specs.Tree.{Tree, IsTree, child_of, root, is_unlinked, file_of as tree_file}
-use Rattle.inode_map.proofs.Changing.{new_or_old, append-extends}
-use Rattle.inode_map.proofs.EntryLemmas.{append-same, numbers-append, numbers-bound}
-use Rattle.inode_map.proofs.FileLemmas.{IsFileOf-extended, IsFileOf-same, named-known}
-use Rattle.inode_map.proofs.Giving.{next-none}
-use Rattle.inode_map.proofs.Places.{place-stands}
-use Rattle.inode_map.specs.InodeMap.{has_number, stands_at, entry_of, entry_at, new_entry, IsFileOf, is_root, is_child}
-use Rattle.inode_map.specs.declared.inode_map.Kept.{Kept}
+use Rattle.entry_table.proofs.Changing.{new_or_old, append-extends}
+use Rattle.entry_table.proofs.EntryLemmas.{append-same, numbers-append, numbers-bound, next-none}
+use Rattle.entry_table.proofs.FileLemmas.{IsFileOf-extended, IsFileOf-same, named-known}
+use Rattle.entry_table.proofs.Places.{place-stands}
+use Rattle.entry_table.specs.Entries.{has_number, stands_at, entry_of, entry_at, new_entry, IsFileOf, is_root, is_child}
+use Rattle.entry_table.specs.declared.kept.Kept.{Kept}
 use Rattle.fuse_ops.specs.Soundness.{IsUnlinkedPlace}
 use Rattle.fuse_ops.proofs.Fits.{Fits, linked_is_not_unlinked, no-place-no_file}
 

@@ -6,11 +6,11 @@ use Rattle.eden_base.specs.First.{changed_where}
 use Rattle.eden_base.specs.Limits.{greatest_count}
 use Rattle.eden_base.specs.declared.number.FileId.{FileId}
 use Rattle.manifest.specs.Tree.{Tree}
-use Rattle.inode_map.proofs.Changing.{KeepsPlace, WasEntry, changed-was, changed-extends, changed-extended}
-use Rattle.inode_map.proofs.EntryLemmas.{numbers-changed}
-use Rattle.inode_map.proofs.FileLemmas.{IsFileOf-extended}
-use Rattle.inode_map.specs.InodeMap.{has_number, entry_of, IsFileOf}
-use Rattle.inode_map.specs.declared.inode_map.Kept.{Kept}
+use Rattle.entry_table.proofs.Changing.{KeepsPlace, WasEntry, changed-was, changed-extends, changed-extended}
+use Rattle.entry_table.proofs.EntryLemmas.{numbers-changed}
+use Rattle.entry_table.proofs.FileLemmas.{IsFileOf-extended}
+use Rattle.entry_table.specs.Entries.{has_number, entry_of, IsFileOf}
+use Rattle.entry_table.specs.declared.kept.Kept.{Kept}
 use Rattle.fuse_ops.specs.Soundness.{IsUnlinkedPlace}
 use Rattle.fuse_ops.proofs.Fits.{Fits}
 

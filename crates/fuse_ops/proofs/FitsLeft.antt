@@ -8,13 +8,14 @@ use Rattle.eden_base.specs.declared.number.FileId.{FileId}
 use Rattle.eden_base.specs.declared.number.Number.{Number}
 use Rattle.eden_base.specs.declared.place.Place.TheVariants.{Linked}
 use Rattle.manifest.specs.Tree.{Tree}
-use Rattle.inode_map.proofs.Changing.{count_of-entry, count_of-none, count_of-alike}
-use Rattle.inode_map.proofs.EntryLemmas.{numbers-without, without-same, without-other}
-use Rattle.inode_map.proofs.FileLemmas.{IsFileOf-extended, IsFileOf-left}
+use Rattle.entry_table.proofs.Changing.{count_of-entry, count_of-none, count_of-alike}
+use Rattle.entry_table.proofs.EntryLemmas.{numbers-without, without-same, without-other}
+use Rattle.entry_table.proofs.FileLemmas.{IsFileOf-extended, IsFileOf-left}
 use Rattle.inode_map.proofs.Striking.{useless-entry}
 use Rattle.inode_map.proofs.Walking.{left-entry}
-use Rattle.inode_map.specs.InodeMap.{has_number, count_of, entry_of, is_in, is_kid_of, is_useless, IsFileOf}
-use Rattle.inode_map.specs.declared.inode_map.Kept.{Kept}
+use Rattle.entry_table.specs.Entries.{has_number, count_of, entry_of, is_in, is_kid_of, IsFileOf}
+use Rattle.inode_map.specs.InodeMap.{is_useless}
+use Rattle.entry_table.specs.declared.kept.Kept.{Kept}
 use Rattle.fuse_ops.proofs.Fits.{Fits}
 
 module _ (tree : Tree) (next : ℕ) (es : List Kept) (n : ℕ) (fits : Fits tree next es) (useless : is_useless es n ≡ true) where

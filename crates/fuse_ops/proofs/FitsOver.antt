@@ -6,9 +6,9 @@ use Rattle.eden_base.specs.Limits.{greatest_count}
 use Rattle.eden_base.specs.declared.number.FileId.{FileId}
 use Rattle.eden_base.specs.declared.place.Place.TheVariants.{Unlinked}
 use Rattle.manifest.specs.Tree.{Tree, root, is_unlinked, file_of as tree_file}
-use Rattle.inode_map.proofs.FileLemmas.{IsFileOf-same, named-known}
-use Rattle.inode_map.specs.InodeMap.{entry_of, AreNumbers, IsFileOf, is_root, is_marked}
-use Rattle.inode_map.specs.declared.inode_map.Kept.{Kept}
+use Rattle.entry_table.proofs.FileLemmas.{IsFileOf-same, named-known}
+use Rattle.entry_table.specs.Entries.{entry_of, AreNumbers, IsFileOf, is_root, is_marked}
+use Rattle.entry_table.specs.declared.kept.Kept.{Kept}
 use Rattle.fuse_ops.specs.Soundness.{IsUnlinkedPlace}
 use Rattle.fuse_ops.proofs.Fits.{Fits, not-one}
 

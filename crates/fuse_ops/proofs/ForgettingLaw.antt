@@ -7,13 +7,15 @@ use Rattle.eden_base.specs.First.{without_where}
 use Rattle.eden_base.specs.Limits.{greatest_count}
 use Rattle.eden_base.specs.declared.number.FileId.{FileId}
 use Rattle.manifest.specs.Tree.{Tree}
-use Rattle.inode_map.proofs.Changing.{changed-extended, count_of-entry, count-changed_same, count-changed_other}
-use Rattle.inode_map.proofs.FileLemmas.{IsFileOf-extended}
-use Rattle.inode_map.proofs.Forgetting.{less, less-keeps, counted-entry, lowered-others}
+use Rattle.entry_table.proofs.Changing.{changed-extended, count_of-entry, count-changed_same, count-changed_other}
+use Rattle.entry_table.proofs.FileLemmas.{IsFileOf-extended}
+use Rattle.entry_table.proofs.Counting.{less, less-keeps, counted-entry}
+use Rattle.inode_map.proofs.Forgetting.{lowered-others}
 use Rattle.inode_map.proofs.Walking.{IsStruck, struck-keeps}
-use Rattle.inode_map.specs.InodeMap.{has_number, entry_of, count_of, is_useless, is_bad_item, lowered, left_of_use, left_with, forgotten, IsFileOf}
+use Rattle.entry_table.specs.Entries.{has_number, entry_of, count_of, is_bad_item, lowered, IsFileOf}
+use Rattle.inode_map.specs.InodeMap.{is_useless, left_of_use, left_with, forgotten}
 use Rattle.inode_map.specs.declared.inode_map.Forgot.TheVariants.{Lowered, Dropped}
-use Rattle.inode_map.specs.declared.inode_map.Kept.{Kept}
+use Rattle.entry_table.specs.declared.kept.Kept.{Kept}
 use Rattle.fuse_ops.specs.Gifts.{served_over, Forgets, IsTaken, ForgettingLaw, KeepsEntries, BadForgetLaw}
 use Rattle.fuse_ops.specs.Served.{ServedState}
 use Rattle.fuse_ops.specs.Soundness.{IsSound}

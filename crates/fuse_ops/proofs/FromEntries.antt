@@ -3,11 +3,11 @@ use Rattle.std.proofs.Common.{◌≡◌, ℕ, List, [], ◌∷◌, ◌++◌, Opt
 use Rattle.std.proofs.lemmas.List.{append_assoc}
 use Rattle.std.specs.List.{AllByRecursion}
 use Rattle.eden_base.proofs.MemberLemmas.{first-none, first-passes}
-use Rattle.inode_map.proofs.EntryLemmas.{entry_of-first}
-use Rattle.inode_map.proofs.EntryRuns.{found-there}
-use Rattle.inode_map.proofs.Places.{place-stands, stands-place}
-use Rattle.inode_map.specs.InodeMap.{has_number, stands_at, entry_of, entry_at, is_of_use, AreApart, AreEntries, AreNumbers}
-use Rattle.inode_map.specs.declared.inode_map.Kept.{Kept}
+use Rattle.entry_table.proofs.EntryLemmas.{entry_of-first}
+use Rattle.entry_table.proofs.EntryRuns.{found-there}
+use Rattle.entry_table.proofs.Places.{place-stands, stands-place}
+use Rattle.entry_table.specs.Entries.{has_number, stands_at, entry_of, entry_at, is_of_use, AreApart, AreEntries, AreNumbers}
+use Rattle.entry_table.specs.declared.kept.Kept.{Kept}
 use Rattle.fuse_ops.specs.Served.{ServedState}
 use Rattle.fuse_ops.specs.Soundness.{IsSound}
 

@@ -9,13 +9,14 @@ use Rattle.eden_base.specs.Limits.{greatest_count, end_of_numbers}
 use Rattle.eden_base.specs.declared.number.FileId.{FileId}
 use Rattle.eden_base.specs.declared.number.Number.{Number}
 use Rattle.manifest.specs.Tree.{Tree}
-use Rattle.inode_map.proofs.Changing.{raised-of_use, added-of_use, changed-extends, changed-extended, count_of-entry, count_of-none, count_of-alike, count-changed_same, count-changed_other}
-use Rattle.inode_map.proofs.EntryLemmas.{append-same, append-other, changed-first, entry_of-first, numbers-bound, numbers-entry}
-use Rattle.inode_map.proofs.FileLemmas.{IsFileOf-extended}
-use Rattle.inode_map.proofs.Giving.{once-keeps, next-none}
-use Rattle.inode_map.specs.InodeMap.{has_number, stands_at, entry_of, entry_at, once_more, new_entry, give_fault_at, number_of_kept, IsFileOf}
+use Rattle.entry_table.proofs.Changing.{raised-of_use, added-of_use, changed-extends, changed-extended, count_of-entry, count_of-none, count_of-alike, count-changed_same, count-changed_other}
+use Rattle.entry_table.proofs.EntryLemmas.{append-same, append-other, changed-first, entry_of-first, numbers-bound, numbers-entry, next-none}
+use Rattle.entry_table.proofs.FileLemmas.{IsFileOf-extended}
+use Rattle.entry_table.proofs.Counting.{once-keeps}
+use Rattle.entry_table.specs.Entries.{has_number, stands_at, entry_of, entry_at, once_more, new_entry, number_of_kept, IsFileOf}
+use Rattle.inode_map.specs.InodeMap.{give_fault_at}
 use Rattle.inode_map.specs.declared.inode_map.GiveFault.TheVariants.{NoNumber, TooMany}
-use Rattle.inode_map.specs.declared.inode_map.Kept.{Kept}
+use Rattle.entry_table.specs.declared.kept.Kept.{Kept}
 use Rattle.fuse_ops.specs.Gifts.{served_over, Gave, IsPlaced, GivingLaw, PlaceLaw, NumberAtPlace, NewLaw}
 use Rattle.fuse_ops.specs.Served.{ServedState}
 use Rattle.fuse_ops.proofs.Fits.{Fits, sound-fits, sound-of_use, fits-sound, place-file, no-place-no_file}

@@ -8,7 +8,8 @@ use Rattle.eden_base.specs.declared.number.FileId.{FileId}
 use Rattle.eden_base.specs.declared.number.Number.{Number}
 use Rattle.eden_base.proofs.NumberTests.{eq-or}
 use Rattle.manifest.specs.Tree.{Tree, IsTree, child_of, kind_of}
-use Rattle.inode_map.specs.InodeMap.{forgotten, given, give_fault, is_bad_item, number_given}
+use Rattle.entry_table.specs.Entries.{is_bad_item}
+use Rattle.inode_map.specs.InodeMap.{forgotten, given, give_fault, number_given}
 use Rattle.fuse_ops.specs.Answers.{found_in, found_in_dir}
 use Rattle.fuse_ops.specs.Gifts.{served_over, Gave}
 use Rattle.fuse_ops.specs.Served.{ServedState, IsLocated}

@@ -8,11 +8,11 @@ use Rattle.eden_base.specs.declared.number.FileId.{FileId}
 use Rattle.eden_base.specs.declared.attr.Kind.TheVariants.{Dir}
 use Rattle.manifest.specs.Tree.{IsTree, file_of as tree_file, root}
 use Rattle.manifest.specs.declared.content.Content.{Content}
-use Rattle.inode_map.proofs.EntryLemmas.{numbers-bound, numbers-entry}
-use Rattle.inode_map.proofs.FileLemmas.{IsFileOf-same, named-known}
-use Rattle.inode_map.proofs.Forgetting.{counted-entry}
-use Rattle.inode_map.specs.InodeMap.{entry_of, count_of, is_root}
-use Rattle.inode_map.specs.declared.inode_map.Kept.{Kept}
+use Rattle.entry_table.proofs.EntryLemmas.{numbers-bound, numbers-entry}
+use Rattle.entry_table.proofs.FileLemmas.{IsFileOf-same, named-known}
+use Rattle.entry_table.proofs.Counting.{counted-entry}
+use Rattle.entry_table.specs.Entries.{entry_of, count_of, is_root}
+use Rattle.entry_table.specs.declared.kept.Kept.{Kept}
 use Rattle.fuse_ops.specs.Served.{ServedState}
 use Rattle.fuse_ops.specs.Soundness.{IsSound, Names}
 use Rattle.fuse_ops.proofs.Fits.{sound-fits, named-apart}

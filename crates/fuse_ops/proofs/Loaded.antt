@@ -14,9 +14,10 @@ use Rattle.eden_base.specs.declared.number.Number.{Number}
 use Rattle.checkout.proofs.CreateLaws.{file_of-created_other}
 use Rattle.manifest.specs.Tree.{Tree, IsTree, file_of as tree_file, attr_of as file_attr, nlink_of, nlink_of_kind, is_unlinked, created, removed}
 use Rattle.manifest.specs.declared.content.Content.{Content}
-use Rattle.inode_map.proofs.FileLemmas.{IsFileOf-same, named-known}
-use Rattle.inode_map.specs.InodeMap.{MapState, entry_of, entry_at, is_kept, is_bad_item, left_with, left_of_use, lowered, given, forgotten, unlinked, has_number, marked, stands_at, once_more, new_entry, attr_of, loaded_number, load, used}
-use Rattle.inode_map.specs.declared.inode_map.Kept.{Kept}
+use Rattle.entry_table.proofs.FileLemmas.{IsFileOf-same, named-known}
+use Rattle.entry_table.specs.Entries.{entry_of, entry_at, is_kept, is_bad_item, lowered, has_number, marked, stands_at, once_more, new_entry}
+use Rattle.inode_map.specs.InodeMap.{MapState, left_with, left_of_use, given, forgotten, unlinked, attr_of, loaded_number, load, used}
+use Rattle.entry_table.specs.declared.kept.Kept.{Kept}
 use Rattle.inode_map.specs.declared.loaded.LoadedAttr.{LoadedAttr}
 use Rattle.fuse_ops.specs.Changes.{KeepsNames, MayLose}
 use Rattle.fuse_ops.specs.Gifts.{served_over, Gave}
@@ -45,7 +46,7 @@ loaded-on old new files left right n attr e =
 -- where all but what else is kept is plainly the same
 pub plainly-loaded : (old new : ServedState) → plain new ≡ plain old → new.map.loaded ≡ old.map.loaded → AreLoaded old → AreLoaded new
 plainly-loaded old new e same right n attr l =
-    subst (λ (p : PlainState). (file : FileId) × Rattle.inode_map.specs.InodeMap.IsFileOf p.tree p.entries n file × (tree_file p.tree file ≡ Some (content_in attr))) (sym e)
+    subst (λ (p : PlainState). (file : FileId) × Rattle.entry_table.specs.Entries.IsFileOf p.tree p.entries n file × (tree_file p.tree file ≡ Some (content_in attr))) (sym e)
     (right n attr (ap (λ (xs : List LoadedAttr). attr_of xs n) (sym same) ∙ l))
 
 -- nothing is loaded of a number that was not given

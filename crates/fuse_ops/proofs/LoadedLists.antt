@@ -9,8 +9,9 @@ use Rattle.eden_base.proofs.NumberTests.{eq-false, true-eq, false-ne}
 use Rattle.eden_base.specs.First.{first_where, without_where}
 use Rattle.eden_base.specs.declared.attr.Attr.{Attr}
 use Rattle.eden_base.specs.declared.number.Number.{Number}
-use Rattle.inode_map.specs.InodeMap.{is_kept, loaded_number, is_loaded_of, attr_in, attr_of, used, load}
-use Rattle.inode_map.specs.declared.inode_map.Kept.{Kept}
+use Rattle.entry_table.specs.Entries.{is_kept}
+use Rattle.inode_map.specs.InodeMap.{loaded_number, is_loaded_of, attr_in, attr_of, used, load}
+use Rattle.entry_table.specs.declared.kept.Kept.{Kept}
 use Rattle.inode_map.specs.declared.loaded.LoadedAttr.{LoadedAttr}
 
 -- of the first attribute, or of those behind it

@@ -15,12 +15,13 @@ use Rattle.eden_base.specs.declared.number.FileId.{FileId}
 use Rattle.eden_base.specs.declared.number.Number.{Number}
 use Rattle.checkout.proofs.CreateLaws.{child_of-created}
 use Rattle.manifest.specs.Tree.{Tree, IsTree, child_of, kind_of, attr_of, is_unlinked, next_file, created}
-use Rattle.inode_map.proofs.EntryLemmas.{entry_of-first}
-use Rattle.inode_map.proofs.FileLemmas.{IsFileOf-same, linked-child}
-use Rattle.inode_map.proofs.Places.{stands-place}
-use Rattle.inode_map.specs.InodeMap.{MapState, stands_at, entry_of, entry_at, give_fault, give_fault_at, given, number_given, IsFileOf}
+use Rattle.entry_table.proofs.EntryLemmas.{entry_of-first}
+use Rattle.entry_table.proofs.FileLemmas.{IsFileOf-same, linked-child}
+use Rattle.entry_table.proofs.Places.{stands-place}
+use Rattle.entry_table.specs.Entries.{stands_at, entry_of, entry_at, IsFileOf}
+use Rattle.inode_map.specs.InodeMap.{MapState, give_fault, give_fault_at, given, number_given}
 use Rattle.inode_map.specs.declared.inode_map.GiveFault.TheVariants.{NoNumber, NoMemory}
-use Rattle.inode_map.specs.declared.inode_map.Kept.{Kept}
+use Rattle.entry_table.specs.declared.kept.Kept.{Kept}
 use Rattle.fuse_ops.specs.Answers.{free_in, free_in_dir}
 use Rattle.fuse_ops.specs.Changes.{KeepsNames}
 use Rattle.fuse_ops.specs.Gifts.{Gave}
@@ -30,7 +31,7 @@ use Rattle.fuse_ops.specs.Work.{IsFree, IsNextRefusal, IsSamePlainly, MakesIn, M
 use Rattle.fuse_ops.proofs.Fits.{Fits, sound-fits, sound-of_use, fits-sound, not-one}
 use Rattle.fuse_ops.proofs.GivingLaw.{gives-well}
 use Rattle.fuse_ops.proofs.MakingLaw.{carried-made, making-keeps}
-use Rattle.inode_map.specs.EntryPlaces.{AreOfUseBut}
+use Rattle.entry_table.specs.EntryPlaces.{AreOfUseBut}
 
 -- what is loaded, remembered or made ready is no matter to soundness
 pub sound-plainly : (old new : ServedState) → plain new ≡ plain old → IsSound old → IsSound new

@@ -9,9 +9,9 @@ use Rattle.checkout.proofs.AttrLaws.{is_linked-created_other}
 use Rattle.checkout.proofs.CreateLaws.{child_of-created_elsewhere, file_of-created_other, dir_is_below}
 use Rattle.manifest.proofs.ManifestTree.{same_id}
 use Rattle.manifest.specs.Tree.{Tree, IsTree, child_of, root, is_unlinked, next_file, created, file_of as tree_file}
-use Rattle.inode_map.proofs.FileLemmas.{IsFileOf-same, named-known}
-use Rattle.inode_map.specs.InodeMap.{entry_of, IsFileOf, is_root, is_child, is_marked}
-use Rattle.inode_map.specs.declared.inode_map.Kept.{Kept}
+use Rattle.entry_table.proofs.FileLemmas.{IsFileOf-same, named-known}
+use Rattle.entry_table.specs.Entries.{entry_of, IsFileOf, is_root, is_child, is_marked}
+use Rattle.entry_table.specs.declared.kept.Kept.{Kept}
 use Rattle.fuse_ops.specs.Changes.{MakingLaw}
 use Rattle.fuse_ops.proofs.Fits.{Fits, sound-fits, sound-of_use, fits-sound, root-named}
 use Rattle.fuse_ops.proofs.FitsOver.{IsCarried, named-before, fits-over}

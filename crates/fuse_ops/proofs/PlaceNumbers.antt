@@ -4,11 +4,12 @@ use Rattle.std.specs.Option.{option_map_or}
 use Rattle.std.specs.Prelude.{nat_le, if◌then◌else◌}
 use Rattle.eden_base.specs.Limits.{greatest_count, end_of_numbers}
 use Rattle.eden_base.specs.declared.number.FileId.{FileId}
-use Rattle.inode_map.proofs.Changing.{count_of-entry}
-use Rattle.inode_map.proofs.EntryLemmas.{entry_of-first}
-use Rattle.inode_map.specs.InodeMap.{stands_at, entry_of, entry_at, count_of, give_fault, give_fault_at, number_given, number_of_kept}
+use Rattle.entry_table.proofs.Changing.{count_of-entry}
+use Rattle.entry_table.proofs.EntryLemmas.{entry_of-first}
+use Rattle.entry_table.specs.Entries.{stands_at, entry_of, entry_at, count_of, number_of_kept}
+use Rattle.inode_map.specs.InodeMap.{give_fault, give_fault_at, number_given}
 use Rattle.inode_map.specs.declared.inode_map.GiveFault.TheVariants.{NoNumber, TooMany}
-use Rattle.inode_map.specs.declared.inode_map.Kept.{Kept}
+use Rattle.entry_table.specs.declared.kept.Kept.{Kept}
 use Rattle.fuse_ops.specs.Gifts.{IsPlaced}
 use Rattle.fuse_ops.specs.Served.{ServedState}
 use Rattle.fuse_ops.specs.Soundness.{Names}

@@ -10,8 +10,9 @@ use Rattle.eden_base.specs.declared.number.FileId.{FileId}
 use Rattle.eden_base.specs.declared.number.Number.{Number}
 use Rattle.checkout.proofs.CreateLaws.{child_of-created}
 use Rattle.manifest.specs.Tree.{Tree, IsTree, attr_of as file_attr, next_file, created}
-use Rattle.inode_map.specs.InodeMap.{MapState, stands_at, once_more, new_entry, entry_of, entry_at, give_fault, given, number_given, number_of_kept, attr_of, load, remembered, IsFileOf}
-use Rattle.inode_map.specs.declared.inode_map.Kept.{Kept}
+use Rattle.entry_table.specs.Entries.{stands_at, once_more, new_entry, entry_of, entry_at, number_of_kept, remembered, IsFileOf}
+use Rattle.inode_map.specs.InodeMap.{MapState, give_fault, given, number_given, attr_of, load}
+use Rattle.entry_table.specs.declared.kept.Kept.{Kept}
 use Rattle.inode_map.specs.declared.loaded.LoadedAttr.{LoadedAttr}
 use Rattle.std.specs.Option.{option_map_or}
 use Rattle.fuse_ops.specs.Loading.{LoadsTold}

@@ -13,9 +13,10 @@ use Rattle.eden_base.specs.First.{changed_where}
 use Rattle.eden_base.specs.declared.number.FileId.{FileId}
 use Rattle.eden_base.specs.declared.number.Number.{Number}
 use Rattle.manifest.specs.Tree.{Tree, IsTree, root, removed}
-use Rattle.inode_map.proofs.FileLemmas.{IsFileOf-same, named-known}
-use Rattle.inode_map.specs.InodeMap.{MapState, entry_of, entry_at, is_kept, is_bad_item, left_with, left_of_use, lowered, given, forgotten, unlinked, has_number, marked, stands_at, once_more, new_entry, file_remembered, remembered, IsFileOf, is_root}
-use Rattle.inode_map.specs.declared.inode_map.Kept.{Kept}
+use Rattle.entry_table.proofs.FileLemmas.{IsFileOf-same, named-known}
+use Rattle.entry_table.specs.Entries.{entry_of, entry_at, is_kept, is_bad_item, lowered, has_number, marked, stands_at, once_more, new_entry, file_remembered, remembered, IsFileOf, is_root}
+use Rattle.inode_map.specs.InodeMap.{MapState, left_with, left_of_use, given, forgotten, unlinked}
+use Rattle.entry_table.specs.declared.kept.Kept.{Kept}
 use Rattle.fuse_ops.specs.Changes.{KeepsNames, MayLose}
 use Rattle.fuse_ops.specs.Gifts.{served_over, Gave, GaveOldOrNext}
 use Rattle.fuse_ops.specs.Served.{ServedState, PlainState, plain, name_taken}

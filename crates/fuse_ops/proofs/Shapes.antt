@@ -20,8 +20,9 @@ use Rattle.fuse_wire.specs.declared.request.Request.TheVariants.{Other}
 use Rattle.fuse_wire.specs.declared.form.Form.TheVariants.{AnEntry, Attributes}
 use Rattle.fuse_wire.specs.declared.reply.Answer.{Answer}
 use Rattle.fuse_wire.specs.declared.reply.Answer.TheVariants.{Entry, Opened, Attrs, Done, Error}
-use Rattle.inode_map.specs.InodeMap.{MapState, entry_at, stands_at, once_more, new_entry, given, unlinked}
-use Rattle.inode_map.specs.declared.inode_map.Kept.{Kept}
+use Rattle.entry_table.specs.Entries.{entry_at, stands_at, once_more, new_entry}
+use Rattle.inode_map.specs.InodeMap.{MapState, given, unlinked}
+use Rattle.entry_table.specs.declared.kept.Kept.{Kept}
 use Rattle.fuse_ops.specs.Answers.{Effect, find_name, make_file, take_name, show_file, deed_of, looked_at, done_to, looks_at, comes_to, found_in, free_in, enters, shows, makes, takes_from, unless, against_unlink, against_rmdir, against_taking, telling, tree_after, file_unnamed}
 use Rattle.fuse_ops.specs.Served.{ServedState, place_entered, place_left, place_told, place_taken, name_taken, map_after, map_without, served_after}
 

@@ -12,11 +12,12 @@ use Rattle.eden_base.specs.First.{first_where}
 use Rattle.eden_base.proofs.NumberTests.{true-eq}
 use Rattle.checkout.proofs.RemoveLaws.{no_links_below}
 use Rattle.manifest.specs.Tree.{Tree, IsTree, child_of, is_full_dir, removed}
-use Rattle.inode_map.proofs.EntryLemmas.{entry_of-first}
-use Rattle.inode_map.proofs.FileLemmas.{IsFileOf-same, linked-child}
-use Rattle.inode_map.proofs.Places.{stands-place}
-use Rattle.inode_map.specs.InodeMap.{MapState, stands_at, entry_of, entry_at, is_in, is_kid_of, number_of_kept, unlinked, IsFileOf, IsLinked}
-use Rattle.inode_map.specs.declared.inode_map.Kept.{Kept}
+use Rattle.entry_table.proofs.EntryLemmas.{entry_of-first}
+use Rattle.entry_table.proofs.FileLemmas.{IsFileOf-same, linked-child}
+use Rattle.entry_table.proofs.Places.{stands-place}
+use Rattle.entry_table.specs.Entries.{stands_at, entry_of, entry_at, is_in, is_kid_of, number_of_kept, IsFileOf, IsLinked}
+use Rattle.inode_map.specs.InodeMap.{MapState, unlinked}
+use Rattle.entry_table.specs.declared.kept.Kept.{Kept}
 use Rattle.fuse_ops.specs.Changes.{MayLose}
 use Rattle.fuse_ops.specs.Served.{ServedState, name_taken}
 use Rattle.fuse_ops.specs.Soundness.{IsSound}

@@ -8,14 +8,15 @@ use Rattle.eden_base.specs.declared.number.FileId.{FileId}
 use Rattle.eden_base.specs.declared.number.Number.{Number}
 use Rattle.checkout.proofs.RemoveLaws.{child_of-removed_elsewhere, is_linked-removed, is_linked-removed_other}
 use Rattle.manifest.specs.Tree.{Tree, child_of, is_linked, is_unlinked, removed}
-use Rattle.inode_map.proofs.Changing.{count_of-entry, count_of-alike}
-use Rattle.inode_map.proofs.EntryLemmas.{changed-same, changed-other, entry_of-first, numbers-changed}
-use Rattle.inode_map.proofs.FileLemmas.{IsFileOf-same}
-use Rattle.inode_map.proofs.Places.{stands-place}
+use Rattle.entry_table.proofs.Changing.{count_of-entry, count_of-alike}
+use Rattle.entry_table.proofs.EntryLemmas.{changed-same, changed-other, entry_of-first, numbers-changed}
+use Rattle.entry_table.proofs.FileLemmas.{IsFileOf-same}
+use Rattle.entry_table.proofs.Places.{stands-place}
 use Rattle.inode_map.proofs.Pruning.{marked-others}
 use Rattle.inode_map.proofs.Walking.{IsStruck, struck-keeps}
-use Rattle.inode_map.specs.InodeMap.{has_number, stands_at, entry_of, entry_at, count_of, left_of_use, marked, unlinked, IsFileOf, is_root, is_child, is_marked}
-use Rattle.inode_map.specs.declared.inode_map.Kept.{Kept}
+use Rattle.entry_table.specs.Entries.{has_number, stands_at, entry_of, entry_at, count_of, marked, IsFileOf, is_root, is_child, is_marked}
+use Rattle.inode_map.specs.InodeMap.{left_of_use, unlinked}
+use Rattle.entry_table.specs.declared.kept.Kept.{Kept}
 use Rattle.fuse_ops.specs.Changes.{KeepsNames, MayLose, UnnamingLaw}
 use Rattle.fuse_ops.specs.Served.{ServedState}
 use Rattle.fuse_ops.proofs.Fits.{Fits, sound-fits, sound-of_use, fits-sound, named-apart, place-file, no-place-no_file}

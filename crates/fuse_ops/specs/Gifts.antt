@@ -4,10 +4,11 @@ use Rattle.std.specs.Prelude.{◌≡◌, ℕ, ◌+◌, ◌-◌, ◌<◌, ◌≤�
 use Rattle.eden_base.specs.declared.number.FileId.{FileId}
 use Rattle.eden_base.specs.declared.number.Number.{Number}
 use Rattle.manifest.specs.Tree.{Tree, IsTree, child_of}
-use Rattle.inode_map.specs.InodeMap.{MapState, new_map, entry_at, count_of, give_fault, number_given, given, is_bad_item, forgot, forgotten, IsFileOf}
+use Rattle.entry_table.specs.Entries.{entry_at, count_of, is_bad_item, IsFileOf}
+use Rattle.inode_map.specs.InodeMap.{MapState, new_map, give_fault, number_given, given, forgot, forgotten}
 use Rattle.inode_map.specs.declared.inode_map.Forgot.{Forgot}
 use Rattle.inode_map.specs.declared.inode_map.Forgot.TheVariants.{Lowered, Dropped}
-use Rattle.inode_map.specs.declared.inode_map.Kept.{Kept}
+use Rattle.entry_table.specs.declared.kept.Kept.{Kept}
 use Rattle.fuse_ops.specs.Served.{ServedState}
 use Rattle.fuse_ops.specs.Soundness.{IsSound}
 

@@ -13,8 +13,9 @@ use Rattle.fuse_wire.specs.declared.request.Request.{Request}
 use Rattle.fuse_wire.specs.declared.item.Item.{Item}
 use Rattle.fuse_wire.specs.declared.reply.Answer.{Answer}
 use Rattle.eden_base.specs.declared.errno.Errno.{Errno}
-use Rattle.inode_map.specs.InodeMap.{MapState, IsFileOf, map_of, new_map, entry_at, give_fault, given, number_given, forgotten, unlinked}
-use Rattle.inode_map.specs.declared.inode_map.Kept.{Kept}
+use Rattle.entry_table.specs.Entries.{IsFileOf, entry_at}
+use Rattle.inode_map.specs.InodeMap.{MapState, map_of, new_map, give_fault, given, number_given, forgotten, unlinked}
+use Rattle.entry_table.specs.declared.kept.Kept.{Kept}
 use Rattle.inode_map.specs.declared.inode_map.GiveFault.{GiveFault}
 use Rattle.inode_map.specs.declared.inode_map.GiveFault.TheVariants.{NoNumber, TooMany, NoMemory}
 use Rattle.fuse_ops.specs.Answers.{NumberFault, none_left, at_greatest, Numbers, Effect, IsBacked, Deed, find_name, make_file, take_name, deed_of, looks_at, comes_to, Answers, tree_after, file_unnamed}

@@ -8,8 +8,9 @@ use Rattle.eden_base.specs.declared.place.Place.{Place}
 use Rattle.eden_base.specs.declared.place.Place.TheVariants.{Linked, Unlinked}
 use Rattle.manifest.specs.Tree.{file_of as tree_file, is_unlinked}
 use Rattle.manifest.specs.declared.content.Content.{Content}
-use Rattle.inode_map.specs.InodeMap.{entry_of, attr_of, file_remembered, is_of_use, AreNumbers, IsFileOf}
-use Rattle.inode_map.specs.declared.inode_map.Kept.{Kept}
+use Rattle.entry_table.specs.Entries.{entry_of, file_remembered, is_of_use, AreNumbers, IsFileOf}
+use Rattle.inode_map.specs.InodeMap.{attr_of}
+use Rattle.entry_table.specs.declared.kept.Kept.{Kept}
 use Rattle.fuse_ops.specs.Served.{ServedState}
 
 -- the place is one that was taken away

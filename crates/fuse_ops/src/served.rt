@@ -7,7 +7,8 @@ ghost use Rattle.manifest.specs.Tree.{IsTree, child_of, attr_of, file_of as tree
 ghost use Rattle.eden_base.specs.declared.errno.Errno.TheVariants.{EIO};
 ghost use Rattle.fuse_wire.specs.declared.reply.Answer.TheVariants.{Error};
 ghost use Rattle.fuse_wire.specs.declared.request.Request.TheVariants.{Lookup, Getattr, Create, Mkdir, Unlink, Rmdir};
-ghost use Rattle.inode_map.specs.InodeMap.{entry_at, number_of_kept, attr_of as loaded_attr, forgotten, IsFileOf};
+ghost use Rattle.entry_table.specs.Entries.{entry_at, number_of_kept, IsFileOf};
+ghost use Rattle.inode_map.specs.InodeMap.{attr_of as loaded_attr, forgotten};
 ghost use Rattle.fuse_ops.specs.Answers.{IsBacked, against_unlink, against_rmdir};
 ghost use Rattle.fuse_ops.specs.Loading.{Backs, FailsAs, Loads, LoadsTold, LoadsNone, loaded_told};
 ghost use Rattle.fuse_ops.specs.Served.{new_served, served_of, forgotten_all, IsLocated, Replay};

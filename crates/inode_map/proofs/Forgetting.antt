@@ -1,36 +1,23 @@
 -- What becomes of a forget, by the count and by what stands in the directory.
-use Rattle.std.proofs.Common.{◌≡◌, ℕ, ◌-◌, ◌<◌, ◌≤◌, Bool, true, false, cond, length, not, ◌||◌, List, Option, Some, None, refl, sym, ap, ◌∙◌, inl, inr, ◌⊎◌, arith}
+use Rattle.std.proofs.Common.{◌≡◌, ℕ, ◌-◌, ◌<◌, ◌≤◌, Bool, true, false, cond, length, not, ◌||◌, List, Option, Some, None, refl, sym, ap, ◌∙◌, arith}
 use Rattle.std.specs.Prelude.{◌==◌, nat_lt, if◌then◌else◌}
 use Rattle.std.specs.List.{list_any}
 use Rattle.std.specs.Option.{option_map, option_map_or}
 use Rattle.std.proofs.lemmas.Bool.Decides.{nat_tests}
-use Rattle.eden_base.proofs.MemberLemmas.{some-or}
-use Rattle.eden_base.proofs.NumberTests.{eq-false, false-ne}
-use Rattle.inode_map.specs.InodeMap.{MapState, has_number, entry_of, count_of, is_kid_of, is_of_use, is_useless, is_bad_item, lowered, left_of_use, forgot, forgotten, loaded_number, left_with, AreNumbers}
+use Rattle.eden_base.proofs.NumberTests.{false-ne}
+use Rattle.entry_table.specs.Entries.{has_number, entry_of, count_of, is_kid_of, is_of_use, is_bad_item, lowered, AreNumbers}
+use Rattle.inode_map.specs.InodeMap.{MapState, is_useless, left_of_use, forgot, forgotten, loaded_number, left_with}
 use Rattle.inode_map.specs.declared.inode_map.Forgot.TheVariants.{Lowered, Dropped, Bad, Root}
-use Rattle.inode_map.specs.declared.inode_map.Kept.{Kept}
-use Rattle.inode_map.specs.EntryPlaces.{AreOfUseBut}
-use Rattle.inode_map.proofs.Changing.{KeepsPlace, lowered-of_use, kids-changed, count_of-entry, count_of-none}
-use Rattle.inode_map.proofs.EntryLemmas.{changed-same, entry_of-number, numbers-changed}
+use Rattle.entry_table.specs.declared.kept.Kept.{Kept}
+use Rattle.entry_table.specs.EntryPlaces.{AreOfUseBut}
+use Rattle.entry_table.proofs.Counting.{less, less-keeps, counted-entry, good-item}
+use Rattle.entry_table.proofs.Changing.{lowered-of_use, kids-changed, count_of-entry}
+use Rattle.entry_table.proofs.EntryLemmas.{changed-same, entry_of-number, numbers-changed}
 use Rattle.inode_map.proofs.Giving.{AreKept}
-use Rattle.inode_map.specs.Table.{AreOfKept, file_number}
+use Rattle.entry_table.specs.Table.{AreOfKept, file_number}
 use Rattle.inode_map.proofs.Keeping.{left_with-all}
 use Rattle.inode_map.proofs.Striking.{left_of_use-all}
 use Rattle.inode_map.proofs.Walking.{all-of_use, struck-keeps}
-
--- counted so much less
-abbrev pub less : ℕ → Kept → Kept
-less k kept = record kept { count = kept.count - k }
-
-pub less-keeps : (k : ℕ) → KeepsPlace (less k)
-less-keeps k = record { number = λ x. refl; place = λ x. refl }
-
--- what is counted is an entry
-pub counted-entry : (es : List Kept) (n : ℕ) → 0 < count_of es n → (kept : Kept) × (entry_of es n ≡ Some kept)
-counted-entry es n some = in_ (some-or (entry_of es n)) where
-  in_ : ((kept : Kept) × (entry_of es n ≡ Some kept)) ⊎ (entry_of es n ≡ None) → (kept : Kept) × (entry_of es n ≡ Some kept)
-  in_ (inl e) = e
-  in_ (inr none) = absurd (let z : count_of es n ≡ 0 = count_of-none es n none in omega arith)
 
 -- whether the number is of use once it is counted less
 pub lowered-useless : (es : List Kept) (n k : ℕ) → (k ≡ 0 → ⊥) → k ≤ count_of es n → is_useless (lowered es n k) n ≡ not (nat_lt 0 (count_of es n - k) || list_any (is_kid_of n) es)
@@ -42,10 +29,6 @@ lowered-useless es n k some few =
     ∙ ap (λ (m : ℕ). not (nat_lt 0 (e.0.count - k) || list_any (is_kid_of m) (lowered es n k))) (entry_of-number es n e.0 e.1)
     ∙ ap (λ b. not (nat_lt 0 (e.0.count - k) || b)) kids
     ∙ ap (λ (m : ℕ). not (nat_lt 0 (m - k) || list_any (is_kid_of n) es)) (sym (count_of-entry es n e.0 e.1))
-
--- what is neither nothing nor too much is no bad item
-pub good-item : (es : List Kept) (n k : ℕ) → (k ≡ 0 → ⊥) → k ≤ count_of es n → is_bad_item es n k ≡ false
-good-item es n k some few = let z : (k == 0) ≡ false = eq-false k 0 some in let l : nat_lt (count_of es n) k ≡ false = grind (arith, nat_tests) in rw (z, l) refl
 
 -- so what becomes of the forget
 pub forgot-good : (map : MapState) (n k : ℕ) (b c : Bool) → (n == 1) ≡ false → (k ≡ 0 → ⊥) → k ≤ count_of map.entries n → nat_lt 0 (count_of map.entries n - k) ≡ b → list_any (is_kid_of n) map.entries ≡ c →

@@ -1,20 +1,19 @@
 -- The entries after a number was given.
-use Rattle.std.proofs.Common.{◌≡◌, ℕ, ◌+◌, ◌<◌, ◌≤◌, true, false, List, [], ◌∷◌, ◌++◌, Option, Some, None, refl, sym, ap, ◌∙◌, subst, is_some, inr, arith}
+use Rattle.std.proofs.Common.{◌≡◌, ℕ, ◌+◌, ◌<◌, ◌≤◌, true, false, List, [], ◌∷◌, ◌++◌, Option, Some, None, refl, sym, ap, ◌∙◌, subst, is_some, arith}
 use Rattle.std.specs.Prelude.{nat_le, nat_lt, if◌then◌else◌}
 use Rattle.std.specs.Option.{option_map}
 use Rattle.std.proofs.lemmas.Bool.Decides.{nat_tests}
 use Rattle.eden_base.specs.First.{changed_where}
 use Rattle.eden_base.specs.Limits.{greatest_count}
 use Rattle.eden_base.specs.declared.number.Number.{Number}
-use Rattle.inode_map.specs.EntryPlaces.{AreOfUseBut}
-use Rattle.inode_map.specs.InodeMap.{MapState, has_number, stands_at, entry_of, entry_at, count_of, number_of_kept, once_more, give_fault, give_fault_at, given, AreNumbers}
+use Rattle.entry_table.specs.EntryPlaces.{AreOfUseBut}
+use Rattle.entry_table.specs.Entries.{has_number, stands_at, entry_of, entry_at, count_of, number_of_kept, once_more, AreNumbers}
+use Rattle.inode_map.specs.InodeMap.{MapState, give_fault, give_fault_at, given}
 use Rattle.inode_map.specs.declared.inode_map.GiveFault.TheVariants.{TooMany}
-use Rattle.inode_map.specs.declared.inode_map.Kept.{Kept}
-use Rattle.inode_map.proofs.Changing.{KeepsPlace, raised-of_use, added-of_use, count_of-entry}
-use Rattle.inode_map.proofs.EntryLemmas.{changed-first, entry_of-first, entry_of-number, numbers-append, numbers-changed, numbers-outside}
-
-pub once-keeps : KeepsPlace once_more
-once-keeps = record { number = λ x. refl; place = λ x. refl }
+use Rattle.entry_table.specs.declared.kept.Kept.{Kept}
+use Rattle.entry_table.proofs.Counting.{once-keeps}
+use Rattle.entry_table.proofs.Changing.{raised-of_use, added-of_use, count_of-entry}
+use Rattle.entry_table.proofs.EntryLemmas.{changed-first, entry_of-first, entry_of-number, next-none, numbers-append, numbers-changed}
 
 -- numbers that rise, each of use
 pub record AreKept (next : ℕ) (es : List Kept) : Type 0 where
@@ -80,10 +79,6 @@ again-kept es next n are = record {
   numbers = numbers-changed es 2 next (has_number n) once_more (λ x. refl) are.numbers;
   of_use = raised-of_use es n once_more once-keeps (λ y. omega arith) are.of_use;
 }
-
--- no entry has the next number
-pub next-none : (es : List Kept) (next : ℕ) → AreNumbers 2 next es → entry_of es next ≡ None
-next-none es next are = numbers-outside es 2 next next are (inr (omega arith))
 
 -- the next number was added, and is held
 pub kept-new : (es : List Kept) (next : ℕ) (x : Kept) → AreKept next es → x.number.0 ≡ next → 0 < x.count → AreKept (next + 1) (es ++ x ∷ [])

@@ -6,10 +6,12 @@ use Rattle.std.specs.Option.{option_map, option_map_or}
 use Rattle.eden_base.proofs.FirstLemmas.{Each-kept, Each-without_where, first_where-nowhere}
 use Rattle.eden_base.proofs.NumberTests.{eq-true, eq-false, eq-or}
 use Rattle.eden_base.specs.First.{first_where, changed_where, without_where}
-use Rattle.inode_map.proofs.EntryLemmas.{changed-same, changed-other, append-other, without-other, without-same}
-use Rattle.inode_map.specs.InodeMap.{MapState, left_with, has_number, entry_of, is_kept, is_loaded_of, loaded_number, used, AreNumbers}
-use Rattle.inode_map.specs.Table.{AreOfKept, file_number, of_kept, is_other}
-use Rattle.inode_map.specs.declared.inode_map.Kept.{Kept}
+use Rattle.entry_table.proofs.EntryLemmas.{changed-same, changed-other, append-other, without-other, without-same}
+use Rattle.entry_table.specs.Entries.{has_number, entry_of, is_kept, AreNumbers}
+use Rattle.inode_map.specs.InodeMap.{MapState, left_with, is_loaded_of, loaded_number, used}
+use Rattle.entry_table.specs.Table.{AreOfKept, file_number, is_other}
+use Rattle.inode_map.specs.Pruned.{of_kept}
+use Rattle.entry_table.specs.declared.kept.Kept.{Kept}
 use Rattle.inode_map.specs.declared.loaded.LoadedAttr.{LoadedAttr}
 
 -- numbers that have entries

@@ -11,13 +11,15 @@ use Rattle.eden_base.specs.declared.number.Number.{Number}
 use Rattle.eden_base.specs.declared.place.Place.{Place}
 use Rattle.eden_base.specs.declared.place.Place.TheVariants.{Linked}
 use Rattle.eden_base.specs.First.{first_where, changed_where, without_where}
-use Rattle.inode_map.specs.EntryPlaces.{AreOfUseBut, dir_of}
-use Rattle.inode_map.specs.InodeMap.{has_number, entry_of, place_of_kept, is_in, is_kid_of, is_of_use, is_useless, left_of_use, loaded_number, marked, AreNumbers}
+use Rattle.entry_table.specs.EntryPlaces.{AreOfUseBut, dir_of}
+use Rattle.entry_table.specs.Entries.{has_number, entry_of, place_of_kept, is_in, is_kid_of, is_of_use, marked, AreNumbers}
+use Rattle.inode_map.specs.InodeMap.{is_useless, left_of_use, loaded_number}
 use Rattle.inode_map.specs.Recency.{LoadedState}
-use Rattle.inode_map.specs.Table.{TableState, without_entry, of_kept, pruned, file_number, is_other, AreOfKept}
-use Rattle.inode_map.specs.declared.inode_map.Kept.{Kept}
+use Rattle.entry_table.specs.Table.{TableState, without_entry, file_number, is_other, AreOfKept}
+use Rattle.inode_map.specs.Pruned.{of_kept, pruned}
+use Rattle.entry_table.specs.declared.kept.Kept.{Kept}
 use Rattle.inode_map.specs.declared.loaded.LoadedAttr.{LoadedAttr}
-use Rattle.inode_map.proofs.EntryLemmas.{entry_of-number, numbers-without, changed-same, changed-other}
+use Rattle.entry_table.proofs.EntryLemmas.{entry_of-number, numbers-without, changed-same, changed-other}
 use Rattle.inode_map.proofs.Giving.{AreKept}
 use Rattle.inode_map.proofs.Keeping.{of_kept-all, of_kept-without}
 use Rattle.inode_map.proofs.Striking.{useless-entry, left_of_use-all, left_of_use-one}

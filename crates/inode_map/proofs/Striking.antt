@@ -7,10 +7,11 @@ use Rattle.std.proofs.lemmas.Bool.Decides.{nat_tests}
 use Rattle.eden_base.proofs.MemberLemmas.{length-without_where}
 use Rattle.eden_base.proofs.NumberTests.{eq-true, eq-false, eq-or}
 use Rattle.eden_base.specs.First.{without_where}
-use Rattle.inode_map.specs.EntryPlaces.{AreOfUseBut}
-use Rattle.inode_map.specs.InodeMap.{has_number, entry_of, is_kid_of, is_of_use, is_useless, struck, struck_once, left_of_use, AreNumbers}
-use Rattle.inode_map.specs.declared.inode_map.Kept.{Kept}
-use Rattle.inode_map.proofs.EntryLemmas.{numbers-entry, entry_of-number}
+use Rattle.entry_table.specs.EntryPlaces.{AreOfUseBut}
+use Rattle.entry_table.specs.Entries.{has_number, entry_of, is_kid_of, is_of_use, AreNumbers}
+use Rattle.inode_map.specs.InodeMap.{is_useless, struck, struck_once, left_of_use}
+use Rattle.entry_table.specs.declared.kept.Kept.{Kept}
+use Rattle.entry_table.proofs.EntryLemmas.{numbers-entry, entry_of-number}
 
 -- an entry that is of no use: it has no count, and nothing stands in it
 pub record IsUseless (es : List Kept) (n : ℕ) (kept : Kept) : Type 0 where

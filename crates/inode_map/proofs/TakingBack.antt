@@ -4,13 +4,14 @@ use Rattle.std.specs.Prelude.{◌==◌}
 use Rattle.std.specs.Option.{option_map}
 use Rattle.eden_base.proofs.NumberTests.{eq-false}
 use Rattle.eden_base.specs.First.{changed_where}
-use Rattle.inode_map.specs.InodeMap.{MapState, has_number, entry_of, count_of, once_more, lowered, left_of_use, left_with, is_bad_item, forgotten, loaded_number}
-use Rattle.inode_map.specs.Table.{AreOfKept, file_number}
-use Rattle.inode_map.specs.declared.inode_map.Kept.{Kept}
-use Rattle.inode_map.proofs.Changing.{count_of-entry}
-use Rattle.inode_map.proofs.EntryLemmas.{changed-same, numbers-entry}
-use Rattle.inode_map.proofs.Forgetting.{less, good-item}
-use Rattle.inode_map.proofs.Giving.{AreKept, once-keeps}
+use Rattle.entry_table.specs.Entries.{has_number, entry_of, count_of, once_more, lowered, is_bad_item}
+use Rattle.inode_map.specs.InodeMap.{MapState, left_of_use, left_with, forgotten, loaded_number}
+use Rattle.entry_table.specs.Table.{AreOfKept, file_number}
+use Rattle.entry_table.specs.declared.kept.Kept.{Kept}
+use Rattle.entry_table.proofs.Changing.{count_of-entry}
+use Rattle.entry_table.proofs.EntryLemmas.{changed-same, numbers-entry}
+use Rattle.entry_table.proofs.Counting.{less, good-item, once-keeps}
+use Rattle.inode_map.proofs.Giving.{AreKept}
 use Rattle.inode_map.proofs.Keeping.{left_with-all}
 use Rattle.inode_map.proofs.Striking.{left_of_use-all}
 

@@ -8,10 +8,11 @@ use Rattle.eden_base.proofs.NumberTests.{true-eq, eq-or}
 use Rattle.eden_base.specs.declared.place.Place.{Place}
 use Rattle.eden_base.specs.declared.place.Place.TheVariants.{Linked, Unlinked}
 use Rattle.eden_base.specs.First.{without_where}
-use Rattle.inode_map.specs.EntryPlaces.{AreOfUseBut, dir_of}
-use Rattle.inode_map.specs.InodeMap.{has_number, entry_of, is_kid_of, is_in, is_of_use, is_useless, left_of_use, AreNumbers}
-use Rattle.inode_map.specs.declared.inode_map.Kept.{Kept}
-use Rattle.inode_map.proofs.EntryLemmas.{entry_of-number, numbers-without, without-same, without-other}
+use Rattle.entry_table.specs.EntryPlaces.{AreOfUseBut, dir_of}
+use Rattle.entry_table.specs.Entries.{has_number, entry_of, is_kid_of, is_in, is_of_use, AreNumbers}
+use Rattle.inode_map.specs.InodeMap.{is_useless, left_of_use}
+use Rattle.entry_table.specs.declared.kept.Kept.{Kept}
+use Rattle.entry_table.proofs.EntryLemmas.{entry_of-number, numbers-without, without-same, without-other}
 use Rattle.inode_map.proofs.Striking.{IsUseless, useless-entry, left_of_use-all, left_of_use-one}
 
 -- an entry that was left

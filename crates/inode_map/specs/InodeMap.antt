@@ -1,21 +1,15 @@
 -- What a daemon remembers for the kernel, as EdenFS's inode map does: each number that it gave, where the file of that
 -- number stands, and how often the kernel holds it, with libfuse's rules for lookup counts (`fuse_lowlevel.h`).
-use Rattle.std.specs.Prelude.{◌≡◌, ℕ, suc, zero, ◌+◌, ◌-◌, ◌^◌, ◌≤◌, min, Bool, true, false, take, ◌||◌, ◌&&◌, ◌==◌, nat_le, nat_lt, not, List, [], ◌∷◌, ◌++◌, length, nat_eq, Option, Some, None, is_some, if◌then◌else◌}
+use Rattle.std.specs.Prelude.{◌≡◌, ℕ, suc, zero, ◌+◌, ◌-◌, ◌^◌, min, Bool, false, take, ◌==◌, nat_le, not, List, [], ◌∷◌, ◌++◌, length, Option, Some, None, is_some, if◌then◌else◌}
 use Rattle.std.specs.Option.{option_map, option_map_or}
-use Rattle.std.specs.List.{filter, list_any, AllByRecursion}
-use Rattle.std.specs.Map.{lookup}
-use Rattle.std.specs.BTreeMap.{insert_entry}
-use Rattle.std.specs.Ordering.{nat_cmp}
-use Rattle.std.specs.Cmp.Lexicographic.{pointwise}
+use Rattle.std.specs.List.{filter}
 use Rattle.eden_base.specs.declared.number.Number.{Number}
 use Rattle.eden_base.specs.declared.number.FileId.{FileId}
-use Rattle.eden_base.specs.declared.place.Place.{Place}
-use Rattle.eden_base.specs.declared.place.Place.TheVariants.{Linked, Unlinked}
 use Rattle.eden_base.specs.declared.attr.Attr.{Attr}
 use Rattle.eden_base.specs.First.{first_where, changed_where, without_where}
 use Rattle.eden_base.specs.Limits.{greatest_count, end_of_numbers}
-use Rattle.manifest.specs.Tree.{Tree, child_of, root}
-use Rattle.inode_map.specs.declared.inode_map.Kept.{Kept}
+use Rattle.entry_table.specs.declared.kept.Kept.{Kept}
+use Rattle.entry_table.specs.Entries.{has_number, number_of_kept, entry_of, is_kept, stands_at, entry_at, is_of_use, once_more, new_entry, is_bad_item, lowered, marked}
 use Rattle.inode_map.specs.declared.loaded.LoadedAttr.{LoadedAttr}
 use Rattle.inode_map.specs.declared.inode_map.GiveFault.{GiveFault}
 use Rattle.inode_map.specs.declared.inode_map.GiveFault.TheVariants.{NoNumber, TooMany, NoMemory}
@@ -33,60 +27,6 @@ pub record MapState : Type 0 where
   pub limit : ℕ
   pub spare : ℕ
   pub remembered : List (ℕ × FileId)
-
--- the entry is of this number
-abbrev pub has_number : ℕ → Kept → Bool
-has_number n kept = kept.number.0 == n
-
--- its number
-abbrev pub number_of_kept : Kept → Number
-number_of_kept kept = kept.number
-
--- where its file stands
-abbrev pub place_of_kept : Kept → Place
-place_of_kept kept = kept.place
-
--- what is remembered of a number
-abbrev pub entry_of : List Kept → ℕ → Option Kept
-entry_of entries n = first_where (has_number n) entries
-
--- the number has an entry
-abbrev pub is_kept : List Kept → ℕ → Bool
-is_kept entries n = is_some (entry_of entries n)
-
--- the number is the root's, or has an entry
-abbrev pub is_known : List Kept → ℕ → Bool
-is_known entries n = n == 1 || is_kept entries n
-
--- how often the kernel holds it, as far as the daemon knows
-abbrev pub count_of : List Kept → ℕ → ℕ
-count_of entries n = option_map_or (λ (kept : Kept). kept.count) (entry_of entries n) 0
-
--- the place is this one
-abbrev pub is_place : ℕ → List ℕ → Place → Bool
-is_place parent name (Linked dir linked) = dir.0 == parent && pointwise nat_eq linked name
-is_place parent name (Unlinked file) = false
-
--- the entry stands under a name in a directory
-abbrev pub stands_at : ℕ → List ℕ → Kept → Bool
-stands_at parent name kept = is_place parent name kept.place
-
--- what is remembered of a place
-abbrev pub entry_at : List Kept → ℕ → List ℕ → Option Kept
-entry_at entries parent name = first_where (stands_at parent name) entries
-
--- the place is a name in the directory of this number
-abbrev pub is_in : ℕ → Place → Bool
-is_in parent (Linked dir linked) = dir.0 == parent
-is_in parent (Unlinked file) = false
-
--- the entry stands in the directory of this number
-abbrev pub is_kid_of : ℕ → Kept → Bool
-is_kid_of parent kept = is_in parent kept.place
-
--- a number is of use while the kernel holds it, or an entry stands in its directory
-abbrev pub is_of_use : List Kept → Kept → Bool
-is_of_use entries kept = nat_lt 0 kept.count || list_any (is_kid_of kept.number.0) entries
 
 -- the number is remembered, and is of no use
 abbrev pub is_useless : List Kept → ℕ → Bool
@@ -119,14 +59,6 @@ abbrev pub number_given : MapState → ℕ → List ℕ → Number
 number_given map parent name =
     option_map_or number_of_kept (entry_at map.entries parent name) (record { 0 = map.next })
 
--- counted once more
-abbrev pub once_more : Kept → Kept
-once_more kept = record kept { count = kept.count + 1 }
-
--- a place that had no number
-abbrev pub new_entry : ℕ → Number → List ℕ → Kept
-new_entry next parent name = record { number = record { 0 = next }; place = Linked parent name; count = 1 }
-
 -- after a number was given
 abbrev pub given : MapState → Number → List ℕ → MapState
 given map parent name =
@@ -139,14 +71,6 @@ abbrev pub IsGiveRefusal : MapState → ℕ → List ℕ → GiveFault → Type 
 IsGiveRefusal map parent name NoMemory =
     (entry_at map.entries parent name ≡ None) × (give_fault map parent name ≡ None)
 IsGiveRefusal map parent name fault = give_fault map parent name ≡ Some fault
-
--- a forget of nothing, or of more than the daemon counts
-abbrev pub is_bad_item : List Kept → ℕ → ℕ → Bool
-is_bad_item entries n k = k == 0 || nat_lt (count_of entries n) k
-
--- counted k times less
-abbrev pub lowered : List Kept → ℕ → ℕ → List Kept
-lowered entries n k = changed_where (has_number n) (λ kept. record kept { count = kept.count - k }) entries
 
 -- what becomes of a forget
 abbrev pub forgot : MapState → ℕ → ℕ → Forgot
@@ -175,29 +99,6 @@ forgotten map n k =
     else if is_bad_item map.entries n k then record map { bad_items = min (map.bad_items + 1) (2 ^ 64 - 1) }
     else left_with (left_of_use (lowered map.entries n k)) map
 
--- the file that a number names in a tree: the root for 1; the child, at its name, of its directory's file; or the
--- file in its mark
-pub data IsFileOf (tree : Tree) (entries : List Kept) : ℕ → FileId → Type 0 where
-  is_root : (n : ℕ) (file : FileId) → n ≡ 1 → file ≡ root → IsFileOf tree entries n file
-  is_child : (n : ℕ) (file : FileId) (kept : Kept) (dir : Number) (name : List ℕ) (dir_file : FileId) →
-      (n ≡ 1 → ⊥) → entry_of entries n ≡ Some kept → kept.place ≡ Linked dir name →
-      IsFileOf tree entries dir.0 dir_file → child_of tree dir_file name ≡ Some file → IsFileOf tree entries n file
-  is_marked : (n : ℕ) (file : FileId) (kept : Kept) →
-      (n ≡ 1 → ⊥) → entry_of entries n ≡ Some kept → kept.place ≡ Unlinked file → IsFileOf tree entries n file
-
--- numbers rise from a lowest one and stay below the next
-abbrev pub AreNumbers : ℕ → ℕ → List Kept → Type 0
-AreNumbers low next [] = low ≤ next
-AreNumbers low next (kept ∷ entries) = (low ≤ kept.number.0) × AreNumbers (kept.number.0 + 1) next entries
-
--- the entry's number is greater
-abbrev pub is_above : ℕ → Kept → Bool
-is_above n kept = nat_lt n kept.number.0
-
--- the least number above another, where numbers rise
-abbrev pub number_after : List Kept → ℕ → Option Number
-number_after entries n = option_map number_of_kept (first_where (is_above n) entries)
-
 -- the loaded attribute is of this number
 abbrev pub is_loaded_of : ℕ → LoadedAttr → Bool
 is_loaded_of n loaded = loaded.number.0 == n
@@ -224,39 +125,9 @@ load limit loaded number attr = record { number = number; attr = attr } ∷ take
 abbrev pub without_oldest : List LoadedAttr → List LoadedAttr
 without_oldest loaded = take (length loaded - 1) loaded
 
--- the file that is remembered of a number
-abbrev pub file_remembered : List (ℕ × FileId) → ℕ → Option FileId
-file_remembered files n = lookup (λ (m : ℕ). m == n) files
-
--- with a file remembered
-abbrev pub remembered : List (ℕ × FileId) → ℕ → FileId → List (ℕ × FileId)
-remembered files n file = insert_entry nat_cmp files n file
-
--- the entry stands under some name
-abbrev pub IsLinked : List Kept → ℕ → Type 0
-IsLinked entries n =
-    (kept : Kept) × (dir : Number) × (name : List ℕ) × (entry_of entries n ≡ Some kept)
-    × (kept.place ≡ Linked dir name)
-
--- its name was taken away
-abbrev pub marked : FileId → Kept → Kept
-marked file kept = record kept { place = Unlinked file }
-
 -- after the name of a number was taken away: its directory leaves where it is of no use, and so on upwards
 abbrev pub unlinked : MapState → ℕ → FileId → MapState
 unlinked map n file = left_with (left_of_use (changed_where (has_number n) (marked file) map.entries)) map
-
--- an entry that is linked is the one of its place
-abbrev pub AreApart : List Kept → Type 0
-AreApart entries = (n : ℕ) (kept : Kept) (dir : Number) (name : List ℕ) →
-    entry_of entries n ≡ Some kept → kept.place ≡ Linked dir name → entry_at entries dir.0 name ≡ Some kept
-
--- entries that a map may have: numbers rise and stay below the next, no place is of two, and each is of use
-pub record AreEntries (entries : List Kept) (next : ℕ) : Type 0 where
-  pub numbers : AreNumbers 2 next entries
-  pub last : next ≤ end_of_numbers
-  pub apart : AreApart entries
-  pub of_use : AllByRecursion (λ (kept : Kept). is_of_use entries kept ≡ true) entries
 
 -- a map with entries of which nothing is loaded or remembered
 abbrev pub map_of : List Kept → ℕ → ℕ → MapState

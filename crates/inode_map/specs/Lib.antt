@@ -1,7 +1,5 @@
-pub mod EntryPlaces
 pub mod InodeMap
 pub mod Inside
-pub mod Links
+pub mod Pruned
 pub mod Recency
-pub mod Table
 pub mod Words

@@ -7,26 +7,19 @@ ghost use Rattle.eden_base.specs.declared.number.FileId.{FileId};
 ghost use Rattle.eden_base.specs.declared.number.Number.{Number};
 ghost use Rattle.inode_map.specs.declared.loaded.LoadedAttr.{LoadedAttr};
 ghost use Rattle.inode_map.specs.Words.{forgot_name};
-ghost use Rattle.inode_map.specs.EntryPlaces.{AreOfUseBut, IsNamedEntry, is_linked_entry};
-ghost use Rattle.inode_map.specs.InodeMap.{new_map, map_of, entry_of, entry_at, count_of, number_after, number_of_kept, place_of_kept, is_known, give_fault, number_given, given, IsGiveRefusal, forgot, forgotten, unlinked, is_kid_of, is_useless, is_bad_item, lowered, IsLinked, IsFileOf, AreNumbers, AreEntries, attr_of, used, load, without_oldest, loaded_number, left_of_use, file_remembered, remembered};
-ghost use Rattle.inode_map.specs.Table.{AreOfKept, of_kept, pruned, file_number};
+ghost use Rattle.entry_table.specs.EntryPlaces.{AreOfUseBut, IsNamedEntry, is_linked_entry};
+ghost use Rattle.entry_table.specs.Entries.{entry_of, entry_at, count_of, number_after, number_of_kept, place_of_kept, is_known, is_kid_of, is_bad_item, lowered, IsLinked, IsFileOf, AreNumbers, AreEntries, file_remembered, remembered};
+ghost use Rattle.inode_map.specs.InodeMap.{new_map, map_of, give_fault, number_given, given, IsGiveRefusal, forgot, forgotten, unlinked, is_useless, attr_of, used, load, without_oldest, loaded_number, left_of_use};
+ghost use Rattle.entry_table.specs.Table.{AreOfKept, file_number};
+ghost use Rattle.inode_map.specs.Pruned.{of_kept, pruned};
 
 use crate::loaded::Loaded;
-use crate::table::Table;
 use checkout::Tree;
 use eden_base::{Attr, END_OF_NUMBERS, FileId, Name, NoMemory, Number, Place};
+use entry_table::{Kept, Table};
 use std::alloc::Global;
 use std::marker::Model;
 use thiserror::Error;
-
-/// A number that was given and is of use still: while the kernel holds it, or a number below it.
-#[derive(Drop)]
-pub struct Kept {
-    pub number: Number,
-    pub place: Place,
-    /// How often the kernel holds it, as far as the daemon knows.
-    pub count: u64,
-}
 
 /// What becomes of a forget.
 #[derive(Clone, Copy, PartialEq, Eq)]

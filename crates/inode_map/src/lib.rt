@@ -2,11 +2,9 @@
 //! it.
 #![tactic(auto)]
 
-mod index;
 mod inode_map;
 mod loaded;
-mod table;
-mod way;
 
-pub use inode_map::{Forgot, GiveFault, InodeMap, Kept};
+pub use entry_table::Kept;
+pub use inode_map::{Forgot, GiveFault, InodeMap};
 pub use loaded::LoadedAttr;

@@ -4,7 +4,7 @@ ghost use Rattle.std.specs.List.{filter};
 ghost use Rattle.inode_map.specs.declared.loaded.LoadedAttr.{LoadedAttr};
 ghost use Rattle.eden_base.specs.First.{first_where, IsFirstPlace};
 ghost use Rattle.inode_map.specs.InodeMap.{attr_of, used, load, without_oldest, loaded_number, is_loaded_of};
-ghost use Rattle.inode_map.specs.Table.{is_other};
+ghost use Rattle.entry_table.specs.Table.{is_other};
 
 use eden_base::{Attr, NoMemory, Number};
 use std::alloc::Global;

@@ -1,6 +1,6 @@
 -- The counts of an image that has a text are those that the kernel may hold.
 use Rattle.std.proofs.Common.{All, ◌≡◌, ◌<◌, ◌^◌, ℕ, suc, List, [], ◌∷◌, subst, sym, arith}
-use Rattle.inode_map.specs.declared.inode_map.Kept.{Kept}
+use Rattle.entry_table.specs.declared.kept.Kept.{Kept}
 use Rattle.map_codec.specs.Fit.{CountsFit}
 use Rattle.map_codec.specs.ImageText.{FitsEntry, Form, IsImageText, first_form}
 use Rattle.map_codec.specs.declared.image.Image.{Image}

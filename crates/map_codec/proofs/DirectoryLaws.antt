@@ -8,9 +8,9 @@ use Rattle.std.proofs.lemmas.Bool.{cases_lt}
 use Rattle.std.proofs.lemmas.List.{get_or_append_left}
 use Rattle.std.proofs.lemmas.Option.{slice_get-get_or, slice_get_within, slice_get_cases, get_or_from_slice_get}
 use Rattle.eden_base.specs.declared.number.Number.{Number}
-use Rattle.inode_map.specs.InodeMap.{AreNumbers, entry_of, number_of_kept}
-use Rattle.inode_map.specs.declared.inode_map.Kept.{Kept}
-use Rattle.inode_map.proofs.EntryLemmas.{entry_of-number}
+use Rattle.entry_table.specs.Entries.{AreNumbers, entry_of, number_of_kept}
+use Rattle.entry_table.specs.declared.kept.Kept.{Kept}
+use Rattle.entry_table.proofs.EntryLemmas.{entry_of-number}
 use Rattle.map_codec.specs.Fit.{rises, entry_follows}
 use Rattle.map_codec.specs.Named.{IsPlaceOf, number_at}
 use Rattle.map_codec.proofs.PlaceLaws.{entry_there, numbers_behind}

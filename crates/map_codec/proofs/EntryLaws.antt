@@ -4,9 +4,9 @@ use Rattle.std.specs.List.{AllByRecursion}
 use Rattle.std.proofs.lemmas.Bool.Decides.{nat_tests}
 use Rattle.checkout.specs.Changes.{AreChanges}
 use Rattle.eden_base.specs.Limits.{greatest_count}
-use Rattle.inode_map.specs.EntryPlaces.{IsNamedEntry}
-use Rattle.inode_map.specs.InodeMap.{AreNumbers, is_of_use}
-use Rattle.inode_map.specs.declared.inode_map.Kept.{Kept}
+use Rattle.entry_table.specs.EntryPlaces.{IsNamedEntry}
+use Rattle.entry_table.specs.Entries.{AreNumbers, is_of_use}
+use Rattle.entry_table.specs.declared.kept.Kept.{Kept}
 use Rattle.fuse_ops.proofs.FromEntries.{all-entries}
 use Rattle.fuse_ops.specs.Served.{ServedState}
 use Rattle.fuse_ops.specs.Soundness.{IsSound}

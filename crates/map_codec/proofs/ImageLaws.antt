@@ -10,13 +10,13 @@ use Rattle.eden_base.specs.Name.{IsNameText}
 use Rattle.checkout.specs.declared.changes.Made.{Made}
 use Rattle.manifest.specs.declared.links.LinkChange.{LinkChange}
 use Rattle.checkout.specs.declared.changes.Changes.{Changes}
-use Rattle.inode_map.specs.declared.inode_map.Kept.{Kept}
+use Rattle.entry_table.specs.declared.kept.Kept.{Kept}
 use Rattle.map_codec.specs.declared.fault.ImageFault.{ImageFault}
 use Rattle.map_codec.specs.declared.fault.ImageFault.TheVariants.{BadMagic, Rest, ZeroUse}
 use Rattle.map_codec.specs.declared.header.Header.{Header}
 use Rattle.map_codec.specs.declared.image.Image.{Image}
 use Rattle.map_codec.specs.Field.{number_bytes}
-use Rattle.inode_map.specs.EntryPlaces.{HasName}
+use Rattle.entry_table.specs.EntryPlaces.{HasName}
 use Rattle.map_codec.specs.Fit.{entry_follows, made_follows, link_follows, IsFit}
 use Rattle.map_codec.specs.ImageText.{Form, first_form, form_of, magic, entry_text, made_text, link_text, list_text, image_text, FitsEntry, FitsMade, FitsLink, FitsNumbers, FitsMembers, IsImageText}
 use Rattle.map_codec.specs.ImageReading.{◌>>=◌, bytes_at, number_at, entry_at, made_at, link_at, list_at, magic_at, known, form_at, header_at, changes_at, image_with, fields_at, are_of_use, seen_whole, image_of_bytes}

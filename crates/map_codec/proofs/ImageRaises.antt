@@ -6,7 +6,7 @@ use Rattle.checkout.specs.BadChanges.{IsBadChange}
 use Rattle.manifest.specs.Manifest.{Manifest, IsManifest}
 use Rattle.manifest.specs.Tree.{Tree, IsTree}
 use Rattle.std.specs.Prelude.{List, None}
-use Rattle.inode_map.specs.declared.inode_map.Kept.{Kept}
+use Rattle.entry_table.specs.declared.kept.Kept.{Kept}
 use Rattle.fuse_ops.specs.Served.{ServedState, plain}
 use Rattle.fuse_ops.specs.Soundness.{IsSound}
 use Rattle.map_codec.specs.Raising.{AreRaisable, IsRaisable, raised, tree_told}

@@ -11,10 +11,10 @@ use Rattle.eden_base.specs.declared.place.Place.{Place}
 use Rattle.eden_base.specs.declared.place.Place.TheVariants.{Linked, Unlinked}
 use Rattle.checkout.specs.declared.changes.Made.{Made}
 use Rattle.manifest.specs.declared.links.LinkChange.{LinkChange}
-use Rattle.inode_map.specs.declared.inode_map.Kept.{Kept}
+use Rattle.entry_table.specs.declared.kept.Kept.{Kept}
 use Rattle.map_codec.specs.declared.fault.ImageFault.TheVariants.{NotRising, BadMark}
 use Rattle.map_codec.specs.Field.{byte_text, number_bytes}
-use Rattle.inode_map.specs.EntryPlaces.{HasName}
+use Rattle.entry_table.specs.EntryPlaces.{HasName}
 use Rattle.map_codec.specs.Fit.{is_next_number, is_next_file, is_next_place, entry_follows, made_follows, link_follows}
 use Rattle.map_codec.specs.ImageText.{name_text, place_mark, place_text, entry_text, kind_mark, made_text, target_text, link_text, FitsPlace, FitsEntry, FitsMade, FitsTarget, FitsLink}
 use Rattle.map_codec.specs.ImageReading.{◌>>=◌, number_at, mark_at, counted_at, named, name_at, place_at, rising_at, entry_at, file_at, kind_of_mark, perm_of, perm_at, made_at, rising_place, target_at, link_at}

@@ -10,11 +10,11 @@ use Rattle.eden_base.specs.declared.number.FileId.{FileId}
 use Rattle.eden_base.specs.declared.number.Number.{Number}
 use Rattle.eden_base.specs.declared.place.Place.TheVariants.{Linked}
 use Rattle.manifest.specs.Tree.{Tree}
-use Rattle.inode_map.specs.EntryPlaces.{StepsUp}
-use Rattle.inode_map.specs.InodeMap.{IsFileOf, entry_of}
-use Rattle.inode_map.specs.declared.inode_map.Kept.{Kept}
-use Rattle.inode_map.proofs.Climbing.{step-read}
-use Rattle.inode_map.proofs.EntryLemmas.{entry_of-number}
+use Rattle.entry_table.specs.EntryPlaces.{StepsUp}
+use Rattle.entry_table.specs.Entries.{IsFileOf, entry_of}
+use Rattle.entry_table.specs.declared.kept.Kept.{Kept}
+use Rattle.entry_table.proofs.Climbing.{step-read}
+use Rattle.entry_table.proofs.EntryLemmas.{entry_of-number}
 use Rattle.map_codec.specs.Named.{AreFound, IsPlaceOf, number_at}
 use Rattle.map_codec.proofs.DirectoryLaws.{IsEachAt, each_pushed, number_there}
 

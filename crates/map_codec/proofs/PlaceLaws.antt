@@ -10,10 +10,10 @@ use Rattle.std.proofs.lemmas.Bool.{and_parts, cases_lt}
 use Rattle.std.proofs.lemmas.Bool.Decides.{nat_tests}
 use Rattle.std.proofs.lemmas.List.Elements.{recursion_from_All}
 use Rattle.std.proofs.lemmas.Option.{slice_get_cases}
-use Rattle.inode_map.specs.InodeMap.{AreNumbers, has_number, entry_of}
-use Rattle.inode_map.specs.declared.inode_map.Kept.{Kept}
-use Rattle.inode_map.proofs.EntryLemmas.{numbers-rise}
-use Rattle.inode_map.proofs.EntryRuns.{cut, found-there}
+use Rattle.entry_table.specs.Entries.{AreNumbers, has_number, entry_of}
+use Rattle.entry_table.specs.declared.kept.Kept.{Kept}
+use Rattle.entry_table.proofs.EntryLemmas.{numbers-rise}
+use Rattle.entry_table.proofs.EntryRuns.{cut, found-there}
 use Rattle.map_codec.specs.Fit.{rises, entry_follows}
 use Rattle.map_codec.specs.Named.{IsPlaceOf}
 

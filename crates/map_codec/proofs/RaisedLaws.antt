@@ -12,11 +12,11 @@ use Rattle.eden_base.specs.declared.place.Place.TheVariants.{Linked, Unlinked}
 use Rattle.checkout.proofs.LinkLaws.{linked_from_child}
 use Rattle.manifest.specs.Manifest.{File}
 use Rattle.manifest.specs.Tree.{Tree, IsTree, child_of, file_of, is_linked, is_unlinked, kind_of}
-use Rattle.inode_map.proofs.EntryLemmas.{entry_of-number, numbers-entry}
-use Rattle.inode_map.proofs.EntryRuns.{each-entry}
-use Rattle.inode_map.proofs.FileLemmas.{IsFileOf-same, linked-child, marked-same}
-use Rattle.inode_map.specs.InodeMap.{AreNumbers, IsFileOf, entry_of, is_of_use}
-use Rattle.inode_map.specs.declared.inode_map.Kept.{Kept}
+use Rattle.entry_table.proofs.EntryLemmas.{entry_of-number, numbers-entry}
+use Rattle.entry_table.proofs.EntryRuns.{each-entry}
+use Rattle.entry_table.proofs.FileLemmas.{IsFileOf-same, linked-child, marked-same}
+use Rattle.entry_table.specs.Entries.{AreNumbers, IsFileOf, entry_of, is_of_use}
+use Rattle.entry_table.specs.declared.kept.Kept.{Kept}
 use Rattle.fuse_ops.specs.Served.{served_of}
 use Rattle.fuse_ops.specs.Soundness.{IsSound, IsUnlinkedPlace}
 use Rattle.map_codec.specs.Fit.{CountsFit, entry_follows, rises}

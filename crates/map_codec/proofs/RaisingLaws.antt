@@ -3,9 +3,9 @@ use Rattle.std.proofs.Common.{◌≡◌, ◌&&◌, ℕ, suc, zero, Bool, true, f
 use Rattle.std.specs.List.{AllByRecursion, list_all}
 use Rattle.eden_base.specs.declared.number.FileId.{FileId}
 use Rattle.manifest.specs.Tree.{Tree}
-use Rattle.inode_map.proofs.FileLemmas.{IsFileOf-same}
-use Rattle.inode_map.specs.InodeMap.{IsFileOf}
-use Rattle.inode_map.specs.declared.inode_map.Kept.{Kept}
+use Rattle.entry_table.proofs.FileLemmas.{IsFileOf-same}
+use Rattle.entry_table.specs.Entries.{IsFileOf}
+use Rattle.entry_table.specs.declared.kept.Kept.{Kept}
 use Rattle.map_codec.specs.Named.{AreFilesOf, EachNames}
 use Rattle.map_codec.specs.Raising.{AreOfOneFile, HasFile, HaveFiles, IsTwice, are_right_marks, is_right_mark}
 use Rattle.map_codec.proofs.RaisedLaws.{both}

@@ -13,10 +13,10 @@ use Rattle.eden_base.specs.declared.place.Place.{Place}
 use Rattle.eden_base.specs.declared.place.Place.TheVariants.{Linked, Unlinked}
 use Rattle.manifest.specs.Manifest.{File}
 use Rattle.manifest.specs.Tree.{Tree, file_of, kind_of, is_unlinked}
-use Rattle.inode_map.proofs.EntryLemmas.{entry_of-number, numbers-bound, numbers-entry, numbers-rise}
-use Rattle.inode_map.proofs.FileLemmas.{linked-child, marked-same, named-known}
-use Rattle.inode_map.specs.InodeMap.{IsFileOf, entry_of, is_kept, is_known}
-use Rattle.inode_map.specs.declared.inode_map.Kept.{Kept}
+use Rattle.entry_table.proofs.EntryLemmas.{entry_of-number, numbers-bound, numbers-entry, numbers-rise}
+use Rattle.entry_table.proofs.FileLemmas.{linked-child, marked-same, named-known}
+use Rattle.entry_table.specs.Entries.{IsFileOf, entry_of, is_kept, is_known}
+use Rattle.entry_table.specs.declared.kept.Kept.{Kept}
 use Rattle.fuse_ops.proofs.FromEntries.{all-entries}
 use Rattle.fuse_ops.specs.Served.{ServedState}
 use Rattle.fuse_ops.specs.Soundness.{IsSound, IsUnlinkedPlace}

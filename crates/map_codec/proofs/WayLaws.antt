@@ -8,10 +8,10 @@ use Rattle.eden_base.specs.declared.number.Number.{Number}
 use Rattle.eden_base.specs.declared.place.Place.{Place}
 use Rattle.eden_base.specs.declared.place.Place.TheVariants.{Linked, Unlinked}
 use Rattle.manifest.specs.Tree.{Tree}
-use Rattle.inode_map.specs.EntryPlaces.{Climbs, StepsUp}
-use Rattle.inode_map.specs.InodeMap.{IsFileOf, entry_of, is_marked}
-use Rattle.inode_map.specs.declared.inode_map.Kept.{Kept}
-use Rattle.inode_map.proofs.Climbing.{Climbs-append, Climbs-split, long-no_file, step-name, step-no_mark}
+use Rattle.entry_table.specs.EntryPlaces.{Climbs, StepsUp}
+use Rattle.entry_table.specs.Entries.{IsFileOf, entry_of, is_marked}
+use Rattle.entry_table.specs.declared.kept.Kept.{Kept}
+use Rattle.entry_table.proofs.Climbing.{Climbs-append, Climbs-split, long-no_file, step-name, step-no_mark}
 use Rattle.map_codec.specs.Fit.{rises, entry_follows}
 use Rattle.map_codec.specs.Named.{AreDirectories, IsDirectoryAt, IsDirectoryOf, IsPlaceOf, NamesNone, number_at}
 use Rattle.map_codec.proofs.DirectoryLaws.{not_root, place_inside, place_itself, place_number}

@@ -8,9 +8,9 @@ use Rattle.eden_base.specs.Limits.{greatest_count}
 use Rattle.eden_base.specs.Name.{IsNameText}
 use Rattle.checkout.specs.declared.changes.Made.{Made}
 use Rattle.manifest.specs.declared.links.LinkChange.{LinkChange}
-use Rattle.inode_map.specs.declared.inode_map.Kept.{Kept}
-use Rattle.inode_map.specs.EntryPlaces.{IsNamedEntry}
-use Rattle.inode_map.specs.InodeMap.{is_of_use}
+use Rattle.entry_table.specs.declared.kept.Kept.{Kept}
+use Rattle.entry_table.specs.EntryPlaces.{IsNamedEntry}
+use Rattle.entry_table.specs.Entries.{is_of_use}
 use Rattle.map_codec.specs.declared.image.Image.{Image}
 
 -- each member may follow the one before it, the first of them this one

@@ -15,8 +15,8 @@ use Rattle.eden_base.specs.declared.place.Place.TheVariants.{Linked, Unlinked}
 use Rattle.checkout.specs.declared.changes.Made.{Made}
 use Rattle.manifest.specs.declared.links.LinkChange.{LinkChange}
 use Rattle.checkout.specs.declared.changes.Changes.{Changes}
-use Rattle.inode_map.specs.declared.inode_map.Kept.{Kept}
-use Rattle.inode_map.specs.InodeMap.{is_of_use}
+use Rattle.entry_table.specs.declared.kept.Kept.{Kept}
+use Rattle.entry_table.specs.Entries.{is_of_use}
 use Rattle.map_codec.specs.declared.fault.ImageFault.{ImageFault}
 use Rattle.map_codec.specs.declared.fault.ImageFault.TheVariants.{BadMagic, BadVersion, Short, Rest, NotRising, BadName, BadMark, ZeroUse, NoMemory}
 use Rattle.map_codec.specs.declared.image.Image.{Image}

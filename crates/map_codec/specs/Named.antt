@@ -7,9 +7,9 @@ use Rattle.eden_base.specs.declared.number.Number.{Number}
 use Rattle.eden_base.specs.declared.place.Place.{Place}
 use Rattle.eden_base.specs.declared.place.Place.TheVariants.{Linked, Unlinked}
 use Rattle.manifest.specs.Tree.{Tree}
-use Rattle.inode_map.specs.EntryPlaces.{Climbs}
-use Rattle.inode_map.specs.InodeMap.{IsFileOf, entry_of, number_of_kept}
-use Rattle.inode_map.specs.declared.inode_map.Kept.{Kept}
+use Rattle.entry_table.specs.EntryPlaces.{Climbs}
+use Rattle.entry_table.specs.Entries.{IsFileOf, entry_of, number_of_kept}
+use Rattle.entry_table.specs.declared.kept.Kept.{Kept}
 use Rattle.map_codec.specs.declared.directories.DirectoryEntry.{DirectoryEntry}
 use Rattle.map_codec.specs.declared.directories.DirectoryEntry.TheVariants.{At, Missing, Unwanted}
 use Rattle.map_codec.specs.Raising.{has_parent}

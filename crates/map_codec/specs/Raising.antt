@@ -10,8 +10,8 @@ use Rattle.checkout.specs.BadChanges.{bad_itself, IsBadChange}
 use Rattle.checkout.specs.Changed.{changed}
 use Rattle.manifest.specs.Manifest.{Manifest}
 use Rattle.manifest.specs.Tree.{Tree, is_unlinked, kind_of}
-use Rattle.inode_map.specs.InodeMap.{IsFileOf, is_known}
-use Rattle.inode_map.specs.declared.inode_map.Kept.{Kept}
+use Rattle.entry_table.specs.Entries.{IsFileOf, is_known}
+use Rattle.entry_table.specs.declared.kept.Kept.{Kept}
 use Rattle.fuse_ops.specs.Served.{ServedState, served_of}
 use Rattle.map_codec.specs.declared.fault.RaiseFault.{RaiseFault}
 use Rattle.map_codec.specs.declared.fault.RaiseFault.TheVariants.{OtherCommit, BadChange, NoParent, NoLink, TwoNumbers, NumberTooHigh, NoMemory}

@@ -1,8 +1,8 @@
 -- The directories in which entries stand, as a list that can be searched.
 use Rattle.std.specs.Prelude.{◌≡◌, ◌<◌, ◌≤◌, ℕ, Bool, ◌==◌, List, length, get_or}
 use Rattle.std.specs.List.{list_any}
-use Rattle.inode_map.specs.InodeMap.{is_kid_of}
-use Rattle.inode_map.specs.declared.inode_map.Kept.{Kept}
+use Rattle.entry_table.specs.Entries.{is_kid_of}
+use Rattle.entry_table.specs.declared.kept.Kept.{Kept}
 
 abbrev pub is_number : ℕ → ℕ → Bool
 is_number n p = p == n

@@ -2,7 +2,7 @@
 use Rattle.std.specs.Prelude.{◌≡◌, ◌<◌, ◌≤◌, ◌^◌, ℕ, ◌+◌, nat_lt, nat_le, Bool, List, ◌++◌, length, Option, Some, None, vec_len, vec_capacity, if◌then◌else◌}
 use Rattle.std.specs.Global.{Vec}
 use Rattle.std.specs.List.{list_any}
-use Rattle.inode_map.specs.declared.inode_map.Kept.{Kept}
+use Rattle.entry_table.specs.declared.kept.Kept.{Kept}
 use Rattle.map_codec.specs.declared.fault.WriteFault.{WriteFault}
 use Rattle.map_codec.specs.declared.fault.WriteFault.TheVariants.{NoSuchVersion, CountTooLarge, TooLong, NoMemory}
 use Rattle.map_codec.specs.declared.image.Image.{Image}

@@ -1,6 +1,6 @@
 //! Whether an image is one that has a text.
 ghost use Rattle.std.specs.Prelude.{All, ◌≡◌, ◌↔◌, IfOk, IsTrue, None};
-ghost use Rattle.inode_map.specs.EntryPlaces.{HasName, IsNamedEntry};
+ghost use Rattle.entry_table.specs.EntryPlaces.{HasName, IsNamedEntry};
 ghost use Rattle.map_codec.specs.Fit.{rises, entry_follows, made_follows, link_follows, IsFit, IsNamedLink};
 ghost use Rattle.map_codec.specs.ImageReading.{last_of};
 

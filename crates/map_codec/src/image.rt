@@ -13,7 +13,7 @@ pub struct Entries {
 
 impl Model for Entries {
     ghost use Rattle.std.specs.Prelude.{List};
-    ghost use Rattle.inode_map.specs.declared.inode_map.Kept.{Kept};
+    ghost use Rattle.entry_table.specs.declared.kept.Kept.{Kept};
 
     ghost Value = { List Kept };
 

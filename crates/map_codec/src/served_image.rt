@@ -1,7 +1,7 @@
 //! The image of what a daemon serves.
 ghost use Rattle.std.specs.Prelude.{◌≡◌, IfOk};
 ghost use Rattle.std.specs.List.{AllByRecursion};
-ghost use Rattle.inode_map.specs.EntryPlaces.{IsNamedEntry};
+ghost use Rattle.entry_table.specs.EntryPlaces.{IsNamedEntry};
 ghost use Rattle.map_codec.specs.Fit.{CountsFit, IsFit};
 ghost use Rattle.map_codec.specs.Taking.{IsImageOf};
 

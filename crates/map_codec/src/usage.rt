@@ -1,8 +1,8 @@
 //! Whether each entry of a list is of use: the kernel holds it, or an entry stands below it.
 ghost use Rattle.std.specs.Prelude.{◌≡◌, ◌||◌, ℕ, List, IfOk, OnOk};
 ghost use Rattle.std.specs.List.{list_any};
-ghost use Rattle.inode_map.specs.InodeMap.{is_in, is_kid_of, is_of_use};
-ghost use Rattle.inode_map.specs.declared.inode_map.Kept.{Kept};
+ghost use Rattle.entry_table.specs.Entries.{is_in, is_kid_of, is_of_use};
+ghost use Rattle.entry_table.specs.declared.kept.Kept.{Kept};
 ghost use Rattle.map_codec.specs.ImageReading.{are_of_use};
 ghost use Rattle.map_codec.specs.Usage.{is_number, AreParents, HasParents};
 

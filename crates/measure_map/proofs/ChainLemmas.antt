@@ -7,9 +7,9 @@ use Rattle.eden_base.specs.Limits.{end_of_numbers}
 use Rattle.eden_base.specs.declared.number.Number.{Number}
 use Rattle.eden_base.specs.declared.place.Place.{Place}
 use Rattle.eden_base.specs.declared.place.Place.TheVariants.{Linked}
-use Rattle.inode_map.proofs.Places.{place-stands, stands-place}
-use Rattle.inode_map.specs.InodeMap.{entry_of, entry_at, stands_at, is_kid_of, is_of_use, AreNumbers, AreApart, AreEntries}
-use Rattle.inode_map.specs.declared.inode_map.Kept.{Kept}
+use Rattle.entry_table.proofs.Places.{place-stands, stands-place}
+use Rattle.entry_table.specs.Entries.{entry_of, entry_at, stands_at, is_kid_of, is_of_use, AreNumbers, AreApart, AreEntries}
+use Rattle.entry_table.specs.declared.kept.Kept.{Kept}
 use Rattle.measure_map.specs.Chain.{IsBelow, IsChain}
 
 pub chain-more : (es : List Kept) (n : ℕ) (x : Kept) → IsChain n es → x.number.0 ≡ n + length es → x.count ≡ 1 → IsBelow (n + length es) x.place → IsChain n (es ++ x ∷ [])

@@ -6,7 +6,8 @@
 
 ghost use Rattle.std.specs.Prelude.{◌≡◌, ◌<◌, IfOk, None, IsSome, false, length};
 ghost use Rattle.std.specs.List.{list_any};
-ghost use Rattle.inode_map.specs.InodeMap.{attr_of, entry_of, is_kid_of, AreEntries, IsLinked};
+ghost use Rattle.entry_table.specs.Entries.{entry_of, is_kid_of, AreEntries, IsLinked};
+ghost use Rattle.inode_map.specs.InodeMap.{attr_of};
 ghost use Rattle.measure_map.specs.Chain.{IsChain};
 
 use anyhow::Result;

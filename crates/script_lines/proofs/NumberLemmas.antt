@@ -6,8 +6,8 @@ use Rattle.std.proofs.lemmas.Bool.Decides.{nat_tests}
 use Rattle.eden_base.specs.First.{first_where}
 use Rattle.eden_base.specs.declared.number.Number.{Number}
 use Rattle.eden_base.specs.declared.place.Place.{Place}
-use Rattle.inode_map.specs.InodeMap.{AreNumbers, is_above, has_number, entry_of, number_after, number_of_kept, place_of_kept, count_of}
-use Rattle.inode_map.specs.declared.inode_map.Kept.{Kept}
+use Rattle.entry_table.specs.Entries.{AreNumbers, is_above, has_number, entry_of, number_after, number_of_kept, place_of_kept, count_of}
+use Rattle.entry_table.specs.declared.kept.Kept.{Kept}
 
 -- the entries above a number
 abbrev pub above : ℕ → List Kept → List Kept

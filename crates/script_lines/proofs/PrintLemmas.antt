@@ -8,7 +8,7 @@ use Rattle.eden_base.specs.declared.number.DaemonId.{DaemonId}
 use Rattle.eden_base.specs.declared.number.Number.{Number}
 use Rattle.eden_base.specs.declared.place.Place.{Place}
 use Rattle.world.specs.State.{State}
-use Rattle.inode_map.specs.declared.inode_map.Kept.{Kept}
+use Rattle.entry_table.specs.declared.kept.Kept.{Kept}
 use Rattle.script_lines.specs.Printed.{spaced, count_words, place_line, kept_line, kept_lines}
 
 -- the three parts of a number's line

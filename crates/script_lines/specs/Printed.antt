@@ -25,7 +25,7 @@ use Rattle.inode_map.specs.Words.{forgot_name}
 use Rattle.daemon.specs.Refusals.{refusal_name}
 use Rattle.world.specs.declared.event.Event.{Event}
 use Rattle.world.specs.declared.event.Event.TheVariants.{Show}
-use Rattle.inode_map.specs.declared.inode_map.Kept.{Kept}
+use Rattle.entry_table.specs.declared.kept.Kept.{Kept}
 use Rattle.daemon.specs.declared.happened.Happened.{Happened}
 use Rattle.daemon.specs.declared.happened.Happened.TheVariants.{Started, Mounted, Asked, Took, TookForgets, Made, Forgot, Posted, Answered, Said, Heard, Ignored, Claimed, Crashed, Refused}
 use Rattle.daemon.specs.declared.happened.Refusal.{Refusal}

@@ -3,7 +3,7 @@ ghost use Rattle.std.specs.Prelude.{◌≡◌, ◌<◌, ◌^◌, sum_by, count_b
 ghost use Rattle.std.specs.Io.KnownBytes.{Appends};
 ghost use Rattle.std.specs.Option.{option_copied};
 ghost use Rattle.broker_core.specs.Traffic.{gives};
-ghost use Rattle.inode_map.specs.declared.inode_map.Kept.{Kept};
+ghost use Rattle.entry_table.specs.declared.kept.Kept.{Kept};
 ghost use Rattle.daemon.specs.Server.{at_place};
 ghost use Rattle.script_lines.specs.Printed.{printed, line, line_of, said_line, message_words, refusal_line, asked_words, spaced, reply_line, answer_words, file_words, octal, world_lines, served_lines, kept_lines, kept_line, count_words, taken_back_by, taken_back_under_way, given_under_way, place_line};
 

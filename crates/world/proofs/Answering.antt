@@ -14,7 +14,8 @@ use Rattle.fuse_wire.specs.declared.request.Request.{Request}
 use Rattle.fuse_wire.specs.declared.form.Form.{Form}
 use Rattle.fuse_wire.specs.declared.reply.Answer.{Answer}
 use Rattle.fuse_wire.specs.declared.reply.Answer.TheVariants.{Attrs, Done, Error}
-use Rattle.inode_map.specs.InodeMap.{MapState, IsFileOf}
+use Rattle.entry_table.specs.Entries.{IsFileOf}
+use Rattle.inode_map.specs.InodeMap.{MapState}
 use Rattle.fuse_ops.specs.Answers.{Effect, found_in, free_in, enters, makes, takes, takes_from, unless, against_taking, Deed, find_name, make_file, take_name, show_file, unserved, deed_of, done_to, comes_to, shows, told_as, telling, Answers, AnswersShown}
 use Rattle.fuse_ops.specs.Changes.{MayLose}
 use Rattle.fuse_ops.specs.Gifts.{served_over}

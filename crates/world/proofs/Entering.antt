@@ -16,7 +16,8 @@ use Rattle.fuse_wire.specs.Given.{given_out}
 use Rattle.fuse_wire.specs.declared.request.Request.{Request}
 use Rattle.fuse_wire.specs.declared.reply.Answer.{Answer}
 use Rattle.fuse_wire.specs.declared.reply.Answer.TheVariants.{Error}
-use Rattle.inode_map.specs.InodeMap.{MapState, count_of, give_fault, given, number_given}
+use Rattle.entry_table.specs.Entries.{count_of}
+use Rattle.inode_map.specs.InodeMap.{MapState, give_fault, given, number_given}
 use Rattle.inode_map.specs.declared.inode_map.GiveFault.{GiveFault}
 use Rattle.inode_map.specs.declared.inode_map.GiveFault.TheVariants.{NoNumber, TooMany, NoMemory}
 use Rattle.fuse_ops.specs.Answers.{NumberFault, none_left, at_greatest, number_errno, Effect, Tells, Answers, AnswersFile, AnswersCounted, telling, tree_after, IsBacked as IsBackedIn}

@@ -5,7 +5,8 @@ use Rattle.std.proofs.lemmas.Bool.Decides.{nat_tests}
 use Rattle.eden_base.specs.declared.number.FileId.{FileId}
 use Rattle.eden_base.proofs.NumberTests.{eq-false, true-eq, false-ne}
 use Rattle.manifest.specs.Tree.{Tree, IsTree}
-use Rattle.inode_map.specs.InodeMap.{MapState, count_of, is_bad_item, forgot, forgotten}
+use Rattle.entry_table.specs.Entries.{count_of, is_bad_item}
+use Rattle.inode_map.specs.InodeMap.{MapState, forgot, forgotten}
 use Rattle.fuse_ops.specs.Gifts.{served_over, Forgets, IsTaken}
 use Rattle.world.specs.World.{file_named}
 use Rattle.world.specs.Agreement.{Knows}

@@ -7,9 +7,10 @@ use Rattle.eden_base.proofs.MemberLemmas.{some-IsSome}
 use Rattle.eden_base.proofs.NumberTests.{eq-true, eq-false, true-eq, false-ne, eq-or}
 use Rattle.manifest.specs.Manifest.{Manifest}
 use Rattle.manifest.specs.Tree.{Tree, IsTree, tree_of, root}
-use Rattle.inode_map.specs.InodeMap.{MapState, IsFileOf, is_root, entry_of, count_of}
-use Rattle.inode_map.specs.declared.inode_map.Kept.{Kept}
-use Rattle.inode_map.proofs.FileLemmas.{IsFileOf-same, named-known}
+use Rattle.entry_table.specs.Entries.{IsFileOf, is_root, entry_of, count_of}
+use Rattle.inode_map.specs.InodeMap.{MapState}
+use Rattle.entry_table.specs.declared.kept.Kept.{Kept}
+use Rattle.entry_table.proofs.FileLemmas.{IsFileOf-same, named-known}
 use Rattle.fuse_ops.specs.Gifts.{served_over, Gave}
 use Rattle.fuse_ops.specs.Changes.{KeepsNames}
 use Rattle.fuse_ops.specs.Served.{ServedState, PlainState, plain, new_served}

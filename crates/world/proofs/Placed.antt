@@ -9,10 +9,11 @@ use Rattle.eden_base.specs.declared.number.Number.{Number}
 use Rattle.checkout.proofs.CreateLaws.{child_of-created}
 use Rattle.manifest.specs.Tree.{Tree, IsTree, child_of, root, next_file, created}
 use Rattle.fuse_wire.specs.declared.request.Request.{Request}
-use Rattle.inode_map.specs.InodeMap.{MapState, IsFileOf, is_root, entry_at, give_fault_at, given, number_given, number_of_kept}
-use Rattle.inode_map.specs.declared.inode_map.Kept.{Kept}
-use Rattle.inode_map.proofs.EntryLemmas.{numbers-bound}
-use Rattle.inode_map.proofs.FileLemmas.{IsFileOf-same}
+use Rattle.entry_table.specs.Entries.{IsFileOf, is_root, entry_at, number_of_kept}
+use Rattle.inode_map.specs.InodeMap.{MapState, give_fault_at, given, number_given}
+use Rattle.entry_table.specs.declared.kept.Kept.{Kept}
+use Rattle.entry_table.proofs.EntryLemmas.{numbers-bound}
+use Rattle.entry_table.proofs.FileLemmas.{IsFileOf-same}
 use Rattle.fuse_ops.specs.Gifts.{served_over, IsPlaced}
 use Rattle.fuse_ops.proofs.Fits.{sound-fits}
 use Rattle.fuse_ops.proofs.GivingLaw.{gives-well}

@@ -14,7 +14,7 @@ use Rattle.broker_core.specs.Broker.{BrokerState}
 use Rattle.broker_core.specs.Held.{held_count}
 use Rattle.broker_core.specs.Traffic.{TrafficState, no_traffic}
 use Rattle.broker_core.specs.declared.seat.Seat.{Seat}
-use Rattle.inode_map.specs.InodeMap.{IsFileOf, count_of}
+use Rattle.entry_table.specs.Entries.{IsFileOf, count_of}
 use Rattle.fuse_ops.specs.Served.{ServedState}
 use Rattle.fuse_ops.specs.Soundness.{IsSound}
 use Rattle.inode_map.specs.declared.inode_map.Forgot.TheVariants.{Bad, Root}

@@ -2,7 +2,7 @@
 use Rattle.std.proofs.Common.{◌≡◌, ◌+◌, List, length, refl, sym, ap, ◌∙◌, subst, arith}
 use Rattle.std.specs.Vec.{vec_len}
 use Rattle.eden_base.specs.declared.place.Place.TheVariants.{Linked}
-use Rattle.inode_map.specs.declared.inode_map.Kept.{Kept}
+use Rattle.entry_table.specs.declared.kept.Kept.{Kept}
 use Rattle.measure_map.specs.Chain.{IsChain}
 use Rattle.measure_map.proofs.ChainLemmas.{chain-more, more-length}
 use Rattle.measure_map.proofs.list_chain.Goals as goal

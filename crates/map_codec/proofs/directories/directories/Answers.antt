@@ -3,7 +3,7 @@ use Rattle.std.proofs.Common.{◌≡◌, ◌+◌, [], ◌∷◌, length, length-
 use Rattle.std.proofs.lemmas.Option.{get_or_from_slice_get}
 use Rattle.std.specs.Prelude.{slice_get}
 use Rattle.eden_base.specs.declared.place.Place.{Place}
-use Rattle.inode_map.specs.declared.inode_map.Kept.{Kept}
+use Rattle.entry_table.specs.declared.kept.Kept.{Kept}
 use Rattle.map_codec.specs.Named.{IsDirectoryOf, TellsDirectory}
 use Rattle.map_codec.specs.Raising.{has_parent}
 use Rattle.map_codec.proofs.DirectoryLaws.{each_pushed, had_there}

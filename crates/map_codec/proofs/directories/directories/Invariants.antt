@@ -2,7 +2,7 @@
 use Rattle.std.proofs.Common.{◌≡◌, ◌≤◌, drop, length}
 use Rattle.std.specs.Prelude.{vec_capacity, vec_len}
 use Rattle.std.specs.List.{list_all}
-use Rattle.inode_map.specs.declared.inode_map.Kept.{Kept}
+use Rattle.entry_table.specs.declared.kept.Kept.{Kept}
 use Rattle.map_codec.specs.Named.{IsDirectoryOf}
 use Rattle.map_codec.specs.Raising.{has_parent}
 use Rattle.map_codec.proofs.DirectoryLaws.{IsEachAt}

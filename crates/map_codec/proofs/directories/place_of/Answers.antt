@@ -1,7 +1,7 @@
 -- The entry that stands near, or the one that a search finds.
 use Rattle.std.proofs.Common.{ap, ◌∙◌, rules}
 use Rattle.std.proofs.lemmas.List.Sorted.{answers_always}
-use Rattle.inode_map.specs.declared.inode_map.Kept.{Kept}
+use Rattle.entry_table.specs.declared.kept.Kept.{Kept}
 use Rattle.map_codec.proofs.DirectoryLaws.{place_read}
 use Rattle.map_codec.proofs.PlaceLaws.{searched_place}
 use Rattle.map_codec.proofs.directories.place_of.Goals as goal

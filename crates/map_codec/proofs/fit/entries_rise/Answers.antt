@@ -1,5 +1,5 @@
 use Rattle.std.proofs.Common.{◌≡◌, true, take, sym, ap, ◌∙◌}
-use Rattle.inode_map.specs.EntryPlaces.{IsNamedEntry}
+use Rattle.entry_table.specs.EntryPlaces.{IsNamedEntry}
 use Rattle.map_codec.specs.Fit.{entry_follows}
 use Rattle.map_codec.specs.ImageReading.{last_of}
 use Rattle.map_codec.proofs.RiseLaws.{rises_on, one_more_of}

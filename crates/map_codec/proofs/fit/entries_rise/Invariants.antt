@@ -1,5 +1,5 @@
 use Rattle.std.proofs.Common.{All, take}
-use Rattle.inode_map.specs.EntryPlaces.{IsNamedEntry}
+use Rattle.entry_table.specs.EntryPlaces.{IsNamedEntry}
 use Rattle.map_codec.specs.Fit.{entry_follows}
 use Rattle.map_codec.proofs.RiseLaws.{RisesFrom}
 use Rattle.map_codec.proofs.fit.entries_rise.Given as goal

@@ -1,7 +1,7 @@
 -- The way is climbed from the entry of one place to that of another.
 use Rattle.std.proofs.Common.{All, ◌<◌, ℕ, length, refl, arith}
 use Rattle.std.proofs.lemmas.List.Elements.{All-push}
-use Rattle.inode_map.specs.InodeMap.{is_root}
+use Rattle.entry_table.specs.Entries.{is_root}
 use Rattle.map_codec.proofs.WayLaws.{above_inside, in_root, marked_here, no_way_on, step_from, way_above, way_longer}
 use Rattle.map_codec.proofs.named.climb.Goals as goal
 

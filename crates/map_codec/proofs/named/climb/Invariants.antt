@@ -1,6 +1,6 @@
 use Rattle.std.proofs.Common.{All, ◌≡◌, ◌-◌, ◌<◌, ◌≤◌, length, map, vec_len}
 use Rattle.std.specs.Prelude.{vec_capacity}
-use Rattle.inode_map.specs.EntryPlaces.{Climbs}
+use Rattle.entry_table.specs.EntryPlaces.{Climbs}
 use Rattle.map_codec.specs.Named.{number_at}
 use Rattle.map_codec.proofs.named.climb.Given as goal
 

@@ -1,7 +1,7 @@
 -- The way is gone down again by its names.
 use Rattle.std.proofs.Common.{◌<◌, ℕ, length, ap, sym, ◌∙◌}
 use Rattle.manifest.specs.Tree.{child_of}
-use Rattle.inode_map.proofs.Climbing.{step-down, no-child-no_file}
+use Rattle.entry_table.proofs.Climbing.{step-down, no-child-no_file}
 use Rattle.map_codec.specs.Named.{number_at}
 use Rattle.map_codec.proofs.DirectoryLaws.{place_itself}
 use Rattle.map_codec.proofs.NamedLaws.{one_found}

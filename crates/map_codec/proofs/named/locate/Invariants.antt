@@ -1,7 +1,7 @@
 use Rattle.std.proofs.Common.{All, ◌≡◌, ◌<◌, ℕ, length, map, vec_len}
 use Rattle.std.specs.Prelude.{vec_capacity}
-use Rattle.inode_map.specs.EntryPlaces.{Climbs}
-use Rattle.inode_map.specs.InodeMap.{IsFileOf}
+use Rattle.entry_table.specs.EntryPlaces.{Climbs}
+use Rattle.entry_table.specs.Entries.{IsFileOf}
 use Rattle.map_codec.specs.Named.{number_at, AreFound}
 use Rattle.map_codec.proofs.named.locate.Given as goal
 

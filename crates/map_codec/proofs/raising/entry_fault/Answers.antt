@@ -3,7 +3,7 @@ use Rattle.std.proofs.Common.{◌≡◌, ℕ, true, false, List, Option, Vec, Gl
 use Rattle.std.specs.Prelude.{MatchOption}
 use Rattle.eden_base.specs.declared.number.FileId.{FileId}
 use Rattle.manifest.specs.Tree.{Tree}
-use Rattle.inode_map.specs.declared.inode_map.Kept.{Kept}
+use Rattle.entry_table.specs.declared.kept.Kept.{Kept}
 use Rattle.map_codec.specs.Named.{AreDirectories, AreFilesOf, EachNames}
 use Rattle.map_codec.specs.Raising.{have_parents}
 use Rattle.map_codec.proofs.RaisingLaws.{each_has_file, files_alike, files_apart, found_names, one_mark_wrong, one_names_none}

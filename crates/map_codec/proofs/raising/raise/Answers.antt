@@ -2,8 +2,8 @@
 use Rattle.std.proofs.Common.{◌≡◌, true, List, None, sym, subst}
 use Rattle.std.specs.List.{list_all}
 use Rattle.manifest.specs.Tree.{Tree}
-use Rattle.inode_map.specs.InodeMap.{is_of_use}
-use Rattle.inode_map.specs.declared.inode_map.Kept.{Kept}
+use Rattle.entry_table.specs.Entries.{is_of_use}
+use Rattle.entry_table.specs.declared.kept.Kept.{Kept}
 use Rattle.map_codec.specs.Fit.{CountsFit, entry_follows, rises}
 use Rattle.map_codec.specs.Raising.{AreRaisable}
 use Rattle.map_codec.proofs.RaisedLaws.{raised_sound}

@@ -1,6 +1,6 @@
 use Rattle.std.proofs.Common.{◌≡◌, drop}
 use Rattle.std.specs.List.{list_all}
-use Rattle.inode_map.specs.InodeMap.{is_of_use}
+use Rattle.entry_table.specs.Entries.{is_of_use}
 use Rattle.map_codec.specs.ImageReading.{are_of_use}
 use Rattle.map_codec.proofs.usage.all_of_use.Given as goal
 

@@ -1,6 +1,6 @@
 use Rattle.std.proofs.Common.{ℕ, ◌-◌, List, Option}
 use Rattle.std.specs.Io.KnownBytes.{Appends}
-use Rattle.inode_map.specs.InodeMap.{AreNumbers}
+use Rattle.entry_table.specs.Entries.{AreNumbers}
 use Rattle.script_lines.specs.Printed.{kept_lines}
 use Rattle.script_lines.proofs.NumberLemmas.{above}
 use Rattle.script_lines.proofs.print.print_all_kept.Given as goal

@@ -6,8 +6,9 @@ use Rattle.eden_base.specs.declared.errno.Errno.TheVariants.{EIO}
 use Rattle.eden_base.specs.declared.number.FileId.{FileId}
 use Rattle.manifest.specs.Tree.{attr_of}
 use Rattle.fuse_wire.specs.declared.reply.Answer.TheVariants.{Entry, Error}
-use Rattle.inode_map.proofs.FileLemmas.{IsFileOf-same}
-use Rattle.inode_map.specs.InodeMap.{entry_at, number_of_kept, forgotten, IsFileOf}
+use Rattle.entry_table.proofs.FileLemmas.{IsFileOf-same}
+use Rattle.entry_table.specs.Entries.{entry_at, number_of_kept, IsFileOf}
+use Rattle.inode_map.specs.InodeMap.{forgotten}
 use Rattle.fuse_ops.specs.Answers.{IsBacked}
 use Rattle.fuse_ops.specs.Gifts.{served_over}
 use Rattle.fuse_ops.specs.Loading.{Backs, loaded_told}

@@ -1,6 +1,6 @@
 -- The next number is given, and its file's attributes are the first that are loaded of it.
 use Rattle.std.proofs.Common.{ap, ◌∙◌, subst}
-use Rattle.inode_map.specs.InodeMap.{entry_at}
+use Rattle.entry_table.specs.Entries.{entry_at}
 use Rattle.fuse_ops.specs.Gifts.{served_over}
 use Rattle.fuse_ops.specs.Loading.{LoadsTold}
 use Rattle.fuse_ops.specs.Served.{ServedState}

@@ -1,7 +1,7 @@
 -- The root's number names the root.
 use Rattle.std.proofs.Common.{refl, sym}
 use Rattle.eden_base.proofs.NumberTests.{true-eq}
-use Rattle.inode_map.specs.InodeMap.{is_root}
+use Rattle.entry_table.specs.Entries.{is_root}
 use Rattle.fuse_ops.proofs.served.Served.linked_file_of.Goals as goal
 
 pub returns-then-eq-clause-located : goal.returns-then-eq-clause-located

@@ -4,7 +4,8 @@ use Rattle.eden_base.specs.declared.errno.Errno.TheVariants.{ENOMEM}
 use Rattle.checkout.proofs.AttrLaws.{attr_of-created}
 use Rattle.eden_base.specs.declared.number.FileId.{FileId}
 use Rattle.manifest.specs.Tree.{Tree, attr_of, next_file}
-use Rattle.inode_map.specs.InodeMap.{MapState, entry_of, given, number_given, IsFileOf}
+use Rattle.entry_table.specs.Entries.{entry_of, IsFileOf}
+use Rattle.inode_map.specs.InodeMap.{MapState, given, number_given}
 use Rattle.std.specs.Prelude.{IsSome}
 use Rattle.fuse_ops.specs.Loading.{LoadsTold}
 use Rattle.fuse_ops.specs.Gifts.{served_over}

@@ -3,12 +3,14 @@ use Rattle.std.proofs.Common.{◌≡◌, ◌-◌, true, false, Some, List, refl,
 use Rattle.std.specs.Prelude.{nat_lt}
 use Rattle.std.specs.List.{list_any}
 use Rattle.std.proofs.lemmas.Bool.Decides.{nat_tests}
-use Rattle.inode_map.specs.EntryPlaces.{AreOfUseBut}
+use Rattle.entry_table.specs.EntryPlaces.{AreOfUseBut}
 use Rattle.inode_map.specs.Inside.{IsConsistent}
-use Rattle.inode_map.specs.InodeMap.{MapState, count_of, forgot, is_kid_of, is_useless, lowered, left_of_use, loaded_number, AreNumbers}
+use Rattle.entry_table.specs.Entries.{count_of, is_kid_of, lowered, AreNumbers}
+use Rattle.inode_map.specs.InodeMap.{MapState, forgot, is_useless, left_of_use, loaded_number}
 use Rattle.inode_map.specs.Recency.{LoadedState}
-use Rattle.inode_map.specs.Table.{TableState, AreOfKept, of_kept, pruned}
-use Rattle.inode_map.specs.declared.inode_map.Kept.{Kept}
+use Rattle.entry_table.specs.Table.{TableState, AreOfKept}
+use Rattle.inode_map.specs.Pruned.{of_kept, pruned}
+use Rattle.entry_table.specs.declared.kept.Kept.{Kept}
 use Rattle.inode_map.proofs.Forgetting.{told-by, forgot-told, lowered-numbers, lowered-others, struck-kept}
 use Rattle.inode_map.proofs.Keeping.{of_kept-kept}
 use Rattle.inode_map.proofs.Lowering.{seen, loaded-less, kids-less, less-consistent, less-forgotten}

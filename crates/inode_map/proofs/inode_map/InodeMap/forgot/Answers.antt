@@ -1,6 +1,7 @@
 -- What becomes of a forget is told by the count and the kids.
 use Rattle.std.proofs.Common.{true, false, ap, refl, sym, ◌∙◌, arith}
-use Rattle.inode_map.specs.InodeMap.{MapState, is_kid_of}
+use Rattle.entry_table.specs.Entries.{is_kid_of}
+use Rattle.inode_map.specs.InodeMap.{MapState}
 use Rattle.inode_map.proofs.Forgetting.{forgot-good, counted-more, counted-all}
 use Rattle.inode_map.proofs.inode_map.InodeMap.forgot.Goals as goal
 

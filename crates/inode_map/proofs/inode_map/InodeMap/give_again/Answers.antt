@@ -4,9 +4,10 @@ use Rattle.std.specs.Option.{option_map}
 use Rattle.eden_base.proofs.MemberLemmas.{some-IsSome}
 use Rattle.eden_base.specs.First.{changed_where}
 use Rattle.eden_base.specs.Limits.{greatest_count}
-use Rattle.inode_map.specs.InodeMap.{MapState, has_number, entry_of, count_of, once_more, given, entry_at, number_of_kept, loaded_number, AreNumbers}
+use Rattle.entry_table.specs.Entries.{has_number, entry_of, count_of, once_more, entry_at, number_of_kept, AreNumbers}
+use Rattle.inode_map.specs.InodeMap.{MapState, given, loaded_number}
 use Rattle.inode_map.specs.Inside.{IsConsistent}
-use Rattle.inode_map.specs.Table.{TableState}
+use Rattle.entry_table.specs.Table.{TableState}
 use Rattle.inode_map.proofs.Giving.{has-entry, again-full, again-free, again-given, again-kept, is-full, is-free}
 use Rattle.inode_map.proofs.Keeping.{of-changed}
 use Rattle.inode_map.proofs.TakingBack.{taken-back}

@@ -1,10 +1,12 @@
 -- The next number is added.
 use Rattle.std.proofs.Common.{◌+◌, ◌++◌, ◌∷◌, [], lit<, refl, sym, ap, ◌∙◌, subst, arith}
-use Rattle.inode_map.specs.InodeMap.{new_entry, loaded_number}
+use Rattle.entry_table.specs.Entries.{new_entry}
+use Rattle.inode_map.specs.InodeMap.{loaded_number}
 use Rattle.inode_map.specs.Inside.{IsConsistent}
-use Rattle.inode_map.specs.Table.{TableState}
-use Rattle.inode_map.specs.declared.inode_map.Kept.{Kept}
-use Rattle.inode_map.proofs.Giving.{kept-new, next-none}
+use Rattle.entry_table.specs.Table.{TableState}
+use Rattle.entry_table.specs.declared.kept.Kept.{Kept}
+use Rattle.entry_table.proofs.EntryLemmas.{next-none}
+use Rattle.inode_map.proofs.Giving.{kept-new}
 use Rattle.inode_map.proofs.Keeping.{of-added}
 use Rattle.inode_map.proofs.inode_map.InodeMap.give_next.Goals as goal
 

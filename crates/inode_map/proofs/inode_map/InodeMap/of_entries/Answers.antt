@@ -1,8 +1,8 @@
 -- Each entry is of use, and nothing is loaded.
 use Rattle.std.proofs.Common.{◌≡◌, true, inl}
-use Rattle.inode_map.specs.InodeMap.{is_of_use}
-use Rattle.inode_map.specs.declared.inode_map.Kept.{Kept}
-use Rattle.inode_map.proofs.EntryRuns.{each-entry}
+use Rattle.entry_table.specs.Entries.{is_of_use}
+use Rattle.entry_table.specs.declared.kept.Kept.{Kept}
+use Rattle.entry_table.proofs.EntryRuns.{each-entry}
 use Rattle.inode_map.proofs.inode_map.InodeMap.of_entries.Goals as goal
 
 pub invariant_of-result : goal.invariant_of-result

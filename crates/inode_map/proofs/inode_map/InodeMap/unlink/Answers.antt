@@ -1,13 +1,15 @@
 -- An entry loses its name, and what is of no use then is struck.
 use Rattle.std.proofs.Common.{Some, List, refl, sym, subst, ap, ◌∙◌}
 use Rattle.eden_base.specs.First.{changed_where}
-use Rattle.inode_map.specs.EntryPlaces.{AreOfUseBut}
+use Rattle.entry_table.specs.EntryPlaces.{AreOfUseBut}
 use Rattle.inode_map.specs.Inside.{IsConsistent}
-use Rattle.inode_map.specs.InodeMap.{has_number, marked, left_of_use, loaded_number, AreNumbers}
+use Rattle.entry_table.specs.Entries.{has_number, marked, AreNumbers}
+use Rattle.inode_map.specs.InodeMap.{left_of_use, loaded_number}
 use Rattle.inode_map.specs.Recency.{LoadedState}
-use Rattle.inode_map.specs.Table.{TableState, AreOfKept, of_kept, pruned}
-use Rattle.inode_map.specs.declared.inode_map.Kept.{Kept}
-use Rattle.inode_map.proofs.EntryLemmas.{numbers-changed}
+use Rattle.entry_table.specs.Table.{TableState, AreOfKept}
+use Rattle.inode_map.specs.Pruned.{of_kept, pruned}
+use Rattle.entry_table.specs.declared.kept.Kept.{Kept}
+use Rattle.entry_table.proofs.EntryLemmas.{numbers-changed}
 use Rattle.inode_map.proofs.Keeping.{of-changed, of_kept-kept}
 use Rattle.inode_map.proofs.Pruning.{marked-others, struck-left}
 use Rattle.inode_map.proofs.inode_map.InodeMap.unlink.Goals as goal

@@ -4,7 +4,7 @@ use Rattle.std.specs.List.{filter}
 use Rattle.eden_base.specs.First.{first_where, IsFirstPlace}
 use Rattle.inode_map.specs.declared.loaded.LoadedAttr.{LoadedAttr}
 use Rattle.inode_map.specs.InodeMap.{is_loaded_of, loaded_number}
-use Rattle.inode_map.specs.Table.{is_other}
+use Rattle.entry_table.specs.Table.{is_other}
 use Rattle.inode_map.proofs.Keeping.{others-without, others-all}
 use Rattle.inode_map.proofs.loaded.Loaded.remove.Goals as goal
 

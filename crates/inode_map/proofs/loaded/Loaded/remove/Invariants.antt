@@ -3,7 +3,7 @@ use Rattle.std.specs.Prelude.{vec_capacity}
 use Rattle.std.specs.List.{filter}
 use Rattle.inode_map.specs.declared.loaded.LoadedAttr.{LoadedAttr}
 use Rattle.inode_map.specs.InodeMap.{loaded_number}
-use Rattle.inode_map.specs.Table.{is_other}
+use Rattle.entry_table.specs.Table.{is_other}
 use Rattle.inode_map.proofs.loaded.Loaded.remove.Given as goal
 
 -- the attributes of other numbers are those that were

@@ -1,0 +1,107 @@
+-- Given entries, put into a table one after another.
+use Rattle.std.proofs.Common.{◌≡◌, ℕ, zero, suc, ◌+◌, ◌<◌, ◌≤◌, Bool, true, false, cond, List, [], ◌∷◌, ◌++◌, length, take, drop, get_or, Option, Some, None, refl, sym, ap, ◌∙◌, subst, inl, inr, ◌⊎◌, arith}
+use Rattle.std.specs.Prelude.{◌==◌, if◌then◌else◌}
+use Rattle.std.specs.List.{AllByRecursion}
+use Rattle.std.proofs.lemmas.List.{take_more}
+use Rattle.eden_base.specs.First.{first_where}
+use Rattle.eden_base.specs.declared.number.FileId.{FileId}
+use Rattle.eden_base.specs.declared.number.Number.{Number}
+use Rattle.eden_base.specs.declared.place.Place.TheVariants.{Linked, Unlinked}
+use Rattle.eden_base.proofs.NumberTests.{eq-true, eq-false}
+use Rattle.eden_base.proofs.MemberLemmas.{some-same, some-none}
+use Rattle.entry_table.specs.Entries.{stands_at, entry_of, entry_at, AreNumbers, AreEntries}
+use Rattle.entry_table.specs.Links.{is_link}
+use Rattle.entry_table.specs.Slots.{slots_of, kept_from, files_from, AreSlots, IsIndexed}
+use Rattle.entry_table.specs.declared.kept.Kept.{Kept}
+use Rattle.entry_table.proofs.Changing.{append-extends, new_or_old}
+use Rattle.entry_table.proofs.EntryLemmas.{entry_of-first, numbers-bound, numbers-outside}
+use Rattle.entry_table.proofs.FileLemmas.{linked-marked}
+use Rattle.entry_table.proofs.IndexedLemmas.{indexed-added}
+
+-- a list, cut at one of its members
+pub cut : (es : List Kept) (i : ℕ) (x : Kept) → i < length es → x ≡ get_or es i x → es ≡ take i es ++ x ∷ drop (suc i) es
+cut [] i x h e = absurd (omega arith)
+cut (y ∷ es) zero x h e = ap (λ (z : Kept). z ∷ es) (sym e)
+cut (y ∷ es) (suc i) x h e = ap (λ (zs : List Kept). y ∷ zs) (cut es i x (omega arith) e)
+
+pub taken : (es : List Kept) (i : ℕ) (x : Kept) → i < length es → x ≡ get_or es i x → take (i + 1) es ≡ take i es ++ x ∷ []
+taken es i x h e = take_more es i x h ∙ ap (λ (z : Kept). take i es ++ z ∷ []) (sym e)
+
+-- the numbers before one that comes later
+pub numbers-before : (done : List Kept) (x : Kept) (rest : List Kept) (low next : ℕ) → AreNumbers low next (done ++ x ∷ rest) → AreNumbers low x.number.0 done
+numbers-before [] x rest low next are = are.0
+numbers-before (y ∷ done) x rest low next are = (are.0, numbers-before done x rest (y.number.0 + 1) next are.1)
+
+-- it is found
+pub found-there : (done : List Kept) (x : Kept) (rest : List Kept) (low next : ℕ) → AreNumbers low next (done ++ x ∷ rest) → entry_of (done ++ x ∷ rest) x.number.0 ≡ Some x
+found-there [] x rest low next are = let t = eq-true x.number.0 x.number.0 refl in rw t refl
+found-there (y ∷ done) x rest low next are =
+    let b : y.number.0 + 1 ≤ x.number.0 = numbers-bound done (y.number.0 + 1) x.number.0 (numbers-before done x rest (y.number.0 + 1) next are.1) in
+    let f : (y.number.0 == x.number.0) ≡ false = eq-false y.number.0 x.number.0 (λ e. omega arith) in
+    rw f (found-there done x rest (y.number.0 + 1) next are.1)
+
+-- what is found among the first is found among all
+pub found-before : (p : Kept → Bool) (done rest : List Kept) (k : Kept) → first_where p done ≡ Some k → first_where p (done ++ rest) ≡ Some k
+found-before p [] rest k h = absurd (let none : ⊥ = cc in none)
+found-before p (y ∷ done) rest k h = in_ (p y) h (found-before p done rest k) where
+  in_ : (b : Bool) → cond b (Some y) (first_where p done) ≡ Some k → (first_where p done ≡ Some k → first_where p (done ++ rest) ≡ Some k) → cond b (Some y) (first_where p (done ++ rest)) ≡ Some k
+  in_ true e more = e
+  in_ false e more = more e
+
+module _ (done : List Kept) (x : Kept) (rest : List Kept) (next : ℕ) (are : AreEntries (done ++ x ∷ rest) next) where
+  before : AreNumbers 2 x.number.0 done
+  before = numbers-before done x rest 2 next are.numbers
+
+  -- its number is new, and so is its place
+  pub number-new : entry_of done x.number.0 ≡ None
+  number-new = numbers-outside done 2 x.number.0 x.number.0 before (inr (omega arith))
+
+  pub place-new : (parent : Number) (name : List ℕ) → x.place ≡ Linked parent name → entry_at done parent.0 name ≡ None
+  place-new parent name place = in_ (entry_at done parent.0 name) refl where
+    in_ : (o : Option Kept) → entry_at done parent.0 name ≡ o → o ≡ None
+    in_ None e = refl
+    in_ (Some k) e =
+        let all : entry_at (done ++ x ∷ rest) parent.0 name ≡ Some k = found-before (stands_at parent.0 name) done (x ∷ rest) k e in
+        let it : k ≡ x = some-same (entry_at (done ++ x ∷ rest) parent.0 name) k x all (are.apart x.number.0 x parent name (found-there done x rest 2 next are.numbers) place) in
+        let there : entry_of done x.number.0 ≡ Some k = subst (λ (z : Kept). entry_of done z.number.0 ≡ Some k) it (entry_of-first done 2 x.number.0 (stands_at parent.0 name) k before e) in
+        absurd (some-none (entry_of done x.number.0) k there number-new)
+
+  -- the index with it
+  pub indexed-linked : (link linked : ℕ → List ℕ → Option ℕ) (parent : Number) (name : List ℕ) → x.place ≡ Linked parent name → IsIndexed done link →
+      ((dir : ℕ) (q : List ℕ) → linked dir q ≡ (if is_link dir q parent.0 name then Some x.number.0 else link dir q)) → IsIndexed (done ++ x ∷ []) linked
+  indexed-linked link linked parent name place index after =
+      indexed-added done x.number.0 link linked x parent name refl place number-new (place-new parent name place) index after
+
+  pub indexed-unlinked : (link : ℕ → List ℕ → Option ℕ) (file : FileId) → x.place ≡ Unlinked file → IsIndexed done link → IsIndexed (done ++ x ∷ []) link
+  indexed-unlinked link file place index = record {
+    stands = λ dir q n l. let w = index.stands dir q n l in let y = append-extends done x.number.0 x refl number-new n w.0 w.1 in (y.0, y.1, y.2 ∙ w.2);
+    found = λ n kept dir q e p. in_ n kept dir q p (new_or_old done x.number.0 n x kept refl number-new e);
+  } where
+    in_ : (n : ℕ) (kept : Kept) (dir : Number) (q : List ℕ) → kept.place ≡ Linked dir q → ((n ≡ x.number.0) × (kept ≡ x)) ⊎ (entry_of done n ≡ Some kept) → link dir.0 q ≡ Some n
+    in_ n kept dir q p (inl (same, it)) = absurd (linked-marked x.place dir q file (ap (λ (k : Kept). k.place) (sym it) ∙ p) place)
+    in_ n kept dir q p (inr was) = index.found n kept dir q was p
+
+-- the slots of entries, read again
+pub slots-are : (es : List Kept) (low next : ℕ) → AreNumbers low next es → AreSlots low next (slots_of es)
+slots-are [] low next are = are
+slots-are (y ∷ es) low next are = (are.0, slots-are es (y.number.0 + 1) next are.1)
+
+pub slots-kept : (es : List Kept) → kept_from (slots_of es) ≡ es
+slots-kept [] = refl
+slots-kept (y ∷ es) = ap (λ (xs : List Kept). y ∷ xs) (slots-kept es)
+
+pub slots-files : (es : List Kept) → files_from (slots_of es) ≡ []
+slots-files [] = refl
+slots-files (y ∷ es) = slots-files es
+
+pub slots-length : (es : List Kept) → length (slots_of es) ≡ length es
+slots-length [] = refl
+slots-length (y ∷ es) = ap suc (slots-length es)
+
+-- what holds of each holds of the entry of a number
+pub each-entry : (es : List Kept) (P : Kept → Type 0) (n : ℕ) (kept : Kept) → AllByRecursion P es → entry_of es n ≡ Some kept → P kept
+each-entry [] P n kept all e = absurd (let none : ⊥ = cc in none)
+each-entry (y ∷ es) P n kept all e = in_ (y.number.0 == n) e (each-entry es P n kept all.1) where
+  in_ : (b : Bool) → cond b (Some y) (entry_of es n) ≡ Some kept → (entry_of es n ≡ Some kept → P kept) → P kept
+  in_ true h more = let same : y ≡ kept = cc in subst P same all.0
+  in_ false h more = more h

@@ -1,0 +1,17 @@
+pub mod Changing
+pub mod Climbing
+pub mod Counting
+pub mod EntryLemmas
+pub mod EntryRuns
+pub mod FileLemmas
+pub mod Heights
+pub mod IndexLemmas
+pub mod IndexedLemmas
+pub mod Places
+pub mod Removing
+pub mod SlotGrowth
+pub mod SlotLemmas
+pub mod SlotSearch
+pub mod SlotWindow
+pub mod SlotWrites
+pub mod TableLemmas

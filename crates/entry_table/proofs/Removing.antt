@@ -1,0 +1,64 @@
+-- A table of which an entry was taken out of its slot.
+use Rattle.std.proofs.Common.{◌≡◌, ℕ, List, Option, Some, get_or, refl, sym, ap, ◌∙◌, subst}
+use Rattle.std.specs.Option.{option_map}
+use Rattle.eden_base.specs.First.{without_where}
+use Rattle.eden_base.specs.declared.number.FileId.{FileId}
+use Rattle.eden_base.specs.declared.number.Number.{Number}
+use Rattle.eden_base.specs.declared.place.Place.TheVariants.{Linked, Unlinked}
+use Rattle.entry_table.specs.Entries.{has_number, entry_of, place_of_kept}
+use Rattle.entry_table.specs.Inside.{IsTable}
+use Rattle.entry_table.specs.Links.{link_of, is_link}
+use Rattle.entry_table.specs.Slots.{kept_from, slot_at, files_from, spare_of, AreSlots, IsIndexed, IsPlaceOf}
+use Rattle.entry_table.specs.Table.{TableState, kept_of, without_entry}
+use Rattle.entry_table.specs.declared.kept.Kept.{Kept}
+use Rattle.entry_table.specs.declared.kept.Held.{Held}
+use Rattle.entry_table.specs.declared.table.Table.TheInside.{Inside}
+use Rattle.entry_table.proofs.IndexedLemmas.{indexed-lost, indexed-left}
+use Rattle.entry_table.proofs.SlotWrites.{set-slots, emptied, emptied-kept, emptied-files}
+use Rattle.entry_table.proofs.TableLemmas.{view_of, slot-entry, found-held, written, without-loses}
+use Rattle.std.specs.Prelude.{None, if◌then◌else◌, slice_set}
+
+-- what was taken out of the slot of a number, and what is left
+pub record Taken (t : Inside) (n : ℕ) (h : Held) (left : List (ℕ × Option Held)) : Type 0 where
+  pub is : IsTable t
+  pub found : slot_at t.slots.items n ≡ Some (Some h)
+  pub taken : left ≡ emptied t.next n h t.slots.items
+
+-- by the place at which the slot was found
+pub taken-at : (t : Inside) (n place : ℕ) (slot : ℕ × Option Held) (h : Held) (now : Option Held) (slots : List (ℕ × Option Held)) → IsTable t → slots ≡ t.slots.items → IsPlaceOf slots n place →
+    slot ≡ get_or t.slots.items place slot → slot.1 ≡ Some h → now ≡ None → Taken t n h (slice_set t.slots.items place (slot.0, now))
+taken-at t n place slot h now slots is same at value full gone =
+    let there = subst (λ (es : List (ℕ × Option Held)). IsPlaceOf es n place) same at in
+    record {
+      is = is;
+      found = found-held t n place slot is there value h h full;
+      taken = ap (λ (w : Option Held). slice_set t.slots.items place (slot.0, w)) gone ∙ written t n place slot is there value None;
+    }
+
+module _ {t : Inside} {n : ℕ} {h : Held} {left : List (ℕ × Option Held)} (out : Taken t n h left) where
+  abbrev pub kept_left : List Kept
+  kept_left = without_where (has_number n) (kept_from t.slots.items)
+
+  pub left-slots : AreSlots 2 t.next left
+  left-slots = rw out.taken (set-slots t.next n None t.slots.items 2 out.is.slots)
+
+  pub left-kept : kept_from left ≡ kept_left
+  left-kept = ap kept_from out.taken ∙ emptied-kept t.next n h t.slots.items 2 out.is.slots out.found
+
+  -- the index without its link, if it had one
+  pub left-lost : (linked : ℕ → List ℕ → Option ℕ) (parent : Number) (name : List ℕ) → h.place ≡ Linked parent name →
+      ((dir : ℕ) (q : List ℕ) → linked dir q ≡ (if is_link dir q parent.0 name then None else link_of t.index dir q)) → IsIndexed (kept_from left) linked
+  left-lost linked parent name place after = subst (λ (es : List Kept). IsIndexed es linked) (sym left-kept)
+      (indexed-lost (kept_from t.slots.items) kept_left n (link_of t.index) linked (kept_of n h) parent name (without-loses t n out.is) (slot-entry t n h out.is out.found) place out.is.indexed after)
+
+  pub left-marked : (file : FileId) → h.place ≡ Unlinked file → IsIndexed (kept_from left) (link_of t.index)
+  left-marked file place = subst (λ (es : List Kept). IsIndexed es (link_of t.index)) (sym left-kept)
+      (indexed-left (kept_from t.slots.items) kept_left n (link_of t.index) (kept_of n h) file (without-loses t n out.is) (slot-entry t n h out.is out.found) place out.is.indexed)
+
+  -- what its view says
+  pub left-place : (now : TableState) → view_of t ≡ now → option_map place_of_kept (entry_of now.entries n) ≡ Some h.place
+  left-place now view = rw (← view) (ap (option_map place_of_kept) (slot-entry t n h out.is out.found))
+
+  pub left-view : (now : TableState) → view_of t ≡ now →
+      record { entries = kept_from left; remembered = files_from left; next = t.next; spare = spare_of t.is_reserved } ≡ without_entry now n (without_where (has_number n) now.entries)
+  left-view now view = rw (← view, out.taken, emptied-kept t.next n h t.slots.items 2 out.is.slots out.found, emptied-files t.next n h t.slots.items 2 out.is.slots out.found) refl

@@ -1,0 +1,124 @@
+-- The slots of the map of entries, read as entries.
+use Rattle.std.proofs.Common.{◌≡◌, ℕ, ◌+◌, ◌<◌, ◌≤◌, Bool, true, false, cond, List, [], ◌∷◌, length, Option, Some, None, IsSome, is_some, refl, sym, ap, ◌∙◌, inl, inr, ◌⊎◌, arith}
+use Rattle.std.specs.Prelude.{◌==◌}
+use Rattle.std.specs.Option.{option_map, option_and_then}
+use Rattle.eden_base.specs.declared.number.FileId.{FileId}
+use Rattle.eden_base.proofs.FirstLemmas.{Each-kept}
+use Rattle.eden_base.proofs.NumberTests.{eq-true, eq-false, eq-or}
+use Rattle.entry_table.proofs.IndexLemmas.{at-same, at-other}
+use Rattle.entry_table.specs.Entries.{entry_of, is_kept, file_remembered, AreNumbers}
+use Rattle.entry_table.specs.Slots.{kept_from, slot_at, file_first, files_from, AreSlots}
+use Rattle.entry_table.specs.Table.{kept_of, AreOfKept, file_number}
+use Rattle.entry_table.specs.declared.kept.Kept.{Kept}
+use Rattle.entry_table.specs.declared.kept.Held.{Held}
+
+-- what stands in a slot
+abbrev pub slot_held : Option (Option Held) → Option Held
+slot_held o = option_and_then (λ (s : Option Held). s) o
+
+pub slots-bound : (es : List (ℕ × Option Held)) (low next : ℕ) → AreSlots low next es → low ≤ next
+slots-bound [] low next are = are
+slots-bound ((m, o) ∷ es) low next are = let a : low ≤ m = are.0 in let b : m + 1 ≤ next = slots-bound es (m + 1) next are.1 in omega arith
+
+pub slots-lower : (es : List (ℕ × Option Held)) (low high next : ℕ) → low ≤ high → AreSlots high next es → AreSlots low next es
+slots-lower [] low high next le are = let a : high ≤ next = are in omega arith
+slots-lower ((m, o) ∷ es) low high next le are = let a : high ≤ m = are.0 in (omega arith, are.1)
+
+-- behind the first slot they begin no lower
+pub slots-behind : (es : List (ℕ × Option Held)) (o : Option Held) (low m next : ℕ) → AreSlots low next ((m, o) ∷ es) → AreSlots low next es
+slots-behind es o low m next are = let a : low ≤ m = are.0 in slots-lower es low (m + 1) next (omega arith) are.1
+
+-- their numbers rise
+pub slots-numbers : (es : List (ℕ × Option Held)) (low next : ℕ) → AreSlots low next es → AreNumbers low next (kept_from es)
+slots-numbers [] low next are = are
+slots-numbers ((m, Some h) ∷ es) low next are = (are.0, slots-numbers es (m + 1) next are.1)
+slots-numbers ((m, None) ∷ es) low next are = slots-numbers es low next (slots-behind es None low m next are)
+
+-- no number below the lowest is found
+pub slots-none : (es : List (ℕ × Option Held)) (low next : ℕ) (n : ℕ) → AreSlots low next es → n < low → slot_at es n ≡ None
+slots-none [] low next n are less = refl
+slots-none ((m, o) ∷ es) low next n are less = let a : low ≤ m = are.0 in rw (at-other m n (λ e. omega arith)) (slots-none es (m + 1) next n are.1 (omega arith))
+
+pub entries-none : (es : List (ℕ × Option Held)) (low next : ℕ) (n : ℕ) → AreSlots low next es → n < low → entry_of (kept_from es) n ≡ None
+entries-none [] low next n are less = refl
+entries-none ((m, Some h) ∷ es) low next n are less =
+    let a : low ≤ m = are.0 in let t : (m == n) ≡ false = eq-false m n (λ e. omega arith) in rw t (entries-none es (m + 1) next n are.1 (omega arith))
+entries-none ((m, None) ∷ es) low next n are less = let a : low ≤ m = are.0 in entries-none es (m + 1) next n are.1 (omega arith)
+
+-- what is found under a number is its entry
+pub held-entry : (es : List (ℕ × Option Held)) (low next : ℕ) (n : ℕ) → AreSlots low next es → option_map (kept_of n) (slot_held (slot_at es n)) ≡ entry_of (kept_from es) n
+held-entry [] low next n are = refl
+held-entry ((m, Some h) ∷ es) low next n are = in_ (eq-or m n) (held-entry es (m + 1) next n are.1) where
+  in_ : (m ≡ n) ⊎ (m ≡ n → ⊥) → option_map (kept_of n) (slot_held (slot_at es n)) ≡ entry_of (kept_from es) n → option_map (kept_of n) (slot_held (slot_at ((m, Some h) ∷ es) n)) ≡ entry_of (kept_from ((m, Some h) ∷ es)) n
+  in_ (inl same) rest = let t : (m == n) ≡ true = eq-true m n same in rw (at-same m n same, t) (ap (λ (k : ℕ). Some (kept_of k h)) (sym same))
+  in_ (inr other) rest = let t : (m == n) ≡ false = eq-false m n other in rw (at-other m n other, t) rest
+held-entry ((m, None) ∷ es) low next n are = in_ (eq-or m n) (held-entry es (m + 1) next n are.1) where
+  in_ : (m ≡ n) ⊎ (m ≡ n → ⊥) → option_map (kept_of n) (slot_held (slot_at es n)) ≡ entry_of (kept_from es) n → option_map (kept_of n) (slot_held (slot_at ((m, None) ∷ es) n)) ≡ entry_of (kept_from es) n
+  in_ (inl same) rest = rw (at-same m n same) (sym (entries-none es (m + 1) next n are.1 (omega arith)))
+  in_ (inr other) rest = rw (at-other m n other) rest
+
+-- an entry is found in a slot
+pub entry-held : (es : List (ℕ × Option Held)) (low next : ℕ) (n : ℕ) (kept : Kept) → AreSlots low next es → entry_of (kept_from es) n ≡ Some kept → (h : Held) × (slot_at es n ≡ Some (Some h)) × (kept ≡ kept_of n h)
+entry-held es low next n kept are e = in_ (slot_at es n) refl (held-entry es low next n are ∙ e) where
+  in_ : (o : Option (Option Held)) → slot_at es n ≡ o → option_map (kept_of n) (slot_held o) ≡ Some kept → (h : Held) × (slot_at es n ≡ Some (Some h)) × (kept ≡ kept_of n h)
+  in_ None s f = absurd (let none : ⊥ = cc in none)
+  in_ (Some None) s f = absurd (let none : ⊥ = cc in none)
+  in_ (Some (Some h)) s f = (h, s, let g : kept_of n h ≡ kept = cc in sym g)
+
+pub some-held : (es : List (ℕ × Option Held)) (low next : ℕ) (n : ℕ) → AreSlots low next es → IsSome (entry_of (kept_from es) n) → (h : Held) × (slot_at es n ≡ Some (Some h))
+some-held es low next n are some = in_ (entry_of (kept_from es) n) refl some where
+  in_ : (o : Option Kept) → entry_of (kept_from es) n ≡ o → IsSome o → (h : Held) × (slot_at es n ≡ Some (Some h))
+  in_ None e s = absurd (let none : ⊥ = cc in none)
+  in_ (Some kept) e s = let w = entry-held es low next n kept are e in (w.0, w.1)
+
+-- the file that is remembered of it
+pub files-low : (es : List (ℕ × Option Held)) (low next : ℕ) (n : ℕ) → AreSlots low next es → n < low → file_remembered (files_from es) n ≡ None
+files-low [] low next n are less = refl
+files-low ((m, Some h) ∷ es) low next n are less = in_ h.file (let a : low ≤ m = are.0 in files-low es (m + 1) next n are.1 (omega arith)) where
+  in_ : (o : Option FileId) → file_remembered (files_from es) n ≡ None → file_remembered (file_first m o (files_from es)) n ≡ None
+  in_ None rest = rest
+  in_ (Some f) rest = let a : low ≤ m = are.0 in let t : (m == n) ≡ false = eq-false m n (λ e. omega arith) in rw t rest
+files-low ((m, None) ∷ es) low next n are less = let a : low ≤ m = are.0 in files-low es (m + 1) next n are.1 (omega arith)
+
+pub held-file : (es : List (ℕ × Option Held)) (low next : ℕ) (n : ℕ) → AreSlots low next es → option_and_then (λ (h : Held). h.file) (slot_held (slot_at es n)) ≡ file_remembered (files_from es) n
+held-file [] low next n are = refl
+held-file ((m, Some h) ∷ es) low next n are = in_ (eq-or m n) (held-file es (m + 1) next n are.1) where
+  here : (o : Option FileId) → (m == n) ≡ true → m ≡ n → o ≡ file_remembered (file_first m o (files_from es)) n
+  here None t e = sym (files-low es (m + 1) next n are.1 (omega arith))
+  here (Some f) t e = rw t refl
+
+  there : (o : Option FileId) → (m == n) ≡ false → file_remembered (files_from es) n ≡ file_remembered (file_first m o (files_from es)) n
+  there None t = refl
+  there (Some f) t = rw t refl
+
+  in_ : (m ≡ n) ⊎ (m ≡ n → ⊥) → option_and_then (λ (x : Held). x.file) (slot_held (slot_at es n)) ≡ file_remembered (files_from es) n →
+      option_and_then (λ (x : Held). x.file) (slot_held (slot_at ((m, Some h) ∷ es) n)) ≡ file_remembered (files_from ((m, Some h) ∷ es)) n
+  in_ (inl same) rest = rw (at-same m n same) (here h.file (eq-true m n same) same)
+  in_ (inr other) rest = rw (at-other m n other) (rest ∙ there h.file (eq-false m n other))
+held-file ((m, None) ∷ es) low next n are = in_ (eq-or m n) (held-file es (m + 1) next n are.1) where
+  in_ : (m ≡ n) ⊎ (m ≡ n → ⊥) → option_and_then (λ (x : Held). x.file) (slot_held (slot_at es n)) ≡ file_remembered (files_from es) n →
+      option_and_then (λ (x : Held). x.file) (slot_held (slot_at ((m, None) ∷ es) n)) ≡ file_remembered (files_from es) n
+  in_ (inl same) rest = rw (at-same m n same) (sym (files-low es (m + 1) next n are.1 (omega arith)))
+  in_ (inr other) rest = rw (at-other m n other) rest
+
+-- a remembered file is of an entry
+kept-behind : (x : Kept) (es : List Kept) (n : ℕ) → is_kept es n ≡ true → is_kept (x ∷ es) n ≡ true
+kept-behind x es n t = in_ (x.number.0 == n) where
+  in_ : (b : Bool) → is_some (cond b (Some x) (entry_of es n)) ≡ true
+  in_ true = refl
+  in_ false = t
+
+pub files-kept : (es : List (ℕ × Option Held)) → AreOfKept file_number (kept_from es) (files_from es)
+files-kept [] = tt
+files-kept ((m, Some h) ∷ es) = in_ h.file (Each-kept (λ (f : ℕ × FileId). is_kept (kept_from es) f.0 ≡ true) (λ (f : ℕ × FileId). is_kept (kept_of m h ∷ kept_from es) f.0 ≡ true)
+    (files_from es) (files-kept es) (λ f t. kept-behind (kept_of m h) (kept_from es) f.0 t)) where
+      in_ : (o : Option FileId) → AreOfKept file_number (kept_of m h ∷ kept_from es) (files_from es) → AreOfKept file_number (kept_of m h ∷ kept_from es) (file_first m o (files_from es))
+      in_ None rest = rest
+      in_ (Some f) rest = ((let t : (m == m) ≡ true = eq-true m m refl in rw t refl), rest)
+files-kept ((m, None) ∷ es) = files-kept es
+
+-- there are no more entries than slots
+pub kept-len : (es : List (ℕ × Option Held)) → length (kept_from es) ≤ length es
+kept-len [] = omega arith
+kept-len ((m, Some h) ∷ es) = let r = kept-len es in omega arith
+kept-len ((m, None) ∷ es) = let r = kept-len es in omega arith

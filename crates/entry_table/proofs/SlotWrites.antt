@@ -1,0 +1,118 @@
+-- The slots of a table after a write to one of them.
+use Rattle.std.proofs.Common.{◌≡◌, ℕ, ◌+◌, ◌<◌, ◌≤◌, Bool, true, false, cond, List, [], ◌∷◌, Option, Some, None, refl, sym, ap, ◌∙◌, inl, inr, ◌⊎◌, arith}
+use Rattle.std.specs.Prelude.{◌==◌}
+use Rattle.std.specs.List.{filter}
+use Rattle.std.specs.Map.{set_value}
+use Rattle.std.specs.Ordering.{nat_cmp}
+use Rattle.std.specs.BTreeMap.{is_at}
+use Rattle.eden_base.specs.declared.number.FileId.{FileId}
+use Rattle.eden_base.specs.First.{changed_where, without_where}
+use Rattle.eden_base.proofs.NumberTests.{eq-true, eq-false, eq-or}
+use Rattle.entry_table.proofs.IndexLemmas.{at-same, at-other}
+use Rattle.entry_table.specs.Entries.{has_number}
+use Rattle.entry_table.specs.Slots.{kept_from, slot_at, file_first, files_from, AreSlots}
+use Rattle.entry_table.specs.Table.{kept_of, is_other}
+use Rattle.entry_table.specs.declared.kept.Kept.{Kept}
+use Rattle.entry_table.specs.declared.kept.Held.{Held}
+
+-- the first slot, or one behind it
+pub found-here : (es : List (ℕ × Option Held)) (n m : ℕ) (o p : Option Held) → m ≡ n → slot_at ((m, o) ∷ es) n ≡ Some p → o ≡ p
+found-here es n m o p same found = let f : Some o ≡ Some p = ap (λ b. cond b (Some o) (slot_at es n)) (sym (at-same m n same)) ∙ found in cc
+
+pub found-behind : (es : List (ℕ × Option Held)) (n m : ℕ) (o p : Option Held) → (m ≡ n → ⊥) → slot_at ((m, o) ∷ es) n ≡ Some p → slot_at es n ≡ Some p
+found-behind es n m o p other found = ap (λ b. cond b (Some o) (slot_at es n)) (sym (at-other m n other)) ∙ found
+
+-- numbers are as they were, whatever is written
+pub set-slots : (next n : ℕ) (w : Option Held) (es : List (ℕ × Option Held)) (low : ℕ) → AreSlots low next es → AreSlots low next (set_value (is_at (nat_cmp n)) es w)
+set-slots next n w [] low are = are
+set-slots next n w ((m, o) ∷ es) low are = in_ (is_at (nat_cmp n) m) (set-slots next n w es (m + 1) are.1) where
+  in_ : (b : Bool) → AreSlots (m + 1) next (set_value (is_at (nat_cmp n)) es w) → AreSlots low next (cond b ((m, w) ∷ es) ((m, o) ∷ set_value (is_at (nat_cmp n)) es w))
+  in_ true rest = are
+  in_ false rest = (are.0, rest)
+
+module _ (next : ℕ) (n : ℕ) (h now : Held) where
+  abbrev pub set : List (ℕ × Option Held) → List (ℕ × Option Held)
+  set es = set_value (is_at (nat_cmp n)) es (Some now)
+
+  pub set-kept : (es : List (ℕ × Option Held)) (low : ℕ) (change : Kept → Kept) → change (kept_of n h) ≡ kept_of n now → AreSlots low next es → slot_at es n ≡ Some (Some h) →
+      kept_from (set es) ≡ changed_where (has_number n) change (kept_from es)
+  set-kept [] low change is are found = absurd (let none : ⊥ = cc in none)
+  set-kept ((m, Some g) ∷ es) low change is are found = in_ (eq-or m n) (λ there. set-kept es (m + 1) change is are.1 there) where
+    in_ : (m ≡ n) ⊎ (m ≡ n → ⊥) → (slot_at es n ≡ Some (Some h) → kept_from (set es) ≡ changed_where (has_number n) change (kept_from es)) → kept_from (set ((m, Some g) ∷ es)) ≡ changed_where (has_number n) change (kept_from ((m, Some g) ∷ es))
+    in_ (inl same) rest =
+        let t : (m == n) ≡ true = eq-true m n same in
+        let one : Some g ≡ Some h = found-here es n m (Some g) (Some h) same found in
+        let it : g ≡ h = cc in
+        let now_is : kept_of m now ≡ change (kept_of m g) =
+        ap (λ (k : ℕ). kept_of k now) same ∙ sym is ∙ ap (λ (x : Held). change (kept_of n x)) (sym it) ∙ ap (λ (k : ℕ). change (kept_of k g)) (sym same) in
+        rw (at-same m n same, t) (ap (λ (x : Kept). x ∷ kept_from es) now_is)
+    in_ (inr other) rest =
+        let t : (m == n) ≡ false = eq-false m n other in
+        rw (at-other m n other, t) (ap (λ (xs : List Kept). kept_of m g ∷ xs) (rest (found-behind es n m (Some g) (Some h) other found)))
+  set-kept ((m, None) ∷ es) low change is are found = in_ (eq-or m n) (λ there. set-kept es (m + 1) change is are.1 there) where
+    in_ : (m ≡ n) ⊎ (m ≡ n → ⊥) → (slot_at es n ≡ Some (Some h) → kept_from (set es) ≡ changed_where (has_number n) change (kept_from es)) → kept_from (set ((m, None) ∷ es)) ≡ changed_where (has_number n) change (kept_from es)
+    in_ (inl same) rest = absurd (let one : None ≡ Some h = found-here es n m None (Some h) same found in let none : ⊥ = cc in none)
+    in_ (inr other) rest = rw (at-other m n other) (rest (found-behind es n m None (Some h) other found))
+
+  pub set-files : (es : List (ℕ × Option Held)) (low : ℕ) → now.file ≡ h.file → AreSlots low next es → slot_at es n ≡ Some (Some h) → files_from (set es) ≡ files_from es
+  set-files [] low is are found = absurd (let none : ⊥ = cc in none)
+  set-files ((m, Some g) ∷ es) low is are found = in_ (eq-or m n) (λ there. set-files es (m + 1) is are.1 there) where
+    in_ : (m ≡ n) ⊎ (m ≡ n → ⊥) → (slot_at es n ≡ Some (Some h) → files_from (set es) ≡ files_from es) → files_from (set ((m, Some g) ∷ es)) ≡ files_from ((m, Some g) ∷ es)
+    in_ (inl same) rest =
+        let one : Some g ≡ Some h = found-here es n m (Some g) (Some h) same found in
+        let it : g ≡ h = cc in
+        rw (at-same m n same) (ap (λ (o : Option FileId). file_first m o (files_from es)) (is ∙ ap (λ (x : Held). x.file) (sym it)))
+    in_ (inr other) rest = rw (at-other m n other) (ap (file_first m g.file) (rest (found-behind es n m (Some g) (Some h) other found)))
+  set-files ((m, None) ∷ es) low is are found = in_ (eq-or m n) (λ there. set-files es (m + 1) is are.1 there) where
+    in_ : (m ≡ n) ⊎ (m ≡ n → ⊥) → (slot_at es n ≡ Some (Some h) → files_from (set es) ≡ files_from es) → files_from (set ((m, None) ∷ es)) ≡ files_from es
+    in_ (inl same) rest = absurd (let one : None ≡ Some h = found-here es n m None (Some h) same found in let none : ⊥ = cc in none)
+    in_ (inr other) rest = rw (at-other m n other) (rest (found-behind es n m None (Some h) other found))
+
+-- an entry leaves its slot
+module _ (next : ℕ) (n : ℕ) (h : Held) where
+  abbrev pub emptied : List (ℕ × Option Held) → List (ℕ × Option Held)
+  emptied es = set_value (is_at (nat_cmp n)) es None
+
+  pub emptied-kept : (es : List (ℕ × Option Held)) (low : ℕ) → AreSlots low next es → slot_at es n ≡ Some (Some h) → kept_from (emptied es) ≡ without_where (has_number n) (kept_from es)
+  emptied-kept [] low are found = absurd (let none : ⊥ = cc in none)
+  emptied-kept ((m, Some g) ∷ es) low are found = in_ (eq-or m n) (λ there. emptied-kept es (m + 1) are.1 there) where
+    in_ : (m ≡ n) ⊎ (m ≡ n → ⊥) → (slot_at es n ≡ Some (Some h) → kept_from (emptied es) ≡ without_where (has_number n) (kept_from es)) → kept_from (emptied ((m, Some g) ∷ es)) ≡ without_where (has_number n) (kept_from ((m, Some g) ∷ es))
+    in_ (inl same) rest = let t : (m == n) ≡ true = eq-true m n same in rw (at-same m n same, t) refl
+    in_ (inr other) rest =
+        let t : (m == n) ≡ false = eq-false m n other in
+        rw (at-other m n other, t) (ap (λ (xs : List Kept). kept_of m g ∷ xs) (rest (found-behind es n m (Some g) (Some h) other found)))
+  emptied-kept ((m, None) ∷ es) low are found = in_ (eq-or m n) (λ there. emptied-kept es (m + 1) are.1 there) where
+    in_ : (m ≡ n) ⊎ (m ≡ n → ⊥) → (slot_at es n ≡ Some (Some h) → kept_from (emptied es) ≡ without_where (has_number n) (kept_from es)) → kept_from (emptied ((m, None) ∷ es)) ≡ without_where (has_number n) (kept_from es)
+    in_ (inl same) rest = absurd (let one : None ≡ Some h = found-here es n m None (Some h) same found in let none : ⊥ = cc in none)
+    in_ (inr other) rest = rw (at-other m n other) (rest (found-behind es n m None (Some h) other found))
+
+  abbrev without_file : List (ℕ × FileId) → List (ℕ × FileId)
+  without_file files = filter (λ (f : ℕ × FileId). is_other n f.0) files
+
+  -- files behind a number are of others
+  others : (es : List (ℕ × Option Held)) (low : ℕ) → AreSlots low next es → n < low → files_from es ≡ without_file (files_from es)
+  others [] low are less = refl
+  others ((m, Some g) ∷ es) low are less = in_ g.file (let a : low ≤ m = are.0 in others es (m + 1) are.1 (omega arith)) where
+    in_ : (o : Option FileId) → files_from es ≡ without_file (files_from es) → file_first m o (files_from es) ≡ without_file (file_first m o (files_from es))
+    in_ None rest = rest
+    in_ (Some f) rest = let a : low ≤ m = are.0 in let t : (m == n) ≡ false = eq-false m n (λ e. omega arith) in rw t (ap (λ (xs : List (ℕ × FileId)). (m, f) ∷ xs) rest)
+  others ((m, None) ∷ es) low are less = let a : low ≤ m = are.0 in others es (m + 1) are.1 (omega arith)
+
+  pub emptied-files : (es : List (ℕ × Option Held)) (low : ℕ) → AreSlots low next es → slot_at es n ≡ Some (Some h) → files_from (emptied es) ≡ without_file (files_from es)
+  emptied-files [] low are found = absurd (let none : ⊥ = cc in none)
+  emptied-files ((m, Some g) ∷ es) low are found = in_ (eq-or m n) (λ there. emptied-files es (m + 1) are.1 there) where
+    here : (o : Option FileId) → (m == n) ≡ true → m ≡ n → files_from es ≡ without_file (file_first m o (files_from es))
+    here None t e = others es (m + 1) are.1 (omega arith)
+    here (Some f) t e = rw t (others es (m + 1) are.1 (omega arith))
+
+    there : (o : Option FileId) → (m == n) ≡ false → (xs : List (ℕ × FileId)) → xs ≡ without_file (files_from es) → file_first m o xs ≡ without_file (file_first m o (files_from es))
+    there None t xs e = e
+    there (Some f) t xs e = rw t (ap (λ (ys : List (ℕ × FileId)). (m, f) ∷ ys) e)
+
+    in_ : (m ≡ n) ⊎ (m ≡ n → ⊥) → (slot_at es n ≡ Some (Some h) → files_from (emptied es) ≡ without_file (files_from es)) → files_from (emptied ((m, Some g) ∷ es)) ≡ without_file (files_from ((m, Some g) ∷ es))
+    in_ (inl same) rest = rw (at-same m n same) (here g.file (eq-true m n same) same)
+    in_ (inr other) rest = rw (at-other m n other) (there g.file (eq-false m n other) (files_from (emptied es)) (rest (found-behind es n m (Some g) (Some h) other found)))
+  emptied-files ((m, None) ∷ es) low are found = in_ (eq-or m n) (λ there. emptied-files es (m + 1) are.1 there) where
+    in_ : (m ≡ n) ⊎ (m ≡ n → ⊥) → (slot_at es n ≡ Some (Some h) → files_from (emptied es) ≡ without_file (files_from es)) → files_from (emptied ((m, None) ∷ es)) ≡ without_file (files_from es)
+    in_ (inl same) rest = absurd (let one : None ≡ Some h = found-here es n m None (Some h) same found in let none : ⊥ = cc in none)
+    in_ (inr other) rest = rw (at-other m n other) (rest (found-behind es n m None (Some h) other found))

@@ -1,0 +1,88 @@
+-- A count is raised in the slot of its entry, or the slot stays as it was.
+use Rattle.std.proofs.Common.{◌≡◌, ℕ, ◌+◌, ◌<◌, ◌≤◌, true, false, List, Option, Some, None, refl, sym, ap, ◌∙◌, subst, arith}
+use Rattle.std.specs.Prelude.{nat_lt}
+use Rattle.std.proofs.lemmas.Bool.Decides.{nat_tests}
+use Rattle.eden_base.specs.Limits.{greatest_count}
+use Rattle.entry_table.specs.Entries.{count_of, once_more}
+use Rattle.entry_table.specs.Links.{link_of}
+use Rattle.entry_table.specs.Slots.{slot_at, kept_from, IsIndexed, IsPlaceOf}
+use Rattle.entry_table.specs.declared.kept.Kept.{Kept}
+use Rattle.entry_table.specs.declared.kept.Held.{Held}
+use Rattle.entry_table.proofs.Counting.{once-keeps, count_in, count-held}
+use Rattle.entry_table.proofs.IndexedLemmas.{indexed-changed}
+use Rattle.entry_table.proofs.SlotLemmas.{slot_held, files-kept}
+use Rattle.entry_table.proofs.TableLemmas.{never-none, never-empty, found-in, found-held, written-slots, written-kept, written-files}
+use Rattle.entry_table.proofs.table.Table.raise.Goals as goal
+
+full_in : (m : ℕ) → greatest_count ≤ m → nat_lt m greatest_count ≡ false
+full_in m e = grind (arith, nat_tests)
+
+free_in : (m : ℕ) → m < greatest_count → nat_lt m greatest_count ≡ true
+free_in m e = grind (arith, nat_tests)
+
+pub unreachable-requires : goal.unreachable-requires
+unreachable-requires c =
+    never-none c.self.inside c.args.self.now c.args.number.0 c.self.view_is c.self.invariant c.requires (sym (subst (λ (es : List (ℕ × Option Held)). slot_at es c.args.number.0 ≡ None) c.as_slice.ensures.value c.in_default.ensures.none))
+
+pub unreachable-requires-in_default-1₀ : goal.unreachable-requires-in_default-1₀
+unreachable-requires-in_default-1₀ c =
+    let t = c.self.inside in
+    let n = c.args.number.0 in
+    let there = subst (λ (es : List (ℕ × Option Held)). IsPlaceOf es n c.in-Some.place) c.as_slice.ensures.value c.in-Some.ensures.place in
+    never-empty t c.args.self.now n c.self.view_is c.self.invariant c.requires
+    (sym (found-in t n c.in-Some.place c.index_mut-slot.result.now c.self.invariant there c.index_mut-slot.ensures.value ∙ ap Some c.in_default-1₀.is))
+
+pub returns-then-held-ge-GREATEST_COUNT-clause-may : goal.returns-then-held-ge-GREATEST_COUNT-clause-may
+returns-then-held-ge-GREATEST_COUNT-clause-may c =
+    let t = c.self.inside in
+    let n = c.args.number.0 in
+    let slot = c.index_mut-slot.result.now in
+    let h = c.in-Some-1₀.held in
+    let there = subst (λ (es : List (ℕ × Option Held)). IsPlaceOf es n c.in-Some.place) c.as_slice.ensures.value c.in-Some.ensures.place in
+    let count = count-held t c.args.self.now n c.self.view_is c.self.invariant ∙ ap (λ o. count_in (slot_held o)) (found-held t n c.in-Some.place slot c.self.invariant there c.index_mut-slot.ensures.value h h c.in-Some-1₀.is) in
+    let full = c.if-held-ge-GREATEST_COUNT.true in
+    sym (full_in (count_of c.args.self.now.entries n) (omega arith))
+
+pub returns-then-held-ge-GREATEST_COUNT-clause-kept : goal.returns-then-held-ge-GREATEST_COUNT-clause-kept
+returns-then-held-ge-GREATEST_COUNT-clause-kept c = rw (← c.self.view_is) (files-kept c.self.inside.slots.items)
+
+pub invariant_of-self-2 : goal.invariant_of-self-2
+invariant_of-self-2 c =
+    let t = c.self.inside in
+    let n = c.args.number.0 in
+    let slot = c.index_mut-slot.result.now in
+    let h = c.in-Some-1₀.held in
+    let there = subst (λ (es : List (ℕ × Option Held)). IsPlaceOf es n c.in-Some.place) c.as_slice.ensures.value c.in-Some.ensures.place in
+    let now : Held = record h { count = h.count + 1 } in
+    record {
+      slots = written-slots t n c.in-Some.place slot c.self.invariant there c.index_mut-slot.ensures.value (Some now);
+      indexed = subst (λ (es : List Kept). IsIndexed es (link_of t.index)) (sym (written-kept t n c.in-Some.place slot c.self.invariant there c.index_mut-slot.ensures.value h now c.in-Some-1₀.is once_more refl))
+          (indexed-changed (kept_from t.slots.items) (link_of t.index) n once_more once-keeps c.self.invariant.indexed);
+      ready = c.self.invariant.ready;
+      free = c.self.invariant.free;
+      room = c.self.invariant.room;
+    }
+
+pub returns-clause-may : goal.returns-clause-may
+returns-clause-may c =
+    let t = c.self.inside in
+    let n = c.args.number.0 in
+    let slot = c.index_mut-slot.result.now in
+    let h = c.in-Some-1₀.held in
+    let there = subst (λ (es : List (ℕ × Option Held)). IsPlaceOf es n c.in-Some.place) c.as_slice.ensures.value c.in-Some.ensures.place in
+    let count = count-held t c.args.self.now n c.self.view_is c.self.invariant ∙ ap (λ o. count_in (slot_held o)) (found-held t n c.in-Some.place slot c.self.invariant there c.index_mut-slot.ensures.value h h c.in-Some-1₀.is) in
+    let free = c.if-held-ge-GREATEST_COUNT.false in
+    sym (free_in (count_of c.args.self.now.entries n) (omega arith))
+
+pub returns-clause-raised : goal.returns-clause-raised
+returns-clause-raised c =
+    let t = c.self.inside in
+    let n = c.args.number.0 in
+    let slot = c.index_mut-slot.result.now in
+    let h = c.in-Some-1₀.held in
+    let there = subst (λ (es : List (ℕ × Option Held)). IsPlaceOf es n c.in-Some.place) c.as_slice.ensures.value c.in-Some.ensures.place in
+    let now : Held = record h { count = h.count + 1 } in
+    rw (← c.self.view_is, written-kept t n c.in-Some.place slot c.self.invariant there c.index_mut-slot.ensures.value h now c.in-Some-1₀.is once_more refl, written-files t n c.in-Some.place slot c.self.invariant there c.index_mut-slot.ensures.value h now c.in-Some-1₀.is refl) refl
+
+pub returns-clause-kept : goal.returns-clause-kept
+returns-clause-kept c = rw (← c.self.view_is) (files-kept c.self.inside.slots.items)

@@ -1,0 +1,80 @@
+-- How the entries stand in the slots of their table, and what its index has of them.
+use Rattle.std.specs.Prelude.{◌≡◌, ℕ, ◌+◌, ◌<◌, ◌≤◌, Bool, List, [], ◌∷◌, map, length, Option, Some, None, if◌then◌else◌}
+use Rattle.std.specs.List.{HoldsAt}
+use Rattle.std.specs.Map.{lookup}
+use Rattle.std.specs.BTreeMap.{is_at}
+use Rattle.std.specs.Option.{option_and_then}
+use Rattle.std.specs.Ordering.{nat_cmp}
+use Rattle.eden_base.specs.declared.number.FileId.{FileId}
+use Rattle.eden_base.specs.declared.number.Number.{Number}
+use Rattle.eden_base.specs.declared.place.Place.TheVariants.{Linked}
+use Rattle.entry_table.specs.Entries.{entry_of}
+use Rattle.entry_table.specs.Table.{kept_of}
+use Rattle.entry_table.specs.declared.kept.Kept.{Kept}
+use Rattle.entry_table.specs.declared.kept.Held.{Held}
+
+-- an entry without its number, of which no file is remembered
+abbrev pub held_of : Kept → Held
+held_of kept = record { place = kept.place; count = kept.count; file = None }
+
+-- the slot of an entry
+abbrev pub slot_of : Kept → ℕ × Option Held
+slot_of kept = (kept.number.0, Some (held_of kept))
+
+-- the slots of entries of which no file is remembered
+abbrev pub slots_of : List Kept → List (ℕ × Option Held)
+slots_of entries = map slot_of entries
+
+-- the entries in slots; a slot whose entry has left is empty
+abbrev pub kept_from : List (ℕ × Option Held) → List Kept
+kept_from [] = []
+kept_from ((n, Some held) ∷ slots) = kept_of n held ∷ kept_from slots
+kept_from ((n, None) ∷ slots) = kept_from slots
+
+-- the number of the first entry
+abbrev pub first_number : List Kept → Option Number
+first_number [] = None
+first_number (kept ∷ entries) = Some kept.number
+
+-- the slot of a number
+abbrev pub slot_at : List (ℕ × Option Held) → ℕ → Option (Option Held)
+slot_at slots n = lookup (is_at (nat_cmp n)) slots
+
+-- what stands in it
+abbrev pub held_in : List (ℕ × Option Held) → ℕ → Option Held
+held_in slots n = option_and_then (λ (held : Option Held). held) (slot_at slots n)
+
+-- the slot at this place is the number's
+abbrev pub IsPlaceOf : List (ℕ × Option Held) → ℕ → ℕ → Type 0
+IsPlaceOf slots n place = (place < length slots) × HoldsAt (λ (slot : ℕ × Option Held). slot.0 ≡ n) slots place
+
+-- the file of a number, if it is remembered, before others
+abbrev pub file_first : ℕ → Option FileId → List (ℕ × FileId) → List (ℕ × FileId)
+file_first n (Some file) files = (n, file) ∷ files
+file_first n None files = files
+
+-- the files that are remembered
+abbrev pub files_from : List (ℕ × Option Held) → List (ℕ × FileId)
+files_from [] = []
+files_from ((n, Some held) ∷ slots) = file_first n held.file (files_from slots)
+files_from ((n, None) ∷ slots) = files_from slots
+
+-- how many numbers are reserved
+abbrev pub spare_of : Bool → ℕ
+spare_of ready = if ready then 1 else 0
+
+-- numbers rise from a lowest one and stay below the next
+abbrev pub AreSlots : ℕ → ℕ → List (ℕ × Option Held) → Type 0
+AreSlots low next [] = low ≤ next
+AreSlots low next (slot ∷ slots) = (low ≤ slot.0) × AreSlots (slot.0 + 1) next slots
+
+-- the slots of a table, whichever its next number is
+abbrev pub IsSlots : List (ℕ × Option Held) → Type 0
+IsSlots slots = (next : ℕ) × AreSlots 2 next slots
+
+-- what the index has of the entries: each linked one at its place, and nothing else
+pub record IsIndexed (entries : List Kept) (link : ℕ → List ℕ → Option ℕ) : Type 0 where
+  pub stands : (dir : ℕ) (name : List ℕ) (n : ℕ) → link dir name ≡ Some n →
+      (kept : Kept) × (entry_of entries n ≡ Some kept) × (kept.place ≡ Linked (record { 0 = dir }) name)
+  pub found : (n : ℕ) (kept : Kept) (dir : Number) (name : List ℕ) → entry_of entries n ≡ Some kept →
+      kept.place ≡ Linked dir name → link dir.0 name ≡ Some n

@@ -1,0 +1,42 @@
+-- The table as it is seen: its entries, and the files that are remembered of them.
+use Rattle.std.specs.Prelude.{◌≡◌, ℕ, ◌==◌, Bool, true, not, List, Some}
+use Rattle.std.specs.List.{filter, AllByRecursion}
+use Rattle.eden_base.specs.declared.number.FileId.{FileId}
+use Rattle.eden_base.specs.declared.number.Number.{Number}
+use Rattle.eden_base.specs.declared.place.Place.TheVariants.{Linked}
+use Rattle.entry_table.specs.Entries.{entry_of, is_kept}
+use Rattle.entry_table.specs.declared.kept.Kept.{Kept}
+use Rattle.entry_table.specs.declared.kept.Held.{Held}
+
+-- the entries, the files that are remembered of them, the next number, and whether there is room for it
+pub record TableState : Type 0 where
+  pub entries : List Kept
+  pub remembered : List (ℕ × FileId)
+  pub next : ℕ
+  pub spare : ℕ
+
+-- an entry, with its number
+abbrev pub kept_of : ℕ → Held → Kept
+kept_of n held = record { number = record { 0 = n }; place = held.place; count = held.count }
+
+-- the number stands in this directory
+abbrev pub IsIn : List Kept → ℕ → Number → Type 0
+IsIn entries n dir =
+    (kept : Kept) × (name : List ℕ) × (entry_of entries n ≡ Some kept) × (kept.place ≡ Linked dir name)
+
+-- the number is another
+abbrev pub is_other : ℕ → ℕ → Bool
+is_other n m = not (m == n)
+
+-- the table without an entry
+abbrev pub without_entry : TableState → ℕ → List Kept → TableState
+without_entry table n entries =
+    record table { entries = entries; remembered = filter (λ (file : ℕ × FileId). is_other n file.0) table.remembered }
+
+-- each is of a number with an entry
+abbrev pub AreOfKept : {X : Type 0} → (X → ℕ) → List Kept → List X → Type 0
+AreOfKept number entries xs = AllByRecursion (λ x. is_kept entries (number x) ≡ true) xs
+
+-- the number of a remembered file
+abbrev pub file_number : ℕ × FileId → ℕ
+file_number file = file.0

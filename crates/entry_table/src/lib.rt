@@ -1,0 +1,10 @@
+//! The numbers that were given, by number and by place: where the file of each stands, and how often the kernel holds it.
+#![tactic(auto)]
+
+mod index;
+mod kept;
+mod table;
+mod way;
+
+pub use kept::{Held, Kept};
+pub use table::Table;

@@ -1,0 +1,420 @@
+//! The entries by number, and the index of their places.
+ghost use Rattle.std.specs.Prelude.{◌≡◌, ℕ, ◌+◌, ◌<◌, ◌≤◌, List, [], ◌∷◌, ◌++◌, Option, Some, None, IsSome, MatchOption, IfOk, OnOk, map, OnErr, ◌-◌, true, false, nat_lt, vec_len, vec_capacity, length, if◌then◌else◌};
+ghost use Rattle.std.specs.Option.{option_map, option_copied, option_and_then, IfNone, IfSome, OnSome};
+ghost use Rattle.std.specs.List.{AllByRecursion, AllWithin, HoldsAt, list_any, filter};
+ghost use Rattle.std.specs.List.Sorted.{IsPartitionPoint};
+ghost use Rattle.manifest.specs.Tree.{Tree};
+ghost use Rattle.eden_base.specs.First.{changed_where, without_where};
+ghost use Rattle.eden_base.specs.Limits.{end_of_numbers, greatest_count};
+ghost use Rattle.eden_base.specs.declared.number.FileId.{FileId};
+ghost use Rattle.eden_base.specs.declared.number.Number.{Number};
+ghost use Rattle.entry_table.specs.EntryPlaces.{HasName, IsNamedEntry, is_under_name};
+ghost use Rattle.entry_table.specs.Entries.{has_number, entry_of, entry_at, is_kid_of, number_of_kept, place_of_kept, number_after, new_entry, marked, IsLinked, IsFileOf, file_remembered, remembered, AreNumbers, AreEntries, count_of, once_more, is_bad_item, lowered};
+ghost use Rattle.entry_table.specs.Slots.{slot_of, slots_of, slot_at, kept_from, files_from, first_number, held_in, AreSlots, IsSlots, IsPlaceOf};
+ghost use Rattle.entry_table.specs.Table.{IsIn, kept_of, without_entry, AreOfKept, file_number};
+
+use crate::index::Index;
+use crate::kept::{Held, Kept};
+use crate::way::locate;
+use checkout::Tree;
+use eden_base::{FileId, GREATEST_COUNT, Name, NoMemory, Number, Place};
+use std::alloc::{AllocError, Global};
+use std::marker::Model;
+
+/// A number, and what its entry has beside it. The slot stays empty where the entry has left, until room is needed.
+pub(crate) type Slot = (u64, Option<Held>);
+
+/// The entries by number and by place. Their slots stand by rising number, so that a new one is the last. There is room
+/// for the next number's where that is reserved, and the way has room for a walk past all of them.
+#[derive(Drop)]
+pub struct Table {
+    slots: Vec<Slot>,
+    index: Index,
+    next: u64,
+    is_reserved: bool,
+    way: Vec<Number>,
+}
+
+impl Model for Table {
+    ghost use Rattle.entry_table.specs.Slots.{kept_from, files_from, spare_of};
+    ghost use Rattle.entry_table.specs.Table.{TableState};
+
+    ghost Value = { TableState };
+
+    ghost view = { λ t. record {
+      entries = kept_from t.slots.items;
+      remembered = files_from t.slots.items;
+      next = t.next;
+      spare = spare_of t.is_reserved;
+    } };
+
+    ghost use Rattle.entry_table.specs.Inside.{IsTable};
+
+    ghost invariant = { IsTable };
+}
+
+impl Table {
+    /// Returns a table without entries.
+    pub fn new(alloc: Global) -> Table
+        ensures { result ≡ record { entries = []; remembered = []; next = 2; spare = 0 } }
+    {
+        Table {
+            slots: Vec::new(alloc),
+            index: Index::new(alloc),
+            next: 2,
+            is_reserved: false,
+            way: Vec::new(alloc),
+        }
+    }
+
+    /// Returns a table of these entries, of which no file is remembered.
+    pub fn of_entries(alloc: Global, entries: Vec<Kept>, next: u64) -> Result<Table, NoMemory>
+        requires { AreEntries entries.items next }
+        ensures { IfOk result (λ table. table
+            ≡ record { entries = entries.items; remembered = []; next = next; spare = 0 }) }
+    {
+        let given = entries.as_slice();
+        let index = Index::of_entries(alloc, given)?;
+        let way = Vec::with_capacity(alloc, given.len())?;
+        let slots = slots_of(alloc, entries)?;
+        Ok(Table {
+            slots,
+            index,
+            next,
+            is_reserved: false,
+            way,
+        })
+    }
+
+    /// Returns the number that is given next.
+    pub fn next(&self) -> u64
+        ensures { result ≡ self.now.next }
+    {
+        self.next
+    }
+
+    /// Returns what an entry has beside its number.
+    pub fn get(&self, number: Number) -> Option<&Held>
+        ensures entry { option_map (kept_of number.0) (option_copied result)
+            ≡ entry_of self.now.entries number.0 }
+        ensures file { option_and_then (λ held. held.file) (option_copied result)
+            ≡ file_remembered self.now.remembered number.0 }
+        ensures kept { AreOfKept file_number self.now.entries self.now.remembered }
+    {
+        held_at(self.slots.as_slice(), number)
+    }
+
+    /// Returns the least number above another.
+    pub fn after(&self, number: Number) -> Option<Number>
+        ensures { result ≡ number_after self.now.entries number.0 }
+    {
+        let slots = self.slots.as_slice();
+        first_in(&slots[up_to(slots, number)..])
+    }
+
+    /// Returns the entries, by rising number, in memory of their own.
+    pub fn to_entries(&self, alloc: Global) -> Result<Vec<Kept>, NoMemory>
+        ensures entries { IfOk result (λ kept. kept.items ≡ self.now.entries) }
+        ensures named { IfOk result (λ kept. AllByRecursion IsNamedEntry kept.items) }
+    {
+        entries_of(alloc, self.slots.as_slice())
+    }
+
+    /// Returns the number that stands under a name in a directory.
+    pub fn find(&self, parent: Number, name: &Name) -> Option<Number>
+        ensures { result ≡ option_map number_of_kept (entry_at self.now.entries parent.0 name.now) }
+    {
+        match self.index.get(parent.0, name) {
+            Some(number) => Some(Number(number)),
+            None => None,
+        }
+    }
+
+    /// Tells whether an entry stands in the directory.
+    pub fn has_kids(&self, parent: Number) -> bool
+        ensures { result ≡ list_any (is_kid_of parent.0) self.now.entries }
+    {
+        self.index.has_names(parent.0)
+    }
+
+    /// Makes room for one number.
+    pub fn reserve(&mut self, alloc: Global) -> Result<(), NoMemory>
+        ensures ok { OnOk result (self.new ≡ record self.old { spare = 1 }) }
+        ensures err { OnErr result (self.new ≡ self.old) }
+    {
+        if self.is_reserved {
+            return Ok(());
+        }
+        self.index.reserve(alloc)?;
+        make_room(&mut self.slots)?;
+        self.way.clear();
+        self.way.try_reserve_exact(self.slots.capacity())?;
+        self.is_reserved = true;
+        Ok(())
+    }
+
+    /// Gives the number that is reserved to a name in a directory.
+    pub fn add(&mut self, parent: Number, name: Name) -> Number
+        requires reserved { self.old.spare ≡ 1 }
+        requires is_new { entry_at self.old.entries parent.0 name ≡ None }
+        requires fits { self.old.next < end_of_numbers }
+        ensures number { result.0 ≡ self.old.next }
+        ensures added { self.new ≡ record self.old {
+          entries = self.old.entries ++ new_entry self.old.next parent name ∷ [];
+          next = self.old.next + 1;
+          spare = 0;
+        } }
+    {
+        let number = Number(self.next);
+        self.index.add(parent.0, &name, number.0);
+        let held = Held {
+            place: Place::Linked { parent, name },
+            count: 1,
+            file: None,
+        };
+        self.slots.push_reserved((number.0, Some(held)));
+        self.next += 1;
+        self.is_reserved = false;
+        number
+    }
+
+    /// Counts a number once more, and tells whether it did: not where the kernel holds it as often as it may.
+    pub fn raise(&mut self, number: Number) -> bool
+        requires { IsSome (entry_of self.old.entries number.0) }
+        ensures may { result ≡ nat_lt (count_of self.old.entries number.0) greatest_count }
+        ensures raised { self.new ≡ (if result then record self.old {
+          entries = changed_where (has_number number.0) once_more self.old.entries;
+        } else self.old) }
+        ensures kept { AreOfKept file_number self.old.entries self.old.remembered }
+    {
+        let Some(place) = place_of(self.slots.as_slice(), number) else {
+            unreachable!()
+        };
+        let slot = &mut self.slots[place];
+        let Some(held) = &mut slot.1 else {
+            unreachable!()
+        };
+        if held.count >= GREATEST_COUNT {
+            return false;
+        }
+        held.count += 1;
+        true
+    }
+
+    /// Counts a number fewer times, and returns how often the kernel holds it then. A bad item changes nothing.
+    pub fn lower(&mut self, number: Number, k: u64) -> Option<u64>
+        ensures bad { IfNone result (is_bad_item self.old.entries number.0 k ≡ true) }
+        ensures good { OnSome result (is_bad_item self.old.entries number.0 k ≡ false) }
+        ensures left { IfSome result (λ left. left ≡ count_of self.old.entries number.0 - k) }
+        ensures lowered { OnSome result (self.new
+            ≡ record self.old { entries = lowered self.old.entries number.0 k }) }
+        ensures unchanged { IfNone result (self.new ≡ self.old) }
+        ensures kept { OnSome result (AreOfKept file_number self.new.entries self.new.remembered) }
+    {
+        if k == 0 {
+            return None;
+        }
+        let place = place_of(self.slots.as_slice(), number)?;
+        let slot = &mut self.slots[place];
+        let Some(held) = &mut slot.1 else {
+            return None;
+        };
+        if held.count < k {
+            return None;
+        }
+        held.count -= k;
+        Some(held.count)
+    }
+
+    /// Remembers the file that a number names.
+    pub fn remember(&mut self, number: Number, file: FileId)
+        requires { IsSome (entry_of self.old.entries number.0) }
+        ensures { self.new ≡ record self.old {
+          remembered = remembered self.old.remembered number.0 file;
+        } }
+    {
+        let Some(place) = place_of(self.slots.as_slice(), number) else {
+            unreachable!()
+        };
+        let slot = &mut self.slots[place];
+        let Some(held) = &mut slot.1 else {
+            unreachable!()
+        };
+        held.file = Some(file);
+    }
+
+    /// Takes the name of a number away, and returns the directory in which it stood.
+    pub fn unlink(&mut self, number: Number, file: FileId) -> Number
+        requires { IsLinked self.old.entries number.0 }
+        ensures unlinked { self.new ≡ record self.old {
+          entries = changed_where (has_number number.0) (marked file) self.old.entries;
+        } }
+        ensures dir { IsIn self.old.entries number.0 result }
+        ensures kept { AreOfKept file_number self.new.entries self.new.remembered }
+    {
+        let Some(place) = place_of(self.slots.as_slice(), number) else {
+            unreachable!()
+        };
+        let slot = &mut self.slots[place];
+        let Some(held) = slot.1.take() else {
+            unreachable!()
+        };
+        slot.1 = Some(Held {
+            place: Place::Unlinked { file },
+            count: held.count,
+            file: held.file,
+        });
+        let Place::Linked { parent, name } = &held.place else {
+            unreachable!()
+        };
+        self.index.remove(parent.0, name);
+        *parent
+    }
+
+    /// Removes an entry, and returns where it stood.
+    pub fn remove(&mut self, number: Number) -> Place
+        requires { IsSome (entry_of self.old.entries number.0) }
+        ensures place { option_map place_of_kept (entry_of self.old.entries number.0) ≡ Some result }
+        ensures removed { self.new ≡ without_entry self.old number.0
+            (without_where (has_number number.0) self.old.entries) }
+    {
+        let Some(place) = place_of(self.slots.as_slice(), number) else {
+            unreachable!()
+        };
+        let Some(held) = self.slots[place].1.take() else {
+            unreachable!()
+        };
+        if let Place::Linked { parent, name } = &held.place {
+            self.index.remove(parent.0, name);
+        }
+        held.place
+    }
+
+    /// Finds the file that a number names in a tree, by the names above it.
+    pub fn locate(&mut self, tree: &Tree, number: Number) -> Option<FileId>
+        ensures found { MatchOption result
+            ((file : FileId) → IsFileOf tree.now self.old.entries number.0 file → ⊥)
+            (IsFileOf tree.now self.old.entries number.0) }
+        ensures unchanged { self.new ≡ self.old }
+    {
+        locate(self.slots.as_slice(), &mut self.way, tree, number)
+    }
+}
+
+/// Puts entries into slots, in their order.
+fn slots_of(alloc: Global, entries: Vec<Kept>) -> Result<Vec<Slot>, AllocError>
+    ensures slots { IfOk result (λ slots. slots.items ≡ slots_of entries.items) }
+    ensures len { IfOk result (λ slots. vec_len slots ≡ length entries.items) }
+{
+    entries.into_iter().map(slot_of).collect(alloc)
+}
+
+/// Returns the slot of an entry, of which no file is remembered.
+fn slot_of(kept: Kept) -> Slot
+    ensures { result ≡ slot_of kept }
+{
+    let held = Held {
+        place: kept.place,
+        count: kept.count,
+        file: None,
+    };
+    (kept.number.0, Some(held))
+}
+
+/// Returns the entries that stand in the slots, in memory of their own.
+fn entries_of(alloc: Global, slots: &[Slot]) -> Result<Vec<Kept>, NoMemory>
+    ensures entries { IfOk result (λ kept. kept.items ≡ kept_from slots.now) }
+    ensures named { IfOk result (λ kept. AllByRecursion IsNamedEntry kept.items) }
+{
+    let mut entries = Vec::with_capacity(alloc, slots.len())?;
+    for (number, slot) in slots {
+        let Some(held) = slot else {
+            continue;
+        };
+        let kept = held.kept(alloc, Number(*number))?;
+        entries.push(kept)?;
+    }
+    Ok(entries)
+}
+
+/// Makes room for one more slot. Where there is none, the empty slots go, and what is left has room for a quarter more at
+/// least, so that little is spare and each gift pays for five slots that were looked at.
+fn make_room(slots: &mut Vec<Slot>) -> Result<(), AllocError>
+    ensures entries { kept_from slots.new.items ≡ kept_from slots.old.items }
+    ensures files { files_from slots.new.items ≡ files_from slots.old.items }
+    ensures numbers { (next : ℕ) → AreSlots 2 next slots.old.items → AreSlots 2 next slots.new.items }
+    ensures len { vec_len slots.new ≤ vec_len slots.old }
+    ensures struck { vec_capacity slots.old ≤ vec_len slots.old
+        → vec_len slots.new ≡ length (kept_from slots.old.items) }
+    ensures room { OnOk result (vec_len slots.new < vec_capacity slots.new) }
+{
+    if slots.len() < slots.capacity() {
+        return Ok(());
+    }
+    slots.retain(|slot| slot.1.is_some());
+    slots.try_reserve_exact(slots.len() / 4 + 1)
+}
+
+/// Returns between which places the slots up to a number end. As numbers rise, a slot's number is at least as far above
+/// the first as the slot is, and at least as far below the last; so the places are one where no number is missing.
+fn window(slots: &[Slot], number: Number) -> (usize, usize)
+    requires { IsSlots slots.now }
+    ensures before { AllWithin (λ slot. slot.0 ≤ number.0) slots.now 0 result.0 }
+    ensures behind { AllWithin (λ slot. number.0 < slot.0) slots.now result.1 (length slots.now) }
+    ensures order { result.0 ≤ result.1 }
+    ensures bound { result.1 ≤ length slots.now }
+{
+    let (Some(first), Some(last)) = (slots.first(), slots.last()) else {
+        return (0, 0);
+    };
+    let above = number.0.saturating_sub(first.0) as usize;
+    let below = last.0.saturating_sub(number.0) as usize;
+    let len = slots.len();
+    (len.saturating_sub(below), len.min(above + 1))
+}
+
+/// Returns how many slots stand up to a number, with its own.
+fn up_to(slots: &[Slot], number: Number) -> usize
+    requires { IsSlots slots.now }
+    ensures parted { IsPartitionPoint (λ slot. slot.0 ≤ number.0) (λ slot. number.0 < slot.0) slots.now result }
+    ensures bound { result ≤ length slots.now }
+{
+    let (start, end) = window(slots, number);
+    start + slots[start..end].partition_point(|slot| slot.0 <= number.0)
+}
+
+/// Returns the number of the first slot that isn't empty.
+fn first_in(slots: &[Slot]) -> Option<Number>
+    ensures { result ≡ first_number (kept_from slots.now) }
+{
+    for (number, slot) in slots {
+        if slot.is_some() {
+            return Some(Number(*number));
+        }
+    }
+    None
+}
+
+/// Returns where the slot of a number stands.
+fn place_of(slots: &[Slot], number: Number) -> Option<usize>
+    requires { IsSlots slots.now }
+    ensures place { IfSome result (IsPlaceOf slots.now number.0) }
+    ensures none { IfNone result (slot_at slots.now number.0 ≡ None) }
+{
+    let place = up_to(slots, number).checked_sub(1)?;
+    if slots[place].0 == number.0 {
+        Some(place)
+    } else {
+        None
+    }
+}
+
+/// Returns what an entry has beside its number.
+pub(crate) fn held_at(slots: &[Slot], number: Number) -> Option<&Held>
+    requires { IsSlots slots.now }
+    ensures held { option_copied result ≡ held_in slots.now number.0 }
+    ensures entry { option_map (kept_of number.0) (option_copied result)
+        ≡ entry_of (kept_from slots.now) number.0 }
+{
+    slots[place_of(slots, number)?].1.as_ref()
+}

@@ -1,8 +1,0 @@
-use Rattle.std.proofs.Common.{take}
-use Rattle.inode_map.specs.Links.{written}
-use Rattle.inode_map.specs.Table.{IsIndexed}
-use Rattle.inode_map.proofs.index.Index.of_entries.Given as goal
-
--- the maps have the entries so far
-abbrev pub invariant-loop-kept : goal.invariant-loop-kept
-invariant-loop-kept l = IsIndexed (take l.kept-index l.entries) (written l.directories)
