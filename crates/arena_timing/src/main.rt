@@ -1,14 +1,20 @@
 //! Measures what the calls of an arena cost, at three capacities.
 #![tactic(auto)]
 
-use anyhow::Result;
 use node_arena::{Nodes, Slot};
 use std::alloc::Global;
 use std::env;
+use std::io::Result;
 use std::time::{CpuClock, Duration};
 
 /// How often each call is made.
 const ROUNDS: u32 = 1_000_000;
+
+const CAPACITIES: [usize; 3] = [1, 1_024, 65_536];
+
+const HEAD: &str = "capacity, and the nanoseconds of a round of calls:
+oldest, touch | oldest, remove, add | one of 8 slots: is_held, touch
+| is_held, get, get_mut | any slot: is_held, touch | is_held, get, get_mut";
 
 /// Returns the next number of a fixed sequence (Knuth's MMIX generator).
 fn next_random(state: u64) -> u64 {
@@ -25,45 +31,39 @@ fn pick(slots: &[Slot], random: u64) -> Option<Slot> {
     Some(slots[(random >> 33) as usize % slots.len()])
 }
 
-/// Makes an arena that is full, and lists its slots.
-fn filled(alloc: Global, capacity: usize) -> Result<(Nodes<u64>, Vec<Slot>)> {
-    let mut nodes = Nodes::new(alloc, capacity.clamp(1, 65_536))?;
+/// Fills an arena, and lists its slots.
+fn fill(alloc: Global, nodes: &mut Nodes<u64>) -> Result<Vec<Slot>> {
     let mut slots = Vec::new(alloc);
     for value in 0..nodes.capacity() {
         if let Ok(slot) = nodes.add(value as u64) {
             slots.push(slot)?;
         }
     }
-    Ok((nodes, slots))
+    Ok(slots)
 }
 
 /// Calls `oldest`, and `touch` of what it answers.
-fn touch_oldest(rt: &impl CpuClock, nodes: &mut Nodes<u64>) -> Result<Duration> {
-    let start = rt.thread_cpu_time()?;
+fn touch_oldest(nodes: &mut Nodes<u64>) {
     for _ in 0..ROUNDS {
         if let Some(slot) = nodes.oldest() {
             nodes.touch(slot);
         }
     }
-    Ok(rt.thread_cpu_time()?.saturating_sub(start))
 }
 
 /// Calls `oldest`, `remove` of what it answers, and `add`.
-fn replace_oldest(rt: &impl CpuClock, nodes: &mut Nodes<u64>) -> Result<Duration> {
-    let start = rt.thread_cpu_time()?;
+fn replace_oldest(nodes: &mut Nodes<u64>) {
     for _ in 0..ROUNDS {
         if let Some(slot) = nodes.oldest() {
             let value = nodes.remove(slot);
             let _ = nodes.add(value);
         }
     }
-    Ok(rt.thread_cpu_time()?.saturating_sub(start))
 }
 
 /// Calls `is_held` and `touch` of slots in a random order.
-fn touch_any(rt: &impl CpuClock, nodes: &mut Nodes<u64>, slots: &[Slot]) -> Result<Duration> {
+fn touch_any(nodes: &mut Nodes<u64>, slots: &[Slot]) {
     let mut random = 1;
-    let start = rt.thread_cpu_time()?;
     for _ in 0..ROUNDS {
         random = next_random(random);
         if let Some(slot) = pick(slots, random) {
@@ -72,13 +72,11 @@ fn touch_any(rt: &impl CpuClock, nodes: &mut Nodes<u64>, slots: &[Slot]) -> Resu
             }
         }
     }
-    Ok(rt.thread_cpu_time()?.saturating_sub(start))
 }
 
 /// Calls `is_held`, `get` and `get_mut` of slots in a random order.
-fn write_any(rt: &impl CpuClock, nodes: &mut Nodes<u64>, slots: &[Slot]) -> Result<Duration> {
+fn write_any(nodes: &mut Nodes<u64>, slots: &[Slot]) {
     let mut random = 1;
-    let start = rt.thread_cpu_time()?;
     for _ in 0..ROUNDS {
         random = next_random(random);
         if let Some(slot) = pick(slots, random) {
@@ -88,7 +86,6 @@ fn write_any(rt: &impl CpuClock, nodes: &mut Nodes<u64>, slots: &[Slot]) -> Resu
             }
         }
     }
-    Ok(rt.thread_cpu_time()?.saturating_sub(start))
 }
 
 /// Nanoseconds of one round.
@@ -100,36 +97,91 @@ fn each(spent: Duration) -> u64 {
     nanos / u64::from(ROUNDS)
 }
 
-/// Prints the nanoseconds of each round of calls, on all slots of the arena and on eight of them.
-fn measure(rt: &(impl CpuClock + Print), alloc: Global, capacity: usize) -> Result<()> {
-    let (mut nodes, slots) = filled(alloc, capacity)?;
-    let few = if slots.len() > 8 {
-        &slots[..8]
-    } else {
-        &slots[..]
-    };
-    let oldest = each(touch_oldest(rt, &mut nodes)?);
-    let replaced = each(replace_oldest(rt, &mut nodes)?);
-    let touched = each(touch_any(rt, &mut nodes, &slots)?);
-    let touched_few = each(touch_any(rt, &mut nodes, few)?);
-    let written = each(write_any(rt, &mut nodes, &slots)?);
-    let written_few = each(write_any(rt, &mut nodes, few)?);
-    print!(rt; "{capacity:>8} {oldest:>8} {replaced:>8}")?;
-    print!(rt; " {touched_few:>8} {written_few:>8}")?;
-    println!(rt; " {touched:>8} {written:>8}")?;
+/// The calls of a round.
+#[derive(Clone, Copy)]
+enum Round {
+    TouchOldest,
+    ReplaceOldest,
+    TouchAny,
+    WriteAny,
+}
+
+/// Makes the calls of all rounds.
+fn make(round: Round, nodes: &mut Nodes<u64>, slots: &[Slot]) {
+    match round {
+        Round::TouchOldest => touch_oldest(nodes),
+        Round::ReplaceOldest => replace_oldest(nodes),
+        Round::TouchAny => touch_any(nodes, slots),
+        Round::WriteAny => write_any(nodes, slots),
+    }
+}
+
+/// Returns the nanoseconds of a round.
+fn time(rt: &impl CpuClock, round: Round, nodes: &mut Nodes<u64>, slots: &[Slot]) -> Result<u64> {
+    let start = rt.thread_cpu_time()?;
+    make(round, nodes, slots);
+    Ok(each(rt.thread_cpu_time()?.saturating_sub(start)))
+}
+
+/// Returns the nanoseconds of a round on all slots of the arena, and on eight of them.
+fn time_both(
+    rt: &impl CpuClock,
+    round: Round,
+    nodes: &mut Nodes<u64>,
+    slots: &[Slot],
+) -> Result<(u64, u64)> {
+    let all = time(rt, round, nodes, slots)?;
+    let few = if slots.len() > 8 { &slots[..8] } else { slots };
+    Ok((all, time(rt, round, nodes, few)?))
+}
+
+/// Returns the nanoseconds of each round, in the order of the columns.
+fn time_all(rt: &impl CpuClock, nodes: &mut Nodes<u64>, slots: &[Slot]) -> Result<[u64; 6]> {
+    let oldest = time(rt, Round::TouchOldest, nodes, slots)?;
+    let replaced = time(rt, Round::ReplaceOldest, nodes, slots)?;
+    let (touched, touched_few) = time_both(rt, Round::TouchAny, nodes, slots)?;
+    let (written, written_few) = time_both(rt, Round::WriteAny, nodes, slots)?;
+    Ok([oldest, replaced, touched_few, written_few, touched, written])
+}
+
+/// Prints a row of the table.
+fn print_row(rt: &impl Print, capacity: usize, row: &[u64]) -> Result<()> {
+    print!(rt; "{capacity:>8}")?;
+    for nanos in row {
+        print!(rt; " {nanos:>8}")?;
+    }
+    println!(rt)
+}
+
+/// Fills an arena, and measures the calls on it.
+fn time_filled(rt: &impl CpuClock, alloc: Global, nodes: &mut Nodes<u64>) -> Result<[u64; 6]> {
+    let slots = fill(alloc, nodes)?;
+    let row = time_all(rt, nodes, &slots);
+    drop(slots);
+    row
+}
+
+/// Makes an arena, and measures the calls on it.
+fn time_made(rt: &impl CpuClock, alloc: Global, capacity: usize) -> Result<[u64; 6]> {
+    let mut nodes = Nodes::new(alloc, capacity.clamp(1, 65_536))?;
+    let row = time_filled(rt, alloc, &mut nodes);
+    drop(nodes);
+    row
+}
+
+/// Prints the table.
+fn measure(rt: &HostRuntime) -> Result<()> {
+    println!(rt; "{HEAD}")?;
+    for &capacity in &CAPACITIES {
+        let row = time_made(rt, rt.alloc(), capacity)?;
+        print_row(rt, capacity, &row)?;
+    }
     Ok(())
 }
 
 fn main(rt: HostRuntime) -> Result<()> {
-    if env::args(&rt)?.nth(1).is_none() {
-        println!(rt; "usage: arena_timing measure")?;
-        return Ok(());
+    if env::args(&rt)?.nth(1).is_some() {
+        return measure(&rt);
     }
-    println!(rt; "capacity, and the nanoseconds of a round of calls:")?;
-    println!(rt; "oldest, touch | oldest, remove, add | one of 8 slots: is_held, touch")?;
-    println!(rt; "| is_held, get, get_mut | any slot: is_held, touch | is_held, get, get_mut")?;
-    for capacity in [1, 1_024, 65_536] {
-        measure(&rt, rt.alloc(), capacity)?;
-    }
-    Ok(())
+    println!(rt; "usage: arena_timing measure")
 }
