@@ -3,14 +3,14 @@
 //! goes through three sizes and three depths.
 #![tactic(auto)]
 
-use anyhow::Result;
 use checkout::ManifestBacking;
 use eden_base::{Kind, Name, NoMemory, Number, Perm};
 use fuse_ops::Served;
 use fuse_wire::{Answer, Batch, Item, Request};
 use manifest::Manifest;
-use std::alloc::Global;
+use std::alloc::{AllocError, Global};
 use std::env;
+use std::io::{self, ErrorKind};
 use std::marker::Model;
 
 /// How many requests of a kind are asked.
@@ -58,22 +58,28 @@ impl Hosted {
 }
 
 /// Writes a line of the manifest.
-fn line_of(alloc: Global, i: u64) -> Result<String, NoMemory> {
+fn line_of(alloc: Global, i: u64) -> Result<String, AllocError> {
     let dir = i / EACH;
-    let line = if i % EACH == 0 {
+    if i % EACH == 0 {
         format!(in alloc; "dir directory{dir}\n")
     } else {
         format!(in alloc; "file 0644 {i} directory{dir}/file{i}.txt\n")
-    };
-    Ok(line?)
+    }
+}
+
+/// Puts a line of the manifest behind a text.
+fn put_line(alloc: Global, text: &mut Vec<u8>, i: u64) -> Result<(), AllocError> {
+    let line = line_of(alloc, i)?;
+    let done = text.extend_from_slice(line.as_bytes());
+    drop(line);
+    done
 }
 
 /// Makes the text of a manifest of this many lines.
-fn manifest_text(alloc: Global, lines: u64) -> Result<Vec<u8>, NoMemory> {
-    let mut text = Vec::new(alloc);
-    text.extend_from_slice(b"commit 0123456789abcdef0123456789abcdef01234567\n")?;
+fn manifest_text(alloc: Global, lines: u64) -> Result<Vec<u8>, AllocError> {
+    let mut text = Vec::from_slice(alloc, b"commit 0123456789abcdef0123456789abcdef01234567\n")?;
     for i in 0..lines {
-        text.extend_from_slice(line_of(alloc, i)?.as_bytes())?;
+        put_line(alloc, &mut text, i)?;
     }
     Ok(text)
 }
@@ -100,15 +106,19 @@ fn named(alloc: Global, text: String) -> Result<Name, NoMemory> {
     }
 }
 
-/// Returns the name of a line of the manifest.
-fn name_of(alloc: Global, i: u64) -> Result<Name, NoMemory> {
+/// Returns the name of a line of the manifest, as text.
+fn name_text(alloc: Global, i: u64) -> Result<String, AllocError> {
     let dir = i / EACH;
-    let text = if i % EACH == 0 {
+    if i % EACH == 0 {
         format!(in alloc; "directory{dir}")
     } else {
         format!(in alloc; "file{i}.txt")
-    };
-    named(alloc, text?)
+    }
+}
+
+/// Returns the name of a line of the manifest.
+fn name_of(alloc: Global, i: u64) -> Result<Name, NoMemory> {
+    named(alloc, name_text(alloc, i)?)
 }
 
 /// Returns the number of an entry, and the root's where there is none.
@@ -166,33 +176,34 @@ fn make_deep(alloc: Global, served: &mut Hosted, depth: u64) -> Result<Number, N
     Ok(dir)
 }
 
-/// What is asked of a file that is made, beside what needs its number.
-#[derive(Clone, Copy)]
-enum Step {
-    Create,
-    Lookup,
-    Unlink,
+/// The requests that make a file, look it up and take its name away.
+type Asked = (Request, Request, Request);
+
+/// Returns the name of a file that is made.
+fn made_name(alloc: Global, j: u64) -> Result<Name, NoMemory> {
+    named(alloc, format!(in alloc; "made{j}.txt")?)
 }
 
-/// Returns the request of a step on a name in a directory.
-fn request_of(step: Step, dir: Number, name: Name) -> Request {
-    match step {
-        Step::Create => Request::Create {
-            dir,
-            name,
-            perm: Perm::DIRECTORY,
-        },
-        Step::Lookup => Request::Lookup { dir, name },
-        Step::Unlink => Request::Unlink { dir, name },
-    }
+/// Returns the requests for a file that is made in a directory.
+fn asked_of(alloc: Global, dir: Number, j: u64) -> Result<Asked, NoMemory> {
+    let perm = Perm::DIRECTORY;
+    let made = made_name(alloc, j)?;
+    let sought = made_name(alloc, j)?;
+    let name = made_name(alloc, j)?;
+    let create = Request::Create {
+        dir,
+        name: made,
+        perm,
+    };
+    let lookup = Request::Lookup { dir, name: sought };
+    Ok((create, lookup, Request::Unlink { dir, name }))
 }
 
-/// Lists the requests of a step on all files that are made in a directory.
-fn list_asked(alloc: Global, dir: Number, step: Step) -> Result<Vec<Request>, NoMemory> {
+/// Lists the requests for all files that are made in a directory.
+fn list_asked(alloc: Global, dir: Number) -> Result<Vec<Asked>, NoMemory> {
     let mut list = Vec::new(alloc);
     for j in 0..ASKED {
-        let name = named(alloc, format!(in alloc; "made{j}.txt")?)?;
-        list.push(request_of(step, dir, name))?;
+        list.push(asked_of(alloc, dir, j)?)?;
     }
     Ok(list)
 }
@@ -347,26 +358,13 @@ fn ask_one(
 }
 
 /// Makes files and asks each of them. Counts those that answered as they should.
-fn ask_listed(
-    alloc: Global,
-    served: &mut Hosted,
-    creates: &[Request],
-    lookups: &[Request],
-    unlinks: &[Request],
-) -> u64 {
+fn ask_listed(alloc: Global, served: &mut Hosted, list: &[Asked]) -> u64 {
     let mut done = 0u64;
-    for j in 0..creates.len() {
-        let Some(number) = create(alloc, served, &creates[j]) else {
-            continue;
-        };
-        let Some(lookup) = lookups.get(j) else {
-            continue;
-        };
-        let Some(unlinking) = unlinks.get(j) else {
-            continue;
-        };
-        if ask_one(alloc, served, number, lookup, unlinking) {
-            done = done.wrapping_add(1);
+    for (making, lookup, unlinking) in list {
+        if let Some(number) = create(alloc, served, making) {
+            if ask_one(alloc, served, number, lookup, unlinking) {
+                done = done.wrapping_add(1);
+            }
         }
     }
     done
@@ -375,13 +373,9 @@ fn ask_listed(
 /// Makes files in a directory so deep, and asks each of them.
 fn ask_made(alloc: Global, served: &mut Hosted, depth: u64) -> Result<u64, NoMemory> {
     let dir = make_deep(alloc, served, depth)?;
-    let creates = list_asked(alloc, dir, Step::Create)?;
-    let lookups = list_asked(alloc, dir, Step::Lookup)?;
-    let unlinks = list_asked(alloc, dir, Step::Unlink)?;
-    let done = ask_listed(alloc, served, &creates, &lookups, &unlinks);
-    drop(creates);
-    drop(lookups);
-    drop(unlinks);
+    let list = list_asked(alloc, dir)?;
+    let done = ask_listed(alloc, served, &list);
+    drop(list);
     Ok(done)
 }
 
@@ -411,7 +405,7 @@ fn ask_batch(alloc: Global, served: &mut Hosted, request: &Request) -> u64 {
 /// Forgets the first numbers twice, once each in a batch, so that they are lowered and then dropped.
 fn ask_batches(alloc: Global, served: &mut Hosted) -> Result<u64, NoMemory> {
     let mut batches = 0u64;
-    for first in [2, 258, 514, 770] {
+    for &first in &[2, 258, 514, 770] {
         let request = Request::BatchForget(batch_from(alloc, first)?);
         batches = batches.wrapping_add(ask_batch(alloc, served, &request));
         drop(request);
@@ -438,46 +432,42 @@ fn ask_begun(alloc: Global, lines: u64, depth: u64) -> Result<Told, NoMemory> {
     told
 }
 
-/// Prints words and a number behind them.
-fn print_count(rt: &HostRuntime, before: &str, count: u64) -> Result<()> {
-    print!(rt; "{before}{count}")?;
-    Ok(())
+/// Makes all requests, and prints what came of them.
+fn measure(rt: &HostRuntime, lines: u64, depth: u64) -> io::Result<()> {
+    let Ok((found, done, batches, next)) = ask_begun(rt.alloc(), lines, depth) else {
+        return Err(io::Error::from(ErrorKind::OutOfMemory));
+    };
+    println!(rt;
+        "{lines} lines, depth {depth}: {found} found, {done} made, {batches} batches, next {next}"
+    )
 }
 
-/// Prints what was asked, and what came of it.
-fn print_told(rt: &HostRuntime, lines: u64, depth: u64, told: Told) -> Result<()> {
-    let (found, done, batches, next) = told;
-    print_count(rt, "", lines)?;
-    print_count(rt, " lines, depth ", depth)?;
-    print_count(rt, ": ", found)?;
-    print_count(rt, " found, ", done)?;
-    print_count(rt, " made, ", batches)?;
-    print_count(rt, " batches, next ", next)?;
-    println!(rt)?;
+/// Goes through all sizes and depths.
+fn measure_all(rt: &HostRuntime) -> io::Result<()> {
+    for &(lines, depth) in &[(1000, 1), (8000, 16), (40000, 700)] {
+        measure(rt, lines, depth)?;
+    }
     Ok(())
-}
-
-fn measure(rt: &HostRuntime, lines: u64, depth: u64) -> Result<()> {
-    let told = ask_begun(rt.alloc(), lines, depth)?;
-    print_told(rt, lines, depth, told)
 }
 
 /// Returns a word's number, or another where there is no word or no number.
-fn number_or(word: Option<String>, other: u64) -> u64 {
+fn number_or(word: Option<&String>, other: u64) -> u64 {
     match word {
         Some(word) => word.as_str().parse::<u64>().unwrap_or(other),
         None => other,
     }
 }
 
-fn main(rt: HostRuntime) -> Result<()> {
-    let mut words = env::args(&rt)?.skip(1);
-    if let Some(word) = words.next() {
-        let lines = number_or(Some(word), 1000);
-        return measure(&rt, lines, number_or(words.next(), 1));
-    }
-    for (lines, depth) in [(1000, 1), (8000, 16), (40000, 700)] {
-        measure(&rt, lines, depth)?;
-    }
-    Ok(())
+fn main(rt: HostRuntime) -> io::Result<()> {
+    let words: Vec<String> = env::args(&rt)?.collect(rt.alloc())?;
+    let done = match words.get(1) {
+        Some(lines) => measure(
+            &rt,
+            number_or(Some(lines), 1000),
+            number_or(words.get(2), 1),
+        ),
+        None => measure_all(&rt),
+    };
+    drop(words);
+    done
 }
