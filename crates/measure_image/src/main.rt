@@ -18,7 +18,11 @@ use std::time::{CpuClock, Duration};
 /// How many names stand in a directory, with its own.
 const EACH: u64 = 64;
 
-const LOADED_LIMIT: usize = 64;
+/// Returns how many attributes may be loaded. With the number itself in the call, the proof of `image_raised` takes several
+/// times as long.
+fn loaded_limit() -> usize {
+    64
+}
 
 /// Returns the directory of an entry: the root for each sixty-fourth, and that one for those behind it.
 fn parent_of(i: u64) -> u64 {
@@ -184,7 +188,7 @@ fn image_raised(alloc: Global, image: Image, manifest: &Manifest) -> Result<Serv
     requires fit { IsFit image }
     requires counts { CountsFit image.entries }
 {
-    raise(alloc, image, manifest, LOADED_LIMIT)
+    raise(alloc, image, manifest, loaded_limit())
 }
 
 #[inline(never)]
