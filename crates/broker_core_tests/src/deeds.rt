@@ -145,7 +145,11 @@ fn is_issued(
     issued: Result<Option<u64>, IssueFault>,
 ) -> bool {
     match request(alloc, wish) {
-        Some(request) => issue(broker, &request) == issued,
+        Some(request) => {
+            let told = issue(broker, &request);
+            drop(request);
+            told == issued
+        }
         None => false,
     }
 }
@@ -163,7 +167,11 @@ fn issues(broker: &mut Broker, request: &Request, times: u64) -> bool {
 /// Issues a wish so many times, and returns whether it was taken each time.
 fn is_issued_each(alloc: Global, broker: &mut Broker, wish: Wish, times: u64) -> bool {
     match request(alloc, wish) {
-        Some(request) => issues(broker, &request, times),
+        Some(request) => {
+            let are_taken = issues(broker, &request, times);
+            drop(request);
+            are_taken
+        }
         None => false,
     }
 }
@@ -187,7 +195,11 @@ fn deliver(broker: &mut Broker) -> Result<Reply, DeliverFault> {
 /// Takes for a daemon at a generation, and returns the unique of what came, 0 of items and where nothing is taken.
 fn unique_taken(broker: &mut Broker, daemon: DaemonId, generation: u64) -> u64 {
     match broker.take(daemon, generation) {
-        Ok(ask) => ask.unique,
+        Ok(ask) => {
+            let unique = ask.unique;
+            drop(ask);
+            unique
+        }
         Err(_) => 0,
     }
 }
@@ -204,7 +216,11 @@ fn items_of(request: &Request) -> usize {
 /// Takes, and returns how many items came, 0 for an ask.
 fn items_taken(broker: &mut Broker) -> Option<usize> {
     match broker.take(DAEMON, 1) {
-        Ok(ask) => Some(items_of(&ask.what)),
+        Ok(ask) => {
+            let items = items_of(&ask.what);
+            drop(ask);
+            Some(items)
+        }
         Err(_) => None,
     }
 }
@@ -220,7 +236,11 @@ fn is_batch(request: &Request, items: &[Item]) -> bool {
 /// Takes, and returns whether a batch of these items came.
 fn is_batch_taken(broker: &mut Broker, items: &[Item]) -> bool {
     match broker.take(DAEMON, 1) {
-        Ok(ask) => is_batch(&ask.what, items),
+        Ok(ask) => {
+            let is_taken = is_batch(&ask.what, items);
+            drop(ask);
+            is_taken
+        }
         Err(_) => false,
     }
 }
@@ -260,7 +280,11 @@ fn answers_each(broker: &mut Broker, request: &Request, times: u64, said: Said) 
 /// Does that with a look-up.
 fn is_found_each(alloc: Global, broker: &mut Broker, times: u64, said: Said) -> bool {
     match request(alloc, Wish::LookUp) {
-        Some(request) => answers_each(broker, &request, times, said),
+        Some(request) => {
+            let are_answered = answers_each(broker, &request, times, said);
+            drop(request);
+            are_answered
+        }
         None => false,
     }
 }
@@ -334,7 +358,9 @@ pub(crate) fn all_go_so(alloc: Global, deeds: &[Deed]) -> bool {
     match new_broker(alloc) {
         Some(broker) => {
             let mut broker = broker;
-            each_goes_so(alloc, &mut broker, deeds)
+            let go_so = each_goes_so(alloc, &mut broker, deeds);
+            drop(broker);
+            go_so
         }
         None => false,
     }

@@ -23,11 +23,6 @@ const ONE_DAEMON: [Deed; 7] = [
     Deed::Seat(Some(SEAT)),
 ];
 
-#[test]
-fn serves_one_daemon(rt: HostRuntime) {
-    assert!(rt; all_go_so(rt.alloc(), &ONE_DAEMON));
-}
-
 const NOT_HELD: [Deed; 13] = [
     SERVE,
     Deed::LookUpEach(3, Said::Entry(2)),
@@ -44,22 +39,12 @@ const NOT_HELD: [Deed; 13] = [
     Deed::Issue(Wish::Getattr(1), Ok(Some(5))),
 ];
 
-#[test]
-fn takes_no_request_that_is_not_held(rt: HostRuntime) {
-    assert!(rt; all_go_so(rt.alloc(), &NOT_HELD));
-}
-
 const NO_BATCH: [Deed; 4] = [
     SERVE,
     Deed::LookUpEach(1, Said::Entry(2)),
     Deed::Issue(Wish::ForgetBatch(2, 1), Err(IssueFault::BadForget)),
     Deed::Held(2, 1),
 ];
-
-#[test]
-fn takes_no_batch_from_the_kernels_side(rt: HostRuntime) {
-    assert!(rt; all_go_so(rt.alloc(), &NO_BATCH));
-}
 
 const HOLDING: [Deed; 15] = [
     SERVE,
@@ -78,11 +63,6 @@ const HOLDING: [Deed; 15] = [
     Deed::TakeItems(Some(1)),
     Deed::Stand(2, [0, 0, 0]),
 ];
-
-#[test]
-fn holds_a_number_from_delivery_to_forget(rt: HostRuntime) {
-    assert!(rt; all_go_so(rt.alloc(), &HOLDING));
-}
 
 const IN_ORDER: [Deed; 19] = [
     SERVE,
@@ -106,11 +86,6 @@ const IN_ORDER: [Deed; 19] = [
     Deed::Held(901, 0),
 ];
 
-#[test]
-fn keeps_the_numbers_in_order(rt: HostRuntime) {
-    assert!(rt; all_go_so(rt.alloc(), &IN_ORDER));
-}
-
 const ANSWER: Said = Said::Attrs(1);
 
 const WITHOUT_THE_SEAT: [Deed; 11] = [
@@ -127,11 +102,6 @@ const WITHOUT_THE_SEAT: [Deed; 11] = [
     Deed::Take(1),
 ];
 
-#[test]
-fn refuses_who_has_not_the_seat(rt: HostRuntime) {
-    assert!(rt; all_go_so(rt.alloc(), &WITHOUT_THE_SEAT));
-}
-
 /// Returns whether this comes of a reply where a look-up of unique 1 was taken, and none of unique 2; it is taken once
 /// at most.
 fn is_posted_so(alloc: Global, unique: u64, said: Said, posted: Result<(), PostFault>) -> bool {
@@ -147,7 +117,7 @@ fn is_posted_so(alloc: Global, unique: u64, said: Said, posted: Result<(), PostF
 
 const NOT_ASKED: Result<(), PostFault> = Err(PostFault::NotAsked);
 
-const REPLIES: [(u64, Said, Result<(), PostFault>); 9] = [
+static REPLIES: [(u64, Said, Result<(), PostFault>); 9] = [
     (1, Said::Entry(2), Ok(())),
     (1, Said::Error(Errno::EIO), Ok(())),
     (1, Said::Entry(0), NOT_ASKED),
@@ -203,11 +173,6 @@ const ITEMS: [Item; 3] = [
     Item { node: NUMBER, k: 3 },
 ];
 
-#[test]
-fn gives_what_came_first_first(rt: HostRuntime) {
-    assert!(rt; all_go_so(rt.alloc(), &FIRST_FIRST));
-}
-
 /// Returns whether these come one after the other where so many items and one ask wait, and then nothing.
 fn are_taken(alloc: Global, items: u64, first: usize, second: usize) -> bool {
     let deeds = [
@@ -222,7 +187,7 @@ fn are_taken(alloc: Global, items: u64, first: usize, second: usize) -> bool {
     all_go_so(alloc, &deeds)
 }
 
-const BATCHES: [(u64, usize, usize); 4] = [(1, 0, 1), (2, 0, 2), (255, 0, 255), (256, 256, 0)];
+static BATCHES: [(u64, usize, usize); 4] = [(1, 0, 1), (2, 0, 2), (255, 0, 255), (256, 256, 0)];
 
 /// Returns whether that holds of each of these.
 fn are_all_taken(alloc: Global, batches: &[(u64, usize, usize)]) -> bool {
@@ -249,11 +214,6 @@ const ITEMS_IN_FULL: [Deed; 7] = [
     Deed::IssueEach(Wish::Forget(2, 1), 1),
 ];
 
-#[test]
-fn refuses_the_4097th_item(rt: HostRuntime) {
-    assert!(rt; all_go_so(rt.alloc(), &ITEMS_IN_FULL));
-}
-
 const ASKS_IN_FULL: [Deed; 9] = [
     SERVE,
     Deed::IssueEach(Wish::Getattr(1), 1024),
@@ -265,11 +225,6 @@ const ASKS_IN_FULL: [Deed; 9] = [
     Deed::Deliver(1, ANSWER),
     Deed::Issue(Wish::Getattr(1), Ok(Some(1025))),
 ];
-
-#[test]
-fn refuses_the_1025th_ask(rt: HostRuntime) {
-    assert!(rt; all_go_so(rt.alloc(), &ASKS_IN_FULL));
-}
 
 const STALE: ClaimFault = ClaimFault::Stale { now: 1 };
 
@@ -290,11 +245,6 @@ const CLAIMS: [Deed; 15] = [
     Deed::TakeAs(2, 2, 2),
     Deed::Claim(2, 2, Err(ClaimFault::Unanswered { asks: 1 })),
 ];
-
-#[test]
-fn hands_the_seat_to_who_claims_it(rt: HostRuntime) {
-    assert!(rt; all_go_so(rt.alloc(), &CLAIMS));
-}
 
 const ENDS: [Deed; 18] = [
     Deed::Gone(1),
@@ -317,7 +267,24 @@ const ENDS: [Deed; 18] = [
     Deed::Issue(Wish::Getattr(1), Ok(Some(5))),
 ];
 
+/// Each table above, with what it shows.
+static TABLES: [(&str, &[Deed]); 11] = [
+    ("serves one daemon", &ONE_DAEMON),
+    ("takes no request that is not held", &NOT_HELD),
+    ("takes no batch from the kernels side", &NO_BATCH),
+    ("holds a number from delivery to forget", &HOLDING),
+    ("keeps the numbers in order", &IN_ORDER),
+    ("refuses who has not the seat", &WITHOUT_THE_SEAT),
+    ("gives what came first first", &FIRST_FIRST),
+    ("refuses the 4097th item", &ITEMS_IN_FULL),
+    ("refuses the 1025th ask", &ASKS_IN_FULL),
+    ("hands the seat to who claims it", &CLAIMS),
+    ("ends with the daemon of the seat", &ENDS),
+];
+
 #[test]
-fn ends_with_the_daemon_of_the_seat(rt: HostRuntime) {
-    assert!(rt; all_go_so(rt.alloc(), &ENDS));
+fn goes_by_each_table(rt: HostRuntime) {
+    for (shown, deeds) in &TABLES {
+        assert!(rt; all_go_so(rt.alloc(), deeds), "{shown}");
+    }
 }

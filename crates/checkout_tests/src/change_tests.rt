@@ -5,11 +5,6 @@ use eden_base::Kind;
 
 const NOTHING: [Deed; 1] = [Deed::Differ(&[], &[], 6)];
 
-#[test]
-fn differs_in_nothing_at_first(rt: HostRuntime) {
-    assert!(rt; all_go_so(rt.alloc(), SMALL, &NOTHING));
-}
-
 const MOVED: [Deed; 3] = [
     Deed::Make(1, b"a", Kind::File, 0o644, 6),
     Deed::Remove((2, b"a", Some(3))),
@@ -20,22 +15,12 @@ const MOVED: [Deed; 3] = [
     ),
 ];
 
-#[test]
-fn tells_a_file_and_a_name_again_after_memory_was_refused(rt: HostRuntime) {
-    assert!(rt; all_go_so(rt.alloc(), SMALL, &MOVED));
-}
-
 const CAME_AND_WENT: [Deed; 4] = [
     Deed::Make(2, b"z", Kind::File, 0o600, 6),
     Deed::Differ(&[(6, Kind::File, 0o600)], &[(2, b"z", Some(6))], 7),
     Deed::Remove((2, b"z", Some(6))),
     Deed::Differ(&[(6, Kind::File, 0o600)], &[], 7),
 ];
-
-#[test]
-fn leaves_out_a_name_that_came_and_went(rt: HostRuntime) {
-    assert!(rt; all_go_so(rt.alloc(), SMALL, &CAME_AND_WENT));
-}
 
 /// Names are told by directory, and then byte by byte: upper case before lower case, which is before what is no ASCII.
 const IN_ORDER: [Deed; 8] = [
@@ -65,7 +50,25 @@ const IN_ORDER: [Deed; 8] = [
     ),
 ];
 
+/// Each table above, with what it shows, and the text of its manifest.
+static TABLES: [(&str, &[u8], &[Deed]); 4] = [
+    ("differs in nothing at first", SMALL, &NOTHING),
+    (
+        "tells a file and a name again after memory was refused",
+        SMALL,
+        &MOVED,
+    ),
+    (
+        "leaves out a name that came and went",
+        SMALL,
+        &CAME_AND_WENT,
+    ),
+    ("tells names by directory and bytes", SMALL, &IN_ORDER),
+];
+
 #[test]
-fn tells_names_by_directory_and_bytes(rt: HostRuntime) {
-    assert!(rt; all_go_so(rt.alloc(), SMALL, &IN_ORDER));
+fn goes_by_each_table_of_changes(rt: HostRuntime) {
+    for (shown, text, deeds) in &TABLES {
+        assert!(rt; all_go_so(rt.alloc(), text, deeds), "{shown}");
+    }
 }

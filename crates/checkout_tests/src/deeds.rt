@@ -2,7 +2,7 @@
 use crate::small::read_again;
 use checkout::{Changes, CreateFault, Made, Tree};
 use eden_base::{FileId, Kind, Name, NoMemory, Perm};
-use manifest::LinkChange;
+use manifest::{LinkChange, Manifest};
 use std::alloc::Global;
 
 /// A file that was made: its id, kind and permissions.
@@ -34,12 +34,23 @@ pub enum Deed {
     Differ(&'static [MadeRow], &'static [Named], u64),
 }
 
+/// Makes the tree of a manifest, again where memory was refused.
+fn tree_again(alloc: Global, manifest: &Manifest) -> Option<Tree> {
+    match Tree::of(alloc, manifest) {
+        Ok(tree) => Some(tree),
+        Err(NoMemory) => Tree::of(alloc, manifest).ok(),
+    }
+}
+
 /// Makes the tree of a text, again where memory was refused.
 fn tree_of(alloc: Global, text: &[u8]) -> Option<Tree> {
-    let manifest = read_again(alloc, text).ok()?;
-    match Tree::of(alloc, &manifest) {
-        Ok(tree) => Some(tree),
-        Err(NoMemory) => Tree::of(alloc, &manifest).ok(),
+    match read_again(alloc, text) {
+        Ok(manifest) => {
+            let tree = tree_again(alloc, &manifest);
+            drop(manifest);
+            tree
+        }
+        Err(_) => None,
     }
 }
 
@@ -92,7 +103,9 @@ fn is_made(alloc: Global, tree: &mut Tree, place: (u64, &[u8]), what: MadeRow) -
     let (file, kind, bits) = what;
     match (parsed(alloc, place.1), Perm::of(bits)) {
         (Some(name), Some(perm)) => {
-            created_again(tree, FileId(place.0), &name, kind, perm) == Some(FileId(file))
+            let made = created_again(tree, FileId(place.0), &name, kind, perm);
+            drop(name);
+            made == Some(FileId(file))
         }
         _ => false,
     }
@@ -212,9 +225,11 @@ fn are_named(links: &[LinkChange], names: &[Named]) -> bool {
 pub(crate) fn differs(tree: &Tree, made: &[MadeRow], names: &[Named], next: u64) -> bool {
     match changes_again(tree) {
         Some(changes) => {
-            are_rows(changes.made.as_slice(), made)
-                && are_named(changes.links.as_slice(), names)
-                && changes.next_file.0 == next
+            let are_told = are_rows(changes.made.as_slice(), made)
+                && are_named(changes.links.as_slice(), names);
+            let next_file = changes.next_file;
+            drop(changes);
+            are_told && next_file.0 == next
         }
         None => false,
     }
@@ -253,7 +268,9 @@ pub(crate) fn all_go_so(alloc: Global, text: &[u8], deeds: &[Deed]) -> bool {
     match tree_of(alloc, text) {
         Some(tree) => {
             let mut tree = tree;
-            each_goes_so(alloc, &mut tree, deeds)
+            let go_so = each_goes_so(alloc, &mut tree, deeds);
+            drop(tree);
+            go_so
         }
         None => false,
     }

@@ -13,11 +13,6 @@ const CHILDREN: [Deed; 6] = [
     Deed::Find((3, b"a", None)),
 ];
 
-#[test]
-fn finds_the_files_of_a_small_manifest(rt: HostRuntime) {
-    assert!(rt; all_go_so(rt.alloc(), SMALL, &CHILDREN));
-}
-
 /// The files of `SMALL`, with their kind, permissions, size and count of links.
 const ATTRIBUTES: [Deed; 6] = [
     Deed::Show(0, None),
@@ -27,11 +22,6 @@ const ATTRIBUTES: [Deed; 6] = [
     Deed::Show(5, Some((Kind::File, 0o644, 7, 1))),
     Deed::Show(6, None),
 ];
-
-#[test]
-fn tells_attributes_as_a_line_has_them(rt: HostRuntime) {
-    assert!(rt; all_go_so(rt.alloc(), SMALL, &ATTRIBUTES));
-}
 
 /// A directory in a directory, and a file beside them.
 const NESTED: &[u8] =
@@ -46,11 +36,6 @@ const NESTED_EMPTY: [Deed; 5] = [
     Deed::IsEmpty(5, false),
 ];
 
-#[test]
-fn takes_a_directory_of_directories_for_one_with_entries(rt: HostRuntime) {
-    assert!(rt; all_go_so(rt.alloc(), NESTED, &NESTED_EMPTY));
-}
-
 /// A directory is made and a file in it; then they are taken out, the directory first in vain.
 const FILLED: [Deed; 10] = [
     Deed::Make(1, b"d", Kind::Dir, 0o755, 6),
@@ -64,11 +49,6 @@ const FILLED: [Deed; 10] = [
     Deed::Tell(6, Kind::Dir, 0, true),
     Deed::Tell(7, Kind::File, 0, false),
 ];
-
-#[test]
-fn fills_and_empties_a_directory_again_after_memory_was_refused(rt: HostRuntime) {
-    assert!(rt; all_go_so(rt.alloc(), SMALL, &FILLED));
-}
 
 /// What `SMALL` has is taken out, and a file is made under the name of its directory.
 const TAKEN: [Deed; 11] = [
@@ -85,11 +65,6 @@ const TAKEN: [Deed; 11] = [
     Deed::Tell(6, Kind::File, 1, false),
 ];
 
-#[test]
-fn removes_what_the_manifest_has_and_makes_it_anew(rt: HostRuntime) {
-    assert!(rt; all_go_so(rt.alloc(), SMALL, &TAKEN));
-}
-
 const MADE_IN_SRC: [Deed; 4] = [
     Deed::Make(2, b"made", Kind::File, 0o755, 6),
     Deed::Perm(5, None),
@@ -98,11 +73,39 @@ const MADE_IN_SRC: [Deed; 4] = [
 ];
 
 #[test]
-fn tells_the_permissions_of_made_files_alone(rt: HostRuntime) {
-    assert!(rt; all_go_so(rt.alloc(), SMALL, &MADE_IN_SRC));
-}
-
-#[test]
 fn names_the_root_and_its_permissions_as_fuse_does(rt: HostRuntime) {
     assert!(rt; FileId::ROOT.0 == 1 && Number::ROOT.0 == 1 && Perm::DIRECTORY.bits == 0o755);
+}
+
+/// Each table above, with what it shows, and the text of its manifest.
+static TABLES: [(&str, &[u8], &[Deed]); 6] = [
+    ("finds the files of a small manifest", SMALL, &CHILDREN),
+    ("tells attributes as a line has them", SMALL, &ATTRIBUTES),
+    (
+        "takes a directory of directories for one with entries",
+        NESTED,
+        &NESTED_EMPTY,
+    ),
+    (
+        "fills and empties a directory again after memory was refused",
+        SMALL,
+        &FILLED,
+    ),
+    (
+        "removes what the manifest has and makes it anew",
+        SMALL,
+        &TAKEN,
+    ),
+    (
+        "tells the permissions of made files alone",
+        SMALL,
+        &MADE_IN_SRC,
+    ),
+];
+
+#[test]
+fn goes_by_each_table_of_files(rt: HostRuntime) {
+    for (shown, text, deeds) in &TABLES {
+        assert!(rt; all_go_so(rt.alloc(), text, deeds), "{shown}");
+    }
 }

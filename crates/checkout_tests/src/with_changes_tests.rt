@@ -72,34 +72,53 @@ fn changed(alloc: Global, manifest: &Manifest, changes: &Changes) -> Result<Tree
     }
 }
 
-/// Returns whether a tree is made of changes and tells just them; or why none is made.
+/// Returns whether a tree is made of changes and tells just them, or the first that no tree has is at this place.
 fn is_told_again(
     alloc: Global,
     manifest: &Manifest,
     changes: &Changes,
     told: Told,
-) -> Result<bool, ChangeFault> {
+    place: Option<usize>,
+) -> bool {
     match changed(alloc, manifest, changes) {
-        Ok(tree) => Ok(differs(&tree, told.0, told.1, told.2)),
-        Err(fault) => Err(fault),
+        Ok(tree) => {
+            let is_told = differs(&tree, told.0, told.1, told.2);
+            drop(tree);
+            is_told && place.is_none()
+        }
+        Err(ChangeFault::BadChange(at)) => place == Some(at),
+        Err(ChangeFault::NoMemory) => false,
     }
 }
 
-/// Returns whether these changes of `SMALL` are told again, or the first of them that no tree has is at this place.
-fn goes_so(alloc: Global, told: Told, place: Option<usize>) -> Option<bool> {
-    let manifest = read_again(alloc, SMALL).ok()?;
-    let changes = changes_again(alloc, told)?;
-    let is_told = is_told_again(alloc, &manifest, &changes, told);
-    match place {
-        Some(place) => Some(is_told == Err(ChangeFault::BadChange(place))),
-        None => Some(is_told == Ok(true)),
+/// Returns that of what is told of a manifest.
+fn goes_so_with(alloc: Global, manifest: &Manifest, told: Told, place: Option<usize>) -> bool {
+    match changes_again(alloc, told) {
+        Some(changes) => {
+            let goes_so = is_told_again(alloc, manifest, &changes, told, place);
+            drop(changes);
+            goes_so
+        }
+        None => false,
+    }
+}
+
+/// Returns that of what is told of `SMALL`.
+fn goes_so(alloc: Global, told: Told, place: Option<usize>) -> bool {
+    match read_again(alloc, SMALL) {
+        Ok(manifest) => {
+            let goes_so = goes_so_with(alloc, &manifest, told, place);
+            drop(manifest);
+            goes_so
+        }
+        Err(_) => false,
     }
 }
 
 /// Changes, and the place of the first that no tree has. A file moved; a directory was made, and a file in it. The next
 /// file is the manifest's; a file stands twice; a directory with names in it lost its own; two directories stand in
 /// each other.
-const ROWS: [(Told, Option<usize>); 6] = [
+static ROWS: [(Told, Option<usize>); 6] = [
     ((&[], &[(1, b"z", Some(3)), (2, b"a", None)], 6), None),
     (
         (
@@ -125,11 +144,11 @@ const ROWS: [(Told, Option<usize>); 6] = [
 #[test]
 fn tells_the_first_change_that_no_tree_has(rt: HostRuntime) {
     for (told, place) in &ROWS {
-        assert!(rt; goes_so(rt.alloc(), *told, *place) == Some(true));
+        assert!(rt; goes_so(rt.alloc(), *told, *place));
     }
 }
 
-const MOVED: Told = (
+static MOVED: Told = (
     &[(6, Kind::File, 0o400)],
     &[
         (1, b"README", Some(3)),
@@ -141,5 +160,5 @@ const MOVED: Told = (
 
 #[test]
 fn has_the_changes_that_it_was_made_of(rt: HostRuntime) {
-    assert!(rt; goes_so(rt.alloc(), MOVED, None) == Some(true));
+    assert!(rt; goes_so(rt.alloc(), MOVED, None));
 }

@@ -130,8 +130,13 @@ impl Hosted {
     /// Serves a text.
     fn of(alloc: Global, text: &[u8], limit: usize) -> Option<Hosted> {
         let manifest = read_again(alloc, text)?;
-        let served = served_of(alloc, &manifest, limit)?;
-        Some(Hosted { served, manifest })
+        match served_of(alloc, &manifest, limit) {
+            Some(served) => Some(Hosted { served, manifest }),
+            None => {
+                drop(manifest);
+                None
+            }
+        }
     }
 
     /// Answers a request from the manifest.
@@ -359,22 +364,12 @@ const FIRST_ERRORS: [Deed; 6] = [
     Deed::At(1, 1, 4, 0, 4),
 ];
 
-#[test]
-fn answers_the_first_error_or_an_entry(rt: HostRuntime) {
-    assert!(rt; all_go_so(rt.alloc(), &FIRST_ERRORS));
-}
-
 const LOOKED_UP_AGAIN: [Deed; 4] = [
     Deed::Enter(Asks::LookUp, 1, b"src", 2, Is::Directory),
     Deed::Enter(Asks::LookUp, 2, b"a", 3, Is::File),
     Deed::Enter(Asks::LookUp, 1, b"src", 2, Is::Directory),
     Deed::At(2, 1, 4, 0, 4),
 ];
-
-#[test]
-fn gives_each_name_one_number(rt: HostRuntime) {
-    assert!(rt; all_go_so(rt.alloc(), &LOOKED_UP_AGAIN));
-}
 
 /// Of these, the second, third and fourth are bad, and the fifth is the root's.
 const ITEMS: [Item; 6] = [
@@ -413,11 +408,6 @@ const BATCHED: [Deed; 6] = [
     Deed::ShowNone(3),
 ];
 
-#[test]
-fn applies_each_item_of_a_batch_by_itself(rt: HostRuntime) {
-    assert!(rt; all_go_so(rt.alloc(), &BATCHED));
-}
-
 const FORGOTTEN: [Deed; 6] = [
     Deed::Enter(Asks::LookUp, 1, b"src", 2, Is::Directory),
     Deed::Enter(Asks::LookUp, 1, b"src", 2, Is::Directory),
@@ -426,11 +416,6 @@ const FORGOTTEN: [Deed; 6] = [
     Deed::Enter(Asks::LookUp, 1, b"src", 3, Is::Directory),
     Deed::At(0, 1, 4, 0, 4),
 ];
-
-#[test]
-fn forgets_one_item(rt: HostRuntime) {
-    assert!(rt; all_go_so(rt.alloc(), &FORGOTTEN));
-}
 
 const SHOWN: [Deed; 8] = [
     Deed::Enter(Asks::LookUp, 1, b"src", 2, Is::Directory),
@@ -443,20 +428,10 @@ const SHOWN: [Deed; 8] = [
     Deed::At(1, 1, 4, 0, 4),
 ];
 
-#[test]
-fn shows_attributes_and_counts_nothing(rt: HostRuntime) {
-    assert!(rt; all_go_so(rt.alloc(), &SHOWN));
-}
-
 const NOT_SERVED: [Deed; 2] = [
     Deed::Refuse(Asks::Open, 1, b"src", Errno::ENOSYS),
     Deed::At(0, 0, 2, 0, 4),
 ];
-
-#[test]
-fn answers_enosys_to_what_is_not_served(rt: HostRuntime) {
-    assert!(rt; all_go_so(rt.alloc(), &NOT_SERVED));
-}
 
 const MADE_AND_FOUND: [Deed; 4] = [
     Deed::Create(1, b"b", 2),
@@ -464,11 +439,6 @@ const MADE_AND_FOUND: [Deed; 4] = [
     Deed::Show(2, Is::Made),
     Deed::At(2, 0, 3, 0, 5),
 ];
-
-#[test]
-fn makes_a_file_and_gives_its_number(rt: HostRuntime) {
-    assert!(rt; all_go_so(rt.alloc(), &MADE_AND_FOUND));
-}
 
 const FILLED_AND_REMOVED: [Deed; 11] = [
     Deed::Enter(Asks::Mkdir, 1, b"d", 2, Is::MadeDirectory),
@@ -484,11 +454,6 @@ const FILLED_AND_REMOVED: [Deed; 11] = [
     Deed::At(1, 1, 4, 0, 6),
 ];
 
-#[test]
-fn keeps_a_removed_directory_that_is_held(rt: HostRuntime) {
-    assert!(rt; all_go_so(rt.alloc(), &FILLED_AND_REMOVED));
-}
-
 const UNLINKED_AND_MADE: [Deed; 9] = [
     Deed::Enter(Asks::LookUp, 1, b"src", 2, Is::Directory),
     Deed::Enter(Asks::LookUp, 2, b"a", 3, Is::File),
@@ -500,11 +465,6 @@ const UNLINKED_AND_MADE: [Deed; 9] = [
     Deed::Show(4, Is::Made),
     Deed::At(1, 1, 5, 0, 5),
 ];
-
-#[test]
-fn keeps_an_unlinked_file_that_is_held(rt: HostRuntime) {
-    assert!(rt; all_go_so(rt.alloc(), &UNLINKED_AND_MADE));
-}
 
 /// Number 2 is the directory `src`, and 3 is the file `a` in it.
 const REFUSED: [Deed; 18] = [
@@ -528,11 +488,6 @@ const REFUSED: [Deed; 18] = [
     Deed::At(1, 1, 4, 0, 4),
 ];
 
-#[test]
-fn answers_each_error_and_changes_nothing(rt: HostRuntime) {
-    assert!(rt; all_go_so(rt.alloc(), &REFUSED));
-}
-
 /// Number 3 is the file `a`, before and after it lost its name. Nothing is in a file, so that a name is missing there
 /// too, and nothing can be made in what is unlinked.
 const ASKED_OF_A_FILE: [Deed; 9] = [
@@ -546,11 +501,6 @@ const ASKED_OF_A_FILE: [Deed; 9] = [
     Deed::Refuse(Asks::Mkdir, 3, b"b", Errno::ENOTDIR),
     Deed::At(1, 1, 4, 0, 4),
 ];
-
-#[test]
-fn tells_that_no_directory_is_asked_before_what_is_missing(rt: HostRuntime) {
-    assert!(rt; all_go_so(rt.alloc(), &ASKED_OF_A_FILE));
-}
 
 const FOUR_FILES: &[u8] =
     b"commit 0123456789abcdef0123456789abcdef01234567\ndir src\nfile 0644 12 src/a\nfile 0600 3 src/b\nfile 0644 40 README\n";
@@ -655,7 +605,7 @@ fn fails_at(alloc: Global, place: usize, next: u64) -> Option<bool> {
 }
 
 /// The place of a request, the next number then, and whether the request asks the backing.
-const FAILING: [(usize, u64, bool); 5] = [
+static FAILING: [(usize, u64, bool); 5] = [
     (0, 2, false),
     (1, 3, true),
     (2, 4, true),
@@ -706,7 +656,7 @@ fn stay_loaded(alloc: Global, limit: usize) -> Option<[bool; 3]> {
 }
 
 /// A limit, and whether each of the files stays loaded.
-const LOADED: [(usize, [bool; 3]); 3] = [
+static LOADED: [(usize, [bool; 3]); 3] = [
     (1, [false, false, true]),
     (2, [false, true, true]),
     (3, [true, true, true]),
@@ -716,5 +666,33 @@ const LOADED: [(usize, [bool; 3]); 3] = [
 fn keeps_as_many_loaded_as_the_limit_says(rt: HostRuntime) {
     for (limit, loaded) in &LOADED {
         assert!(rt; stay_loaded(rt.alloc(), *limit) == Some(*loaded));
+    }
+}
+
+/// Each table above, with what it shows.
+static TABLES: [(&str, &[Deed]); 11] = [
+    ("answers the first error or an entry", &FIRST_ERRORS),
+    ("gives each name one number", &LOOKED_UP_AGAIN),
+    ("applies each item of a batch by itself", &BATCHED),
+    ("forgets one item", &FORGOTTEN),
+    ("shows attributes and counts nothing", &SHOWN),
+    ("answers enosys to what is not served", &NOT_SERVED),
+    ("makes a file and gives its number", &MADE_AND_FOUND),
+    (
+        "keeps a removed directory that is held",
+        &FILLED_AND_REMOVED,
+    ),
+    ("keeps an unlinked file that is held", &UNLINKED_AND_MADE),
+    ("answers each error and changes nothing", &REFUSED),
+    (
+        "tells that no directory is asked before what is missing",
+        &ASKED_OF_A_FILE,
+    ),
+];
+
+#[test]
+fn goes_by_each_table(rt: HostRuntime) {
+    for (shown, deeds) in &TABLES {
+        assert!(rt; all_go_so(rt.alloc(), deeds), "{shown}");
     }
 }

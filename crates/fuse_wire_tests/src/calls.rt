@@ -84,7 +84,11 @@ pub(crate) fn is_written(alloc: Global, ask: &Ask, written: &[u8]) -> bool
     requires { IsSendable ask.now.what }
 {
     match write(alloc, ask) {
-        Ok(bytes) => bytes.as_slice() == written,
+        Ok(bytes) => {
+            let is_same = bytes.as_slice() == written;
+            drop(bytes);
+            is_same
+        }
         Err(NoMemory) => false,
     }
 }
@@ -92,7 +96,11 @@ pub(crate) fn is_written(alloc: Global, ask: &Ask, written: &[u8]) -> bool
 /// Returns whether the request of the bytes is written as these.
 pub(crate) fn is_written_again(alloc: Global, bytes: &[u8], written: &[u8]) -> bool {
     match read(alloc, bytes) {
-        Ok(ask) => is_written(alloc, &ask, written),
+        Ok(ask) => {
+            let is_same = is_written(alloc, &ask, written);
+            drop(ask);
+            is_same
+        }
         Err(_) => false,
     }
 }
@@ -100,7 +108,11 @@ pub(crate) fn is_written_again(alloc: Global, bytes: &[u8], written: &[u8]) -> b
 /// Returns whether the copy of a request is it.
 fn is_copied(alloc: Global, request: &Request) -> bool {
     match copy(alloc, request) {
-        Ok(copy) => copy == *request,
+        Ok(copy) => {
+            let is_same = copy == *request;
+            drop(copy);
+            is_same
+        }
         Err(NoMemory) => false,
     }
 }
@@ -108,7 +120,12 @@ fn is_copied(alloc: Global, request: &Request) -> bool {
 /// Returns whether the copy of a request to rooms is it.
 fn is_copied_to_rooms(alloc: Global, request: &Request) -> bool {
     match rooms(alloc) {
-        Ok((first, second, batch)) => request.copy_to(first, second, batch) == *request,
+        Ok((first, second, batch)) => {
+            let copy = request.copy_to(first, second, batch);
+            let is_same = copy == *request;
+            drop(copy);
+            is_same
+        }
         Err(NoMemory) => false,
     }
 }
@@ -124,7 +141,11 @@ fn read_to_rooms(alloc: Global, bytes: &[u8]) -> Result<Ask, WireFault> {
 /// Returns whether what is read to rooms is an ask.
 fn is_read_to_rooms(alloc: Global, bytes: &[u8], ask: &Ask) -> bool {
     match read_to_rooms(alloc, bytes) {
-        Ok(read) => read == *ask,
+        Ok(read) => {
+            let is_same = read == *ask;
+            drop(read);
+            is_same
+        }
         Err(_) => false,
     }
 }
@@ -134,10 +155,12 @@ fn is_read_to_rooms(alloc: Global, bytes: &[u8], ask: &Ask) -> bool {
 pub(crate) fn is_kept(alloc: Global, bytes: &[u8]) -> bool {
     match read(alloc, bytes) {
         Ok(ask) => {
-            is_read_to_rooms(alloc, bytes, &ask)
+            let is_kept = is_read_to_rooms(alloc, bytes, &ask)
                 && is_written(alloc, &ask, bytes)
                 && is_copied_to_rooms(alloc, &ask.what)
-                && is_copied(alloc, &ask.what)
+                && is_copied(alloc, &ask.what);
+            drop(ask);
+            is_kept
         }
         Err(_) => false,
     }
@@ -146,7 +169,10 @@ pub(crate) fn is_kept(alloc: Global, bytes: &[u8]) -> bool {
 /// Returns whether the bytes are no request, for this cause.
 pub(crate) fn is_refused(alloc: Global, bytes: &[u8], fault: WireFault) -> bool {
     match read_request(alloc, bytes) {
-        Ok(_) => false,
+        Ok(ask) => {
+            drop(ask);
+            false
+        }
         Err(told) => told == fault,
     }
 }
@@ -154,7 +180,11 @@ pub(crate) fn is_refused(alloc: Global, bytes: &[u8], fault: WireFault) -> bool 
 /// Returns whether the copies of a batch are it.
 fn is_batch_copied(alloc: Global, batch: &Batch) -> bool {
     match copy_of(alloc, batch) {
-        Ok(copy) => copy == *batch,
+        Ok(copy) => {
+            let is_same = copy == *batch;
+            drop(copy);
+            is_same
+        }
         Err(NoMemory) => false,
     }
 }
@@ -171,9 +201,11 @@ fn is_batch_copied_to_room(alloc: Global, batch: &Batch) -> bool {
 fn is_batch_kept(alloc: Global, items: &Items) -> bool {
     match batch_of(alloc, items) {
         Ok(batch) => {
-            batch.as_slice() == items.as_slice()
+            let is_kept = batch.as_slice() == items.as_slice()
                 && is_batch_copied(alloc, &batch)
-                && is_batch_copied_to_room(alloc, &batch)
+                && is_batch_copied_to_room(alloc, &batch);
+            drop(batch);
+            is_kept
         }
         Err(NoMemory) => false,
     }

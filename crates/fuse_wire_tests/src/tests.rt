@@ -1,6 +1,6 @@
 //! Vectors from outside, limits, and that calls succeed: where one allocation is refused, those that take memory tell
 //! so, and succeed when they are made once more. So every test passes under `rt try --test --fail-alloc N`, for each N.
-ghost use Rattle.std.specs.Prelude.{◌<◌, ◌^◌};
+ghost use Rattle.std.specs.Prelude.{◌<◌, ◌≤◌, ◌^◌};
 
 use crate::calls::{
     are_items_kept, is_kept, is_refused, is_reply_kept, is_spelled, is_written_again, read,
@@ -10,9 +10,9 @@ use eden_base::{Attr, Errno, Kind, NameFault, NoMemory, Number, Perm};
 use fuse_wire::{
     Answer, Ask, Item, Reply, Request, WireFault, fault_reply, read_items, read_reply, read_request,
 };
-use std::alloc::Global;
+use std::alloc::{AllocError, Global};
 
-const KINDS: [&[u8]; 9] = [
+static KINDS: [&[u8]; 9] = [
     &LOOKUP,
     &FORGET,
     &GETATTR,
@@ -39,7 +39,7 @@ fn keeps_each_kind(rt: HostRuntime) {
     assert!(rt; are_kept(rt.alloc(), &KINDS));
 }
 
-const OF_KERNEL: [(&[u8], &[u8]); 3] = [
+static OF_KERNEL: [(&[u8], &[u8]); 3] = [
     (&GETATTR_OF_KERNEL, &GETATTR),
     (&MKDIR_OF_KERNEL, &MKDIR),
     (&CREATE_OF_KERNEL, &CREATE),
@@ -83,7 +83,11 @@ fn is_create(ask: &Ask, unique: u64, node: u64, bytes: &[u8], bits: u16) -> bool
 /// Returns whether the bytes are a lookup of `src` in 1, of unique 3.
 fn reads_src(alloc: Global, bytes: &[u8]) -> bool {
     match read(alloc, bytes) {
-        Ok(ask) => is_lookup(&ask, 3, 1, b"src"),
+        Ok(ask) => {
+            let is_it = is_lookup(&ask, 3, 1, b"src");
+            drop(ask);
+            is_it
+        }
         Err(_) => false,
     }
 }
@@ -96,7 +100,11 @@ fn reads_a_lookup(rt: HostRuntime) {
 /// Returns whether the bytes are a create of `a` in 1 with 0o644, of unique 8.
 fn reads_a(alloc: Global, bytes: &[u8]) -> bool {
     match read(alloc, bytes) {
-        Ok(ask) => is_create(&ask, 8, 1, b"a", 0o644),
+        Ok(ask) => {
+            let is_it = is_create(&ask, 8, 1, b"a", 0o644);
+            drop(ask);
+            is_it
+        }
         Err(_) => false,
     }
 }
@@ -108,11 +116,11 @@ fn reads_a_create(rt: HostRuntime) {
 
 const TWO: Number = Number(2);
 
-const ONE_ITEM: [Item; 1] = [Item { node: TWO, k: 2 }];
+static ONE_ITEM: [Item; 1] = [Item { node: TWO, k: 2 }];
 
 const THREE: Number = Number(3);
 
-const TWO_ITEMS: [Item; 2] = [Item { node: TWO, k: 1 }, Item { node: THREE, k: 2 }];
+static TWO_ITEMS: [Item; 2] = [Item { node: TWO, k: 1 }, Item { node: THREE, k: 2 }];
 
 /// Returns whether the bytes have these items.
 pub(crate) fn has_items(bytes: &[u8], items: &[Item]) -> bool {
@@ -211,7 +219,7 @@ fn writes_and_reads_each_answer(rt: HostRuntime) {
 }
 
 /// Each error, and the lowest byte of it in a reply.
-const ERRORS: [(Errno, u8); 13] = [
+static ERRORS: [(Errno, u8); 13] = [
     (Errno::ENOENT, 0xfe),
     (Errno::EIO, 0xfb),
     (Errno::ENOMEM, 0xf4),
@@ -321,7 +329,21 @@ fn refuses_broken_headers_and_bodies(rt: HostRuntime) {
     assert!(rt; refuses_broken(rt.alloc()));
 }
 
-/// Makes a request whose body begins with these bytes, goes on with one byte repeated, and ends with NUL.
+/// Puts a request of so many bytes, whose body begins with these bytes, goes on with one byte repeated, and ends with
+/// NUL.
+fn fill(bytes: &mut Vec<u8>, opcode: u8, front: &[u8], len: u32, byte: u8) -> Result<(), AllocError>
+    requires { 1 ≤ len }
+{
+    bytes.extend_from_slice(&len.to_le_bytes())?;
+    bytes.extend_from_slice(&[opcode, 0, 0, 0, 7])?;
+    bytes.resize(40, 0)?;
+    bytes.extend_from_slice(front)?;
+    bytes.resize(len as usize - 1, byte)?;
+    bytes.push(0)?;
+    Ok(())
+}
+
+/// Makes a request with a body of so many bytes.
 fn filled(
     alloc: Global,
     opcode: u8,
@@ -333,12 +355,11 @@ fn filled(
 {
     let len = 40 + body_len;
     let mut bytes = Vec::with_capacity(alloc, len as usize)?;
-    bytes.extend_from_slice(&len.to_le_bytes())?;
-    bytes.extend_from_slice(&[opcode, 0, 0, 0, 7])?;
-    bytes.resize(40, 0)?;
-    bytes.extend_from_slice(front)?;
-    bytes.resize(len as usize - 1, byte)?;
-    bytes.push(0)?;
+    let is_filled = fill(&mut bytes, opcode, front, len, byte).is_ok();
+    if !is_filled {
+        drop(bytes);
+        return Err(NoMemory);
+    }
     Ok(bytes)
 }
 
@@ -364,7 +385,11 @@ fn batch_text(alloc: Global, count: u16) -> Result<Vec<u8>, NoMemory> {
 /// Returns whether a lookup of a name of so many bytes is kept.
 fn is_name_kept(alloc: Global, len: u16) -> bool {
     match lookup_of(alloc, len) {
-        Ok(text) => is_kept(alloc, text.as_slice()),
+        Ok(text) => {
+            let is_kept = is_kept(alloc, text.as_slice());
+            drop(text);
+            is_kept
+        }
         Err(NoMemory) => false,
     }
 }
@@ -384,12 +409,16 @@ fn keeps_names_of_all_lengths(rt: HostRuntime) {
     assert!(rt; is_each_name_kept(rt.alloc()));
 }
 
-const COUNTS: [u16; 12] = [0, 1, 2, 3, 8, 28, 29, 30, 64, 100, 255, 256];
+static COUNTS: [u16; 12] = [0, 1, 2, 3, 8, 28, 29, 30, 64, 100, 255, 256];
 
 /// Returns whether a batch of so many items is kept.
 fn is_count_kept(alloc: Global, count: u16) -> bool {
     match batch_text(alloc, count) {
-        Ok(text) => is_kept(alloc, text.as_slice()),
+        Ok(text) => {
+            let is_kept = is_kept(alloc, text.as_slice());
+            drop(text);
+            is_kept
+        }
         Err(NoMemory) => false,
     }
 }
@@ -433,8 +462,10 @@ fn is_answered(request: &[u8], fault: &WireFault, bytes: &[u8]) -> bool {
 fn refuses_a_longer_name(alloc: Global) -> bool {
     match lookup_of(alloc, 256) {
         Ok(longer) => {
-            is_refused(alloc, longer.as_slice(), TOO_LONG)
-                && is_answered(longer.as_slice(), &TOO_LONG, &error_bytes(0xdc))
+            let is_refused = is_refused(alloc, longer.as_slice(), TOO_LONG)
+                && is_answered(longer.as_slice(), &TOO_LONG, &error_bytes(0xdc));
+            drop(longer);
+            is_refused
         }
         Err(NoMemory) => false,
     }
@@ -448,7 +479,11 @@ fn reads_no_name_of_256_bytes(rt: HostRuntime) {
 /// Returns whether 256 items are read, of so many bytes.
 fn reads_all_items(alloc: Global) -> bool {
     match batch_text(alloc, 256) {
-        Ok(full) => full.len() == 4144 && items_read(full.as_slice()) == Ok(256),
+        Ok(full) => {
+            let are_read = full.len() == 4144 && items_read(full.as_slice()) == Ok(256);
+            drop(full);
+            are_read
+        }
         Err(NoMemory) => false,
     }
 }
@@ -457,8 +492,10 @@ fn reads_all_items(alloc: Global) -> bool {
 fn refuses_an_item_more(alloc: Global) -> bool {
     match batch_text(alloc, 257) {
         Ok(over) => {
-            items_read(over.as_slice()) == Err(WireFault::BadCount)
-                && is_refused(alloc, over.as_slice(), WireFault::BadCount)
+            let is_refused = items_read(over.as_slice()) == Err(WireFault::BadCount)
+                && is_refused(alloc, over.as_slice(), WireFault::BadCount);
+            drop(over);
+            is_refused
         }
         Err(NoMemory) => false,
     }
@@ -478,21 +515,26 @@ fn copies_a_batch(rt: HostRuntime) {
 /// Returns whether a request is an ask that goes to one number, 0 for a forget, which goes to none.
 fn goes_to(request: &Request, node: u64) -> bool {
     let nodes = request.nodes();
-    match nodes.as_slice().first() {
-        Some(first) => request.is_ask() && first.0 == node && nodes.as_slice().len() == 1,
-        None => !request.is_ask() && node == 0,
+    match nodes.as_slice() {
+        [first] => request.is_ask() && first.0 == node,
+        [] => !request.is_ask() && node == 0,
+        _ => false,
     }
 }
 
 /// Returns that of the request of these bytes.
 fn is_read_to_go_to(alloc: Global, bytes: &[u8], node: u64) -> bool {
     match read(alloc, bytes) {
-        Ok(ask) => goes_to(&ask.what, node),
+        Ok(ask) => {
+            let does = goes_to(&ask.what, node);
+            drop(ask);
+            does
+        }
         Err(_) => false,
     }
 }
 
-const NODES: [(&[u8], u64); 9] = [
+static NODES: [(&[u8], u64); 9] = [
     (&LOOKUP, 1),
     (&UNLINK, 1),
     (&RMDIR, 1),
@@ -519,9 +561,9 @@ fn tells_asks_and_their_numbers(rt: HostRuntime) {
     assert!(rt; each_goes_to(rt.alloc(), &NODES));
 }
 
-const SERVED: [u32; 8] = [1, 2, 3, 9, 10, 11, 35, 42];
+static SERVED: [u32; 8] = [1, 2, 3, 9, 10, 11, 35, 42];
 
-const OTHERS: [u32; 6] = [0, 12, 14, 15, 43, 0xffff_ffff];
+static OTHERS: [u32; 6] = [0, 12, 14, 15, 43, 0xffff_ffff];
 
 /// Returns whether a request of an opcode is made just where that is one of the others.
 fn is_made(opcode: u32, other: bool) -> bool {

@@ -78,7 +78,9 @@ fn is_sent(alloc: Global, wish: Wish, written: &[u8]) -> bool {
                 unique: UNIQUE,
                 what,
             };
-            is_written(alloc, &ask, written)
+            let is_same = is_written(alloc, &ask, written);
+            drop(ask);
+            is_same
         }
         None => false,
     }
@@ -87,7 +89,7 @@ fn is_sent(alloc: Global, wish: Wish, written: &[u8]) -> bool {
 /// A request, its bytes, and the same with what is ignored filled in.
 type Sent = (Wish, &'static [u8], &'static [u8]);
 
-const SENT: [Sent; 8] = [
+static SENT: [Sent; 8] = [
     (Wish::Lookup, &LOOKUP, &LOOKUP_FILLED),
     (Wish::Unlink, &UNLINK, &UNLINK_FILLED),
     (Wish::Rmdir, &RMDIR, &RMDIR_FILLED),
@@ -118,7 +120,7 @@ const FIRST: Number = Number(0x5857565554535251);
 
 const SECOND: Number = Number(0x6867666564636261);
 
-const ITEMS: [Item; 2] = [
+static ITEMS: [Item; 2] = [
     Item {
         node: FIRST,
         k: 0x605f5e5d5c5b5a59,

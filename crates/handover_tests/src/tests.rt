@@ -27,7 +27,7 @@ enum Operation {
 }
 
 /// `lib` gets number 2 and is held twice, `y` is made with number 3, and `x` of `lib` goes without a number.
-const WISHES: [Wish; 4] = [
+static WISHES: [Wish; 4] = [
     (Operation::Lookup, 1, b"lib"),
     (Operation::Lookup, 1, b"lib"),
     (Operation::Create, 1, b"y"),

@@ -8,48 +8,14 @@ const SMALL: &[u8] =
 
 const HEAD: &[u8] = b"commit 0123456789abcdef0123456789abcdef01234567\n";
 
+/// A commit as in the others, in upper case.
+const UPPER: &[u8] = b"commit 0123456789ABCDEF0123456789abcdef01234567\n";
+
+const ODD: &[u8] =
+    b"commit 0123456789abcdef0123456789abcdef01234567\nfile 0644 9223372036854775807 z\nfile 7777 0 a b  c\nfile 0000 0 \xff\x01\xe9\ndir z\r\ndir ...\ndir  \ndir a\ndir a/a\ndir a/a/a\nfile 0644 1 a/a/a/a\n";
+
 /// As far as a name.
 const DIR_LINE: &[u8] = b"commit 0123456789abcdef0123456789abcdef01234567\ndir ";
-
-/// Returns the fault of a text, if it is no manifest.
-fn fault_of(alloc: Global, text: &[u8]) -> Option<ManifestFault> {
-    match Manifest::read(alloc, text) {
-        Ok(_) => None,
-        Err(fault) => Some(fault),
-    }
-}
-
-fn joined(alloc: Global, front: &[u8], back: &[u8]) -> Result<Vec<u8>, AllocError> {
-    let mut text = Vec::from_slice(alloc, front)?;
-    text.extend_from_slice(back)?;
-    Ok(text)
-}
-
-/// Returns whether a text with these bytes behind it is refused so, or is a manifest where no fault is said.
-fn is_fault(alloc: Global, front: &[u8], back: &[u8], fault: Option<ManifestFault>) -> bool {
-    match joined(alloc, front, back) {
-        Ok(text) => fault_of(alloc, text.as_slice()) == fault,
-        Err(AllocError) => false,
-    }
-}
-
-/// Returns whether a line is refused so below these lines, with an LF after it.
-fn is_bad_line(alloc: Global, above: &[u8], line: &[u8], fault: ManifestFault) -> bool {
-    match joined(alloc, above, line) {
-        Ok(text) => is_fault(alloc, text.as_slice(), b"\n".as_slice(), Some(fault)),
-        Err(AllocError) => false,
-    }
-}
-
-/// Returns whether each of these lines, parted by semicolons, is refused so below these lines.
-fn are_bad_lines(alloc: Global, above: &[u8], lines: &[u8], fault: ManifestFault) -> bool {
-    for line in lines.split(|byte| *byte == b';') {
-        if !is_bad_line(alloc, above, line, fault) {
-            return false;
-        }
-    }
-    true
-}
 
 const BAD_LINES: &[u8] = b";dir; dir z;Dir z;link z;commit z;file;file 0644;file 0644 1";
 
@@ -66,170 +32,204 @@ const NO_PARENTS: &[u8] = b"file 0644 1 x/y;dir a/b;dir a/src;dir README/z;dir s
 
 const TWICE: &[u8] = b"dir src;dir src/a;file 0644 1 src;file 0644 1 src/b;dir README";
 
-#[test]
-fn tells_the_first_fault_of_a_sixth_line(rt: HostRuntime) {
-    use ManifestFaultKind::{BadLine, BadMode, BadPath, BadSize, NoParent, Twice};
-    for (lines, kind) in [
-        (BAD_LINES, BadLine),
-        (BAD_MODES, BadMode),
-        (BAD_SIZES, BadSize),
-        (BAD_PATHS, BadPath),
-        (NO_PARENTS, NoParent),
-        (TWICE, Twice),
-    ] {
-        let fault = ManifestFault { line: 6, kind };
-        assert!(rt; are_bad_lines(rt.alloc(), SMALL, lines, fault));
-    }
-}
-
 const NO_COMMITS: &[u8] =
     b";commit ;commit 0123456789abcdef0123456789abcdef0123456;commit 0123456789abcdef0123456789abcdef012345678;commit 0123456789abcdefg123456789abcdef01234567;commit 0123456789abcdef0123456789abcdef01234567\r;commit  123456789abcdef0123456789abcdef01234567;Commit 0123456789abcdef0123456789abcdef01234567;dir src";
 
-const NO_COMMIT: ManifestFault = ManifestFault {
-    line: 1,
-    kind: ManifestFaultKind::NoCommit,
-};
+/// Texts: what stands above a line, the lines that are tried there, parted by semicolons, and what ends each; then the
+/// line and the kind of their fault.
+type Row = (
+    &'static [u8],
+    &'static [u8],
+    &'static [u8],
+    usize,
+    ManifestFaultKind,
+);
 
-#[test]
-fn tells_the_fault_of_a_first_line(rt: HostRuntime) {
-    let nothing = b"".as_slice();
-    assert!(rt; are_bad_lines(rt.alloc(), nothing, NO_COMMITS, NO_COMMIT));
-    assert!(rt; fault_of(rt.alloc(), nothing) == Some(NO_COMMIT));
-}
-
-/// Returns the fault of a line that is none.
-fn bad_line(line: usize) -> Option<ManifestFault> {
-    let kind = ManifestFaultKind::BadLine;
-    Some(ManifestFault { line, kind })
-}
-
-#[test]
-fn refuses_a_line_that_is_not_ended(rt: HostRuntime) {
-    let text = b"commit 0123456789abcdef0123456789abcdef01234567".as_slice();
-    assert!(rt; fault_of(rt.alloc(), text) == bad_line(1));
-    assert!(rt; is_fault(rt.alloc(), HEAD, b"dir z".as_slice(), bad_line(2)));
-}
-
-const ODD: &[u8] =
-    b"file 0644 9223372036854775807 z\nfile 7777 0 a b  c\nfile 0000 0 \xff\x01\xe9\ndir z\r\ndir ...\ndir  \ndir a\ndir a/a\ndir a/a/a\nfile 0644 1 a/a/a/a\n";
-
-/// Returns how many lines a manifest has below its commit.
-fn line_count(alloc: Global, text: &[u8]) -> Option<usize> {
-    match Manifest::read(alloc, text) {
-        Ok(manifest) => Some(manifest.lines().len()),
-        Err(_) => None,
-    }
-}
-
-/// Returns that of a text with these bytes behind it.
-fn joined_count(alloc: Global, front: &[u8], back: &[u8]) -> Option<usize> {
-    let text = joined(alloc, front, back).ok()?;
-    line_count(alloc, text.as_slice())
-}
-
-#[test]
-fn takes_odd_names_and_great_sizes(rt: HostRuntime) {
-    assert!(rt; joined_count(rt.alloc(), HEAD, ODD) == Some(10));
-    assert!(rt; fault_of(rt.alloc(), HEAD).is_none());
-}
-
-/// The commit of each of these texts.
-const COMMIT: [u8; 20] = [
-    0x01, 0x23, 0x45, 0x67, 0x89, 0xab, 0xcd, 0xef, 0x01, 0x23, 0x45, 0x67, 0x89, 0xab, 0xcd, 0xef,
-    0x01, 0x23, 0x45, 0x67,
+/// Lines behind those of `SMALL`, first lines, lines that are not ended, and a name that is too long.
+static ROWS: [Row; 11] = [
+    (SMALL, BAD_LINES, b"\n", 6, ManifestFaultKind::BadLine),
+    (SMALL, BAD_MODES, b"\n", 6, ManifestFaultKind::BadMode),
+    (SMALL, BAD_SIZES, b"\n", 6, ManifestFaultKind::BadSize),
+    (SMALL, BAD_PATHS, b"\n", 6, ManifestFaultKind::BadPath),
+    (SMALL, NO_PARENTS, b"\n", 6, ManifestFaultKind::NoParent),
+    (SMALL, TWICE, b"\n", 6, ManifestFaultKind::Twice),
+    (b"", NO_COMMITS, b"\n", 1, ManifestFaultKind::NoCommit),
+    (b"", b"", b"", 1, ManifestFaultKind::NoCommit),
+    (HEAD, b"", b"dir z", 2, ManifestFaultKind::BadLine),
+    (
+        b"",
+        b"commit 0123456789abcdef0123456789abcdef01234567",
+        b"",
+        1,
+        ManifestFaultKind::BadLine,
+    ),
+    (DIR_LINE, &[b'x'; 256], b"\n", 2, ManifestFaultKind::BadPath),
 ];
 
-const UPPER: &[u8] = b"commit 0123456789ABCDEF0123456789abcdef01234567\n";
-
-/// Returns whether a manifest has that commit.
-fn has_commit(manifest: &Manifest) -> bool {
-    manifest.commit() == COMMIT
+/// Puts a line behind what stands above it, and an end behind the line.
+fn put_text(text: &mut Vec<u8>, above: &[u8], line: &[u8], end: &[u8]) -> Result<(), AllocError> {
+    text.extend_from_slice(above)?;
+    text.extend_from_slice(line)?;
+    text.extend_from_slice(end)
 }
 
-/// Returns whether the manifest that a text is has that commit.
-fn reads_commit(alloc: Global, text: &[u8]) -> bool {
+/// Returns whether a text is refused so.
+fn is_fault(alloc: Global, text: &[u8], fault: ManifestFault) -> bool {
     match Manifest::read(alloc, text) {
-        Ok(manifest) => has_commit(&manifest),
-        Err(_) => false,
+        Ok(manifest) => {
+            drop(manifest);
+            false
+        }
+        Err(told) => told == fault,
     }
 }
 
-#[test]
-fn reads_a_commit_in_either_case(rt: HostRuntime) {
-    assert!(rt; reads_commit(rt.alloc(), UPPER));
+/// Returns whether a text of three parts is refused so.
+fn is_bad_line(alloc: Global, above: &[u8], line: &[u8], end: &[u8], fault: ManifestFault) -> bool {
+    let mut text = Vec::new(alloc);
+    let is_put = put_text(&mut text, above, line, end).is_ok();
+    let is_refused = is_put && is_fault(alloc, text.as_slice(), fault);
+    drop(text);
+    is_refused
 }
 
-/// Returns whether a fault is told in these words.
-fn is_worded(alloc: Global, fault: ManifestFault, words: &str) -> bool {
-    match format!(in alloc; "fault: {fault}") {
-        Ok(text) => text.as_str() == words,
-        Err(AllocError) => false,
-    }
-}
-
-#[test]
-fn tells_a_fault_as_a_script_does(rt: HostRuntime) {
-    assert!(rt; is_worded(rt.alloc(), NO_COMMIT, "fault: line 1: NoCommit"));
-}
-
-/// Puts the line of a file.
-fn put_file(alloc: Global, text: &mut Vec<u8>, i: u32) -> Result<(), AllocError> {
-    let line = format!(in alloc; "file 0644 0 f{i}\n")?;
-    text.extend_from_slice(line.as_bytes())
-}
-
-/// Makes a manifest of a commit and this many files.
-fn many(alloc: Global, files: u32) -> Result<Vec<u8>, AllocError> {
-    let mut text = Vec::from_slice(alloc, HEAD)?;
-    for i in 0..files {
-        put_file(alloc, &mut text, i)?;
-    }
-    Ok(text)
-}
-
-/// Returns the file that the root of a manifest has under a name.
-fn named(alloc: Global, text: &[u8], name: &[u8]) -> Option<FileId> {
-    match Manifest::read(alloc, text) {
-        Ok(manifest) => manifest.child(FileId::ROOT, name),
-        Err(_) => None,
-    }
-}
-
-/// Returns whether a manifest of as many files as there may be has the last one.
-fn has_last_file(alloc: Global) -> bool {
-    match many(alloc, 65535) {
-        Ok(full) => named(alloc, full.as_slice(), b"f65534".as_slice()) == Some(FileId(65536)),
-        Err(AllocError) => false,
-    }
-}
-
-#[test]
-fn takes_65536_lines(rt: HostRuntime) {
-    assert!(rt; has_last_file(rt.alloc()));
-}
-
-/// Returns whether a line behind these is refused for its first fault.
-fn are_too_many(alloc: Global, full: &[u8]) -> bool {
-    use ManifestFaultKind::{BadLine, TooManyLines, Twice};
-    for (line, kind) in [
-        (b"file 0644 0 z\n".as_slice(), TooManyLines),
-        (b"file 0644 0 z".as_slice(), BadLine),
-        (b"dir f0\n".as_slice(), Twice),
-    ] {
-        let fault = ManifestFault { line: 65537, kind };
-        if !is_fault(alloc, full, line, Some(fault)) {
+/// Returns whether each line of a row is refused as the row says.
+fn are_bad_lines(alloc: Global, row: Row) -> bool {
+    let (above, lines, end, line, kind) = row;
+    for bytes in lines.split(|byte| *byte == b';') {
+        if !is_bad_line(alloc, above, bytes, end, ManifestFault { line, kind }) {
             return false;
         }
     }
     true
 }
 
-/// Returns whether that is so where there are as many lines as there may be.
-fn refuses_a_line_more(alloc: Global) -> bool {
-    match many(alloc, 65535) {
-        Ok(full) => are_too_many(alloc, full.as_slice()),
-        Err(AllocError) => false,
+/// Returns the place of the first row that is not told so.
+fn first_untold(alloc: Global) -> Option<usize> {
+    for place in 0..ROWS.len() {
+        if !are_bad_lines(alloc, ROWS[place]) {
+            return Some(place);
+        }
     }
+    None
+}
+
+#[test]
+fn tells_the_first_fault(rt: HostRuntime) {
+    assert!(rt; first_untold(rt.alloc()).is_none());
+}
+
+/// The commit of each of these texts.
+static COMMIT: [u8; 20] = [
+    0x01, 0x23, 0x45, 0x67, 0x89, 0xab, 0xcd, 0xef, 0x01, 0x23, 0x45, 0x67, 0x89, 0xab, 0xcd, 0xef,
+    0x01, 0x23, 0x45, 0x67,
+];
+
+/// Returns whether a manifest has that commit.
+fn has_commit(manifest: &Manifest) -> bool {
+    manifest.commit() == COMMIT
+}
+
+/// Returns whether a text is a manifest of that commit with so many lines below it.
+fn is_read(alloc: Global, text: &[u8], lines: usize) -> bool {
+    match Manifest::read(alloc, text) {
+        Ok(manifest) => {
+            let is_read = has_commit(&manifest) && manifest.lines().len() == lines;
+            drop(manifest);
+            is_read
+        }
+        Err(_) => false,
+    }
+}
+
+const LONGEST: &[u8] =
+    b"commit 0123456789abcdef0123456789abcdef01234567\ndir xxxxxxxxxxxxxxxxxxxxxxxxxxxxxxxxxxxxxxxxxxxxxxxxxxxxxxxxxxxxxxxxxxxxxxxxxxxxxxxxxxxxxxxxxxxxxxxxxxxxxxxxxxxxxxxxxxxxxxxxxxxxxxxxxxxxxxxxxxxxxxxxxxxxxxxxxxxxxxxxxxxxxxxxxxxxxxxxxxxxxxxxxxxxxxxxxxxxxxxxxxxxxxxxxxxxxxxxxxxxxxxxxxxxxxxxxxxxxxxxxxxxxxxxxxxxxxx\n";
+
+/// Odd names and great sizes, no line, a commit in upper case, and a name of 255 bytes; and how many lines each has.
+static TAKEN: [(&[u8], usize); 4] = [(ODD, 10), (HEAD, 0), (UPPER, 0), (LONGEST, 1)];
+
+/// Returns whether each of those is read.
+fn are_read(alloc: Global) -> bool {
+    for (text, lines) in &TAKEN {
+        if !is_read(alloc, text, *lines) {
+            return false;
+        }
+    }
+    true
+}
+
+#[test]
+fn takes_odd_names_and_a_commit_in_either_case(rt: HostRuntime) {
+    assert!(rt; are_read(rt.alloc()));
+}
+
+/// Returns whether a fault is told in these words.
+fn is_worded(alloc: Global, fault: ManifestFault, words: &str) -> bool {
+    let mut text = String::new(alloc);
+    write!(text, "fault: {fault}").is_ok() && text.as_str() == words
+}
+
+#[test]
+fn tells_a_fault_as_a_script_does(rt: HostRuntime) {
+    let kind = ManifestFaultKind::NoCommit;
+    let fault = ManifestFault { line: 1, kind };
+    assert!(rt; is_worded(rt.alloc(), fault, "fault: line 1: NoCommit"));
+}
+
+/// Puts a commit and as many files as there may be.
+fn put_files(text: &mut String) -> Result<(), AllocError> {
+    text.push_str("commit 0123456789abcdef0123456789abcdef01234567\n")?;
+    for i in 0..65535u32 {
+        writeln!(text, "file 0644 0 f{i}")?;
+    }
+    Ok(())
+}
+
+/// Returns whether the root of a manifest has the last of them.
+fn has_last_file(alloc: Global, text: &[u8]) -> bool {
+    match Manifest::read(alloc, text) {
+        Ok(manifest) => {
+            let last = manifest.child(FileId::ROOT, b"f65534");
+            drop(manifest);
+            last == Some(FileId(65536))
+        }
+        Err(_) => false,
+    }
+}
+
+/// Returns that of line 65,537.
+fn last_fault(kind: ManifestFaultKind) -> ManifestFault {
+    ManifestFault { line: 65537, kind }
+}
+
+/// Returns whether as many files as there may be are taken.
+fn takes_65536(alloc: Global) -> bool {
+    let mut full = String::new(alloc);
+    put_files(&mut full).is_ok() && has_last_file(alloc, full.as_bytes())
+}
+
+#[test]
+fn takes_65536_lines(rt: HostRuntime) {
+    assert!(rt; takes_65536(rt.alloc()));
+}
+
+/// Returns whether a line behind those files is refused for its first fault.
+fn are_too_many(alloc: Global, full: &[u8]) -> bool {
+    use ManifestFaultKind::{BadLine, TooManyLines, Twice};
+    is_bad_line(
+        alloc,
+        full,
+        b"file 0644 0 z",
+        b"\n",
+        last_fault(TooManyLines),
+    ) && is_bad_line(alloc, full, b"file 0644 0 z", b"", last_fault(BadLine))
+        && is_bad_line(alloc, full, b"dir f0", b"\n", last_fault(Twice))
+}
+
+/// Returns that of as many files as there may be.
+fn refuses_a_line_more(alloc: Global) -> bool {
+    let mut full = String::new(alloc);
+    put_files(&mut full).is_ok() && are_too_many(alloc, full.as_bytes())
 }
 
 #[test]
@@ -237,75 +237,36 @@ fn tells_each_fault_of_line_65537(rt: HostRuntime) {
     assert!(rt; refuses_a_line_more(rt.alloc()));
 }
 
-/// Makes a front, and then a text so many times.
-fn repeated(alloc: Global, front: &[u8], text: &[u8], times: u32) -> Result<Vec<u8>, AllocError> {
-    let mut whole = Vec::from_slice(alloc, front)?;
-    for _ in 0..times {
-        whole.extend_from_slice(text)?;
-    }
-    Ok(whole)
-}
-
-/// Returns whether a name of 255 bytes is taken, and one of a byte more is not.
-fn takes_255(alloc: Global) -> bool {
-    let kind = ManifestFaultKind::BadPath;
-    let too_long = Some(ManifestFault { line: 2, kind });
-    match repeated(alloc, DIR_LINE, b"x".as_slice(), 255) {
-        Ok(line) => {
-            is_fault(alloc, line.as_slice(), b"\n".as_slice(), None)
-                && is_fault(alloc, line.as_slice(), b"x\n".as_slice(), too_long)
-        }
-        Err(AllocError) => false,
-    }
-}
-
-#[test]
-fn takes_names_of_255_bytes(rt: HostRuntime) {
-    assert!(rt; takes_255(rt.alloc()));
-}
-
-/// Puts a path's line, and makes the path one directory deeper.
-fn put_path(text: &mut Vec<u8>, path: &mut Vec<u8>) -> Result<(), AllocError> {
-    text.extend_from_slice(path.as_slice())?;
-    text.push(b'\n')?;
-    path.extend_from_slice(b"/d".as_slice())
-}
-
-/// Puts the lines of so many directories, each in the one before, and then that of one that stands below two more.
-fn put_paths(text: &mut Vec<u8>, path: &mut Vec<u8>, directories: u32) -> Result<(), AllocError> {
+/// Puts a commit, so many directories, each in the one before, and then one that stands below two more.
+fn put_paths(text: &mut String, path: &mut String, directories: u32) -> Result<(), AllocError> {
+    text.push_str("commit 0123456789abcdef0123456789abcdef01234567\n")?;
+    path.push_str("d")?;
     for _ in 0..directories {
-        put_path(text, path)?;
+        writeln!(text, "dir {path}")?;
+        path.push_str("/d")?;
     }
-    path.extend_from_slice(b"/d".as_slice())?;
-    put_path(text, path)
+    writeln!(text, "dir {path}/d")
 }
 
-/// Makes a manifest of them.
-fn deep(alloc: Global, directories: u32) -> Result<Vec<u8>, AllocError> {
-    let mut text = Vec::from_slice(alloc, HEAD)?;
-    let mut path = Vec::from_slice(alloc, b"dir d".as_slice())?;
-    put_paths(&mut text, &mut path, directories)?;
-    Ok(text)
-}
-
-/// Returns the first fault of such a manifest.
-fn deep_fault(alloc: Global, directories: u32) -> Option<ManifestFault> {
-    let text = deep(alloc, directories).ok()?;
-    fault_of(alloc, text.as_slice())
+/// Returns whether the directory behind 200 is told to have no parent.
+fn takes_200_deep(alloc: Global) -> bool {
+    let mut text = String::new(alloc);
+    let mut path = String::new(alloc);
+    let kind = ManifestFaultKind::NoParent;
+    put_paths(&mut text, &mut path, 200).is_ok()
+        && is_fault(alloc, text.as_bytes(), ManifestFault { line: 202, kind })
 }
 
 #[test]
 fn takes_deep_paths(rt: HostRuntime) {
-    let kind = ManifestFaultKind::NoParent;
-    let fault = ManifestFault { line: 202, kind };
-    assert!(rt; deep_fault(rt.alloc(), 200) == Some(fault));
+    assert!(rt; takes_200_deep(rt.alloc()));
 }
 
 /// A line: its directory, name, kind, permissions and size.
-type Row = (u64, &'static [u8], Kind, u16, u64);
+type Listed = (u64, &'static [u8], Kind, u16, u64);
 
 /// Each line of `SMALL`.
-const SMALL_LINES: [Row; 4] = [
+static SMALL_LINES: [Listed; 4] = [
     (1, b"src", Kind::Dir, 0o755, 0),
     (2, b"a", Kind::File, 0o644, 12),
     (2, b"b", Kind::File, 0o755, 0),
@@ -313,7 +274,7 @@ const SMALL_LINES: [Row; 4] = [
 ];
 
 /// Returns whether a line says this.
-fn says(line: &Line, row: Row) -> bool {
+fn says(line: &Line, row: Listed) -> bool {
     let (dir, name, kind, perm, size) = row;
     line.dir.0 == dir
         && line.name.bytes() == name
@@ -323,7 +284,7 @@ fn says(line: &Line, row: Row) -> bool {
 }
 
 /// Returns whether the lines say this; takes no memory.
-fn say(lines: &[Line], rows: &[Row]) -> bool {
+fn say(lines: &[Line], rows: &[Listed]) -> bool {
     if lines.len() != rows.len() {
         return false;
     }

@@ -104,14 +104,14 @@ pub(crate) fn is_circle_refused(alloc: Global, manifest: &Manifest, count: u32) 
         && comes_to(alloc, manifest, bytes.as_slice(), Some(RaiseFault::NoLink))
 }
 
-const CHAINS: [Deed; 2] = [Deed::RaiseChain(2), Deed::RaiseChain(65_000)];
+static CHAINS: [Deed; 2] = [Deed::RaiseChain(2), Deed::RaiseChain(65_000)];
 
 #[test]
 fn raises_a_chain_of_65000_directories(rt: HostRuntime) {
     assert!(rt; all_go_so(rt.alloc(), &CHAINS));
 }
 
-const CIRCLES: [Deed; 2] = [Deed::RefuseCircle(2), Deed::RefuseCircle(65_000)];
+static CIRCLES: [Deed; 2] = [Deed::RefuseCircle(2), Deed::RefuseCircle(65_000)];
 
 #[test]
 fn refuses_a_circle_of_two_and_of_65000(rt: HostRuntime) {

@@ -104,7 +104,7 @@ pub(crate) fn is_limited(
 }
 
 /// The count of README is 2^32 - 1; the next number is 2^63 - 1, which is never given.
-const LIMITS: [Deed; 2] = [
+static LIMITS: [Deed; 2] = [
     Deed::Limit(
         88,
         [0xff, 0xff, 0xff, 0xff, 0, 0, 0, 0],

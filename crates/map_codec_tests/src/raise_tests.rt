@@ -70,7 +70,7 @@ pub(crate) fn comes_to_with(
 
 /// The commit; the file that was made; the directory of the first entry, which is none or itself, and the end of its
 /// name; the file in the mark of the third; the next number, twice too low and once too high.
-const FAULTS: [Deed; 9] = [
+static FAULTS: [Deed; 9] = [
     Deed::Refuse(6, 2, RaiseFault::OtherCommit),
     Deed::Refuse(139, 5, RaiseFault::BadChange(1)),
     Deed::Refuse(74, 9, RaiseFault::NoParent),
@@ -119,7 +119,7 @@ pub(crate) fn is_raised_and_spelled(alloc: Global, manifest: &Manifest, bytes: &
     }
 }
 
-const RAISED: [Deed; 3] = [
+static RAISED: [Deed; 3] = [
     Deed::Raise(&LOOKED_UP),
     Deed::Raise(&CHANGED),
     Deed::Raise(&MOVED),

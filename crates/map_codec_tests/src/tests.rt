@@ -101,7 +101,7 @@ fn refuses_each_cut(rt: HostRuntime) {
 }
 
 /// The first byte of the magic, the version, the first entry's mark, and its count.
-const FIRST_FAULTS: [(usize, u8, ImageFault); 4] = [
+static FIRST_FAULTS: [(usize, u8, ImageFault); 4] = [
     (0, 0x46, ImageFault::BadMagic),
     (5, 9, ImageFault::BadVersion),
     (62, 2, ImageFault::BadMark),
@@ -434,7 +434,7 @@ const MOVING: [Asking; 3] = [
 
 const LOOKING: [Asking; 1] = [(Asks::LookUp, 1, b"src")];
 
-const SPELLED: [Deed; 3] = [
+static SPELLED: [Deed; 3] = [
     Deed::Spell(&LOOKING, &LOOKED_UP),
     Deed::Spell(&TAKEN_OUT, &CHANGED),
     Deed::Spell(&MOVING, &MOVED),

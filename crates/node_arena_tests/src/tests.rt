@@ -1,151 +1,245 @@
 //! Orders, values and drops of the arena, at capacities from 1 to 65,536.
-ghost use Rattle.std.specs.Prelude.{◌<◌, vec_len};
+ghost use Rattle.std.specs.Prelude.{◌<◌, ◌≤◌, vec_len};
 
 use node_arena::{Nodes, Slot};
-use std::alloc::Global;
+use std::alloc::{AllocError, Global};
 use std::cell::Cell;
-use std::process::Abort;
-use std::test::Fail;
 
 /// Adds a value, for which there is room.
-fn add<T: Drop>(rt: &impl Abort, nodes: &mut Nodes<T>, value: T) -> Slot {
+fn added<T: Drop>(nodes: &mut Nodes<T>, value: T) -> Option<Slot> {
     match nodes.add(value) {
-        Ok(slot) => slot,
-        Err(_) => panic!(rt; "full"),
+        Ok(slot) => Some(slot),
+        Err(_) => None,
     }
 }
 
 /// Touches a slot that is held.
-fn touch<T>(rt: &impl Abort, nodes: &mut Nodes<T>, slot: Slot) {
-    assert!(rt; nodes.is_held(slot));
+fn is_touched<T>(nodes: &mut Nodes<T>, slot: Slot) -> bool {
+    if !nodes.is_held(slot) {
+        return false;
+    }
     nodes.touch(slot);
+    true
 }
 
 /// Removes a slot that is held, and sees that it is not held any more.
-fn remove<T>(rt: &impl Abort, nodes: &mut Nodes<T>, slot: Slot) -> T {
-    assert!(rt; nodes.is_held(slot));
+fn removed<T: Drop>(nodes: &mut Nodes<T>, slot: Slot) -> Option<T> {
+    if !nodes.is_held(slot) {
+        return None;
+    }
     let value = nodes.remove(slot);
     if nodes.is_held(slot) {
-        panic!(rt; "a removed slot is held");
+        return None;
     }
-    value
+    Some(value)
 }
 
-/// Compares the oldest slot and the length with what they must be.
-fn expect_oldest<T>(rt: &impl Abort, nodes: &Nodes<T>, oldest: Option<Slot>, len: usize) {
-    assert!(rt; nodes.oldest() == oldest);
-    assert!(rt; nodes.len() == len);
+/// What is done with a slot, and what comes of it.
+#[derive(Clone, Copy)]
+enum Use {
+    Touch,
+    Remove(char),
+    Write(char),
+    /// The slot is the oldest of so many.
+    IsOldest(usize),
+    /// The slot is the one that was given in another place.
+    Is(usize),
 }
 
-/// Lists the values, the least recently used first. Each is touched once, so the order stays.
-fn values_from_oldest(alloc: Global, nodes: &mut Nodes<char>) -> Result<String, Fail> {
-    let mut values = String::new(alloc);
-    for _ in 0..nodes.len() {
-        if let Some(slot) = nodes.oldest() {
-            values.push(*nodes.get(slot))?;
-            nodes.touch(slot);
-        }
+/// A call on an arena of characters, and what comes of it, as data, so that a test is a table.
+#[derive(Clone, Copy)]
+enum Deed {
+    Add(char),
+    /// A full arena gives the value back.
+    Refuse(char),
+    /// Uses the slot that was given in this place.
+    At(usize, Use),
+    /// The values, the least recently used first.
+    Order(&'static [char]),
+    Empty,
+}
+
+/// Adds a value, and its slot to those that were given.
+fn is_added(nodes: &mut Nodes<char>, slots: &mut Vec<Slot>, value: char) -> bool {
+    match added(nodes, value) {
+        Some(slot) => slots.push(slot).is_ok(),
+        None => false,
     }
-    Ok(values)
-}
-
-/// Compares the values, the least recently used first, with those of a text.
-fn expect_order(
-    rt: &impl Abort,
-    alloc: Global,
-    nodes: &mut Nodes<char>,
-    expected: &str,
-) -> Result<(), Fail> {
-    let values = values_from_oldest(alloc, nodes)?;
-    assert!(rt; values.as_str() == expected);
-    Ok(())
-}
-
-/// Sees that a full arena gives a value back.
-fn expect_full(rt: &impl Abort, nodes: &mut Nodes<char>, value: char) {
-    assert!(rt; nodes.add(value) == Err(value));
-}
-
-/// Removes a slot that is held, and compares its value.
-fn expect_removed(rt: &impl Abort, nodes: &mut Nodes<char>, slot: Slot, value: char) {
-    assert!(rt; remove(rt, nodes, slot) == value);
-}
-
-#[test]
-fn refuses_a_third_value_at_capacity_two(rt: HostRuntime) -> Result<(), Fail> {
-    let mut nodes = Nodes::new(rt.alloc(), 2)?;
-    assert!(rt; nodes.capacity() == 2);
-    expect_oldest(&rt, &nodes, None, 0);
-    let a = add(&rt, &mut nodes, 'a');
-    let b = add(&rt, &mut nodes, 'b');
-    expect_full(&rt, &mut nodes, 'c');
-    expect_oldest(&rt, &nodes, Some(a), 2);
-    touch(&rt, &mut nodes, a);
-    expect_oldest(&rt, &nodes, Some(b), 2);
-    expect_removed(&rt, &mut nodes, b, 'b');
-    add(&rt, &mut nodes, 'c');
-    expect_oldest(&rt, &nodes, Some(a), 2);
-    Ok(())
-}
-
-#[test]
-fn keeps_the_order_of_use_at_capacity_three(rt: HostRuntime) -> Result<(), Fail> {
-    let mut nodes = Nodes::new(rt.alloc(), 3)?;
-    let a = add(&rt, &mut nodes, 'a');
-    let b = add(&rt, &mut nodes, 'b');
-    let c = add(&rt, &mut nodes, 'c');
-    expect_order(&rt, rt.alloc(), &mut nodes, "abc")?;
-    touch(&rt, &mut nodes, b);
-    expect_order(&rt, rt.alloc(), &mut nodes, "acb")?;
-    expect_removed(&rt, &mut nodes, c, 'c');
-    expect_order(&rt, rt.alloc(), &mut nodes, "ab")?;
-    touch(&rt, &mut nodes, a);
-    expect_order(&rt, rt.alloc(), &mut nodes, "ba")?;
-    let d = add(&rt, &mut nodes, 'd');
-    expect_order(&rt, rt.alloc(), &mut nodes, "bad")?;
-    assert!(rt; c == d, "c's old slot is held again");
-    Ok(())
 }
 
 /// Writes a value in the place of one that is held.
-fn overwrite(rt: &impl Abort, nodes: &mut Nodes<char>, slot: Slot, value: char) {
-    assert!(rt; nodes.is_held(slot));
+fn is_written(nodes: &mut Nodes<char>, slot: Slot, value: char) -> bool {
+    if !nodes.is_held(slot) {
+        return false;
+    }
     *nodes.get_mut(slot) = value;
+    true
+}
+
+/// Returns whether these are the values, the least recently used first. Each is touched once, so the order stays.
+fn has_order(nodes: &mut Nodes<char>, values: &[char]) -> bool {
+    for value in values {
+        let Some(slot) = nodes.oldest() else {
+            return false;
+        };
+        if *nodes.get(slot) != *value {
+            return false;
+        }
+        nodes.touch(slot);
+    }
+    nodes.len() == values.len()
+}
+
+/// Uses a slot, and returns whether that comes to what it says.
+fn is_used(nodes: &mut Nodes<char>, slots: &[Slot], slot: Slot, act: Use) -> bool {
+    match act {
+        Use::Touch => is_touched(nodes, slot),
+        Use::Remove(value) => removed(nodes, slot) == Some(value),
+        Use::Write(value) => is_written(nodes, slot, value),
+        Use::IsOldest(len) => nodes.oldest() == Some(slot) && nodes.len() == len,
+        Use::Is(place) => slots.get(place) == Some(&slot),
+    }
+}
+
+/// Makes a call, and returns whether it comes to what it says.
+fn goes_so(nodes: &mut Nodes<char>, slots: &mut Vec<Slot>, deed: Deed) -> bool {
+    match deed {
+        Deed::Add(value) => is_added(nodes, slots, value),
+        Deed::Refuse(value) => nodes.add(value) == Err(value),
+        Deed::At(place, act) => match slots.get(place).copied() {
+            Some(slot) => is_used(nodes, slots.as_slice(), slot, act),
+            None => false,
+        },
+        Deed::Order(values) => has_order(nodes, values),
+        Deed::Empty => nodes.oldest().is_none() && nodes.len() == 0,
+    }
+}
+
+/// Makes the calls of a table, and returns whether each comes to what it says.
+fn each_goes_so(nodes: &mut Nodes<char>, slots: &mut Vec<Slot>, deeds: &[Deed]) -> bool {
+    for deed in deeds {
+        if !goes_so(nodes, slots, *deed) {
+            return false;
+        }
+    }
+    true
+}
+
+/// Makes the calls of a table on an arena of this capacity, and returns whether each comes to what it says.
+fn all_go_so(alloc: Global, capacity: usize, deeds: &[Deed]) -> bool
+    requires least { 1 ≤ capacity }
+    requires most { capacity ≤ 65536 }
+{
+    match Nodes::new(alloc, capacity) {
+        Ok(nodes) => {
+            let mut nodes = nodes;
+            let mut slots = Vec::new(alloc);
+            let go_so = nodes.capacity() == capacity && each_goes_so(&mut nodes, &mut slots, deeds);
+            drop(nodes);
+            go_so
+        }
+        Err(AllocError) => false,
+    }
+}
+
+static AT_TWO: [Deed; 10] = [
+    Deed::Empty,
+    Deed::Add('a'),
+    Deed::Add('b'),
+    Deed::Refuse('c'),
+    Deed::At(0, Use::IsOldest(2)),
+    Deed::At(0, Use::Touch),
+    Deed::At(1, Use::IsOldest(2)),
+    Deed::At(1, Use::Remove('b')),
+    Deed::Add('c'),
+    Deed::At(0, Use::IsOldest(2)),
+];
+
+#[test]
+fn refuses_a_third_value_at_capacity_two(rt: HostRuntime) {
+    assert!(rt; all_go_so(rt.alloc(), 2, &AT_TWO));
+}
+
+/// The old slot of `c`, the third, is held again, by `d`.
+static AT_THREE: [Deed; 13] = [
+    Deed::Add('a'),
+    Deed::Add('b'),
+    Deed::Add('c'),
+    Deed::Order(&['a', 'b', 'c']),
+    Deed::At(1, Use::Touch),
+    Deed::Order(&['a', 'c', 'b']),
+    Deed::At(2, Use::Remove('c')),
+    Deed::Order(&['a', 'b']),
+    Deed::At(0, Use::Touch),
+    Deed::Order(&['b', 'a']),
+    Deed::Add('d'),
+    Deed::Order(&['b', 'a', 'd']),
+    Deed::At(2, Use::Is(3)),
+];
+
+#[test]
+fn keeps_the_order_of_use_at_capacity_three(rt: HostRuntime) {
+    assert!(rt; all_go_so(rt.alloc(), 3, &AT_THREE));
+}
+
+static WRITTEN: [Deed; 5] = [
+    Deed::Add('a'),
+    Deed::Add('b'),
+    Deed::Add('c'),
+    Deed::At(1, Use::Write('x')),
+    Deed::Order(&['a', 'x', 'c']),
+];
+
+#[test]
+fn writes_a_value_in_its_place(rt: HostRuntime) {
+    assert!(rt; all_go_so(rt.alloc(), 3, &WRITTEN));
+}
+
+/// Fills an arena, and returns whether it refuses one more.
+fn fills(nodes: &mut Nodes<usize>, capacity: usize) -> bool {
+    for value in 0..capacity {
+        if nodes.add(value).is_err() {
+            return false;
+        }
+    }
+    nodes.add(capacity) == Err(capacity)
+}
+
+/// Empties an arena, the oldest first, and returns whether the values come in the order in which they went in.
+fn empties(nodes: &mut Nodes<usize>, capacity: usize) -> bool {
+    for value in 0..capacity {
+        let Some(slot) = nodes.oldest() else {
+            return false;
+        };
+        if removed(nodes, slot) != Some(value) {
+            return false;
+        }
+    }
+    nodes.oldest().is_none() && nodes.len() == 0
+}
+
+/// Returns whether an arena of this capacity does both.
+fn fills_and_empties(alloc: Global, capacity: usize) -> bool
+    requires least { 1 ≤ capacity }
+    requires most { capacity ≤ 65536 }
+{
+    match Nodes::new(alloc, capacity) {
+        Ok(nodes) => {
+            let mut nodes = nodes;
+            let does_both = nodes.capacity() == capacity
+                && fills(&mut nodes, capacity)
+                && empties(&mut nodes, capacity);
+            drop(nodes);
+            does_both
+        }
+        Err(AllocError) => false,
+    }
 }
 
 #[test]
-fn writes_a_value_in_its_place(rt: HostRuntime) -> Result<(), Fail> {
-    let mut nodes = Nodes::new(rt.alloc(), 3)?;
-    add(&rt, &mut nodes, 'a');
-    let b = add(&rt, &mut nodes, 'b');
-    add(&rt, &mut nodes, 'c');
-    overwrite(&rt, &mut nodes, b, 'x');
-    expect_order(&rt, rt.alloc(), &mut nodes, "axc")
-}
-
-/// Fills an arena, sees that it refuses one more, and empties it, the oldest first.
-fn fill_and_empty(rt: &impl Abort, nodes: &mut Nodes<usize>) -> Result<(), Fail> {
-    let capacity = nodes.capacity();
-    for value in 0..capacity {
-        add(rt, nodes, value);
-    }
-    assert!(rt; nodes.add(capacity) == Err(capacity));
-    for value in 0..capacity {
-        let slot = nodes.oldest().ok_or("no oldest slot")?;
-        assert!(rt; remove(rt, nodes, slot) == value);
-    }
-    Ok(())
-}
-
-#[test]
-fn fills_refuses_once_and_empties(rt: HostRuntime) -> Result<(), Fail> {
-    for capacity in [1usize, 65_536] {
-        let mut nodes = Nodes::new(rt.alloc(), capacity)?;
-        assert!(rt; nodes.capacity() == capacity);
-        fill_and_empty(&rt, &mut nodes)?;
-        expect_oldest(&rt, &nodes, None, 0);
-    }
-    Ok(())
+fn fills_refuses_once_and_empties(rt: HostRuntime) {
+    assert!(rt; fills_and_empties(rt.alloc(), 1));
+    assert!(rt; fills_and_empties(rt.alloc(), 65_536));
 }
 
 /// A value that counts its drops.
@@ -158,34 +252,64 @@ impl Drop for Counted<'_> {
     }
 }
 
-#[test]
-fn drops_each_value_once(rt: HostRuntime) -> Result<(), Fail> {
-    let drops = Cell::new(0);
-    let mut nodes = Nodes::new(rt.alloc(), 3)?;
-    let first = add(&rt, &mut nodes, Counted(&drops));
-    add(&rt, &mut nodes, Counted(&drops));
-    add(&rt, &mut nodes, Counted(&drops));
-    drop(nodes.add(Counted(&drops)));
-    assert!(rt; drops.get() == 1, "the value that came back");
-    let value = remove(&rt, &mut nodes, first);
-    assert!(rt; drops.get() == 1, "a removed value is its caller's");
+/// How often values were dropped: once one came back, once one was removed, and once that one was dropped.
+type Drops = (u32, u32, u32);
+
+/// Adds three values and one more, and removes the first.
+fn drops_of_three<'a>(nodes: &mut Nodes<Counted<'a>>, drops: &'a Cell<u32>) -> Option<Drops> {
+    let first = added(nodes, Counted(drops))?;
+    added(nodes, Counted(drops))?;
+    added(nodes, Counted(drops))?;
+    drop(nodes.add(Counted(drops)));
+    let came_back = drops.get();
+    let value = removed(nodes, first)?;
+    let was_removed = drops.get();
     drop(value);
-    assert!(rt; drops.get() == 2);
+    Some((came_back, was_removed, drops.get()))
+}
+
+/// Does that to a new arena, and returns how often values were dropped, and then how often once it ended.
+fn drops_of_all(alloc: Global) -> Option<(Drops, u32)> {
+    let drops = Cell::new(0);
+    let mut nodes = Nodes::new(alloc, 3).ok()?;
+    let counts = drops_of_three(&mut nodes, &drops);
     drop(nodes);
-    assert!(rt; drops.get() == 4, "the values that are held at the end");
-    Ok(())
+    Some((counts?, drops.get()))
+}
+
+/// The value that came back is dropped, one that is removed is its caller's, and those that are held at the end are
+/// dropped.
+#[test]
+fn drops_each_value_once(rt: HostRuntime) {
+    assert!(rt; drops_of_all(rt.alloc()) == Some(((1, 1, 2), 4)));
+}
+
+/// Adds a value and removes it, and returns whether it was dropped.
+fn drops_one<'a>(nodes: &mut Nodes<Counted<'a>>, drops: &'a Cell<u32>) -> bool {
+    let Some(slot) = added(nodes, Counted(drops)) else {
+        return false;
+    };
+    drop(removed(nodes, slot));
+    drops.get() == 1
+}
+
+/// Does that to a new arena, and returns whether no other value was dropped once it ended.
+fn drops_one_alone(alloc: Global) -> bool {
+    let drops = Cell::new(0);
+    match Nodes::new(alloc, 2) {
+        Ok(nodes) => {
+            let mut nodes = nodes;
+            let is_dropped = drops_one(&mut nodes, &drops);
+            drop(nodes);
+            is_dropped && drops.get() == 1
+        }
+        Err(AllocError) => false,
+    }
 }
 
 #[test]
-fn drops_nothing_where_no_value_is_held(rt: HostRuntime) -> Result<(), Fail> {
-    let drops = Cell::new(0);
-    let mut nodes = Nodes::new(rt.alloc(), 2)?;
-    let slot = add(&rt, &mut nodes, Counted(&drops));
-    drop(remove(&rt, &mut nodes, slot));
-    assert!(rt; drops.get() == 1);
-    drop(nodes);
-    assert!(rt; drops.get() == 1);
-    Ok(())
+fn drops_nothing_where_no_value_is_held(rt: HostRuntime) {
+    assert!(rt; drops_one_alone(rt.alloc()));
 }
 
 /// Returns the next number of a fixed sequence (Knuth's MMIX generator).
@@ -195,73 +319,78 @@ fn next_random(state: u64) -> u64 {
         .wrapping_add(1_442_695_040_888_963_407)
 }
 
-/// Adds a value to the arena, and to a list, the most recently used first.
-fn add_to_both(
-    rt: &impl Abort,
-    nodes: &mut Nodes<u64>,
-    list: &mut Vec<(Slot, u64)>,
-    value: u64,
-) -> Result<(), Fail> {
+/// Adds a value to the arena, and to a list, the most recently used first. Returns whether a value comes back just where
+/// the arena is full.
+fn are_added(nodes: &mut Nodes<u64>, list: &mut Vec<(Slot, u64)>, value: u64) -> bool {
     match nodes.add(value) {
-        Ok(slot) => list.insert(0, (slot, value))?,
-        Err(back) => {
-            assert!(rt; back == value);
-            assert!(rt; list.len() == nodes.capacity());
-        }
+        Ok(slot) => list.insert(0, (slot, value)).is_ok(),
+        Err(back) => back == value && list.len() == nodes.capacity(),
     }
-    Ok(())
 }
 
 /// Touches or removes a value of both.
-fn use_in_both(
-    rt: &impl Abort,
+fn are_used(
     nodes: &mut Nodes<u64>,
     list: &mut Vec<(Slot, u64)>,
     place: usize,
-    touched: bool,
-) -> Result<(), Fail>
+    is_kept: bool,
+) -> bool
     requires { 0 < vec_len list.old }
 {
     let (slot, value) = list.remove(place % list.len());
-    if touched {
-        touch(rt, nodes, slot);
-        list.insert(0, (slot, value))?;
-    } else {
-        assert!(rt; remove(rt, nodes, slot) == value);
+    if is_kept {
+        return is_touched(nodes, slot) && list.insert(0, (slot, value)).is_ok();
     }
-    Ok(())
+    removed(nodes, slot) == Some(value)
 }
 
-/// Compares the arena with the list.
-fn compare(rt: &impl Abort, nodes: &Nodes<u64>, list: &[(Slot, u64)]) {
-    assert!(rt; nodes.len() == list.len());
-    assert!(rt; nodes.oldest() == list.last().map(|entry| entry.0));
+/// Makes one call on both, and returns whether both answered the same.
+fn are_changed(nodes: &mut Nodes<u64>, list: &mut Vec<(Slot, u64)>, action: u64) -> bool {
+    if action % 8 < 4 || list.is_empty() {
+        return are_added(nodes, list, action);
+    }
+    are_used(nodes, list, action as usize / 8, action % 8 < 6)
+}
+
+/// Returns whether the arena has the entries of the list, and the same oldest one.
+fn agree(nodes: &Nodes<u64>, list: &[(Slot, u64)]) -> bool {
+    let mut oldest = None;
     for (slot, value) in list {
-        assert!(rt; nodes.is_held(*slot));
-        assert!(rt; *nodes.get(*slot) == *value);
+        if !nodes.is_held(*slot) || *nodes.get(*slot) != *value {
+            return false;
+        }
+        oldest = Some(*slot);
+    }
+    nodes.len() == list.len() && nodes.oldest() == oldest
+}
+
+/// Makes many calls on both, and returns whether both answered the same each time and agree after each.
+fn agree_for_long(nodes: &mut Nodes<u64>, list: &mut Vec<(Slot, u64)>) -> bool {
+    let mut random = 20_260_917;
+    for _ in 0..20_000 {
+        random = next_random(random);
+        if !are_changed(nodes, list, random >> 40) || !agree(nodes, list.as_slice()) {
+            return false;
+        }
+    }
+    true
+}
+
+/// Returns that of an arena and a list that begin.
+fn agree_from_nothing(alloc: Global) -> bool {
+    match Nodes::new(alloc, 6) {
+        Ok(nodes) => {
+            let mut nodes = nodes;
+            let mut list = Vec::new(alloc);
+            let agreed = agree_for_long(&mut nodes, &mut list);
+            drop(nodes);
+            agreed
+        }
+        Err(AllocError) => false,
     }
 }
 
 #[test]
-fn agrees_with_a_plain_list(rt: HostRuntime) -> Result<(), Fail> {
-    let mut nodes = Nodes::new(rt.alloc(), 6)?;
-    let mut list = Vec::new(rt.alloc());
-    let mut random = 20_260_917;
-    for _ in 0..20_000 {
-        random = next_random(random);
-        let action = random >> 40;
-        if action % 8 < 4 || list.is_empty() {
-            add_to_both(&rt, &mut nodes, &mut list, action)?;
-        } else {
-            use_in_both(
-                &rt,
-                &mut nodes,
-                &mut list,
-                action as usize / 8,
-                action % 8 < 6,
-            )?;
-        }
-        compare(&rt, &nodes, &list);
-    }
-    Ok(())
+fn agrees_with_a_plain_list(rt: HostRuntime) {
+    assert!(rt; agree_from_nothing(rt.alloc()));
 }

@@ -39,7 +39,7 @@ enum Call {
     Crash,
 }
 
-const CALLS: [Call; 29] = [
+static CALLS: [Call; 29] = [
     Call::Mounted,
     Call::Offer,
     Call::OfferOfVersion9,
@@ -130,12 +130,12 @@ const HANDED: Phase = Phase::Handed {
 
 const GONE: Phase = Phase::Gone;
 
-const PHASES: [Phase; 10] = [
+static PHASES: [Phase; 10] = [
     WAITING, CHOSEN, RAISING, HOLDING, SERVING, DRAINING, PINGED, MAKING, HANDED, GONE,
 ];
 
 /// Phase, call, next phase, answer. All other pairs are ignored and change nothing.
-const ROWS: [(Phase, Call, Phase, Answer); 48] = [
+static ROWS: [(Phase, Call, Phase, Answer); 48] = [
     (WAITING, Call::Mounted, SERVING, Answer::Heard),
     (WAITING, Call::Choice, CHOSEN, Answer::Heard),
     (WAITING, Call::NoCommon, GONE, Answer::Heard),
@@ -283,7 +283,9 @@ fn claim_answer(call: Call) -> Option<Result<u64, ClaimFault>> {
 /// Makes a call. One whose condition does not hold cannot be made, and is left out.
 fn make(alloc: Global, node: &mut Node, call: Call) -> Heard {
     if let Some(message) = message(alloc, call) {
-        return node.hear(&message);
+        let heard = node.hear(&message);
+        drop(message);
+        return heard;
     }
     if let Some(answer) = claim_answer(call) {
         return claim(node, answer);
@@ -338,25 +340,34 @@ fn drain(node: &mut Node, in_hand: usize, unposted: usize) -> Heard {
     }
 }
 
-/// Makes a call in a phase, of a daemon that reads and writes version 1 and has begun two sessions.
-fn outcome(alloc: Global, phase: Phase, call: Call) -> (Phase, Heard) {
+/// Makes a call in a phase, of a daemon that reads and writes version 1 and has begun two sessions, and returns whether
+/// it goes by its row.
+fn goes_by_row(alloc: Global, phase: Phase, call: Call) -> bool {
+    let (next, answer) = row_of(phase, call);
     let mut node = Node {
         phase,
         versions: Versions::of(&[1]),
         sessions: 2,
     };
     let heard = make(alloc, &mut node, call);
-    (node.phase(), heard)
+    let reached = node.phase();
+    drop(node);
+    is(heard, in_full(alloc, answer)) && reached == next
+}
+
+/// Returns the first call in a phase that does not go by its row.
+fn first_other_call(alloc: Global, phase: Phase) -> Option<Call> {
+    for call in &CALLS {
+        if !goes_by_row(alloc, phase, *call) {
+            return Some(*call);
+        }
+    }
+    None
 }
 
 #[test]
 fn each_phase_answers_each_call_by_its_row(rt: HostRuntime) {
-    for phase in PHASES {
-        for call in CALLS {
-            let (next, answer) = row_of(phase, call);
-            let (reached, heard) = outcome(rt.alloc(), phase, call);
-            assert!(rt; reached == next);
-            assert!(rt; is(heard, in_full(rt.alloc(), answer)));
-        }
+    for phase in &PHASES {
+        assert!(rt; first_other_call(rt.alloc(), *phase).is_none());
     }
 }

@@ -39,98 +39,144 @@ fn serving(generation: u64, sessions: u32) -> Node {
     }
 }
 
-#[test]
-fn chooses_a_common_version_once(rt: HostRuntime) {
-    let mut node = serving(1, 0);
-    assert!(rt; comes(&mut node, offer(&[9]), Heard::Say(Message::NoCommon)));
-    assert!(rt; comes(&mut node, offer(&[]), Heard::Say(Message::NoCommon)));
-    assert!(rt; node.phase() == Phase::Serving { generation: 1 });
+/// Returns whether this comes of an offer of these versions.
+fn offers(node: &mut Node, versions: &[u16], expected: Message) -> bool
+    requires { length versions.now ≤ 8 }
+{
+    comes(node, offer(versions), Heard::Say(expected))
+}
+
+/// Returns whether a daemon that serves at generation 1 chooses the version that both know, and says so once.
+fn chooses(node: &mut Node) -> bool {
     let choice = Message::Choice {
         session: 1,
         version: 1,
     };
-    assert!(rt; comes(&mut node, offer(&[9, 1]), Heard::Say(choice)));
+    offers(node, &[9], Message::NoCommon)
+        && offers(node, &[], Message::NoCommon)
+        && node.phase() == Phase::Serving { generation: 1 }
+        && offers(node, &[9, 1], choice)
+}
+
+#[test]
+fn chooses_a_common_version_once(rt: HostRuntime) {
+    let mut node = serving(1, 0);
+    let so = chooses(&mut node);
+    drop(node);
+    assert!(rt; so);
+}
+
+/// Returns the greatest version that a daemon of these and an offer have.
+fn greatest(own: &[u16], offered: &[u16]) -> Option<u16>
+    requires own { length own.now ≤ 8 }
+    requires offered { length offered.now ≤ 8 }
+{
+    let own = Versions::of(own);
+    let offered = Versions::of(offered);
+    let greatest = own.greatest_common(&offered);
+    drop(own);
+    drop(offered);
+    greatest
 }
 
 #[test]
 fn chooses_the_greatest_common_version(rt: HostRuntime) {
-    let own = Versions::of(&[2, 1, 3]);
-    for (offered, greatest) in [
-        (&[1, 2, 9][..], Some(2)),
-        (&[3, 0, 3], Some(3)),
-        (&[0, 9], None),
-    ] {
-        assert!(rt; own.greatest_common(&Versions::of(offered)) == greatest);
+    assert!(rt; greatest(&[2, 1, 3], &[1, 2, 9]) == Some(2));
+    assert!(rt; greatest(&[2, 1, 3], &[3, 0, 3]) == Some(3));
+    assert!(rt; greatest(&[2, 1, 3], &[0, 9]) == None);
+}
+
+static BUSY: [Phase; 4] = [
+    Phase::Draining {
+        generation: 1,
+        session: 1,
+        version: 1,
+    },
+    Phase::Pinged {
+        generation: 1,
+        session: 1,
+        version: 1,
+    },
+    Phase::Making {
+        generation: 1,
+        session: 1,
+        version: 1,
+    },
+    Phase::Handed {
+        generation: 1,
+        session: 1,
+    },
+];
+
+/// Returns whether a daemon in a phase is busy for an offer of these versions, and stays in it.
+fn is_busy_for(phase: Phase, versions: &[u16]) -> bool
+    requires { length versions.now ≤ 8 }
+{
+    let mut node = Node {
+        phase,
+        versions: Versions::of(&[1]),
+        sessions: 1,
+    };
+    let is_busy = offers(&mut node, versions, Message::Busy);
+    let reached = node.phase();
+    drop(node);
+    is_busy && reached == phase
+}
+
+/// Returns whether a daemon is so in each of these phases, whether it knows a version that is offered or not.
+fn is_busy_in_each(phases: &[Phase]) -> bool {
+    for phase in phases {
+        if !is_busy_for(*phase, &[9, 1])
+            || !is_busy_for(*phase, &[9])
+            || !is_busy_for(*phase, &[])
+        {
+            return false;
+        }
     }
+    true
 }
 
 #[test]
 fn is_busy_from_the_choice_until_the_data_is_out(rt: HostRuntime) {
-    let generation = 1;
-    let session = 1;
-    let version = 1;
-    let phases = [
-        Phase::Draining {
-            generation,
-            session,
-            version,
-        },
-        Phase::Pinged {
-            generation,
-            session,
-            version,
-        },
-        Phase::Making {
-            generation,
-            session,
-            version,
-        },
-        Phase::Handed {
-            generation,
-            session,
-        },
-    ];
-    for phase in phases {
-        for versions in [&[9, 1][..], &[9][..], &[][..]] {
-            let mut node = Node {
-                phase,
-                versions: Versions::of(&[1]),
-                sessions: 1,
-            };
-            assert!(rt; comes(&mut node, offer(versions), Heard::Say(Message::Busy)));
-            assert!(rt; node.phase() == phase);
-        }
-    }
+    assert!(rt; is_busy_in_each(&BUSY));
+}
+
+/// Returns whether a daemon that has one session left begins it, and none after it.
+fn begins_the_last(node: &mut Node) -> bool {
+    let session = 4_294_967_295;
+    let choice = Message::Choice {
+        session,
+        version: 1,
+    };
+    offers(node, &[1], choice)
+        && is(node.give_up(), Heard::Say(Message::Failed { session }))
+        && offers(node, &[1], Message::Busy)
+        && offers(node, &[9], Message::NoCommon)
+        && node.phase() == Phase::Serving { generation: 1 }
 }
 
 #[test]
 fn begins_the_last_session_and_none_after_it(rt: HostRuntime) {
     let mut node = serving(1, 4_294_967_294);
-    let choice = Message::Choice {
-        session: 4_294_967_295,
-        version: 1,
-    };
-    assert!(rt; comes(&mut node, offer(&[1]), Heard::Say(choice)));
-    let failed = Message::Failed {
-        session: 4_294_967_295,
-    };
-    assert!(rt; is(node.give_up(), Heard::Say(failed)));
-    assert!(rt; comes(&mut node, offer(&[1]), Heard::Say(Message::Busy)));
-    assert!(rt; comes(&mut node, offer(&[9]), Heard::Say(Message::NoCommon)));
-    assert!(rt; node.phase() == Phase::Serving { generation: 1 });
+    let so = begins_the_last(&mut node);
+    drop(node);
+    assert!(rt; so);
+}
+
+/// Returns whether a daemon begins no session, whether it knows the version that is offered or not.
+fn begins_nothing(node: &mut Node) -> bool {
+    offers(node, &[1], Message::Busy) && offers(node, &[9], Message::NoCommon)
 }
 
 #[test]
 fn is_busy_at_the_last_generation(rt: HostRuntime) {
     let mut node = serving(9_223_372_036_854_775_807, 0);
-    assert!(rt; comes(&mut node, offer(&[1]), Heard::Say(Message::Busy)));
-    assert!(rt; comes(&mut node, offer(&[9]), Heard::Say(Message::NoCommon)));
+    let is_busy = begins_nothing(&mut node);
+    drop(node);
     let mut before = serving(9_223_372_036_854_775_806, 0);
-    let choice = Message::Choice {
-        session: 1,
-        version: 1,
-    };
-    assert!(rt; comes(&mut before, offer(&[1]), Heard::Say(choice)));
+    let chooses = offers(&mut before, &[1], CHOICE);
+    drop(before);
+    assert!(rt; is_busy && chooses);
 }
 
 const CHOICE: Message = Message::Choice {
@@ -164,31 +210,55 @@ fn hands_data(alloc: Global, old: &mut Node, new: &mut Node, expected: Heard) ->
     }
 }
 
-#[test]
-fn hands_the_data_over(rt: HostRuntime) {
+/// Returns whether the data goes from the one daemon to the other.
+fn hands_over(alloc: Global, old: &mut Node, new: &mut Node) -> bool {
     let (session, generation, version) = (1, 1, 1);
-    let mut old = serving(generation, 0);
-    let mut new = Node::waiting(Versions::of(&[1]));
-    assert!(rt; comes(&mut old, new.offer(), Heard::Say(CHOICE)));
-    assert!(rt; comes(&mut new, CHOICE, Heard::Heard));
-    assert!(rt; drains(&mut old, READY));
-    assert!(rt; comes(&mut new, READY, Heard::Say(PONG)));
     let make = Heard::MakeData {
         session,
         generation,
         version,
     };
-    assert!(rt; comes(&mut old, PONG, make));
     let got = Heard::GotData {
         session,
         generation,
         version,
     };
-    assert!(rt; hands_data(rt.alloc(), &mut old, &mut new, got));
+    comes(old, new.offer(), Heard::Say(CHOICE))
+        && comes(new, CHOICE, Heard::Heard)
+        && drains(old, READY)
+        && comes(new, READY, Heard::Say(PONG))
+        && comes(old, PONG, make)
+        && hands_data(alloc, old, new, got)
 }
 
 #[test]
-fn claims_what_it_raised(rt: HostRuntime) -> Result<(), Fail> {
+fn hands_the_data_over(rt: HostRuntime) {
+    let mut old = serving(1, 0);
+    let mut new = Node::waiting(Versions::of(&[1]));
+    let so = hands_over(rt.alloc(), &mut old, &mut new);
+    drop(old);
+    drop(new);
+    assert!(rt; so);
+}
+
+/// Returns whether a daemon that was raised claims, and takes once its claim was granted.
+fn claims(node: &mut Node) -> bool {
+    let Phase::Raising { .. } = node.phase() else {
+        return false;
+    };
+    let told = node.raised(true);
+    let is_silent = told.is_none();
+    drop(told);
+    let Phase::Holding { .. } = node.phase() else {
+        return false;
+    };
+    let wants = node.claim_wanted() == Some(1) && !node.may_take();
+    node.claimed(Ok(2));
+    is_silent && wants && node.claim_wanted() == None && node.may_take()
+}
+
+#[test]
+fn claims_what_it_raised(rt: HostRuntime) {
     let mut new = Node {
         phase: Phase::Raising {
             session: 1,
@@ -197,19 +267,32 @@ fn claims_what_it_raised(rt: HostRuntime) -> Result<(), Fail> {
         versions: Versions::of(&[1]),
         sessions: 0,
     };
-    assert!(rt; new.raised(true) == None);
-    assert!(rt; new.claim_wanted() == Some(1));
-    assert!(rt; !new.may_take());
-    new.claimed(Ok(2));
-    assert!(rt; new.claim_wanted() == None);
-    assert!(rt; new.may_take());
-    Ok(())
+    let so = claims(&mut new);
+    drop(new);
+    assert!(rt; so);
+}
+
+/// Returns why a daemon cannot be drained.
+fn drain_fault(node: &mut Node, in_hand: usize, unposted: usize) -> Option<DrainFault> {
+    match node.drained(in_hand, unposted) {
+        Ok(message) => {
+            drop(message);
+            None
+        }
+        Err(fault) => Some(fault),
+    }
+}
+
+/// Returns whether a daemon tells that so much is left.
+fn tells_what_is_left(node: &mut Node, in_hand: usize, unposted: usize) -> bool {
+    drain_fault(node, in_hand, unposted) == Some(DrainFault::Undrained { in_hand, unposted })
 }
 
 #[test]
 fn tells_what_is_left_to_drain(rt: HostRuntime) {
     let mut waiting = Node::waiting(Versions::of(&[1]));
-    assert!(rt; waiting.drained(1, 1) == Err(DrainFault::WrongPhase));
+    let fault = drain_fault(&mut waiting, 1, 1);
+    drop(waiting);
     let mut node = Node {
         phase: Phase::Draining {
             generation: 1,
@@ -219,10 +302,11 @@ fn tells_what_is_left_to_drain(rt: HostRuntime) {
         versions: Versions::of(&[1]),
         sessions: 1,
     };
-    for (in_hand, unposted) in [(1, 0), (0, 1), (2, 3)] {
-        let fault = DrainFault::Undrained { in_hand, unposted };
-        assert!(rt; node.drained(in_hand, unposted) == Err(fault));
-    }
+    let tells = tells_what_is_left(&mut node, 1, 0)
+        && tells_what_is_left(&mut node, 0, 1)
+        && tells_what_is_left(&mut node, 2, 3);
+    drop(node);
+    assert!(rt; tells && fault == Some(DrainFault::WrongPhase));
 }
 
 #[test]
