@@ -13,7 +13,7 @@ const SEAT: Seat = Seat {
     daemon: DaemonId(1),
 };
 
-const ONE_DAEMON: [Deed; 7] = [
+static ONE_DAEMON: [Deed; 7] = [
     Deed::Seat(None),
     Deed::Issue(Wish::Getattr(1), Err(IssueFault::NotMounted)),
     Deed::Issue(Wish::Forget(1, 1), Err(IssueFault::NotMounted)),
@@ -23,7 +23,12 @@ const ONE_DAEMON: [Deed; 7] = [
     Deed::Seat(Some(SEAT)),
 ];
 
-const NOT_HELD: [Deed; 13] = [
+#[test]
+fn serves_one_daemon(rt: HostRuntime) {
+    assert!(rt; all_go_so(rt.alloc(), &ONE_DAEMON));
+}
+
+static NOT_HELD: [Deed; 13] = [
     SERVE,
     Deed::LookUpEach(3, Said::Entry(2)),
     Deed::Issue(Wish::Getattr(5), Err(IssueFault::NotHeld)),
@@ -39,14 +44,24 @@ const NOT_HELD: [Deed; 13] = [
     Deed::Issue(Wish::Getattr(1), Ok(Some(5))),
 ];
 
-const NO_BATCH: [Deed; 4] = [
+#[test]
+fn takes_no_request_that_is_not_held(rt: HostRuntime) {
+    assert!(rt; all_go_so(rt.alloc(), &NOT_HELD));
+}
+
+static NO_BATCH: [Deed; 4] = [
     SERVE,
     Deed::LookUpEach(1, Said::Entry(2)),
     Deed::Issue(Wish::ForgetBatch(2, 1), Err(IssueFault::BadForget)),
     Deed::Held(2, 1),
 ];
 
-const HOLDING: [Deed; 15] = [
+#[test]
+fn takes_no_batch_from_the_kernels_side(rt: HostRuntime) {
+    assert!(rt; all_go_so(rt.alloc(), &NO_BATCH));
+}
+
+static HOLDING: [Deed; 15] = [
     SERVE,
     Deed::Issue(Wish::LookUp, Ok(Some(1))),
     Deed::MayTake(None),
@@ -64,7 +79,12 @@ const HOLDING: [Deed; 15] = [
     Deed::Stand(2, [0, 0, 0]),
 ];
 
-const IN_ORDER: [Deed; 19] = [
+#[test]
+fn holds_a_number_from_delivery_to_forget(rt: HostRuntime) {
+    assert!(rt; all_go_so(rt.alloc(), &HOLDING));
+}
+
+static IN_ORDER: [Deed; 19] = [
     SERVE,
     Deed::LookUpEach(1, Said::Entry(7)),
     Deed::LookUpEach(1, Said::Entry(2)),
@@ -86,9 +106,14 @@ const IN_ORDER: [Deed; 19] = [
     Deed::Held(901, 0),
 ];
 
+#[test]
+fn keeps_the_numbers_in_order(rt: HostRuntime) {
+    assert!(rt; all_go_so(rt.alloc(), &IN_ORDER));
+}
+
 const ANSWER: Said = Said::Attrs(1);
 
-const WITHOUT_THE_SEAT: [Deed; 11] = [
+static WITHOUT_THE_SEAT: [Deed; 11] = [
     Deed::TakeNothing(1, 1, TakeFault::Ended),
     Deed::PostNothing(1, 1, 1, ANSWER, PostFault::Ended),
     SERVE,
@@ -101,6 +126,11 @@ const WITHOUT_THE_SEAT: [Deed; 11] = [
     Deed::PostNothing(1, 2, 1, ANSWER, PostFault::Stale(1)),
     Deed::Take(1),
 ];
+
+#[test]
+fn refuses_who_has_not_the_seat(rt: HostRuntime) {
+    assert!(rt; all_go_so(rt.alloc(), &WITHOUT_THE_SEAT));
+}
 
 /// Returns whether this comes of a reply where a look-up of unique 1 was taken, and none of unique 2; it is taken once
 /// at most.
@@ -146,7 +176,7 @@ fn takes_a_reply_that_was_asked_and_once(rt: HostRuntime) {
 
 const GONE: Said = Said::Error(Errno::ENOENT);
 
-const FIRST_FIRST: [Deed; 16] = [
+static FIRST_FIRST: [Deed; 16] = [
     SERVE,
     Deed::LookUpEach(6, Said::Entry(2)),
     Deed::IssueEach(Wish::Getattr(1), 3),
@@ -172,6 +202,11 @@ const ITEMS: [Item; 3] = [
     Item { node: NUMBER, k: 1 },
     Item { node: NUMBER, k: 3 },
 ];
+
+#[test]
+fn gives_what_came_first_first(rt: HostRuntime) {
+    assert!(rt; all_go_so(rt.alloc(), &FIRST_FIRST));
+}
 
 /// Returns whether these come one after the other where so many items and one ask wait, and then nothing.
 fn are_taken(alloc: Global, items: u64, first: usize, second: usize) -> bool {
@@ -204,7 +239,7 @@ fn takes_a_whole_batch_before_an_ask(rt: HostRuntime) {
     assert!(rt; are_all_taken(rt.alloc(), &BATCHES));
 }
 
-const ITEMS_IN_FULL: [Deed; 7] = [
+static ITEMS_IN_FULL: [Deed; 7] = [
     SERVE,
     Deed::LookUpEach(4097, Said::Entry(2)),
     Deed::IssueEach(Wish::Forget(2, 1), 4096),
@@ -214,7 +249,12 @@ const ITEMS_IN_FULL: [Deed; 7] = [
     Deed::IssueEach(Wish::Forget(2, 1), 1),
 ];
 
-const ASKS_IN_FULL: [Deed; 9] = [
+#[test]
+fn refuses_the_4097th_item(rt: HostRuntime) {
+    assert!(rt; all_go_so(rt.alloc(), &ITEMS_IN_FULL));
+}
+
+static ASKS_IN_FULL: [Deed; 9] = [
     SERVE,
     Deed::IssueEach(Wish::Getattr(1), 1024),
     Deed::Issue(Wish::Getattr(1), Err(IssueFault::Full)),
@@ -226,9 +266,14 @@ const ASKS_IN_FULL: [Deed; 9] = [
     Deed::Issue(Wish::Getattr(1), Ok(Some(1025))),
 ];
 
+#[test]
+fn refuses_the_1025th_ask(rt: HostRuntime) {
+    assert!(rt; all_go_so(rt.alloc(), &ASKS_IN_FULL));
+}
+
 const STALE: ClaimFault = ClaimFault::Stale { now: 1 };
 
-const CLAIMS: [Deed; 15] = [
+static CLAIMS: [Deed; 15] = [
     Deed::Claim(1, 1, Err(ClaimFault::Ended)),
     SERVE,
     Deed::IssueEach(Wish::Getattr(1), 2),
@@ -246,7 +291,12 @@ const CLAIMS: [Deed; 15] = [
     Deed::Claim(2, 2, Err(ClaimFault::Unanswered { asks: 1 })),
 ];
 
-const ENDS: [Deed; 18] = [
+#[test]
+fn hands_the_seat_to_who_claims_it(rt: HostRuntime) {
+    assert!(rt; all_go_so(rt.alloc(), &CLAIMS));
+}
+
+static ENDS: [Deed; 18] = [
     Deed::Gone(1),
     SERVE,
     Deed::LookUpEach(2, Said::Entry(2)),
@@ -267,24 +317,7 @@ const ENDS: [Deed; 18] = [
     Deed::Issue(Wish::Getattr(1), Ok(Some(5))),
 ];
 
-/// Each table above, with what it shows.
-static TABLES: [(&str, &[Deed]); 11] = [
-    ("serves one daemon", &ONE_DAEMON),
-    ("takes no request that is not held", &NOT_HELD),
-    ("takes no batch from the kernels side", &NO_BATCH),
-    ("holds a number from delivery to forget", &HOLDING),
-    ("keeps the numbers in order", &IN_ORDER),
-    ("refuses who has not the seat", &WITHOUT_THE_SEAT),
-    ("gives what came first first", &FIRST_FIRST),
-    ("refuses the 4097th item", &ITEMS_IN_FULL),
-    ("refuses the 1025th ask", &ASKS_IN_FULL),
-    ("hands the seat to who claims it", &CLAIMS),
-    ("ends with the daemon of the seat", &ENDS),
-];
-
 #[test]
-fn goes_by_each_table(rt: HostRuntime) {
-    for (shown, deeds) in &TABLES {
-        assert!(rt; all_go_so(rt.alloc(), deeds), "{shown}");
-    }
+fn ends_with_the_daemon_of_the_seat(rt: HostRuntime) {
+    assert!(rt; all_go_so(rt.alloc(), &ENDS));
 }

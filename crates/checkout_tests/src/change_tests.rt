@@ -3,9 +3,14 @@ use crate::deeds::{Deed, all_go_so};
 use crate::small::SMALL;
 use eden_base::Kind;
 
-const NOTHING: [Deed; 1] = [Deed::Differ(&[], &[], 6)];
+static NOTHING: [Deed; 1] = [Deed::Differ(&[], &[], 6)];
 
-const MOVED: [Deed; 3] = [
+#[test]
+fn differs_in_nothing_at_first(rt: HostRuntime) {
+    assert!(rt; all_go_so(rt.alloc(), SMALL, &NOTHING));
+}
+
+static MOVED: [Deed; 3] = [
     Deed::Make(1, b"a", Kind::File, 0o644, 6),
     Deed::Remove((2, b"a", Some(3))),
     Deed::Differ(
@@ -15,15 +20,25 @@ const MOVED: [Deed; 3] = [
     ),
 ];
 
-const CAME_AND_WENT: [Deed; 4] = [
+#[test]
+fn tells_a_file_and_a_name_again_after_memory_was_refused(rt: HostRuntime) {
+    assert!(rt; all_go_so(rt.alloc(), SMALL, &MOVED));
+}
+
+static CAME_AND_WENT: [Deed; 4] = [
     Deed::Make(2, b"z", Kind::File, 0o600, 6),
     Deed::Differ(&[(6, Kind::File, 0o600)], &[(2, b"z", Some(6))], 7),
     Deed::Remove((2, b"z", Some(6))),
     Deed::Differ(&[(6, Kind::File, 0o600)], &[], 7),
 ];
 
+#[test]
+fn leaves_out_a_name_that_came_and_went(rt: HostRuntime) {
+    assert!(rt; all_go_so(rt.alloc(), SMALL, &CAME_AND_WENT));
+}
+
 /// Names are told by directory, and then byte by byte: upper case before lower case, which is before what is no ASCII.
-const IN_ORDER: [Deed; 8] = [
+static IN_ORDER: [Deed; 8] = [
     Deed::Remove((2, b"b", Some(4))),
     Deed::Make(1, b"d", Kind::Dir, 0o700, 6),
     Deed::Make(1, b"src!", Kind::File, 0, 7),
@@ -50,25 +65,7 @@ const IN_ORDER: [Deed; 8] = [
     ),
 ];
 
-/// Each table above, with what it shows, and the text of its manifest.
-static TABLES: [(&str, &[u8], &[Deed]); 4] = [
-    ("differs in nothing at first", SMALL, &NOTHING),
-    (
-        "tells a file and a name again after memory was refused",
-        SMALL,
-        &MOVED,
-    ),
-    (
-        "leaves out a name that came and went",
-        SMALL,
-        &CAME_AND_WENT,
-    ),
-    ("tells names by directory and bytes", SMALL, &IN_ORDER),
-];
-
 #[test]
-fn goes_by_each_table_of_changes(rt: HostRuntime) {
-    for (shown, text, deeds) in &TABLES {
-        assert!(rt; all_go_so(rt.alloc(), text, deeds), "{shown}");
-    }
+fn tells_names_by_directory_and_bytes(rt: HostRuntime) {
+    assert!(rt; all_go_so(rt.alloc(), SMALL, &IN_ORDER));
 }

@@ -4,7 +4,7 @@ use crate::small::{COMMIT, SMALL};
 use eden_base::{FileId, Kind, Number, Perm};
 
 /// What `SMALL` has at a directory and a name.
-const CHILDREN: [Deed; 6] = [
+static CHILDREN: [Deed; 6] = [
     Deed::Commit(&COMMIT),
     Deed::Find((1, b"src", Some(2))),
     Deed::Find((2, b"a", Some(3))),
@@ -13,8 +13,13 @@ const CHILDREN: [Deed; 6] = [
     Deed::Find((3, b"a", None)),
 ];
 
+#[test]
+fn finds_the_files_of_a_small_manifest(rt: HostRuntime) {
+    assert!(rt; all_go_so(rt.alloc(), SMALL, &CHILDREN));
+}
+
 /// The files of `SMALL`, with their kind, permissions, size and count of links.
-const ATTRIBUTES: [Deed; 6] = [
+static ATTRIBUTES: [Deed; 6] = [
     Deed::Show(0, None),
     Deed::Show(1, Some((Kind::Dir, 0o755, 0, 2))),
     Deed::Show(2, Some((Kind::Dir, 0o755, 0, 2))),
@@ -23,12 +28,17 @@ const ATTRIBUTES: [Deed; 6] = [
     Deed::Show(6, None),
 ];
 
+#[test]
+fn tells_attributes_as_a_line_has_them(rt: HostRuntime) {
+    assert!(rt; all_go_so(rt.alloc(), SMALL, &ATTRIBUTES));
+}
+
 /// A directory in a directory, and a file beside them.
 const NESTED: &[u8] =
     b"commit 0123456789abcdef0123456789abcdef01234567\ndir a\ndir a/b\nfile 0644 0 c\n";
 
 /// The files of `NESTED` and one more, and whether they are empty directories.
-const NESTED_EMPTY: [Deed; 5] = [
+static NESTED_EMPTY: [Deed; 5] = [
     Deed::IsEmpty(1, false),
     Deed::IsEmpty(2, false),
     Deed::IsEmpty(3, true),
@@ -36,8 +46,13 @@ const NESTED_EMPTY: [Deed; 5] = [
     Deed::IsEmpty(5, false),
 ];
 
+#[test]
+fn takes_a_directory_of_directories_for_one_with_entries(rt: HostRuntime) {
+    assert!(rt; all_go_so(rt.alloc(), NESTED, &NESTED_EMPTY));
+}
+
 /// A directory is made and a file in it; then they are taken out, the directory first in vain.
-const FILLED: [Deed; 10] = [
+static FILLED: [Deed; 10] = [
     Deed::Make(1, b"d", Kind::Dir, 0o755, 6),
     Deed::Tell(6, Kind::Dir, 2, true),
     Deed::Make(6, b"x", Kind::File, 0o755, 7),
@@ -50,8 +65,13 @@ const FILLED: [Deed; 10] = [
     Deed::Tell(7, Kind::File, 0, false),
 ];
 
+#[test]
+fn fills_and_empties_a_directory_again_after_memory_was_refused(rt: HostRuntime) {
+    assert!(rt; all_go_so(rt.alloc(), SMALL, &FILLED));
+}
+
 /// What `SMALL` has is taken out, and a file is made under the name of its directory.
-const TAKEN: [Deed; 11] = [
+static TAKEN: [Deed; 11] = [
     Deed::Remove((1, b"src", None)),
     Deed::Remove((2, b"b", Some(4))),
     Deed::Remove((2, b"b", None)),
@@ -65,7 +85,12 @@ const TAKEN: [Deed; 11] = [
     Deed::Tell(6, Kind::File, 1, false),
 ];
 
-const MADE_IN_SRC: [Deed; 4] = [
+#[test]
+fn removes_what_the_manifest_has_and_makes_it_anew(rt: HostRuntime) {
+    assert!(rt; all_go_so(rt.alloc(), SMALL, &TAKEN));
+}
+
+static MADE_IN_SRC: [Deed; 4] = [
     Deed::Make(2, b"made", Kind::File, 0o755, 6),
     Deed::Perm(5, None),
     Deed::Perm(6, Some(0o755)),
@@ -73,39 +98,11 @@ const MADE_IN_SRC: [Deed; 4] = [
 ];
 
 #[test]
-fn names_the_root_and_its_permissions_as_fuse_does(rt: HostRuntime) {
-    assert!(rt; FileId::ROOT.0 == 1 && Number::ROOT.0 == 1 && Perm::DIRECTORY.bits == 0o755);
+fn tells_the_permissions_of_made_files_alone(rt: HostRuntime) {
+    assert!(rt; all_go_so(rt.alloc(), SMALL, &MADE_IN_SRC));
 }
 
-/// Each table above, with what it shows, and the text of its manifest.
-static TABLES: [(&str, &[u8], &[Deed]); 6] = [
-    ("finds the files of a small manifest", SMALL, &CHILDREN),
-    ("tells attributes as a line has them", SMALL, &ATTRIBUTES),
-    (
-        "takes a directory of directories for one with entries",
-        NESTED,
-        &NESTED_EMPTY,
-    ),
-    (
-        "fills and empties a directory again after memory was refused",
-        SMALL,
-        &FILLED,
-    ),
-    (
-        "removes what the manifest has and makes it anew",
-        SMALL,
-        &TAKEN,
-    ),
-    (
-        "tells the permissions of made files alone",
-        SMALL,
-        &MADE_IN_SRC,
-    ),
-];
-
 #[test]
-fn goes_by_each_table_of_files(rt: HostRuntime) {
-    for (shown, text, deeds) in &TABLES {
-        assert!(rt; all_go_so(rt.alloc(), text, deeds), "{shown}");
-    }
+fn names_the_root_and_its_permissions_as_fuse_does(rt: HostRuntime) {
+    assert!(rt; FileId::ROOT.0 == 1 && Number::ROOT.0 == 1 && Perm::DIRECTORY.bits == 0o755);
 }

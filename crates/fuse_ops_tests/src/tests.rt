@@ -355,7 +355,7 @@ fn all_go_so(alloc: Global, deeds: &[Deed]) -> bool {
     }
 }
 
-const FIRST_ERRORS: [Deed; 6] = [
+static FIRST_ERRORS: [Deed; 6] = [
     Deed::Enter(Asks::LookUp, 1, b"src", 2, Is::Directory),
     Deed::Refuse(Asks::LookUp, 9, b"a", Errno::ESTALE),
     Deed::Refuse(Asks::LookUp, 1, b"a", Errno::ENOENT),
@@ -364,12 +364,22 @@ const FIRST_ERRORS: [Deed; 6] = [
     Deed::At(1, 1, 4, 0, 4),
 ];
 
-const LOOKED_UP_AGAIN: [Deed; 4] = [
+#[test]
+fn answers_the_first_error_or_an_entry(rt: HostRuntime) {
+    assert!(rt; all_go_so(rt.alloc(), &FIRST_ERRORS));
+}
+
+static LOOKED_UP_AGAIN: [Deed; 4] = [
     Deed::Enter(Asks::LookUp, 1, b"src", 2, Is::Directory),
     Deed::Enter(Asks::LookUp, 2, b"a", 3, Is::File),
     Deed::Enter(Asks::LookUp, 1, b"src", 2, Is::Directory),
     Deed::At(2, 1, 4, 0, 4),
 ];
+
+#[test]
+fn gives_each_name_one_number(rt: HostRuntime) {
+    assert!(rt; all_go_so(rt.alloc(), &LOOKED_UP_AGAIN));
+}
 
 /// Of these, the second, third and fourth are bad, and the fifth is the root's.
 const ITEMS: [Item; 6] = [
@@ -399,7 +409,7 @@ const ITEMS: [Item; 6] = [
     },
 ];
 
-const BATCHED: [Deed; 6] = [
+static BATCHED: [Deed; 6] = [
     Deed::Enter(Asks::LookUp, 1, b"src", 2, Is::Directory),
     Deed::Enter(Asks::LookUp, 1, b"src", 2, Is::Directory),
     Deed::Enter(Asks::LookUp, 2, b"a", 3, Is::File),
@@ -408,7 +418,12 @@ const BATCHED: [Deed; 6] = [
     Deed::ShowNone(3),
 ];
 
-const FORGOTTEN: [Deed; 6] = [
+#[test]
+fn applies_each_item_of_a_batch_by_itself(rt: HostRuntime) {
+    assert!(rt; all_go_so(rt.alloc(), &BATCHED));
+}
+
+static FORGOTTEN: [Deed; 6] = [
     Deed::Enter(Asks::LookUp, 1, b"src", 2, Is::Directory),
     Deed::Enter(Asks::LookUp, 1, b"src", 2, Is::Directory),
     Deed::Forget(2, 2),
@@ -417,7 +432,12 @@ const FORGOTTEN: [Deed; 6] = [
     Deed::At(0, 1, 4, 0, 4),
 ];
 
-const SHOWN: [Deed; 8] = [
+#[test]
+fn forgets_one_item(rt: HostRuntime) {
+    assert!(rt; all_go_so(rt.alloc(), &FORGOTTEN));
+}
+
+static SHOWN: [Deed; 8] = [
     Deed::Enter(Asks::LookUp, 1, b"src", 2, Is::Directory),
     Deed::Enter(Asks::LookUp, 2, b"a", 3, Is::File),
     Deed::Show(1, Is::Directory),
@@ -428,19 +448,34 @@ const SHOWN: [Deed; 8] = [
     Deed::At(1, 1, 4, 0, 4),
 ];
 
-const NOT_SERVED: [Deed; 2] = [
+#[test]
+fn shows_attributes_and_counts_nothing(rt: HostRuntime) {
+    assert!(rt; all_go_so(rt.alloc(), &SHOWN));
+}
+
+static NOT_SERVED: [Deed; 2] = [
     Deed::Refuse(Asks::Open, 1, b"src", Errno::ENOSYS),
     Deed::At(0, 0, 2, 0, 4),
 ];
 
-const MADE_AND_FOUND: [Deed; 4] = [
+#[test]
+fn answers_enosys_to_what_is_not_served(rt: HostRuntime) {
+    assert!(rt; all_go_so(rt.alloc(), &NOT_SERVED));
+}
+
+static MADE_AND_FOUND: [Deed; 4] = [
     Deed::Create(1, b"b", 2),
     Deed::Enter(Asks::LookUp, 1, b"b", 2, Is::Made),
     Deed::Show(2, Is::Made),
     Deed::At(2, 0, 3, 0, 5),
 ];
 
-const FILLED_AND_REMOVED: [Deed; 11] = [
+#[test]
+fn makes_a_file_and_gives_its_number(rt: HostRuntime) {
+    assert!(rt; all_go_so(rt.alloc(), &MADE_AND_FOUND));
+}
+
+static FILLED_AND_REMOVED: [Deed; 11] = [
     Deed::Enter(Asks::Mkdir, 1, b"d", 2, Is::MadeDirectory),
     Deed::Create(2, b"b", 3),
     Deed::Refuse(Asks::Rmdir, 1, b"d", Errno::ENOTEMPTY),
@@ -454,7 +489,12 @@ const FILLED_AND_REMOVED: [Deed; 11] = [
     Deed::At(1, 1, 4, 0, 6),
 ];
 
-const UNLINKED_AND_MADE: [Deed; 9] = [
+#[test]
+fn keeps_a_removed_directory_that_is_held(rt: HostRuntime) {
+    assert!(rt; all_go_so(rt.alloc(), &FILLED_AND_REMOVED));
+}
+
+static UNLINKED_AND_MADE: [Deed; 9] = [
     Deed::Enter(Asks::LookUp, 1, b"src", 2, Is::Directory),
     Deed::Enter(Asks::LookUp, 2, b"a", 3, Is::File),
     Deed::Take(Asks::Unlink, 2, b"a"),
@@ -466,8 +506,13 @@ const UNLINKED_AND_MADE: [Deed; 9] = [
     Deed::At(1, 1, 5, 0, 5),
 ];
 
+#[test]
+fn keeps_an_unlinked_file_that_is_held(rt: HostRuntime) {
+    assert!(rt; all_go_so(rt.alloc(), &UNLINKED_AND_MADE));
+}
+
 /// Number 2 is the directory `src`, and 3 is the file `a` in it.
-const REFUSED: [Deed; 18] = [
+static REFUSED: [Deed; 18] = [
     Deed::Enter(Asks::LookUp, 1, b"src", 2, Is::Directory),
     Deed::Enter(Asks::LookUp, 2, b"a", 3, Is::File),
     Deed::Refuse(Asks::Create, 9, b"b", Errno::ESTALE),
@@ -488,9 +533,14 @@ const REFUSED: [Deed; 18] = [
     Deed::At(1, 1, 4, 0, 4),
 ];
 
+#[test]
+fn answers_each_error_and_changes_nothing(rt: HostRuntime) {
+    assert!(rt; all_go_so(rt.alloc(), &REFUSED));
+}
+
 /// Number 3 is the file `a`, before and after it lost its name. Nothing is in a file, so that a name is missing there
 /// too, and nothing can be made in what is unlinked.
-const ASKED_OF_A_FILE: [Deed; 9] = [
+static ASKED_OF_A_FILE: [Deed; 9] = [
     Deed::Enter(Asks::LookUp, 1, b"src", 2, Is::Directory),
     Deed::Enter(Asks::LookUp, 2, b"a", 3, Is::File),
     Deed::Refuse(Asks::Unlink, 3, b"b", Errno::ENOTDIR),
@@ -501,6 +551,11 @@ const ASKED_OF_A_FILE: [Deed; 9] = [
     Deed::Refuse(Asks::Mkdir, 3, b"b", Errno::ENOTDIR),
     Deed::At(1, 1, 4, 0, 4),
 ];
+
+#[test]
+fn tells_that_no_directory_is_asked_before_what_is_missing(rt: HostRuntime) {
+    assert!(rt; all_go_so(rt.alloc(), &ASKED_OF_A_FILE));
+}
 
 const FOUR_FILES: &[u8] =
     b"commit 0123456789abcdef0123456789abcdef01234567\ndir src\nfile 0644 12 src/a\nfile 0600 3 src/b\nfile 0644 40 README\n";
@@ -666,33 +721,5 @@ static LOADED: [(usize, [bool; 3]); 3] = [
 fn keeps_as_many_loaded_as_the_limit_says(rt: HostRuntime) {
     for (limit, loaded) in &LOADED {
         assert!(rt; stay_loaded(rt.alloc(), *limit) == Some(*loaded));
-    }
-}
-
-/// Each table above, with what it shows.
-static TABLES: [(&str, &[Deed]); 11] = [
-    ("answers the first error or an entry", &FIRST_ERRORS),
-    ("gives each name one number", &LOOKED_UP_AGAIN),
-    ("applies each item of a batch by itself", &BATCHED),
-    ("forgets one item", &FORGOTTEN),
-    ("shows attributes and counts nothing", &SHOWN),
-    ("answers enosys to what is not served", &NOT_SERVED),
-    ("makes a file and gives its number", &MADE_AND_FOUND),
-    (
-        "keeps a removed directory that is held",
-        &FILLED_AND_REMOVED,
-    ),
-    ("keeps an unlinked file that is held", &UNLINKED_AND_MADE),
-    ("answers each error and changes nothing", &REFUSED),
-    (
-        "tells that no directory is asked before what is missing",
-        &ASKED_OF_A_FILE,
-    ),
-];
-
-#[test]
-fn goes_by_each_table(rt: HostRuntime) {
-    for (shown, deeds) in &TABLES {
-        assert!(rt; all_go_so(rt.alloc(), deeds), "{shown}");
     }
 }
