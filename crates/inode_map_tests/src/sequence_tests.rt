@@ -229,10 +229,10 @@ fn agree_on_much(alloc: Global, map: &mut InodeMap) -> bool {
         next: 2,
         bad_items: 0,
     };
-    agree_for_long(alloc, map, &mut plain) == Ok(true)
-        && plain.next > 200
-        && plain.bad_items > 50
-        && plain.entries.len() > 10
+    let agreed = agree_for_long(alloc, map, &mut plain);
+    let is_much = plain.next > 200 && plain.bad_items > 50 && plain.entries.len() > 10;
+    drop(plain);
+    agreed == Ok(true) && is_much
 }
 
 /// Returns that of a map that begins.
@@ -240,7 +240,9 @@ fn agree(alloc: Global) -> bool {
     match InodeMap::new(alloc, 4) {
         Ok(map) => {
             let mut map = map;
-            agree_on_much(alloc, &mut map)
+            let agreed = agree_on_much(alloc, &mut map);
+            drop(map);
+            agreed
         }
         Err(NoMemory) => false,
     }

@@ -42,13 +42,20 @@ fn read(alloc: Global, text: &[u8]) -> Option<Manifest> {
     }
 }
 
-/// Makes the tree of a text, and makes it again where memory was short.
+/// Makes the tree of a manifest, and makes it again where memory was short.
+fn tree_again(alloc: Global, manifest: &Manifest) -> Option<Tree> {
+    match Tree::of(alloc, manifest) {
+        Ok(tree) => Some(tree),
+        Err(_refused) => Tree::of(alloc, manifest).ok(),
+    }
+}
+
+/// Makes the tree of a text.
 fn tree_of(alloc: Global, text: &[u8]) -> Option<Tree> {
     let manifest = read(alloc, text)?;
-    match Tree::of(alloc, &manifest) {
-        Ok(tree) => Some(tree),
-        Err(_refused) => Tree::of(alloc, &manifest).ok(),
-    }
+    let tree = tree_again(alloc, &manifest);
+    drop(manifest);
+    tree
 }
 
 /// Writes a path's line, and makes the path one directory deeper.
@@ -85,7 +92,9 @@ fn nested_again(alloc: Global) -> Option<Vec<u8>> {
 /// Makes the tree of that text.
 fn nested_tree(alloc: Global) -> Option<Tree> {
     let text = nested_again(alloc)?;
-    tree_of(alloc, text.as_slice())
+    let tree = tree_of(alloc, text.as_slice());
+    drop(text);
+    tree
 }
 
 /// Makes a map, and makes it again where memory was short.
@@ -120,7 +129,9 @@ fn are_located(map: &mut InodeMap, tree: &Tree) -> bool {
 fn finds_each(alloc: Global, map: &mut InodeMap, tree: &Tree) -> bool {
     match parsed(alloc, b"a") {
         Some(name) => {
-            given_below(alloc, map, &name, 101) == Some(Number(102)) && are_located(map, tree)
+            let last = given_below(alloc, map, &name, 101);
+            drop(name);
+            last == Some(Number(102)) && are_located(map, tree)
         }
         None => false,
     }
@@ -267,7 +278,11 @@ fn number_or_0(number: Option<Number>) -> u64 {
 /// Gives the number of a name, and returns it.
 fn number_given(alloc: Global, map: &mut InodeMap, parent: u64, name: &[u8]) -> u64 {
     match parsed(alloc, name) {
-        Some(name) => number_or_0(given(alloc, map, Number(parent), &name)),
+        Some(name) => {
+            let number = given(alloc, map, Number(parent), &name);
+            drop(name);
+            number_or_0(number)
+        }
         None => 0,
     }
 }
@@ -284,7 +299,11 @@ fn number_given_ready(alloc: Global, map: &mut InodeMap, parent: u64, name: &[u8
 fn is_refused(alloc: Global, map: &mut InodeMap, place: (u64, &[u8]), fault: GiveFault) -> bool {
     let (parent, name) = place;
     match parsed(alloc, name) {
-        Some(name) => map.give(alloc, Number(parent), &name) == Err(fault),
+        Some(name) => {
+            let given = map.give(alloc, Number(parent), &name);
+            drop(name);
+            given == Err(fault)
+        }
         None => false,
     }
 }
@@ -292,7 +311,11 @@ fn is_refused(alloc: Global, map: &mut InodeMap, place: (u64, &[u8]), fault: Giv
 /// Returns the number of a name.
 fn number_found(alloc: Global, map: &InodeMap, parent: u64, name: &[u8]) -> u64 {
     match parsed(alloc, name) {
-        Some(name) => number_or_0(map.number_for(Number(parent), &name)),
+        Some(name) => {
+            let number = map.number_for(Number(parent), &name);
+            drop(name);
+            number_or_0(number)
+        }
         None => 0,
     }
 }
@@ -334,20 +357,29 @@ fn is_entry(kept: &Kept, told: (u64, u64, u64)) -> bool {
     kept.number.0 == told.0 && dir_or_0(&kept.place) == told.1 && kept.count == told.2
 }
 
-/// Returns whether these are the entries, in order.
-fn has_entries(alloc: Global, map: &InodeMap, told: &[(u64, u64, u64)]) -> bool {
-    let Ok(entries) = entries_of(alloc, map) else {
-        return false;
-    };
+/// Returns whether these are told in order.
+fn are_entries(entries: &[Kept], told: &[(u64, u64, u64)]) -> bool {
     if entries.len() != told.len() {
         return false;
     }
-    for i in 0..entries.len().min(told.len()) {
+    for i in 0..told.len() {
         if !is_entry(&entries[i], told[i]) {
             return false;
         }
     }
     true
+}
+
+/// Returns whether these are the entries, in order.
+fn has_entries(alloc: Global, map: &InodeMap, told: &[(u64, u64, u64)]) -> bool {
+    match entries_of(alloc, map) {
+        Ok(entries) => {
+            let are_told = are_entries(entries.as_slice(), told);
+            drop(entries);
+            are_told
+        }
+        Err(NoMemory) => false,
+    }
 }
 
 /// Makes a call, and returns whether it answers what it says.
