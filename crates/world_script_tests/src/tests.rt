@@ -25,5 +25,7 @@ fn prints_once(alloc: Global, first: &[u8], second: &[u8], lines: &[u8]) -> bool
     if let Err(fault) = run_world(alloc, &mut first.chain(second), DEFAULT_LIMIT, &mut out) {
         let _ = write_fault(&mut out, fault);
     }
-    out.as_slice() == lines
+    let is_printed = out.as_slice() == lines;
+    drop(out);
+    is_printed
 }

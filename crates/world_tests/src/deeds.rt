@@ -464,7 +464,11 @@ fn goes_with(
         return false;
     }
     match manifest(alloc) {
-        Some(manifest) => is_found_after(alloc, &manifest, events.as_slice(), deeds, found),
+        Some(manifest) => {
+            let is_found = is_found_after(alloc, &manifest, events.as_slice(), deeds, found);
+            drop(manifest);
+            is_found
+        }
         None => false,
     }
 }
@@ -474,7 +478,9 @@ pub(crate) fn all_go_so(alloc: Global, deeds: &[(Deed, Told)], found: &[Found]) 
     match room(alloc, deeds.len()) {
         Some(events) => {
             let mut events = events;
-            goes_with(alloc, &mut events, deeds, found)
+            let goes_so = goes_with(alloc, &mut events, deeds, found);
+            drop(events);
+            goes_so
         }
         None => false,
     }
@@ -491,7 +497,9 @@ fn world_of(alloc: Global, manifest: &Manifest) -> Option<World> {
 /// Makes a world.
 pub(crate) fn new_world(alloc: Global) -> Option<World> {
     let manifest = manifest(alloc)?;
-    world_of(alloc, &manifest)
+    let world = world_of(alloc, &manifest);
+    drop(manifest);
+    world
 }
 
 pub(crate) fn counts(world: &World) -> Counts {
@@ -512,7 +520,9 @@ pub(crate) fn counts(world: &World) -> Counts {
 /// Lets an event happen, and returns whether just this happened.
 fn is_stepped(world: &mut World, event: &Event, told: Told) -> bool {
     let outcome = world.step(event);
-    is_told(&outcome, told)
+    let is_so = is_told(&outcome, told);
+    drop(outcome);
+    is_so
 }
 
 /// Does a deed, and returns whether it has its outcome.

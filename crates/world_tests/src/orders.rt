@@ -73,7 +73,9 @@ fn next_open(world: &World, order: &Order, at: usize, from: usize) -> Option<usi
 /// Lets an event happen, and returns whether it was made.
 fn is_made(world: &mut World, event: &Event) -> bool {
     let outcome = world.step(event);
-    outcome.happened().iter().all(|told| told.is_made())
+    let is_made = outcome.happened().iter().all(|told| told.is_made());
+    drop(outcome);
+    is_made
 }
 
 /// Lets an event happen by an order, or by the next choice that is open. Returns whether it was made.
@@ -186,11 +188,20 @@ fn even_orders_in(alloc: Global, manifest: &Manifest, events: &mut Vec<Event>) -
     }
 }
 
+/// Makes that room.
+fn even_orders_of_manifest(alloc: Global, manifest: &Manifest) -> Option<u64> {
+    let mut events = room(alloc, CHOICES)?;
+    let orders = even_orders_in(alloc, manifest, &mut events);
+    drop(events);
+    Some(orders)
+}
+
 /// Returns that of the test's manifest.
 fn even_orders_of_all(alloc: Global) -> Option<u64> {
     let manifest = manifest(alloc)?;
-    let mut events = room(alloc, CHOICES)?;
-    Some(even_orders_in(alloc, &manifest, &mut events))
+    let orders = even_orders_of_manifest(alloc, &manifest);
+    drop(manifest);
+    orders
 }
 
 /// That there are 13,375 orders was counted apart.

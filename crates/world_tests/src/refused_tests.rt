@@ -14,7 +14,9 @@ fn last_of(outcome: &Outcome) -> Option<Happened> {
 /// Lets an event happen, and returns what it told last.
 fn told_by(world: &mut World, event: &Event) -> Option<Happened> {
     let outcome = world.step(event);
-    last_of(&outcome)
+    let last = last_of(&outcome);
+    drop(outcome);
+    last
 }
 
 const REFUSED: Option<Happened> = Some(Happened::Refused(Refusal::NoMemory));

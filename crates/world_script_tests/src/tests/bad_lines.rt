@@ -2,7 +2,7 @@
 use super::{MANIFEST, prints};
 use std::alloc::Global;
 
-const BAD_LINES: [&[u8]; 78] = [
+static BAD_LINES: [&[u8]; 78] = [
     b"\n",
     b" \n",
     b"\r\n",

@@ -19,8 +19,10 @@ fn starts_behind(alloc: Global, lines: u32, printed: &[u8]) -> bool {
 
 fn starts_once(alloc: Global, lines: u32, printed: &[u8]) -> bool {
     let mut manifest = String::new(alloc);
-    add_manifest(&mut manifest, lines).is_ok()
-        && prints(alloc, manifest.as_bytes(), b"--\nstart\n", printed)
+    let starts = add_manifest(&mut manifest, lines).is_ok()
+        && prints(alloc, manifest.as_bytes(), b"--\nstart\n", printed);
+    drop(manifest);
+    starts
 }
 
 #[test]
@@ -46,10 +48,13 @@ fn shows(alloc: Global, bytes: usize, count: u32, line: &str, printed: u32) -> b
 fn shows_once(alloc: Global, bytes: usize, count: u32, line: &str, printed: u32) -> bool {
     let mut events = String::new(alloc);
     let mut lines = String::new(alloc);
-    add_times(&mut events, "show\n", count).is_ok()
+    let shows = add_times(&mut events, "show\n", count).is_ok()
         && add_times(&mut lines, line, printed).is_ok()
         && events.len().saturating_add(51) == bytes
-        && prints(alloc, HEAD, events.as_bytes(), lines.as_bytes())
+        && prints(alloc, HEAD, events.as_bytes(), lines.as_bytes());
+    drop(events);
+    drop(lines);
+    shows
 }
 
 /// A manifest without files, and the line behind it.

@@ -149,11 +149,22 @@ fn words_of(alloc: Global, words: Option<&[&str]>) -> io::Result<Vec<String>> {
         return Err(io::Error::from(ErrorKind::InvalidData));
     };
     let mut all = Vec::new(alloc);
-    add_word(alloc, &mut all, "edend")?;
-    for word in words {
-        add_word(alloc, &mut all, word)?;
+    match add_words(alloc, &mut all, words) {
+        Ok(()) => Ok(all),
+        Err(error) => {
+            drop(all);
+            Err(error)
+        }
     }
-    Ok(all)
+}
+
+/// Adds the program's name, and then words.
+fn add_words(alloc: Global, all: &mut Vec<String>, words: &[&str]) -> io::Result<()> {
+    add_word(alloc, all, "edend")?;
+    for word in words {
+        add_word(alloc, all, word)?;
+    }
+    Ok(())
 }
 
 fn add_word(alloc: Global, all: &mut Vec<String>, word: &str) -> io::Result<()> {
@@ -176,7 +187,10 @@ fn runs_so(alloc: Global, lines: BufWriter<Room>, row: &Row) -> bool {
     let mut err = Vec::new(alloc);
     let words = words_of(alloc, row.0);
     let (out, ending) = run_program(alloc, words, &Memory, lines, &mut err);
-    is_row(ending, out.text.as_slice(), err.as_slice(), row)
+    let is_so = is_row(ending, out.text.as_slice(), err.as_slice(), row);
+    drop(out);
+    drop(err);
+    is_so
 }
 
 /// Returns whether an ending and both texts are those of the row. Text of the row is whole, unless it ends without LF.

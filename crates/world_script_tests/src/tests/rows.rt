@@ -3,7 +3,7 @@ use super::{MANIFEST, prints};
 use std::alloc::Global;
 
 /// The start of a script, its rest, and the printed lines.
-const ROWS: [(&[u8], &[u8], &[u8]); 40] = [
+static ROWS: [(&[u8], &[u8], &[u8]); 40] = [
     (
         MANIFEST,
         b"start\nmount 1\nshow\n",

@@ -42,13 +42,15 @@ fn prints_many_once(alloc: Global, many: Many) -> bool {
         events: String::new(alloc),
         lines: String::new(alloc),
     };
-    add(&mut long, many).is_ok()
+    let prints = add(&mut long, many).is_ok()
         && prints(
             alloc,
             long.manifest.as_bytes(),
             long.events.as_bytes(),
             long.lines.as_bytes(),
-        )
+        );
+    drop(long);
+    prints
 }
 
 /// Starts a daemon behind a manifest, and adds many.
