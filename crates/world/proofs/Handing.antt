@@ -1,6 +1,6 @@
 -- What stands of daemons and messages goes on standing, whatever happens to one daemon.
 use Rattle.std.proofs.Common.{◌≡◌, ℕ, suc, zero, ◌<◌, ◌≤◌, true, false, List, [], ◌∷◌, ◌++◌, Some, None, refl, sym, ap, ◌∙◌, subst, inl, inr, ◌⊎◌, arith}
-use Rattle.std.specs.Prelude.{slice_get}
+use Rattle.std.specs.Prelude.{slice_get, count_by}
 use Rattle.std.specs.List.{AllByRecursion}
 use Rattle.eden_base.specs.Limits.{last_generation}
 use Rattle.manifest.specs.Manifest.{Manifest, IsManifest}
@@ -17,7 +17,7 @@ use Rattle.takeover_core.specs.declared.phase.Phase.TheVariants.{Holding, Servin
 use Rattle.daemon.specs.Daemon.{DaemonState}
 use Rattle.world.specs.Handing.{part_at, is_drained, is_out, HasTheSeat, MessageStands, DaemonStands, IsHanding}
 use Rattle.daemon.specs.Server.{ServerState}
-use Rattle.world.specs.State.{State, daemon_of, with_daemon}
+use Rattle.world.specs.State.{State, daemon_of, with_daemon, is_data_of}
 use Rattle.world.proofs.Daemons.{who}
 use Rattle.world.proofs.Turns.{is_data}
 
@@ -230,19 +230,22 @@ module _ (old base new : State) (daemon : DaemonId) (was later : DaemonState) (m
 
   -- every other daemon and message stands as it did
   pub handing-where : new.broker.last ≤ last_generation → DaemonStands new daemon later → ((other : DaemonId) (d : DaemonState) → (other ≡ daemon → ⊥) → DaemonStands old other d → DaemonStands new other d) →
-      ((m : Message) → MessageStands old m → MessageStands new m) → AllByRecursion (MessageStands new) more → IsHanding new
-  handing-where low stands others along said = record {
+      ((m : Message) → MessageStands old m → MessageStands new m) → AllByRecursion (MessageStands new) more →
+      ((seat : Seat) → new.broker.seat ≡ Some seat → count_by (is_data_of seat.generation) (old.messages ++ more) ≤ 1) → IsHanding new
+  handing-where low stands others along said once = record {
     is_manifest = subst (λ (m : Manifest). IsManifest m) (sym (ap (λ (s : State). s.manifest) makes ∙ is.manifest)) h.is_manifest;
     low = low;
     daemons = every-daemon base new daemon was later makes (base_of daemon was there) stands (λ other d apart e. others other d apart (h.daemons other d (old_of other d e)));
     messages = subst (λ (ms : List Message). AllByRecursion (MessageStands new) ms) (sym (ap (λ (s : State). s.messages) makes ∙ is.messages))
         (all-append (MessageStands new) old.messages more (all-along (MessageStands old) (MessageStands new) along old.messages h.messages) said);
+    once = λ seat e. subst (λ (ms : List Message). count_by (is_data_of seat.generation) ms ≤ 1) (sym (ap (λ (s : State). s.messages) makes ∙ is.messages)) (once seat e);
   }
 
   -- the seat stays
   pub stays : base.broker.seat ≡ old.broker.seat → base.broker.last ≡ old.broker.last → ((seat : Seat) → old.broker.seat ≡ Some seat → daemon ≡ seat.daemon → KeepsOut was later) → KeepsSeat old new
   stays seat last keeps = subst (λ (s : State). KeepsSeat old s) (sym makes) (keeps-seat old base daemon was later is.daemons seat last there keeps)
 
-  pub handing-stays : KeepsSeat old new → DaemonStands old daemon later → AllByRecursion (MessageStands new) more → IsHanding new
-  handing-stays k stands said = handing-where (subst (λ (l : ℕ). l ≤ last_generation) (sym k.last) h.low) (daemon-along old new daemon later k stands)
-      (λ other d apart s. daemon-along old new other d k s) (λ m s. message-along old new m k s) said
+  pub handing-stays : KeepsSeat old new → DaemonStands old daemon later → AllByRecursion (MessageStands new) more →
+      ((seat : Seat) → old.broker.seat ≡ Some seat → count_by (is_data_of seat.generation) (old.messages ++ more) ≤ 1) → IsHanding new
+  handing-stays k stands said once = handing-where (subst (λ (l : ℕ). l ≤ last_generation) (sym k.last) h.low) (daemon-along old new daemon later k stands)
+      (λ other d apart s. daemon-along old new other d k s) (λ m s. message-along old new m k s) said (λ seat e. once seat (sym k.seat ∙ e))

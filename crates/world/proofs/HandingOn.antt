@@ -1,6 +1,6 @@
 -- Every event leaves daemons and messages standing.
 use Rattle.std.proofs.Common.{◌≡◌, ℕ, suc, zero, ◌+◌, ◌-◌, ◌<◌, ◌≤◌, Bool, true, false, List, [], ◌∷◌, ◌++◌, Option, Some, None, Err, refl, sym, ap, ◌∙◌, subst, inl, inr, ◌⊎◌, arith}
-use Rattle.std.specs.Prelude.{◌==◌, slice_get, if◌then◌else◌}
+use Rattle.std.specs.Prelude.{◌==◌, slice_get, count_by, if◌then◌else◌}
 use Rattle.std.specs.Option.{option_map, option_map_or}
 use Rattle.eden_base.specs.Limits.{last_generation}
 use Rattle.eden_base.specs.declared.claim.ClaimFault.{ClaimFault}
@@ -21,7 +21,7 @@ use Rattle.world.specs.Agreement.{Follows}
 use Rattle.daemon.specs.Daemon.{DaemonState, versions, new_daemon, is_waiting, with_server}
 use Rattle.world.specs.Handing.{part_at, is_drained, HasTheSeat, MessageStands, DaemonStands, IsHanding}
 use Rattle.daemon.specs.Server.{ServerState, IsIdle, at_place, with_taken, with_worked, with_posted}
-use Rattle.world.specs.State.{State, daemon_of, with_daemon, fault, take_refusal, server_refusal}
+use Rattle.world.specs.State.{State, daemon_of, with_daemon, is_data_of, fault, take_refusal, server_refusal}
 use Rattle.world.specs.Step.{Starts, Mounts, Issues, Takes, Works, Posts, Claims, Crashes, Makes, OnceBy, Once, after_refusal, unclaimed}
 use Rattle.daemon.specs.Talking.{after_claim, at_generation}
 use Rattle.world.specs.declared.event.Event.{Event}
@@ -31,6 +31,7 @@ use Rattle.daemon.specs.declared.happened.Refusal.{Refusal}
 use Rattle.world.proofs.Claims.{IsClaim, claim-is, refused-no-holder, claimed-phase, fatal-phase, waiting-phase, mounted-phase, crashed-phase}
 use Rattle.world.proofs.Daemons.{MayMount, may_mount, serving-there, none-at}
 use Rattle.world.proofs.Handing.{KeepsSeat, WasHolder, IsBase, IsLater, daemon-along, message-along, daemon-later, message-later, daemon-free, message-free, all-along, all-append, handing-where, handing-stays, stays, holding-part}
+use Rattle.world.proofs.Once.{once-quiet, once-later}
 use Rattle.world.proofs.HandingTalks.{hears-handing, gives-up-handing, drains-handing}
 use Rattle.world.proofs.Standing.{busy-stands, busy-out, seated-stands, gone-stands}
 
@@ -43,6 +44,7 @@ broker-handing old broker seat last h = record {
   low = subst (λ (l : ℕ). l ≤ last_generation) (sym last) h.low;
   daemons = λ daemon was there. daemon-along old new daemon was k (h.daemons daemon was there);
   messages = all-along (MessageStands old) (MessageStands new) (λ m s. message-along old new m k s) old.messages h.messages;
+  once = λ at e. h.once at (sym seat ∙ e);
 } where
   new : State
   new = record old { broker = broker }
@@ -74,7 +76,7 @@ busy-handing : (old : State) (broker : BrokerState) (daemon : DaemonId) (was : D
 busy-handing old broker daemon was before server new h there serves busy seat last makes =
     handing-stays old (record old { broker = broker }) new daemon was (with_server was server) [] (same-base old broker) makes there h
     (stays old (record old { broker = broker }) new daemon was (with_server was server) [] (same-base old broker) makes there h seat last (λ at e here. busy-out was before server busy serves))
-    (busy-stands old daemon was server busy (h.daemons daemon was there)) tt
+    (busy-stands old daemon was server busy (h.daemons daemon was there)) tt (once-quiet old [] h tt)
 
 -- who may take is not drained
 may-busy : (p : Phase) → table.may_take p ≡ true → is_drained p ≡ false
@@ -133,6 +135,7 @@ starts-handing w old told new m h (tells, makes) = subst IsHanding (sym makes) (
   low = h.low;
   daemons = λ daemon now there. daemon_in daemon now (started-there old (old.messages ++ Offer versions ∷ []) daemon now there);
   messages = all-append (MessageStands later) old.messages (Offer versions ∷ []) (all-along (MessageStands old) (MessageStands later) (λ x s. message-along old later x k s) old.messages h.messages) (tt, tt);
+  once = once-quiet old (Offer versions ∷ []) h (refl, tt);
 }) where
   later : State
   later = record old { daemons = old.daemons ++ new_daemon ∷ []; messages = old.messages ++ Offer versions ∷ [] }
@@ -172,12 +175,18 @@ later-handing old broker seat daemon was later server new h has there serving se
     handing-where old (record old { broker = broker }) new daemon was later [] (same-base old broker) makes there h
     (subst (λ (l : ℕ). l ≤ last_generation) (sym new_last) low)
     (seated-stands new seat daemon later server has serving new_seat (sym here) (subst (λ (l : ℕ). seat.generation ≤ l) (sym new_last) (let r : seat.generation ≤ seat.generation = omega arith in r)))
-    (λ other d apart s. daemon-later old new seat other d is_later (λ e. apart (e ∙ here)) s) (λ x s. message-later old new seat x is_later s) tt where
+    (λ other d apart s. daemon-later old new seat other d is_later (λ e. apart (e ∙ here)) s) (λ x s. message-later old new seat x is_later s) tt once where
       new_seat : new.broker.seat ≡ Some seat
       new_seat = ap (λ (s : State). s.broker.seat) makes ∙ seated
 
       new_last : new.broker.last ≡ seat.generation
       new_last = ap (λ (s : State). s.broker.last) makes ∙ last
+
+      once : (at : Seat) → new.broker.seat ≡ Some at → count_by (is_data_of at.generation) (old.messages ++ []) ≤ 1
+      once at e =
+          let two : Some seat ≡ Some at = sym new_seat ∙ e in
+          let same : seat ≡ at = cc in
+          subst (λ (s : Seat). count_by (is_data_of s.generation) (old.messages ++ []) ≤ 1) same (once-later old seat.generation h rises)
 
       is_later : IsLater old new seat
       is_later = record { seated = new_seat; later = rises; last = (let l : new.broker.last ≡ seat.generation = new_last in omega arith) }
@@ -222,14 +231,15 @@ gone-handing : (old : State) (daemon : DaemonId) (was later : DaemonState) (new 
 gone-handing old daemon was later new h there gone no_seat makes =
     handing-stays old old new daemon was later [] (same-base old old.broker) makes there h
     (stays old old new daemon was later [] (same-base old old.broker) makes there h refl refl (λ at e here. absurd (no_seat at e here)))
-    (gone-stands old daemon later gone no_seat) tt
+    (gone-stands old daemon later gone no_seat) tt (once-quiet old [] h tt)
 
 -- the seat's daemon is gone
 ended-handing : (old : State) (daemon : DaemonId) (was later : DaemonState) (new : State) → IsHanding old → daemon_of old daemon ≡ Some was → later.node.phase ≡ Gone → new ≡ with_daemon (record old { broker = ended old.broker }) daemon later → IsHanding new
 ended-handing old daemon was later new h there gone makes =
     handing-where old (record old { broker = ended old.broker }) new daemon was later [] (same-base old (ended old.broker)) makes there h
     (subst (λ (l : ℕ). l ≤ last_generation) (sym last) h.low) (gone-stands new daemon later gone (λ at e here. absurd (let two : None ≡ Some at = sym free ∙ e in let none : ⊥ = cc in none)))
-    (λ other d apart s. daemon-free old new other d free last s) (λ x s. message-free old new x free last s) tt where
+    (λ other d apart s. daemon-free old new other d free last s) (λ x s. message-free old new x free last s) tt
+    (λ at e. absurd (let two : None ≡ Some at = sym free ∙ e in let none : ⊥ = cc in none)) where
       free : new.broker.seat ≡ None
       free = ap (λ (s : State). s.broker.seat) makes
 
@@ -257,7 +267,7 @@ still-handing : (old : State) (daemon : DaemonId) (was later : DaemonState) → 
 still-handing old daemon was later h there same =
     handing-stays old old (with_daemon old daemon later) daemon was later [] (same-base old old.broker) refl there h
     (stays old old (with_daemon old daemon later) daemon was later [] (same-base old old.broker) refl there h refl refl (λ at e here. record { server = λ server serves. (server, sym (ap (λ (d : DaemonState). d.server) same) ∙ serves, λ o. (ap (λ (d : DaemonState). Rattle.world.specs.Handing.is_out d.node.phase) same ∙ o, refl)) }))
-    (subst (λ (d : DaemonState). DaemonStands old daemon d) (sym same) (h.daemons daemon was there)) tt
+    (subst (λ (d : DaemonState). DaemonStands old daemon d) (sym same) (h.daemons daemon was there)) tt (once-quiet old [] h tt)
 
 unclaimed-handing : (w : World) (old : State) (daemon : DaemonId) (new : State) → Follows w old → IsHanding old → new ≡ after_refusal old (Claim daemon) → IsHanding new
 unclaimed-handing w old daemon new m h makes = subst IsHanding (sym makes) (daemon_in (daemon_of old daemon) refl) where

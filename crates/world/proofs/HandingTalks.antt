@@ -1,6 +1,6 @@
 -- Daemons and messages stand after a message was heard, and after a daemon was drained or gave up.
 use Rattle.std.proofs.Common.{◌≡◌, ℕ, ◌-◌, ◌≤◌, Bool, true, false, ◌&&◌, List, [], ◌∷◌, ◌++◌, length, Option, Some, None, refl, sym, ap, ◌∙◌, subst, inl, inr, arith}
-use Rattle.std.specs.Prelude.{◌==◌}
+use Rattle.std.specs.Prelude.{◌==◌, count_by}
 use Rattle.std.specs.Option.{option_and_then, option_map_or}
 use Rattle.std.specs.List.{AllByRecursion}
 use Rattle.eden_base.specs.declared.number.DaemonId.{DaemonId}
@@ -25,7 +25,7 @@ use Rattle.daemon.specs.Daemon.{DaemonState, with_node, in_hand, unposted}
 use Rattle.world.specs.Handing.{part_at, is_out, HasTheSeat, MessageStands, DaemonStands, IsHanding}
 use Rattle.daemon.specs.Server.{ServerState, IsIdle, at_place}
 use Rattle.daemon.specs.Serving.{beginning}
-use Rattle.world.specs.State.{State, daemon_of, with_daemon, IsSeated}
+use Rattle.world.specs.State.{State, daemon_of, with_daemon, is_data_of, IsSeated}
 use Rattle.world.specs.Step.{Hears, Reacts, what_is_said}
 use Rattle.daemon.specs.Talking.{HasData, HandsOver, ServesOn, TakesOver, CannotTakeOver, ReactsBy, TurnsBy, IsReady, GivesUpSo, drained, bytes_of}
 use Rattle.daemon.specs.declared.daemon.Reaction.{Reaction}
@@ -33,6 +33,7 @@ use Rattle.daemon.specs.declared.daemon.Reaction.TheVariants.{Ignores, Heeds, Sa
 use Rattle.daemon.specs.declared.happened.Happened.{Happened}
 use Rattle.world.proofs.Daemons.{daemon_of-with, holder-is, HolderIs, at-is}
 use Rattle.world.proofs.Handing.{KeepsSeat, IsBase, all-at, no-data-stands, handing-stays, stays}
+use Rattle.world.proofs.Once.{once-other, once-quiet, once-said}
 use Rattle.world.proofs.Standing.{Turned, turned-out, turned-stands}
 use Rattle.world.proofs.Turns.{IsTurn, is_data, says_data, node_of, turn-hear, turn-give_up, turn-drained, turn-made, turn-failed, turn-gone, hear-no-data, give_up-no-data, drained-no-data, MakesIt, makes-it, TakesIt, takes-it}
 
@@ -42,7 +43,8 @@ use Rattle.world.proofs.Turns.{IsTurn, is_data, says_data, node_of, turn-hear, t
 turned-handing : (old : State) (daemon : DaemonId) (was later : DaemonState) (idle : Bool) (reaction : Reaction) (new : State) → IsHanding old → Turned old daemon was later idle → ((m : Message) → reaction ≡ Says m → is_data m ≡ false) →
     new ≡ with_daemon (record old { messages = old.messages ++ what_is_said reaction }) daemon later → IsHanding new
 turned-handing old daemon was later idle reaction new h t no_data makes =
-    handing-stays old base new daemon was later (what_is_said reaction) is makes t.there h keeps (turned-stands old daemon was later idle t (h.daemons daemon was t.there)) (said_in reaction no_data) where
+    handing-stays old base new daemon was later (what_is_said reaction) is makes t.there h keeps (turned-stands old daemon was later idle t (h.daemons daemon was t.there)) (said_in reaction no_data)
+    (once-quiet old (what_is_said reaction) h (quiet_in reaction no_data)) where
       base : State
       base = record old { messages = old.messages ++ what_is_said reaction }
 
@@ -56,6 +58,11 @@ turned-handing old daemon was later idle reaction new h t no_data makes =
       said_in Ignores none = tt
       said_in Heeds none = tt
       said_in (Says m) none = (no-data-stands new m (none m refl), tt)
+
+      quiet_in : (r : Reaction) → ((m : Message) → r ≡ Says m → is_data m ≡ false) → AllByRecursion (λ (m : Message). is_data m ≡ false) (what_is_said r)
+      quiet_in Ignores none = tt
+      quiet_in Heeds none = tt
+      quiet_in (Says m) none = (none m refl, tt)
 
 -- what says no data says none
 no_data_of : (a : Answer) (said m : Message) → says_data a ≡ false → a ≡ answer.Say said → Says said ≡ Says m → is_data m ≡ false
@@ -93,7 +100,8 @@ seated-by state seat was server has = record { has_seat = has.seated; serves = a
 hands-handing : (old : State) (daemon : DaemonId) (was : DaemonState) (said : Message) (s g v : ℕ) (reaction : Reaction) (later : DaemonState) (new : State) → IsHanding old → daemon_of old daemon ≡ Some was →
     table.heard was.node (table.Hear said) ≡ answer.MakeData s g v → HandsOver was (table.after was.node (table.Hear said)) g v reaction later → new ≡ with_daemon (record old { messages = old.messages ++ what_is_said reaction }) daemon later → IsHanding new
 hands-handing old daemon was said s g v reaction later new h there e t makes =
-    handing-stays old base new daemon was later (what_is_said reaction) is makes there h keeps stands (subst (λ (r : Reaction). AllByRecursion (MessageStands new) (what_is_said r)) (sym t.reacts) (message_stands, tt)) where
+    handing-stays old base new daemon was later (what_is_said reaction) is makes there h keeps stands (subst (λ (r : Reaction). AllByRecursion (MessageStands new) (what_is_said r)) (sym t.reacts) (message_stands, tt))
+    (λ seat at. subst (λ (r : Reaction). count_by (is_data_of seat.generation) (old.messages ++ what_is_said r) ≤ 1) (sym t.reacts) (once seat at (g == seat.generation) refl)) where
       it : MakesIt was.node.versions was.node.sessions was.node.phase said s g v
       it = makes-it was.node.versions was.node.sessions was.node.phase said s g v e
 
@@ -154,6 +162,16 @@ hands-handing old daemon was said s g v reaction later new h there e t makes =
       message_stands : MessageStands new t.said
       message_stands = subst (λ (m : Message). MessageStands new m) (sym is_said) data_stands
 
+      -- the holder had handed nothing over; and another's data is not of the seat's generation
+      once : (seat : Seat) → old.broker.seat ≡ Some seat → (b : Bool) → (g == seat.generation) ≡ b → count_by (is_data_of seat.generation) (old.messages ++ t.said ∷ []) ≤ 1
+      once seat at true e =
+          let part : part_at was.node.phase ≡ Some g = ap part_at it.was in
+          let serving : seat_of was.node.phase ≡ Some seat.generation = ap seat_of it.was ∙ ap Some (true-eq g seat.generation e) in
+          let here : daemon ≡ seat.daemon = was_stands.only seat at serving in
+          let its = was_stands.serves g part in
+          once-said old seat was its.0 t.said h (record { seated = at; there = sym (ap (daemon_of old) here) ∙ there; serves = its.1 }) (ap is_out it.was)
+      once seat at false e = once-other old (t.said ∷ []) seat h at (ap (is_data_of seat.generation) is_said ∙ e, tt)
+
 -- nothing could be written, and the daemon serves on
 serves-handing : (old : State) (daemon : DaemonId) (was : DaemonState) (said : Message) (s g v : ℕ) (reaction : Reaction) (later : DaemonState) (new : State) → IsHanding old → daemon_of old daemon ≡ Some was →
     table.heard was.node (table.Hear said) ≡ answer.MakeData s g v → ServesOn was (table.after was.node (table.Hear said)) g v reaction later → new ≡ with_daemon (record old { messages = old.messages ++ what_is_said reaction }) daemon later → IsHanding new
@@ -188,7 +206,8 @@ serves-handing old daemon was said s g v reaction later new h there e t makes = 
 takes-handing : (w : World) (old : State) (daemon : DaemonId) (was : DaemonState) (place : ℕ) (said : Message) (s g v : ℕ) (reaction : Reaction) (later : DaemonState) (new : State) → Follows w old → IsHanding old → daemon_of old daemon ≡ Some was → at_place old.messages place ≡ Some said →
     table.heard was.node (table.Hear said) ≡ answer.GotData s g v → TakesOver old.manifest old.limit (bytes_of said) (table.after was.node (table.Hear said)) g reaction later → new ≡ with_daemon (record old { messages = old.messages ++ what_is_said reaction }) daemon later → IsHanding new
 takes-handing w old daemon was place said s g v reaction later new m h there at e t makes =
-    handing-stays old base new daemon was later (what_is_said reaction) is makes there h keeps stands (subst (λ (r : Reaction). AllByRecursion (MessageStands new) (what_is_said r)) (sym t.reacts) tt) where
+    handing-stays old base new daemon was later (what_is_said reaction) is makes there h keeps stands (subst (λ (r : Reaction). AllByRecursion (MessageStands new) (what_is_said r)) (sym t.reacts) tt)
+    (once-quiet old (what_is_said reaction) h (subst (λ (r : Reaction). AllByRecursion (λ (m : Message). is_data m ≡ false) (what_is_said r)) (sym t.reacts) tt)) where
       it : TakesIt was.node.versions was.node.sessions was.node.phase said s g v
       it = takes-it was.node.versions was.node.sessions was.node.phase said s g v e
 

@@ -21,6 +21,7 @@ mod Working
 mod Crashing
 mod Turns
 mod Handing
+mod Once
 mod Standing
 mod Claims
 mod HandingTalks

@@ -48,6 +48,7 @@ match-names w state m seat server at = let k = (holder-is w state seat server m.
 pub match-current : (w : World) (state : State) → Matches w state → DataIsCurrent w state
 match-current w state m = record {
   past = λ place session g bytes at. (message place session g bytes at).0;
+  alone = (m.handing).once;
   handed = λ seat place session bytes seated at.
       let h = holder seat seated in
       let d = (message place session seat.generation bytes at).1 seat h.was h.server h.has refl in
@@ -94,7 +95,7 @@ first-follows manifest limit is = record {
 pub first-matches : (manifest : Manifest) (limit : ℕ) → IsManifest manifest → IsTree (tree_of manifest) → Matches (first_world manifest) (started manifest limit)
 first-matches manifest limit is_manifest is = record {
   follows = first-follows manifest limit is;
-  handing = record { is_manifest = is_manifest; low = omega arith; daemons = λ daemon was there. absurd (no_daemon (daemon.0 == 0) was there); messages = tt };
+  handing = record { is_manifest = is_manifest; low = omega arith; daemons = λ daemon was there. absurd (no_daemon (daemon.0 == 0) was there); messages = tt; once = λ seat e. absurd (let none : ⊥ = cc in none) };
 } where
   no_daemon : (b : Bool) (was : DaemonState) → (if b then None else None) ≡ Some was → ⊥
   no_daemon true was e = let none : ⊥ = cc in none

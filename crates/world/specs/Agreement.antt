@@ -24,7 +24,7 @@ use Rattle.takeover_core.specs.declared.message.Message.TheVariants.{Data}
 use Rattle.world.specs.Handing.{IsHanding}
 use Rattle.daemon.specs.Daemon.{DaemonState}
 use Rattle.daemon.specs.Server.{ServerState, IsIdle, at_place, is_single}
-use Rattle.world.specs.State.{State, IsSeated, daemon_of, server_of}
+use Rattle.world.specs.State.{State, IsSeated, daemon_of, server_of, is_data_of}
 use Rattle.world.specs.Step.{Steps, parts_of}
 use Rattle.world.specs.World.{World, Move, issue, issue_item, work, work_item, accept, deliver, mount, claim, end as mount_end, first_world, file_named, times, owed, is_asked, is_replied, IsRun, after_all}
 use Rattle.world.specs.declared.event.Event.{Event}
@@ -176,11 +176,14 @@ NumbersNameTheirFirstFile world state =
 abbrev pub KnowsWorld : World → ServedState → Type 0
 KnowsWorld world served = Knows world.tree world.names (owed world) served
 
--- data of the seat's generation is the image of what knows the world as it is now, though the kernel went on issuing and
--- receiving; and so does what is served by each daemon that may claim the seat. No data is of a generation to come.
+-- data of the seat's generation is in one message at most, and is the image of what knows the world as it is now, though
+-- the kernel went on issuing and receiving; and so does what is served by each daemon that may claim the seat. No data is
+-- of a generation to come.
 pub record DataIsCurrent (world : World) (state : State) : Type 0 where
   pub past : (place session generation : ℕ) (bytes : List ℕ) →
       at_place state.messages place ≡ Some (Data session generation bytes) → generation ≤ state.broker.last
+  pub alone : (seat : Seat) → state.broker.seat ≡ Some seat →
+      count_by (is_data_of seat.generation) state.messages ≤ 1
   pub handed : (seat : Seat) (place session : ℕ) (bytes : List ℕ) → state.broker.seat ≡ Some seat →
       at_place state.messages place ≡ Some (Data session seat.generation bytes) →
       (served : ServedState) × (version : ℕ) × IsHandedOver served seat.generation version bytes × KnowsWorld world served

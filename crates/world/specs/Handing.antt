@@ -1,6 +1,6 @@
 -- What makes a takeover keep what is known: who may have the seat's data, and what is in it. All of it is of the state
 -- alone. (This project's own.)
-use Rattle.std.specs.Prelude.{◌≡◌, ◌≢◌, ℕ, ◌≤◌, Bool, true, false, Option, Some, None}
+use Rattle.std.specs.Prelude.{◌≡◌, ◌≢◌, ℕ, ◌≤◌, Bool, true, false, count_by, Option, Some, None}
 use Rattle.std.specs.List.{AllByRecursion}
 use Rattle.eden_base.specs.Limits.{last_generation}
 use Rattle.eden_base.specs.declared.number.DaemonId.{DaemonId}
@@ -16,7 +16,7 @@ use Rattle.takeover_core.specs.declared.phase.Phase.{Phase}
 use Rattle.takeover_core.specs.declared.phase.Phase.TheVariants.{Draining, Pinged, Making, Handed, Holding, Serving}
 use Rattle.daemon.specs.Daemon.{DaemonState}
 use Rattle.daemon.specs.Server.{ServerState, IsIdle}
-use Rattle.world.specs.State.{State, daemon_of}
+use Rattle.world.specs.State.{State, daemon_of, is_data_of}
 
 -- ---- phases
 
@@ -90,10 +90,12 @@ pub record DaemonStands (state : State) (daemon : DaemonId) (was : DaemonState) 
       claim_wanted was.node.phase ≡ Some seat.generation → was.server ≡ Some server →
       (is_out holder.node.phase ≡ true) × (plain server.served ≡ plain handed.served)
 
--- every daemon and every message stands
+-- every daemon and every message stands, and data of the seat's generation was said at most once
 pub record IsHanding (state : State) : Type 0 where
   pub is_manifest : IsManifest state.manifest
   pub low : state.broker.last ≤ last_generation
   pub daemons : (daemon : DaemonId) (was : DaemonState) → daemon_of state daemon ≡ Some was →
       DaemonStands state daemon was
   pub messages : AllByRecursion (MessageStands state) state.messages
+  pub once : (seat : Seat) → state.broker.seat ≡ Some seat →
+      count_by (is_data_of seat.generation) state.messages ≤ 1

@@ -1,5 +1,6 @@
 -- All daemons and the kernel's side at one moment, and what stands against an event. (This project's own.)
-use Rattle.std.specs.Prelude.{◌≡◌, ℕ, ◌-◌, ◌==◌, Bool, true, nat_le, List, [], length, slice_get, slice_set, Option, Some, None, is_none, if◌then◌else◌}
+use Rattle.std.specs.Prelude.{◌≡◌, ℕ, ◌+◌, ◌-◌, ◌==◌, Bool, true, false, nat_le, List, [], length, slice_get, slice_set, Option, Some, None, is_none, if◌then◌else◌}
+use Rattle.std.specs.List.{position}
 use Rattle.std.specs.Option.{option_map, option_and_then, option_map_or}
 use Rattle.eden_base.specs.declared.number.DaemonId.{DaemonId}
 use Rattle.manifest.specs.Manifest.{Manifest}
@@ -11,6 +12,7 @@ use Rattle.broker_core.specs.declared.seat.Seat.{Seat}
 use Rattle.fuse_ops.specs.Served.{ServedState}
 use Rattle.takeover_core.specs.Phases.{may_take, drain_fault, claim_wanted}
 use Rattle.takeover_core.specs.declared.message.Message.{Message}
+use Rattle.takeover_core.specs.declared.message.Message.TheVariants.{Data}
 use Rattle.daemon.specs.Refusals.{refusal_of_mount, refusal_of_issue, refusal_of_take, refusal_of_post, refusal_of_drain, refusal_of_claim}
 use Rattle.daemon.specs.Daemon.{DaemonState, is_waiting, in_hand, unposted}
 use Rattle.daemon.specs.Server.{ServerState, at_place}
@@ -74,6 +76,16 @@ unposted_of state daemon = option_map_or (λ (server : ServerState). server.unpo
 pub record IsSeated (state : State) (seat : Seat) (server : ServerState) : Type 0 where
   pub has_seat : state.broker.seat ≡ Some seat
   pub serves : server_of state seat.daemon ≡ Some server
+
+-- a message is data of this generation
+abbrev pub is_data_of : ℕ → Message → Bool
+is_data_of generation (Data session at bytes) = at == generation
+is_data_of generation other = false
+
+-- the place of the seat's data, from 1: of the first message that is data of the seat's generation, if there is one
+abbrev pub handed_of : State → Option ℕ
+handed_of state = option_and_then (λ (seat : Seat).
+    option_map (λ (index : ℕ). index + 1) (position (is_data_of seat.generation) state.messages)) state.broker.seat
 
 -- ---- refusals
 

@@ -1,7 +1,7 @@
 //! All daemons and the kernel's side of their mount.
-ghost use Rattle.std.specs.Prelude.{◌≡◌, ◌≤◌, ◌+◌, ◌++◌, [], IfOk, IfSome, vec_len, vec_capacity};
+ghost use Rattle.std.specs.Prelude.{◌≡◌, ◌<◌, ◌≤◌, ◌+◌, ◌++◌, [], IfOk, IfSome, length, position, vec_len, vec_capacity};
 ghost use Rattle.std.specs.Option.{option_copied};
-ghost use Rattle.world.specs.State.{started, server_of, served_of, hand_of, unposted_of};
+ghost use Rattle.world.specs.State.{started, server_of, served_of, hand_of, unposted_of, handed_of, is_data_of};
 ghost use Rattle.world.specs.Step.{Once, Step, told_reaction, what_is_said};
 ghost use Rattle.world.specs.World.{first_world, World as Ideal};
 ghost use Rattle.world.specs.Agreement.{Matches, MovesOn};
@@ -113,6 +113,16 @@ impl World {
         ensures messages { result.now ≡ self.now.messages }
     {
         self.messages.as_slice()
+    }
+
+    /// Returns the place, from 1, of the message in which the seat's holder handed over what it serves: none without a
+    /// seat, and where it handed nothing over. Looks through all messages.
+    pub fn handed(&self) -> Option<usize>
+        ensures handed { result ≡ handed_of self.now }
+    {
+        let seat = self.broker.seat()?;
+        let index = index_of_data(self.messages.as_slice(), seat.generation)?;
+        Some(index + 1)
     }
 
     /// Lets one event happen, or refuses it for the first cause that holds. A refusal changes nothing.
@@ -424,5 +434,25 @@ fn say(messages: &mut Vec<Message>, reaction: Reaction) -> Happened
             messages.push_reserved(said);
             Happened::Said(messages.len())
         }
+    }
+}
+
+/// Returns the index of the first message that is data of this generation.
+fn index_of_data(messages: &[Message], generation: u64) -> Option<usize>
+    ensures index { result ≡ position (is_data_of generation) messages.now }
+    ensures within { IfSome result (λ index. index < length messages.now) }
+{
+    messages
+        .iter()
+        .position(|message| is_data(message, generation))
+}
+
+/// Tells whether a message is data of this generation.
+fn is_data(message: &Message, generation: u64) -> bool
+    ensures value { result ≡ is_data_of generation message.now }
+{
+    match message {
+        Message::Data { generation: at, .. } => *at == generation,
+        _ => false,
     }
 }
