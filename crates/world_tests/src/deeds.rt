@@ -106,6 +106,8 @@ pub enum Found {
     NotServed(u64),
     /// A daemon has so much in hand, and so many replies that it did not post.
     UnderWay(u64, usize, usize),
+    /// The place of the message that is data of the seat's generation, if there is one.
+    Handed(Option<usize>),
 }
 
 /// What is said of number 2: what daemon 1 counts, what the kernel holds, how many replies that wait for the kernel
@@ -392,6 +394,7 @@ fn is_found(world: &World, found: Found) -> bool {
             let daemon = DaemonId(daemon);
             world.hand(daemon).len() == hand && world.unposted(daemon).len() == unposted
         }
+        Found::Handed(place) => world.handed() == place,
     }
 }
 

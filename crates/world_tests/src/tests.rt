@@ -444,3 +444,24 @@ static IN_A_TAKEOVER: [(Deed, Told); 23] = [
 fn refuses_what_is_not_of_a_phase(rt: HostRuntime) {
     assert!(rt; all_go_so(rt.alloc(), &IN_A_TAKEOVER, &[]));
 }
+
+static HANDED_ON: [(Deed, Told); 10] = [
+    (Deed::Start, Told::One(Fact::Started(1))),
+    (Deed::Mount(1), Told::One(Fact::Mounted(1))),
+    (Deed::Start, Told::One(Fact::Started(2))),
+    (Deed::Hear(1, 2), Told::One(Fact::Said(3))),
+    (Deed::Hear(2, 3), Told::One(Fact::Heard)),
+    (Deed::Drained(1), Told::One(Fact::Said(4))),
+    (Deed::Hear(2, 4), Told::One(Fact::Said(5))),
+    (Deed::Hear(1, 5), Told::One(Fact::Said(6))),
+    (Deed::Hear(2, 6), Told::One(Fact::Heard)),
+    (Deed::Claim(2), Told::One(Fact::Claimed(2))),
+];
+
+#[test]
+fn tells_which_message_handed_the_seat_on(rt: HostRuntime) {
+    let alloc = rt.alloc();
+    assert!(rt; all_go_so(alloc, &HANDED_ON[..7], &[Found::Handed(None)]));
+    assert!(rt; all_go_so(alloc, &HANDED_ON[..8], &[Found::Handed(Some(6))]));
+    assert!(rt; all_go_so(alloc, &HANDED_ON, &[Found::Handed(None)]));
+}
