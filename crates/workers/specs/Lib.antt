@@ -1,0 +1,7 @@
+pub mod Journal
+pub mod Receipts
+pub mod Channel
+pub mod Replays
+pub mod Shift
+pub mod Round
+pub mod Faults

@@ -1,0 +1,37 @@
+-- What a worker keeps of its turns. (This project's own.)
+use Rattle.std.specs.Prelude.{◌≡◌, ℕ, List, [], ◌∷◌, map, Option, Some, None}
+use Rattle.std.specs.List.{flat_map}
+use Rattle.fuse_wire.specs.declared.request.Ask.{Ask}
+use Rattle.fuse_wire.specs.declared.reply.Answer.{Answer}
+use Rattle.fuse_wire.specs.declared.reply.Reply.{Reply}
+use Rattle.workers.specs.Journal.{applied}
+use Rattle.workers.specs.declared.journal.Record.{Record}
+use Rattle.workers.specs.declared.receipt.Receipt.{Receipt}
+
+-- a worker's receipts in the order of its turns, how many more there is a place for, and how many more copies
+pub record ReceiptsState : Type 0 where
+  pub list : List Receipt
+  pub places : ℕ
+  pub copies : ℕ
+
+-- the record that a receipt is of
+abbrev pub record_of : Receipt → Record
+record_of receipt = applied receipt.ask.what receipt.answer
+
+-- the asks of some receipts
+abbrev pub asks_of : List Receipt → List Ask
+asks_of receipts = map (λ (receipt : Receipt). receipt.ask) receipts
+
+-- the reply to an ask of a unique, where it has an answer
+abbrev pub replies_to : ℕ → Option Answer → List Reply
+replies_to unique (Some answer) = (record { unique = unique; answer = answer }) ∷ []
+replies_to unique None = []
+
+-- the uniques and answers of those receipts that have an answer
+abbrev pub replies_of : List Receipt → List Reply
+replies_of receipts =
+    flat_map (λ (receipt : Receipt). replies_to receipt.ask.unique receipt.answer) receipts
+
+-- no receipt, and room for those of so many turns
+abbrev pub IsFresh : ℕ → ReceiptsState → Type 0
+IsFresh turns kept = (kept.list ≡ []) × (kept.places ≡ turns) × (kept.copies ≡ turns)

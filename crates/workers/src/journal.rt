@@ -1,0 +1,73 @@
+//! What was applied in a round, in order.
+ghost use Rattle.std.specs.Prelude.{◌≡◌, ◌+◌, ◌<◌, ◌++◌, ◌∷◌, [], length, IfOk};
+
+use eden_base::NoMemory;
+use fuse_wire::{Answer, Request};
+use std::alloc::Global;
+use std::marker::Model;
+
+/// A request that was applied, with what it was answered. A forget has no answer.
+#[derive(Drop)]
+pub struct Record {
+    pub request: Request,
+    pub answer: Option<Answer>,
+}
+
+/// The records of a round, in the order of its turns. Contracts see it as a `JournalState`: the records, and how many
+/// more there is room for.
+#[derive(Drop)]
+pub struct Journal {
+    records: Vec<Record>,
+    room: usize,
+}
+
+impl Model for Journal {
+    ghost use Rattle.std.specs.Prelude.{◌+◌, ◌≤◌, vec_len, vec_capacity};
+    ghost use Rattle.workers.specs.Journal.{JournalState};
+
+    ghost Value = { JournalState };
+
+    ghost view = { λ journal. record { records = journal.records.items; room = journal.room } };
+
+    ghost invariant = { λ journal. vec_len journal.records + journal.room ≤ vec_capacity journal.records };
+}
+
+impl Journal {
+    /// Takes the memory for so many records.
+    pub fn new(alloc: Global, capacity: usize) -> Result<Journal, NoMemory>
+        ensures empty { IfOk result (λ journal. journal.records ≡ []) }
+        ensures room { IfOk result (λ journal. journal.room ≡ capacity) }
+    {
+        match Vec::with_capacity(alloc, capacity) {
+            Ok(records) => Ok(Journal {
+                records,
+                room: capacity,
+            }),
+            Err(_refused) => Err(NoMemory),
+        }
+    }
+
+    /// Returns how many more records there is room for.
+    pub fn room(&self) -> usize
+        ensures room { result ≡ self.now.room }
+    {
+        self.room
+    }
+
+    /// Writes a record behind the others. It takes no memory.
+    pub fn push(&mut self, entry: Record)
+        requires room { 0 < self.old.room }
+        ensures records { self.new.records ≡ self.old.records ++ entry ∷ [] }
+        ensures room { self.new.room + 1 ≡ self.old.room }
+    {
+        self.records.push_reserved(entry);
+        self.room -= 1;
+    }
+
+    /// Returns the records in their order.
+    pub fn records(&self) -> &[Record]
+        ensures records { result.now ≡ self.now.records }
+    {
+        self.records.as_slice()
+    }
+}
