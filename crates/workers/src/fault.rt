@@ -1,8 +1,6 @@
 //! Why a round gives nothing.
-use checkout::Backing;
 use fuse_ops::Served;
 use std::marker::Model;
-use thiserror::Error;
 
 /// What a round gives back for which memory was refused: all that it was handed. No request was taken.
 #[derive(Drop)]

@@ -9,6 +9,8 @@ pub mod laws;
 mod locked;
 mod memory_channel;
 mod receipt;
+mod round;
+mod running;
 mod stop;
 mod worker;
 
@@ -19,5 +21,6 @@ pub use journal::{Journal, Record};
 pub use locked::{LockedMap, Opening, Shared};
 pub use memory_channel::MemoryChannel;
 pub use receipt::{Receipt, Receipts};
+pub use round::{MAX_CHANNELS, MAX_TURNS, Round, serve_round};
 pub use stop::Stop;
 pub use worker::Ending;

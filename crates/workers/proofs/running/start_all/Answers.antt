@@ -1,0 +1,30 @@
+-- the workers that were started and the channels that are left are all the channels
+use Rattle.std.proofs.Common.{List, ◌++◌, ◌∷◌, [], sym, ap, ◌∙◌, rules, arith}
+use Rattle.std.proofs.lemmas.List.{append-nil, nil_from_length}
+use Rattle.std.proofs.lemmas.List.Elements.{All-pop}
+use Rattle.workers.specs.Receipts.{IsFresh}
+use Rattle.workers.proofs.Serving.{moved_on, moved_all}
+use Rattle.workers.proofs.running.start_all.Goals as goal
+
+pub loop-channel-preserved : goal.loop-channel-preserved
+loop-channel-preserved g c =
+    let was = c.loop-channel.invariant in
+    let step = c.in-Some.ensures.steps in
+    let pushed = c.push_reserved.ensures in
+    let popped = c.pop.ensures in
+    let split = c.split_off-part.ensures in (
+      omega (arith, was.0, step.1, split.parts_left),
+      omega (arith, was.1, split.amount_left),
+      search rules,
+      (All-pop (IsFresh c.args.turns) _ _ _ popped.items was.3).0,
+      omega (arith, was.4, step.1, pushed.len),
+      search rules,
+      moved_on _ _ _ _ _ _ (pushed.items ∙ ap (λ one. c.loop-channel.running.items ++ one ∷ []) c.start.ensures.channel)
+          step.0 was.6,
+    )
+
+pub returns-clause-channels : goal.returns-clause-channels
+returns-clause-channels g c =
+    moved_all _ _ _
+    (nil_from_length _ (sym c.loop-channel.channel-iterator.rest.ok.0 ∙ c.in-None.ensures.steps.0))
+    c.loop-channel.invariant.6
