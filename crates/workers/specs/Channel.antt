@@ -1,5 +1,5 @@
 -- What a channel tells of itself: what was taken from it, and what was posted to it. (This project's own.)
-use Rattle.std.specs.Prelude.{◌≡◌, ℕ, List, [], ◌∷◌, ◌++◌, take}
+use Rattle.std.specs.Prelude.{ℕ, List, [], ◌∷◌, ◌++◌, take}
 use Rattle.fuse_wire.specs.declared.request.Ask.{Ask}
 use Rattle.fuse_wire.specs.declared.reply.Reply.{Reply}
 use Rattle.workers.specs.Receipts.{asks_of, replies_of}

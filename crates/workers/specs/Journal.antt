@@ -1,5 +1,5 @@
 -- The records of a round, and how many more there is room for. (This project's own.)
-use Rattle.std.specs.Prelude.{ℕ, List, ◌∷◌, Option}
+use Rattle.std.specs.Prelude.{ℕ, List, Option}
 use Rattle.fuse_wire.specs.declared.request.Request.{Request}
 use Rattle.fuse_wire.specs.declared.reply.Answer.{Answer}
 use Rattle.workers.specs.declared.journal.Record.{Record}

@@ -1,6 +1,5 @@
 //! Why a round gives nothing.
 use fuse_ops::Served;
-use std::marker::Model;
 
 /// What a round gives back for which memory was refused: all that it was handed. No request was taken.
 #[derive(Drop)]

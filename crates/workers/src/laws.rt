@@ -18,7 +18,6 @@ use checkout::Backing;
 use fuse_ops::Served;
 use fuse_wire::{Answer, Ask};
 use std::alloc::Global;
-use std::marker::Model;
 use std::sync::Wait;
 use std::sync::ledger::Share;
 

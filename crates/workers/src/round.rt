@@ -21,7 +21,7 @@ use checkout::Backing;
 use eden_base::NoMemory;
 use fuse_ops::Served;
 use std::alloc::Global;
-use std::marker::{Brand, Model};
+use std::marker::Brand;
 use std::sync::ledger::{Blank, Share};
 use std::sync::{Mutex, Wait};
 use std::thread;

@@ -11,7 +11,6 @@ use crate::locked::{Opening, Shared};
 use crate::receipt::{Receipt, Receipts};
 use checkout::Backing;
 use fuse_wire::{Answer, Ask, Reply};
-use std::marker::Model;
 use std::sync::Wait;
 use std::sync::ledger::Share;
 
