@@ -1,0 +1,300 @@
+//! What a round leaves, by what its channels hold.
+ghost use Rattle.std.specs.Prelude.{◌≡◌, ◌≤◌, vec_len, IfOk};
+
+use checkout::ManifestBacking;
+use eden_base::{NoMemory, Number};
+use fuse_ops::Served;
+use fuse_wire::{Ask, Reply, Request};
+use manifest::Manifest;
+use std::alloc::Global;
+use std::marker::Model;
+use std::rt::Clock;
+use std::sync::Wait;
+use std::sync::atomic::{AtomicBool, Ordering};
+use std::test::*;
+use std::thread;
+use std::thread::Threads;
+use std::time::Duration;
+use workers::{
+    Channel, Gate, MemoryChannel, OpenGate, Posted, Receipts, Round, RoundFault, Stop, Taken,
+    serve_round,
+};
+
+const LISTED: &[u8] = b"commit 8f14e45fceea167a5a36dedd4bea2543a1b2c3d4
+dir lib
+file 0644 5 lib/x
+";
+
+/// How often a gate looks, a millisecond apart.
+const LOOKS: u32 = 10_000;
+
+/// Holds the asks of unique 1 and 2 each until the other came, and 1 then until the reply to 2 was posted.
+#[derive(Drop)]
+struct SecondFirst<'a, R: Clock> {
+    clock: &'a R,
+    first_came: AtomicBool,
+    second_came: AtomicBool,
+    second_left: AtomicBool,
+    gave_up: AtomicBool,
+}
+
+impl<'a, R: Clock> SecondFirst<'a, R> {
+    fn new(clock: &'a R) -> SecondFirst<'a, R> {
+        SecondFirst {
+            clock,
+            first_came: AtomicBool::new(false),
+            second_came: AtomicBool::new(false),
+            second_left: AtomicBool::new(false),
+            gave_up: AtomicBool::new(false),
+        }
+    }
+
+    /// Waits until something is so.
+    fn wait_for(&self, so: &AtomicBool) {
+        for _look in 0..LOOKS {
+            if so.load(Ordering::SeqCst) {
+                return;
+            }
+            thread::sleep(self.clock, Duration::from_millis(1));
+        }
+        self.gave_up.store(true, Ordering::SeqCst)
+    }
+}
+
+impl<'a, R: Clock> Gate for SecondFirst<'a, R> {
+    fn before(&self, unique: u64) {
+        if unique == 1 {
+            self.first_came.store(true, Ordering::SeqCst);
+            self.wait_for(&self.second_came);
+            self.wait_for(&self.second_left);
+        } else {
+            self.second_came.store(true, Ordering::SeqCst);
+            self.wait_for(&self.first_came);
+        }
+    }
+
+    fn after(&self, unique: u64) {
+        if unique == 2 {
+            self.second_left.store(true, Ordering::SeqCst)
+        }
+    }
+}
+
+/// Returns a channel that asks for the root's attributes, once by each unique.
+fn channel(alloc: Global, uniques: &[u64]) -> Result<MemoryChannel, NoMemory> {
+    let mut asks = Vec::new(alloc);
+    for unique in uniques {
+        asks.push(Ask {
+            unique: *unique,
+            what: Request::Getattr { node: Number::ROOT },
+        })?;
+    }
+    MemoryChannel::new(alloc, asks)
+}
+
+/// Begins to serve.
+fn begun(alloc: Global, manifest: &Manifest) -> Result<Served, NoMemory>
+    ensures over { IfOk result (λ served. served.tree.manifest ≡ manifest.now) }
+{
+    Served::new(alloc, manifest, 4)
+}
+
+/// What a round left, in numbers: the records of its journal, the place of each worker's first receipt, and how many
+/// asks were taken from its first channel and replies posted to it.
+#[derive(Clone, Copy, PartialEq, Eq)]
+struct Left {
+    records: usize,
+    first: Option<usize>,
+    second: Option<usize>,
+    taken: usize,
+    replies: usize,
+}
+
+/// Returns the place of a worker's first receipt.
+fn first_place(receipts: &[Receipts], worker: usize) -> Option<usize> {
+    let kept = receipts.get(worker)?;
+    let receipt = kept.as_slice().first()?;
+    Some(receipt.place)
+}
+
+/// Tells what a round left.
+fn told_of(round: &Round<ManifestBacking<'_>, MemoryChannel>) -> Option<Left> {
+    let channel = round.channels.as_slice().first()?;
+    Some(Left {
+        records: round.journal.records().len(),
+        first: first_place(round.receipts.as_slice(), 0),
+        second: first_place(round.receipts.as_slice(), 1),
+        taken: channel.taken(),
+        replies: channel.replies().len(),
+    })
+}
+
+/// Serves a round over a manifest.
+fn serve<'a, C: Channel + Drop + Send, G: Gate + Sync, R: Threads + Wait + Sync>(
+    rt: &R,
+    alloc: Global,
+    served: Served,
+    manifest: &'a Manifest,
+    channels: Vec<C>,
+    turns: usize,
+    gate: &G,
+    stop: &Stop,
+) -> Result<Round<ManifestBacking<'a>, C>, RoundFault<ManifestBacking<'a>, C>>
+    requires over { served.tree.manifest ≡ manifest.now }
+    requires channels { (1 ≤ vec_len channels) × (vec_len channels ≤ 16) }
+    requires turns { (1 ≤ turns) × (turns ≤ 4096) }
+{
+    let backing = ManifestBacking::of(manifest);
+    serve_round(rt, alloc, served, backing, channels, turns, gate, stop)
+}
+
+/// Serves a round of two channels, and tells what it left. Each has the asks of these uniques.
+fn round<G: Gate + Sync, R: Threads + Wait + Sync>(
+    rt: &R,
+    alloc: Global,
+    first: &[u64],
+    second: &[u64],
+    turns: usize,
+    gate: &G,
+    stop: &Stop,
+) -> Option<Left>
+    requires turns { (1 ≤ turns) × (turns ≤ 4096) }
+{
+    let manifest = Manifest::read(alloc, LISTED).ok()?;
+    let Ok(served) = begun(alloc, &manifest) else {
+        return None;
+    };
+    let mut channels = Vec::with_capacity(alloc, 2).ok()?;
+    channels.push_reserved(channel(alloc, first).ok()?);
+    channels.push_reserved(channel(alloc, second).ok()?);
+    let left = serve(rt, alloc, served, &manifest, channels, turns, gate, stop);
+    let told = match &left {
+        Ok(round) => told_of(round),
+        Err(_fault) => None,
+    };
+    drop(left);
+    drop(manifest);
+    told
+}
+
+/// Returns whether a round of one ask each, of these uniques, has the ask of unique 2 first in its journal.
+fn serves_second_first<R: Threads + Wait + Clock + Sync>(
+    rt: &R,
+    alloc: Global,
+    first: u64,
+    second: u64,
+) -> bool {
+    let gate = SecondFirst::new(rt);
+    let place = if first == 2 { 0 } else { 1 };
+    let wanted = Left {
+        records: 2,
+        first: Some(place),
+        second: Some(1 - place),
+        taken: 1,
+        replies: 1,
+    };
+    let left = round(rt, alloc, &[first], &[second], 64, &gate, &Stop::new());
+    left == Some(wanted) && !gate.gave_up.load(Ordering::SeqCst)
+}
+
+/// Each worker has a thread of its own: where the channels were served one by one, a gate would give up.
+#[test]
+fn channels_are_served_side_by_side(rt: HostRuntime) {
+    let served = serves_second_first(&rt, rt.alloc(), 1, 2);
+    assert!(rt; served);
+}
+
+#[test]
+fn channels_are_served_side_by_side_in_either_order(rt: HostRuntime) {
+    let served = serves_second_first(&rt, rt.alloc(), 2, 1);
+    assert!(rt; served);
+}
+
+#[test]
+fn one_turn_takes_one_ask_of_three(rt: HostRuntime) {
+    let wanted = Left {
+        records: 1,
+        first: Some(0),
+        second: None,
+        taken: 1,
+        replies: 1,
+    };
+    let left = round(&rt, rt.alloc(), &[1, 2, 3], &[], 1, &OpenGate, &Stop::new());
+    let as_wanted = left == Some(wanted);
+    assert!(rt; as_wanted);
+}
+
+#[test]
+fn a_stop_that_was_asked_for_takes_nothing(rt: HostRuntime) {
+    let wanted = Left {
+        records: 0,
+        first: None,
+        second: None,
+        taken: 0,
+        replies: 0,
+    };
+    let stop = Stop::new();
+    stop.ask();
+    let left = round(&rt, rt.alloc(), &[1], &[2], 64, &OpenGate, &stop);
+    let as_wanted = left == Some(wanted);
+    assert!(rt; as_wanted);
+}
+
+/// A channel with one ask, after which the mount is over.
+#[derive(Drop)]
+struct OneAsk {
+    is_left: bool,
+}
+
+impl Channel for OneAsk {
+    ghost use Rattle.std.specs.Prelude.{false, []};
+
+    ghost tells = { false };
+
+    ghost told = { λ channel. record { taken = []; posted = [] } };
+
+    fn take(&mut self) -> Taken {
+        if !self.is_left {
+            return Taken::Broken;
+        }
+        self.is_left = false;
+        Taken::Ask(Ask {
+            unique: 1,
+            what: Request::Getattr { node: Number::ROOT },
+        })
+    }
+
+    fn post(&mut self, _reply: Reply) -> Posted {
+        Posted::Done
+    }
+}
+
+/// Returns whether a round of a channel that breaks is Broken.
+fn breaks<R: Threads + Wait + Sync>(rt: &R, alloc: Global) -> Option<bool> {
+    let manifest = Manifest::read(alloc, LISTED).ok()?;
+    let Ok(served) = begun(alloc, &manifest) else {
+        return None;
+    };
+    let mut channels = Vec::with_capacity(alloc, 1).ok()?;
+    channels.push_reserved(OneAsk { is_left: true });
+    let left = serve(
+        rt,
+        alloc,
+        served,
+        &manifest,
+        channels,
+        64,
+        &OpenGate,
+        &Stop::new(),
+    );
+    let broken = matches!(&left, Err(RoundFault::Broken));
+    drop(left);
+    drop(manifest);
+    Some(broken)
+}
+
+#[test]
+fn a_channel_that_breaks_ends_the_round(rt: HostRuntime) {
+    let broken = breaks(&rt, rt.alloc());
+    assert!(rt; broken == Some(true));
+}
