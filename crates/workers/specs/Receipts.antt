@@ -4,8 +4,6 @@ use Rattle.std.specs.List.{flat_map}
 use Rattle.fuse_wire.specs.declared.request.Ask.{Ask}
 use Rattle.fuse_wire.specs.declared.reply.Answer.{Answer}
 use Rattle.fuse_wire.specs.declared.reply.Reply.{Reply}
-use Rattle.workers.specs.Journal.{applied}
-use Rattle.workers.specs.declared.journal.Record.{Record}
 use Rattle.workers.specs.declared.receipt.Receipt.{Receipt}
 
 -- a worker's receipts in the order of its turns, how many more there is a place for, and how many more copies
@@ -13,10 +11,6 @@ pub record ReceiptsState : Type 0 where
   pub list : List Receipt
   pub places : ℕ
   pub copies : ℕ
-
--- the record that a receipt is of
-abbrev pub record_of : Receipt → Record
-record_of receipt = applied receipt.ask.what receipt.answer
 
 -- the asks of some receipts
 abbrev pub asks_of : List Receipt → List Ask

@@ -38,11 +38,13 @@ pub trait Channel {
 
     /// Takes the next ask.
     fn take(&mut self) -> Taken
-        ensures taken { tells ≡ true → (ask : AskValue) → result ≡ took.Ask ask → told self.new ≡ with_ask (told self.old) ask }
+        ensures taken { tells ≡ true → (ask : AskValue) → result ≡ took.Ask ask
+            → told self.new ≡ with_ask (told self.old) ask }
         ensures empty { tells ≡ true → result ≡ took.Empty → told self.new ≡ told self.old }
         ensures stopped { tells ≡ true → result ≡ took.Stopped → told self.new ≡ told self.old };
 
     /// Posts the reply to an ask that was taken.
     fn post(&mut self, reply: Reply) -> Posted
-        ensures posted { tells ≡ true → result ≡ post.Done → told self.new ≡ with_replies (told self.old) (reply ∷ []) };
+        ensures posted { tells ≡ true → result ≡ post.Done
+            → told self.new ≡ with_replies (told self.old) (reply ∷ []) };
 }

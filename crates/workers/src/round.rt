@@ -125,7 +125,8 @@ fn run_all<
 ) -> Joined<N, C>
     ensures parts { result.share.parts ≡ vec_len plan.channels + 1 }
     ensures counted { result.share.amount ≡ receipts_in result.receipts.items }
-    ensures served { result.ending ≡ Done → AreServed C.tells C.told plan.channels.items result.channels.items result.receipts.items }
+    ensures served { result.ending ≡ Done
+        → AreServed C.tells C.told plan.channels.items result.channels.items result.receipts.items }
 {
     let Plan {
         channels,
@@ -155,7 +156,8 @@ fn serve_all<
 >(rt: &R, shared: &Shared<N, B>, plan: Plan<N, C>, gate: &G, stop: &Stop) -> Joined<N, C>
     ensures parts { result.share.parts ≡ vec_len plan.channels + 1 }
     ensures counted { result.share.amount ≡ receipts_in result.receipts.items }
-    ensures served { result.ending ≡ Done → AreServed C.tells C.told plan.channels.items result.channels.items result.receipts.items }
+    ensures served { result.ending ≡ Done
+        → AreServed C.tells C.told plan.channels.items result.channels.items result.receipts.items }
 {
     thread::scope(
         thread::scope_env(),
@@ -163,7 +165,8 @@ fn serve_all<
         move |scope| -> Joined<N, C>
             ensures parts { result.share.parts ≡ vec_len plan.channels + 1 }
             ensures counted { result.share.amount ≡ receipts_in result.receipts.items }
-            ensures served { result.ending ≡ Done → AreServed C.tells C.told plan.channels.items result.channels.items result.receipts.items }
+            ensures served { result.ending ≡ Done
+                → AreServed C.tells C.told plan.channels.items result.channels.items result.receipts.items }
         { run_all(scope, rt, shared, plan, gate, stop) },
     )
 }
@@ -245,7 +248,8 @@ fn round_of<
     ensures same_manifest { IfOk result (λ round. round.served.tree.manifest ≡ N.opening.tree.manifest) }
     ensures backs { IfOk result (λ round. Backs (B.content round.backing) round.served.tree) }
     ensures counted { IfOk result (λ round. length round.journal.records ≡ receipts_in round.receipts.items) }
-    ensures told { IfOk result (λ round. AreServed C.tells C.told channels.items round.channels.items round.receipts.items) }
+    ensures told { IfOk result (λ round.
+        AreServed C.tells C.told channels.items round.channels.items round.receipts.items) }
     ensures given_back { IfErr result (GivesBack served backing channels.items) }
 {
     let Ok(journal) = Journal::new(alloc, channels.len() * turns) else {
@@ -300,7 +304,8 @@ pub fn serve_round<
     ensures same_manifest { IfOk result (λ round. round.served.tree.manifest ≡ served.tree.manifest) }
     ensures backs { IfOk result (λ round. Backs (B.content round.backing) round.served.tree) }
     ensures counted { IfOk result (λ round. length round.journal.records ≡ receipts_in round.receipts.items) }
-    ensures told { IfOk result (λ round. AreServed C.tells C.told channels.items round.channels.items round.receipts.items) }
+    ensures told { IfOk result (λ round.
+        AreServed C.tells C.told channels.items round.channels.items round.receipts.items) }
     ensures given_back { IfErr result (GivesBack served backing channels.items) }
 {
     let parts = channels.len() as u64 + 1;
