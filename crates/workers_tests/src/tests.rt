@@ -16,8 +16,8 @@ use std::thread;
 use std::thread::Threads;
 use std::time::Duration;
 use workers::{
-    Channel, Gate, MemoryChannel, OpenGate, Posted, Receipts, Round, RoundFault, Stop, Taken,
-    serve_round,
+    Channel, Gate, MAX_CHANNELS, MemoryChannel, OpenGate, Posted, Receipts, Round, RoundFault,
+    Stop, Taken, serve_round,
 };
 
 const LISTED: &[u8] = b"commit 8f14e45fceea167a5a36dedd4bea2543a1b2c3d4
@@ -129,7 +129,7 @@ fn told_of(round: &Round<ManifestBacking<'_>, MemoryChannel>) -> Option<Left> {
     })
 }
 
-/// Serves a round over a manifest.
+/// Serves a round over a manifest, and what it gave back once more where memory was refused.
 fn serve<'a, C: Channel + Drop + Send, G: Gate + Sync, R: Threads + Wait + Sync>(
     rt: &R,
     alloc: Global,
@@ -145,7 +145,23 @@ fn serve<'a, C: Channel + Drop + Send, G: Gate + Sync, R: Threads + Wait + Sync>
     requires turns { (1 ≤ turns) × (turns ≤ 4096) }
 {
     let backing = ManifestBacking::of(manifest);
-    serve_round(rt, alloc, served, backing, channels, turns, gate, stop)
+    let back = match serve_round(rt, alloc, served, backing, channels, turns, gate, stop) {
+        Err(RoundFault::NoMemory(back)) => back,
+        told => return told,
+    };
+    if back.channels.is_empty() || back.channels.len() > MAX_CHANNELS {
+        return Err(RoundFault::NoMemory(back));
+    }
+    serve_round(
+        rt,
+        alloc,
+        back.served,
+        back.backing,
+        back.channels,
+        turns,
+        gate,
+        stop,
+    )
 }
 
 /// Serves a round of two channels, and tells what it left. Each has the asks of these uniques.
@@ -175,6 +191,23 @@ fn round<G: Gate + Sync, R: Threads + Wait + Sync>(
     drop(left);
     drop(manifest);
     told
+}
+
+/// Serves such a round, and once more where it told nothing, as where memory was refused for what it begins with.
+fn round_again<R: Threads + Wait + Sync>(
+    rt: &R,
+    alloc: Global,
+    first: &[u64],
+    second: &[u64],
+    turns: usize,
+    stop: &Stop,
+) -> Option<Left>
+    requires turns { (1 ≤ turns) × (turns ≤ 4096) }
+{
+    match round(rt, alloc, first, second, turns, &OpenGate, stop) {
+        Some(left) => Some(left),
+        None => round(rt, alloc, first, second, turns, &OpenGate, stop),
+    }
 }
 
 /// Returns whether a round of one ask each, of these uniques, has the ask of unique 2 first in its journal.
@@ -210,6 +243,7 @@ fn channels_are_served_side_by_side_in_either_order(rt: HostRuntime) {
     assert!(rt; served);
 }
 
+/// Passes also where one allocation is refused: a round gives back what it was handed, and is served again.
 #[test]
 fn one_turn_takes_one_ask_of_three(rt: HostRuntime) {
     let wanted = Left {
@@ -219,11 +253,12 @@ fn one_turn_takes_one_ask_of_three(rt: HostRuntime) {
         taken: 1,
         replies: 1,
     };
-    let left = round(&rt, rt.alloc(), &[1, 2, 3], &[], 1, &OpenGate, &Stop::new());
+    let left = round_again(&rt, rt.alloc(), &[1, 2, 3], &[], 1, &Stop::new());
     let as_wanted = left == Some(wanted);
     assert!(rt; as_wanted);
 }
 
+/// Passes also where one allocation is refused.
 #[test]
 fn a_stop_that_was_asked_for_takes_nothing(rt: HostRuntime) {
     let wanted = Left {
@@ -235,7 +270,7 @@ fn a_stop_that_was_asked_for_takes_nothing(rt: HostRuntime) {
     };
     let stop = Stop::new();
     stop.ask();
-    let left = round(&rt, rt.alloc(), &[1], &[2], 64, &OpenGate, &stop);
+    let left = round_again(&rt, rt.alloc(), &[1], &[2], 64, &stop);
     let as_wanted = left == Some(wanted);
     assert!(rt; as_wanted);
 }
