@@ -4,9 +4,9 @@ use Rattle.std.proofs.lemmas.List.{append_assoc, append-nil}
 use Rattle.std.proofs.lemmas.List.Concat.{flat_map-append}
 use Rattle.fuse_wire.specs.declared.request.Ask.{Ask}
 use Rattle.fuse_wire.specs.declared.reply.Reply.{Reply}
-use Rattle.workers.specs.Channel.{Told, grown, with_ask, with_replies}
-use Rattle.workers.specs.Receipts.{asks_of, replies_of, replies_to}
-use Rattle.workers.specs.declared.receipt.Receipt.{Receipt}
+use Rattle.journal.specs.Channel.{Told, grown, with_ask, with_replies}
+use Rattle.journal.specs.Receipts.{asks_of, replies_of, replies_to}
+use Rattle.journal.specs.declared.receipt.Receipt.{Receipt}
 
 -- the asks of one more receipt
 asks_more : (receipts : List Receipt) (one : Receipt) → asks_of (receipts ++ one ∷ []) ≡ asks_of receipts ++ one.ask ∷ []

@@ -9,9 +9,9 @@ use Rattle.fuse_wire.specs.declared.request.Request.{Request}
 use Rattle.fuse_wire.specs.declared.reply.Answer.{Answer}
 use Rattle.fuse_ops.specs.Loading.{Backs}
 use Rattle.fuse_ops.specs.Served.{ServedState, Replay}
-use Rattle.workers.specs.Journal.{applied}
+use Rattle.journal.specs.Journal.{applied}
 use Rattle.workers.specs.Replays.{Replays}
-use Rattle.workers.specs.declared.journal.Record.{Record}
+use Rattle.journal.specs.declared.journal.Record.{Record}
 
 -- one more record, by a legal step from where the others lead
 pub replays_more :

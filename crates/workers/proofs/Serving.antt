@@ -3,9 +3,9 @@ use Rattle.std.proofs.Common.{◌≡◌, Bool, List, [], ◌∷◌, ◌++◌, Re
 use Rattle.std.proofs.lemmas.List.{append-nil, append_assoc}
 use Rattle.std.specs.Prelude.{IfOk, IfErr, OnOk}
 use Rattle.fuse_ops.specs.Served.{ServedState}
-use Rattle.workers.specs.Channel.{Told}
+use Rattle.journal.specs.Channel.{Told}
 use Rattle.workers.specs.Faults.{GivesBack, IsForGood}
-use Rattle.workers.specs.Receipts.{ReceiptsState}
+use Rattle.journal.specs.Receipts.{ReceiptsState}
 use Rattle.workers.specs.Round.{AreServed}
 use Rattle.workers.specs.declared.fault.RoundFault.{RoundFault}
 use Rattle.workers.specs.declared.fault.RoundFault.TheVariants.{Broken, Unsettled, NoMemory}

@@ -1,6 +1,3 @@
-pub mod Journal
-pub mod Receipts
-pub mod Channel
 pub mod Replays
 pub mod Shift
 pub mod Round

@@ -1,7 +1,7 @@
 -- A history of what was served: each record is a legal step where it stands. (This project's own.)
 use Rattle.std.specs.Prelude.{◌≡◌, List, [], ◌∷◌}
 use Rattle.fuse_ops.specs.Served.{ServedState, Replay}
-use Rattle.workers.specs.declared.journal.Record.{Record}
+use Rattle.journal.specs.declared.journal.Record.{Record}
 
 -- from an opening state the records lead to a last one, each by a legal step
 abbrev pub Replays : ServedState → List Record → ServedState → Type 0

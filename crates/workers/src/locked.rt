@@ -1,14 +1,14 @@
 //! What stands under the map's lock.
 ghost use Rattle.std.specs.Prelude.{◌≡◌, ◌+◌, ◌<◌, ◌++◌, ◌∷◌, [], length, IfSome, IfNone};
 ghost use Rattle.fuse_ops.specs.Loading.{Backs};
-ghost use Rattle.workers.specs.Journal.{applied};
+ghost use Rattle.journal.specs.Journal.{applied};
 ghost use Rattle.workers.specs.Replays.{Replays};
 
-use crate::journal::Journal;
 use crate::laws::{Turn, serve_one};
 use checkout::Backing;
 use fuse_ops::Served;
 use fuse_wire::Ask;
+use journal::Journal;
 use std::alloc::Global;
 use std::marker::{Brand, Model};
 use std::sync::Mutex;
@@ -47,7 +47,7 @@ impl<N: Opening, B: Backing + Drop> Model for LockedMap<N, B> {
     ghost use Rattle.std.specs.Prelude.{◌≡◌, List, length};
     ghost use Rattle.fuse_ops.specs.Loading.{Backs};
     ghost use Rattle.workers.specs.Replays.{Replays};
-    ghost use Rattle.workers.specs.declared.journal.Record.{Record};
+    ghost use Rattle.journal.specs.declared.journal.Record.{Record};
 
     ghost Value = { List Record };
 

@@ -1,18 +1,17 @@
 //! The workers of a round while they run, each in a thread of its own where one can be made.
 ghost use Rattle.std.specs.Prelude.{◌≡◌, ◌+◌, ◌<◌, ◌≤◌, ◌++◌, [], length, vec_len, vec_capacity, true};
 ghost use Rattle.std.specs.List.{All};
-ghost use Rattle.workers.specs.Receipts.{IsFresh};
+ghost use Rattle.journal.specs.Receipts.{IsFresh};
 ghost use Rattle.workers.specs.Round.{AreServed, Tells, receipts_in};
 ghost use Rattle.workers.specs.declared.worker.Ending.TheVariants.{Done};
 
-use crate::channel::Channel;
 use crate::gate::Gate;
 use crate::laws::{Shift, serve_channel};
 use crate::locked::{Opening, Shared};
-use crate::receipt::Receipts;
 use crate::stop::Stop;
 use crate::worker::Ending;
 use checkout::Backing;
+use journal::{Channel, Receipts};
 use std::marker::{Model, PhantomData};
 use std::snapshot::Snapshot;
 use std::sync::Wait;

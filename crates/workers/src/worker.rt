@@ -1,16 +1,15 @@
 //! One worker of a round.
 ghost use Rattle.std.specs.Prelude.{◌≡◌, ◌+◌, ◌<◌, ◌≤◌, length, true};
-ghost use Rattle.workers.specs.Channel.{Told, grown, with_ask, with_replies};
-ghost use Rattle.workers.specs.Receipts.{replies_to};
+ghost use Rattle.journal.specs.Channel.{Told, grown, with_ask, with_replies};
+ghost use Rattle.journal.specs.Receipts.{replies_to};
 ghost use Rattle.workers.specs.Shift.{is_well};
 
-use crate::channel::{Channel, Posted, Taken};
 use crate::gate::Gate;
 use crate::laws::Shift;
 use crate::locked::{Opening, Shared};
-use crate::receipt::{Receipt, Receipts};
 use checkout::Backing;
 use fuse_wire::{Answer, Ask, Reply};
+use journal::{Channel, Posted, Receipt, Receipts, Taken};
 use std::sync::Wait;
 use std::sync::ledger::Share;
 

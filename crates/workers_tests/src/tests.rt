@@ -17,7 +17,7 @@ use std::thread::Threads;
 use std::time::Duration;
 use workers::{
     Channel, Gate, MAX_CHANNELS, MemoryChannel, OpenGate, Posted, Receipts, Round, RoundFault,
-    Stop, Taken, serve_round,
+    Stop, Taken, drain, serve_round,
 };
 
 const LISTED: &[u8] = b"commit 8f14e45fceea167a5a36dedd4bea2543a1b2c3d4
@@ -99,8 +99,18 @@ fn begun(alloc: Global, manifest: &Manifest) -> Result<Served, NoMemory>
     Served::new(alloc, manifest, 4)
 }
 
-/// What a round left, in numbers: the records of its journal, the place of each worker's first receipt, and how many
-/// asks were taken from its first channel and replies posted to it.
+/// What is done to the first worker's receipts before a round is drained.
+#[derive(Clone, Copy)]
+enum Change {
+    None,
+    /// The last one is taken out.
+    TakeOut,
+    /// The first two are exchanged.
+    Exchange,
+}
+
+/// What a round left, in numbers: the records of its journal, the place of each worker's first receipt, how many asks
+/// were taken from its first channel and replies posted to it, and whether it was settled.
 #[derive(Clone, Copy, PartialEq, Eq)]
 struct Left {
     records: usize,
@@ -108,6 +118,7 @@ struct Left {
     second: Option<usize>,
     taken: usize,
     replies: usize,
+    is_settled: bool,
 }
 
 /// Returns the place of a worker's first receipt.
@@ -117,15 +128,51 @@ fn first_place(receipts: &[Receipts], worker: usize) -> Option<usize> {
     Some(receipt.place)
 }
 
-/// Tells what a round left.
-fn told_of(round: &Round<ManifestBacking<'_>, MemoryChannel>) -> Option<Left> {
+/// Returns the receipts with a change, or nothing where there are too few.
+fn changed(alloc: Global, receipts: Receipts, change: Change) -> Option<Receipts> {
+    let mut list = receipts.into_list();
+    match change {
+        Change::None => {}
+        Change::TakeOut => drop(list.pop()?),
+        Change::Exchange => {
+            if list.len() < 2 {
+                return None;
+            }
+            list.swap(0, 1)
+        }
+    }
+    Some(Receipts::of(alloc, list))
+}
+
+/// Tells what a round left, and whether it is settled once the first worker's receipts are changed.
+fn told_of(
+    alloc: Global,
+    round: Round<ManifestBacking<'_>, MemoryChannel>,
+    change: Change,
+) -> Option<Left> {
     let channel = round.channels.as_slice().first()?;
+    let records = round.journal.records().len();
+    let first = first_place(round.receipts.as_slice(), 0);
+    let second = first_place(round.receipts.as_slice(), 1);
+    let taken = channel.taken();
+    let replies = channel.replies().len();
+    let mut round = round;
+    let others = round.receipts.pop()?;
+    let kept = round.receipts.pop()?;
+    round.receipts.push(changed(alloc, kept, change)?).ok()?;
+    round.receipts.push(others).ok()?;
+    let is_settled = match drain(alloc, round) {
+        Ok(_settled) => true,
+        Err(RoundFault::Unsettled) => false,
+        Err(_refused) => return None,
+    };
     Some(Left {
-        records: round.journal.records().len(),
-        first: first_place(round.receipts.as_slice(), 0),
-        second: first_place(round.receipts.as_slice(), 1),
-        taken: channel.taken(),
-        replies: channel.replies().len(),
+        records,
+        first,
+        second,
+        taken,
+        replies,
+        is_settled,
     })
 }
 
@@ -164,7 +211,7 @@ fn serve<'a, C: Channel + Drop + Send, G: Gate + Sync, R: Threads + Wait + Sync>
     )
 }
 
-/// Serves a round of two channels, and tells what it left. Each has the asks of these uniques.
+/// Serves a round of two channels, each with the asks of these uniques, and tells what it left.
 fn round<G: Gate + Sync, R: Threads + Wait + Sync>(
     rt: &R,
     alloc: Global,
@@ -173,6 +220,7 @@ fn round<G: Gate + Sync, R: Threads + Wait + Sync>(
     turns: usize,
     gate: &G,
     stop: &Stop,
+    change: Change,
 ) -> Option<Left>
     requires turns { (1 ≤ turns) × (turns ≤ 4096) }
 {
@@ -184,11 +232,10 @@ fn round<G: Gate + Sync, R: Threads + Wait + Sync>(
     channels.push_reserved(channel(alloc, first).ok()?);
     channels.push_reserved(channel(alloc, second).ok()?);
     let left = serve(rt, alloc, served, &manifest, channels, turns, gate, stop);
-    let told = match &left {
-        Ok(round) => told_of(round),
+    let told = match left {
+        Ok(round) => told_of(alloc, round, change),
         Err(_fault) => None,
     };
-    drop(left);
     drop(manifest);
     told
 }
@@ -201,21 +248,24 @@ fn round_again<R: Threads + Wait + Sync>(
     second: &[u64],
     turns: usize,
     stop: &Stop,
+    change: Change,
 ) -> Option<Left>
     requires turns { (1 ≤ turns) × (turns ≤ 4096) }
 {
-    match round(rt, alloc, first, second, turns, &OpenGate, stop) {
+    match round(rt, alloc, first, second, turns, &OpenGate, stop, change) {
         Some(left) => Some(left),
-        None => round(rt, alloc, first, second, turns, &OpenGate, stop),
+        None => round(rt, alloc, first, second, turns, &OpenGate, stop, change),
     }
 }
 
-/// Returns whether a round of one ask each, of these uniques, has the ask of unique 2 first in its journal.
+/// Returns whether a round of one ask each, of these uniques, has the ask of unique 2 first in its journal, and is settled
+/// exactly where no receipt is taken out of it.
 fn serves_second_first<R: Threads + Wait + Clock + Sync>(
     rt: &R,
     alloc: Global,
     first: u64,
     second: u64,
+    change: Change,
 ) -> bool {
     let gate = SecondFirst::new(rt);
     let place = if first == 2 { 0 } else { 1 };
@@ -225,22 +275,62 @@ fn serves_second_first<R: Threads + Wait + Clock + Sync>(
         second: Some(1 - place),
         taken: 1,
         replies: 1,
+        is_settled: matches!(change, Change::None),
     };
-    let left = round(rt, alloc, &[first], &[second], 64, &gate, &Stop::new());
+    let left = round(
+        rt,
+        alloc,
+        &[first],
+        &[second],
+        64,
+        &gate,
+        &Stop::new(),
+        change,
+    );
     left == Some(wanted) && !gate.gave_up.load(Ordering::SeqCst)
 }
 
 /// Each worker has a thread of its own: where the channels were served one by one, a gate would give up.
 #[test]
 fn channels_are_served_side_by_side(rt: HostRuntime) {
-    let served = serves_second_first(&rt, rt.alloc(), 1, 2);
+    let served = serves_second_first(&rt, rt.alloc(), 1, 2, Change::None);
     assert!(rt; served);
 }
 
 #[test]
 fn channels_are_served_side_by_side_in_either_order(rt: HostRuntime) {
-    let served = serves_second_first(&rt, rt.alloc(), 2, 1);
+    let served = serves_second_first(&rt, rt.alloc(), 2, 1, Change::None);
     assert!(rt; served);
+}
+
+#[test]
+fn a_receipt_that_is_taken_out_unsettles_a_round(rt: HostRuntime) {
+    let served = serves_second_first(&rt, rt.alloc(), 1, 2, Change::TakeOut);
+    assert!(rt; served);
+}
+
+/// Each worker's asks stand in the journal in the order in which it took them.
+#[test]
+fn receipts_that_are_exchanged_unsettle_a_round(rt: HostRuntime) {
+    let wanted = Left {
+        records: 2,
+        first: Some(0),
+        second: None,
+        taken: 2,
+        replies: 2,
+        is_settled: false,
+    };
+    let left = round_again(
+        &rt,
+        rt.alloc(),
+        &[1, 2],
+        &[],
+        64,
+        &Stop::new(),
+        Change::Exchange,
+    );
+    let as_wanted = left == Some(wanted);
+    assert!(rt; as_wanted);
 }
 
 /// Passes also where one allocation is refused: a round gives back what it was handed, and is served again.
@@ -252,8 +342,17 @@ fn one_turn_takes_one_ask_of_three(rt: HostRuntime) {
         second: None,
         taken: 1,
         replies: 1,
+        is_settled: true,
     };
-    let left = round_again(&rt, rt.alloc(), &[1, 2, 3], &[], 1, &Stop::new());
+    let left = round_again(
+        &rt,
+        rt.alloc(),
+        &[1, 2, 3],
+        &[],
+        1,
+        &Stop::new(),
+        Change::None,
+    );
     let as_wanted = left == Some(wanted);
     assert!(rt; as_wanted);
 }
@@ -267,10 +366,11 @@ fn a_stop_that_was_asked_for_takes_nothing(rt: HostRuntime) {
         second: None,
         taken: 0,
         replies: 0,
+        is_settled: true,
     };
     let stop = Stop::new();
     stop.ask();
-    let left = round_again(&rt, rt.alloc(), &[1], &[2], 64, &stop);
+    let left = round_again(&rt, rt.alloc(), &[1], &[2], 64, &stop, Change::None);
     let as_wanted = left == Some(wanted);
     assert!(rt; as_wanted);
 }

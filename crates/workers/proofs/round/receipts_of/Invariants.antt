@@ -1,6 +1,6 @@
 use Rattle.std.specs.Prelude.{◌≡◌, vec_len}
 use Rattle.std.specs.List.{All}
-use Rattle.workers.specs.Receipts.{IsFresh}
+use Rattle.journal.specs.Receipts.{IsFresh}
 use Rattle.workers.proofs.round.receipts_of.Given as goal
 
 abbrev pub invariant-loop-channel : goal.invariant-loop-channel

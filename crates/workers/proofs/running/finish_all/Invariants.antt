@@ -1,6 +1,6 @@
 use Rattle.std.specs.Prelude.{◌≡◌, ◌+◌, ◌≤◌, ◌++◌, List, vec_len, vec_capacity}
 use Rattle.std.specs.Vec.Iter.{into_iter_items, into_iter_len}
-use Rattle.workers.specs.Receipts.{ReceiptsState}
+use Rattle.journal.specs.Receipts.{ReceiptsState}
 use Rattle.workers.specs.Round.{AreServed, receipts_in}
 use Rattle.workers.specs.declared.worker.Ending.TheVariants.{Done}
 use Rattle.workers.proofs.running.finish_all.Given as goal

@@ -2,7 +2,7 @@
 use Rattle.std.proofs.Common.{◌++◌, ◌∷◌, [], sym, ap, ◌∙◌, rules, arith}
 use Rattle.std.proofs.lemmas.List.{nil_from_length}
 use Rattle.std.proofs.lemmas.List.Elements.{All-pop}
-use Rattle.workers.specs.Receipts.{IsFresh}
+use Rattle.journal.specs.Receipts.{IsFresh}
 use Rattle.workers.proofs.Serving.{moved_on, moved_all}
 use Rattle.workers.proofs.running.start_all.Goals as goal
 

@@ -1,7 +1,7 @@
 use Rattle.std.specs.Prelude.{◌≡◌, ◌+◌, ◌≤◌, ◌++◌, vec_len, vec_capacity}
 use Rattle.std.specs.List.{All}
 use Rattle.std.specs.Vec.Iter.{into_iter_items, into_iter_len}
-use Rattle.workers.specs.Receipts.{IsFresh}
+use Rattle.journal.specs.Receipts.{IsFresh}
 use Rattle.workers.proofs.running.start_all.Given as goal
 
 abbrev pub invariant-loop-channel : goal.invariant-loop-channel

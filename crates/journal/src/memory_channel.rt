@@ -1,9 +1,9 @@
 //! A channel over asks that are known before.
 ghost use Rattle.std.specs.Prelude.{◌≡◌, ◌<◌, ◌≤◌, ℕ, [], length, true, IfOk};
 ghost use Rattle.fuse_wire.specs.declared.request.Ask.{Ask as AskValue};
-ghost use Rattle.workers.specs.Channel.{told_of, with_ask, with_replies};
-ghost use Rattle.workers.specs.declared.channel.Taken.TheVariants as took;
-ghost use Rattle.workers.specs.declared.channel.Posted.TheVariants as post;
+ghost use Rattle.journal.specs.Channel.{told_of, with_ask, with_replies, Takes, Posts};
+ghost use Rattle.journal.specs.declared.channel.Taken.TheVariants as took;
+ghost use Rattle.journal.specs.declared.channel.Posted.TheVariants as post;
 
 use crate::channel::{Channel, Posted, Taken};
 use eden_base::NoMemory;
@@ -22,7 +22,7 @@ pub struct MemoryChannel {
 
 impl Model for MemoryChannel {
     ghost use Rattle.std.specs.Prelude.{◌≤◌, vec_len, vec_capacity};
-    ghost use Rattle.workers.specs.Channel.{MemoryState};
+    ghost use Rattle.journal.specs.Channel.{MemoryState};
 
     ghost Value = { MemoryState };
 
@@ -72,15 +72,11 @@ impl MemoryChannel {
     {
         self.replies.as_slice()
     }
-}
-
-impl Channel for MemoryChannel {
-    ghost tells = { true };
-
-    ghost told = { λ channel. told_of channel };
 
     /// Takes a copy of the next ask. It is Broken where memory is refused for the copy.
-    fn take(&mut self) -> Taken {
+    pub fn take(&mut self) -> Taken
+        ensures takes { Takes self.old result self.new }
+    {
         if self.taken == self.asks.len() {
             return Taken::Empty;
         }
@@ -96,11 +92,28 @@ impl Channel for MemoryChannel {
     }
 
     /// Keeps the reply. It is Broken past as many as there are asks.
-    fn post(&mut self, reply: Reply) -> Posted {
+    pub fn post(&mut self, reply: Reply) -> Posted
+        ensures posts { Posts self.old reply result self.new }
+    {
         if self.replies.len() >= self.asks.len() {
             return Posted::Broken;
         }
         self.replies.push_reserved(reply);
         Posted::Done
+    }
+}
+
+impl Channel for MemoryChannel {
+    ghost tells = { true };
+
+    ghost told = { λ channel. told_of channel };
+
+    #[tactic(auto, using(crate::proofs::Taking::told_more))]
+    fn take(&mut self) -> Taken {
+        MemoryChannel::take(self)
+    }
+
+    fn post(&mut self, reply: Reply) -> Posted {
+        MemoryChannel::post(self, reply)
     }
 }

@@ -23,7 +23,7 @@ pub struct Journal {
 
 impl Model for Journal {
     ghost use Rattle.std.specs.Prelude.{◌+◌, ◌≤◌, vec_len, vec_capacity};
-    ghost use Rattle.workers.specs.Journal.{JournalState};
+    ghost use Rattle.journal.specs.Journal.{JournalState};
 
     ghost Value = { JournalState };
 

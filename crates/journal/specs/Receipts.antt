@@ -4,7 +4,7 @@ use Rattle.std.specs.List.{flat_map}
 use Rattle.fuse_wire.specs.declared.request.Ask.{Ask}
 use Rattle.fuse_wire.specs.declared.reply.Answer.{Answer}
 use Rattle.fuse_wire.specs.declared.reply.Reply.{Reply}
-use Rattle.workers.specs.declared.receipt.Receipt.{Receipt}
+use Rattle.journal.specs.declared.receipt.Receipt.{Receipt}
 
 -- a worker's receipts in the order of its turns, how many more there is a place for, and how many more copies
 pub record ReceiptsState : Type 0 where

@@ -34,7 +34,7 @@ pub struct Receipts {
 
 impl Model for Receipts {
     ghost use Rattle.std.specs.Prelude.{◌+◌, ◌≤◌, vec_len, vec_capacity};
-    ghost use Rattle.workers.specs.Receipts.{ReceiptsState};
+    ghost use Rattle.journal.specs.Receipts.{ReceiptsState};
 
     ghost Value = { ReceiptsState };
 
@@ -90,7 +90,7 @@ impl Receipts {
     }
 
     /// Returns the same request, in memory that was taken before.
-    pub(crate) fn copy(&mut self, request: &Request) -> Request
+    pub fn copy(&mut self, request: &Request) -> Request
         requires room { 0 < self.old.copies }
         ensures copy { result ≡ request.now }
         ensures copies { self.new.copies + 1 ≡ self.old.copies }
@@ -109,7 +109,7 @@ impl Receipts {
     }
 
     /// Keeps a receipt behind the others. It takes no memory.
-    pub(crate) fn push(&mut self, receipt: Receipt)
+    pub fn push(&mut self, receipt: Receipt)
         requires room { 0 < self.old.places }
         ensures list { self.new.list ≡ self.old.list ++ receipt ∷ [] }
         ensures places { self.new.places + 1 ≡ self.old.places }

@@ -2,7 +2,7 @@
 use Rattle.std.specs.Prelude.{ℕ, List, Option}
 use Rattle.fuse_wire.specs.declared.request.Request.{Request}
 use Rattle.fuse_wire.specs.declared.reply.Answer.{Answer}
-use Rattle.workers.specs.declared.journal.Record.{Record}
+use Rattle.journal.specs.declared.journal.Record.{Record}
 
 -- what was applied, first to last, and room for more
 pub record JournalState : Type 0 where

@@ -1,0 +1,4 @@
+pub mod Journal
+pub mod Receipts
+pub mod Channel
+pub mod Settled

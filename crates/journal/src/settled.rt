@@ -1,0 +1,107 @@
+//! Whether the receipts of a round are its journal.
+ghost use Rattle.std.specs.Prelude.{◌≡◌, ◌+◌, ◌<◌, ◌↔◌, ℕ, length, slice_index, EachIndex, SomeIndex, IfOk, IsTrue, IsFalse};
+ghost use Rattle.std.specs.List.{All};
+ghost use Rattle.journal.specs.Settled.{IsOf, IsRising, IsSettled, times};
+ghost use Rattle.journal.specs.declared.receipt.Receipt.{Receipt as ReceiptValue};
+
+use crate::journal::{Journal, Record};
+use crate::receipt::{Receipt, Receipts};
+use crate::same::{same_outcome, same_request};
+use eden_base::NoMemory;
+use std::alloc::Global;
+
+/// Returns whether the record at a receipt's place has its request and its answer.
+fn is_of(records: &[Record], receipt: &Receipt) -> bool
+    ensures same { IsTrue result ↔ IsOf records.now receipt.now }
+{
+    match records.get(receipt.place) {
+        Some(record) => {
+            same_request(&record.request, &receipt.ask.what)
+                && same_outcome(&record.answer, &receipt.answer)
+        }
+        None => false,
+    }
+}
+
+/// Returns whether each receipt is that of the record at its place.
+fn are_of(records: &[Record], receipts: &[Receipt]) -> bool
+    ensures same { IsTrue result ↔ All (IsOf records.now) receipts.now }
+{
+    for receipt in receipts {
+        if !is_of(records, receipt) {
+            return false;
+        }
+    }
+    true
+}
+
+/// Returns whether each receipt's place is below the next one's.
+fn is_rising(receipts: &[Receipt]) -> bool
+    ensures rising { IsTrue result ↔ IsRising receipts.now }
+{
+    for next in 1..receipts.len() {
+        if receipts[next].place <= receipts[next - 1].place {
+            return false;
+        }
+    }
+    true
+}
+
+/// Counts the place of each receipt, and returns whether none was counted before.
+fn count(counts: &mut Vec<u8>, receipts: &[Receipt]) -> bool
+    requires in_range { All (λ (receipt : ReceiptValue). receipt.place < length counts.old.items) receipts.now }
+    ensures len { length counts.new.items ≡ length counts.old.items }
+    ensures counted { IsTrue result → EachIndex counts.old.items (λ (place : ℕ).
+        slice_index counts.new.items place ≡ slice_index counts.old.items place + times receipts.now place) }
+    ensures twice { IsFalse result → SomeIndex counts.old.items (λ (place : ℕ).
+        1 < slice_index counts.old.items place + times receipts.now place) }
+{
+    for receipt in receipts {
+        if counts[receipt.place] > 0 {
+            return false;
+        }
+        counts[receipt.place] = 1;
+    }
+    true
+}
+
+/// Returns whether each place was counted once.
+fn all_once(counts: &[u8]) -> bool
+    ensures once { IsTrue result ↔ EachIndex counts.now (λ (place : ℕ). slice_index counts.now place ≡ 1) }
+{
+    counts.iter().all(|count| *count == 1)
+}
+
+/// Counts the places of a worker's receipts, and returns whether these are those of the records, rise, and were not
+/// counted before.
+fn joins(records: &[Record], counts: &mut Vec<u8>, receipts: &[Receipt]) -> bool
+    requires len { length counts.old.items ≡ length records.now }
+    ensures len { length counts.new.items ≡ length counts.old.items }
+    ensures same { IsTrue result → All (IsOf records.now) receipts.now }
+    ensures rising { IsTrue result → IsRising receipts.now }
+    ensures counted { IsTrue result → EachIndex counts.old.items (λ (place : ℕ).
+        slice_index counts.new.items place ≡ slice_index counts.old.items place + times receipts.now place) }
+    ensures twice { IsFalse result → All (IsOf records.now) receipts.now → IsRising receipts.now
+        → SomeIndex counts.old.items (λ (place : ℕ).
+        1 < slice_index counts.old.items place + times receipts.now place) }
+{
+    if !are_of(records, receipts) || !is_rising(receipts) {
+        return false;
+    }
+    count(counts, receipts)
+}
+
+/// Returns whether a round is settled: each receipt is that of the record at its place, the places of each worker rise,
+/// and each place of the journal has one receipt.
+pub fn is_settled(alloc: Global, journal: &Journal, workers: &[Receipts]) -> Result<bool, NoMemory>
+    ensures settled { IfOk result (λ settled. IsTrue settled ↔ IsSettled journal.now.records workers.now) }
+{
+    let records = journal.records();
+    let mut counts = Vec::from_elem(alloc, 0, records.len())?;
+    for kept in workers {
+        if !joins(records, &mut counts, kept.as_slice()) {
+            return Ok(false);
+        }
+    }
+    Ok(all_once(counts.as_slice()))
+}
