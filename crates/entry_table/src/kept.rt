@@ -27,7 +27,7 @@ pub struct Held {
 impl Held {
     /// Tells whether the entry stands under a name.
     pub fn is_linked(&self) -> bool
-        ensures { result ≡ is_under_name self.now.place }
+        ensures linked { result ≡ is_under_name self.now.place }
     {
         match &self.place {
             Place::Linked { .. } => true,

@@ -56,7 +56,7 @@ impl Model for Table {
 impl Table {
     /// Returns a table without entries.
     pub fn new(alloc: Global) -> Table
-        ensures { result ≡ record { entries = []; remembered = []; next = 2; spare = 0 } }
+        ensures empty { result ≡ record { entries = []; remembered = []; next = 2; spare = 0 } }
     {
         Table {
             slots: Vec::new(alloc),
@@ -69,8 +69,8 @@ impl Table {
 
     /// Returns a table of these entries, of which no file is remembered.
     pub fn of_entries(alloc: Global, entries: Vec<Kept>, next: u64) -> Result<Table, NoMemory>
-        requires { AreEntries entries.items next }
-        ensures { IfOk result (λ table. table
+        requires entries { AreEntries entries.items next }
+        ensures table { IfOk result (λ table. table
             ≡ record { entries = entries.items; remembered = []; next = next; spare = 0 }) }
     {
         let given = entries.as_slice();
@@ -88,7 +88,7 @@ impl Table {
 
     /// Returns the number that is given next.
     pub fn next(&self) -> u64
-        ensures { result ≡ self.now.next }
+        ensures next { result ≡ self.now.next }
     {
         self.next
     }
@@ -106,7 +106,7 @@ impl Table {
 
     /// Returns the least number above another.
     pub fn after(&self, number: Number) -> Option<Number>
-        ensures { result ≡ number_after self.now.entries number.0 }
+        ensures after { result ≡ number_after self.now.entries number.0 }
     {
         let slots = self.slots.as_slice();
         first_in(&slots[up_to(slots, number)..])
@@ -122,7 +122,7 @@ impl Table {
 
     /// Returns the number that stands under a name in a directory.
     pub fn find(&self, parent: Number, name: &Name) -> Option<Number>
-        ensures { result ≡ option_map number_of_kept (entry_at self.now.entries parent.0 name.now) }
+        ensures number { result ≡ option_map number_of_kept (entry_at self.now.entries parent.0 name.now) }
     {
         match self.index.get(parent.0, name) {
             Some(number) => Some(Number(number)),
@@ -132,7 +132,7 @@ impl Table {
 
     /// Tells whether an entry stands in the directory.
     pub fn has_kids(&self, parent: Number) -> bool
-        ensures { result ≡ list_any (is_kid_of parent.0) self.now.entries }
+        ensures kids { result ≡ list_any (is_kid_of parent.0) self.now.entries }
     {
         self.index.has_names(parent.0)
     }
@@ -180,7 +180,7 @@ impl Table {
 
     /// Counts a number once more, and tells whether it did: not where the kernel holds it as often as it may.
     pub fn raise(&mut self, number: Number) -> bool
-        requires { IsSome (entry_of self.old.entries number.0) }
+        requires held { IsSome (entry_of self.old.entries number.0) }
         ensures may { result ≡ nat_lt (count_of self.old.entries number.0) greatest_count }
         ensures raised { self.new ≡ (if result then record self.old {
           entries = changed_where (has_number number.0) once_more self.old.entries;
@@ -228,8 +228,8 @@ impl Table {
 
     /// Remembers the file that a number names.
     pub fn remember(&mut self, number: Number, file: FileId)
-        requires { IsSome (entry_of self.old.entries number.0) }
-        ensures { self.new ≡ record self.old {
+        requires held { IsSome (entry_of self.old.entries number.0) }
+        ensures remembered { self.new ≡ record self.old {
           remembered = remembered self.old.remembered number.0 file;
         } }
     {
@@ -245,7 +245,7 @@ impl Table {
 
     /// Takes the name of a number away, and returns the directory in which it stood.
     pub fn unlink(&mut self, number: Number, file: FileId) -> Number
-        requires { IsLinked self.old.entries number.0 }
+        requires linked { IsLinked self.old.entries number.0 }
         ensures unlinked { self.new ≡ record self.old {
           entries = changed_where (has_number number.0) (marked file) self.old.entries;
         } }
@@ -273,7 +273,7 @@ impl Table {
 
     /// Removes an entry, and returns where it stood.
     pub fn remove(&mut self, number: Number) -> Place
-        requires { IsSome (entry_of self.old.entries number.0) }
+        requires held { IsSome (entry_of self.old.entries number.0) }
         ensures place { option_map place_of_kept (entry_of self.old.entries number.0) ≡ Some result }
         ensures removed { self.new ≡ without_entry self.old number.0
             (without_where (has_number number.0) self.old.entries) }

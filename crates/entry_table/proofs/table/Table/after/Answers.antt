@@ -11,5 +11,7 @@ pub returns : goal.returns
 returns c =
     let es = c.as_slice-slots.result.now in
     let behind = c.first_in.ensures ∙ ap (λ (rest : List (ℕ × Option Held)). first_number (kept_from rest)) (take_rest es c.up_to.result) in
-    rw (← c.self.view_is) (behind ∙ first-after es c.args.number.0 c.up_to.result c.up_to.ensures.parted
-    ∙ ap (λ (slots : List (ℕ × Option Held)). number_after (kept_from slots) c.args.number.0) c.as_slice-slots.ensures.value)
+    record {
+      after = rw (← c.self.view_is) (behind ∙ first-after es c.args.number.0 c.up_to.result c.up_to.ensures.parted
+          ∙ ap (λ (slots : List (ℕ × Option Held)). number_after (kept_from slots) c.args.number.0) c.as_slice-slots.ensures.value);
+    }

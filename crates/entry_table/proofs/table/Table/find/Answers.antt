@@ -10,11 +10,15 @@ use Rattle.entry_table.proofs.table.Table.find.Goals as goal
 pub returns-in-Some : goal.returns-in-Some
 returns-in-Some c =
     let t = c.self.inside in
-    rw (← c.self.view_is) (ap (option_map number_of) (sym c.in-Some.is ∙ c.get.ensures)
-    ∙ sym (indexed-at (kept_from t.slots.items) 2 t.next (link_of t.index) (slots-numbers t.slots.items 2 t.next c.self.invariant.slots) c.self.invariant.indexed c.args.parent.0 c.args.name.now))
+    record {
+      number = rw (← c.self.view_is) (ap (option_map number_of) (sym c.in-Some.is ∙ c.get.ensures)
+          ∙ sym (indexed-at (kept_from t.slots.items) 2 t.next (link_of t.index) (slots-numbers t.slots.items 2 t.next c.self.invariant.slots) c.self.invariant.indexed c.args.parent.0 c.args.name.now));
+    }
 
 pub returns-in-None : goal.returns-in-None
 returns-in-None c =
     let t = c.self.inside in
-    rw (← c.self.view_is) (ap (option_map number_of) (sym c.in-None.is ∙ c.get.ensures)
-    ∙ sym (indexed-at (kept_from t.slots.items) 2 t.next (link_of t.index) (slots-numbers t.slots.items 2 t.next c.self.invariant.slots) c.self.invariant.indexed c.args.parent.0 c.args.name.now))
+    record {
+      number = rw (← c.self.view_is) (ap (option_map number_of) (sym c.in-None.is ∙ c.get.ensures)
+          ∙ sym (indexed-at (kept_from t.slots.items) 2 t.next (link_of t.index) (slots-numbers t.slots.items 2 t.next c.self.invariant.slots) c.self.invariant.indexed c.args.parent.0 c.args.name.now));
+    }

@@ -9,7 +9,7 @@ use Rattle.entry_table.specs.Slots.{kept_from}
 use Rattle.entry_table.proofs.table.Table.has_kids.Goals as goal
 
 pub returns : goal.returns
-returns c = rw (← c.self.view_is) (in_ c.has_names.result c.has_names.ensures) where
+returns c = record { kids = rw (← c.self.view_is) (in_ c.has_names.result c.has_names.ensures) } where
   in_ : (b : Bool) → Has c.self.inside.index c.args.parent.0 b → b ≡ list_any (is_kid_of c.args.parent.0) (kept_from c.self.inside.slots.items)
   in_ true has = indexed-kid (kept_from c.self.inside.slots.items) (link_of c.self.inside.index) c.self.invariant.indexed c.args.parent.0 has.0 has.1 has.2
   in_ false has =

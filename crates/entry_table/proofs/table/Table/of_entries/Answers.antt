@@ -11,7 +11,7 @@ invariant_of-result c =
     let es = c.args.entries.items in
     let same : kept_from c.in_ok-slots.slots.items ≡ es = ap kept_from c.in_ok-slots.ensures.slots ∙ slots-kept es in
     record {
-      slots = rw c.in_ok-slots.ensures.slots (slots-are es 2 c.args.next c.requires.numbers);
+      slots = rw c.in_ok-slots.ensures.slots (slots-are es 2 c.args.next c.requires.entries.numbers);
       indexed = subst (λ (all : List Kept). IsIndexed all (link_of c.in_ok-index.index)) (c.as_slice-given.ensures.value ∙ sym same) c.in_ok-index.ensures;
       ready = λ is. let none : ⊥ = cc in absurd none;
       free = λ is. let none : ⊥ = cc in absurd none;
@@ -25,4 +25,4 @@ invariant_of-result c =
 pub returns : goal.returns
 returns c =
     let es = c.args.entries.items in
-    rw (c.in_ok-slots.ensures.slots, slots-kept es, slots-files es) refl
+    record { table = rw (c.in_ok-slots.ensures.slots, slots-kept es, slots-files es) refl }

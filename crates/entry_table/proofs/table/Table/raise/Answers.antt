@@ -22,14 +22,14 @@ free_in m e = grind (arith, nat_tests)
 
 pub unreachable-requires : goal.unreachable-requires
 unreachable-requires c =
-    never-none c.self.inside c.args.self.now c.args.number.0 c.self.view_is c.self.invariant c.requires (sym (subst (λ (es : List (ℕ × Option Held)). slot_at es c.args.number.0 ≡ None) c.as_slice.ensures.value c.in_default.ensures.none))
+    never-none c.self.inside c.args.self.now c.args.number.0 c.self.view_is c.self.invariant c.requires.held (sym (subst (λ (es : List (ℕ × Option Held)). slot_at es c.args.number.0 ≡ None) c.as_slice.ensures.value c.in_default.ensures.none))
 
 pub unreachable-requires-in_default-1₀ : goal.unreachable-requires-in_default-1₀
 unreachable-requires-in_default-1₀ c =
     let t = c.self.inside in
     let n = c.args.number.0 in
     let there = subst (λ (es : List (ℕ × Option Held)). IsPlaceOf es n c.in-Some.place) c.as_slice.ensures.value c.in-Some.ensures.place in
-    never-empty t c.args.self.now n c.self.view_is c.self.invariant c.requires
+    never-empty t c.args.self.now n c.self.view_is c.self.invariant c.requires.held
     (sym (found-in t n c.in-Some.place c.index_mut-slot.result.now c.self.invariant there c.index_mut-slot.ensures.value ∙ ap Some c.in_default-1₀.is))
 
 pub returns-then-held-ge-GREATEST_COUNT-clause-may : goal.returns-then-held-ge-GREATEST_COUNT-clause-may

@@ -11,14 +11,14 @@ use Rattle.entry_table.proofs.table.Table.remember.Goals as goal
 
 pub unreachable-requires : goal.unreachable-requires
 unreachable-requires c =
-    never-none c.self.inside c.args.self.now c.args.number.0 c.self.view_is c.self.invariant c.requires (sym (subst (λ (es : List (ℕ × Option Held)). slot_at es c.args.number.0 ≡ None) c.as_slice.ensures.value c.in_default.ensures.none))
+    never-none c.self.inside c.args.self.now c.args.number.0 c.self.view_is c.self.invariant c.requires.held (sym (subst (λ (es : List (ℕ × Option Held)). slot_at es c.args.number.0 ≡ None) c.as_slice.ensures.value c.in_default.ensures.none))
 
 pub unreachable-requires-in_default-1₀ : goal.unreachable-requires-in_default-1₀
 unreachable-requires-in_default-1₀ c =
     let t = c.self.inside in
     let n = c.args.number.0 in
     let there = subst (λ (es : List (ℕ × Option Held)). IsPlaceOf es n c.in-Some.place) c.as_slice.ensures.value c.in-Some.ensures.place in
-    never-empty t c.args.self.now n c.self.view_is c.self.invariant c.requires
+    never-empty t c.args.self.now n c.self.view_is c.self.invariant c.requires.held
     (sym (found-in t n c.in-Some.place c.index_mut-slot.result.now c.self.invariant there c.index_mut-slot.ensures.value ∙ ap Some c.in_default-1₀.is))
 
 pub invariant_of-self : goal.invariant_of-self
@@ -49,4 +49,4 @@ returns c =
     let same = written-kept t n c.in-Some.place slot c.self.invariant there c.index_mut-slot.ensures.value h now c.in-Some-1₀.is (λ x. x) refl ∙ changed-none (kept_from t.slots.items) (has_number n) in
     let found = found-held t n c.in-Some.place slot c.self.invariant there c.index_mut-slot.ensures.value h now c.in-Some-1₀.is in
     let files = ap files_from (written t n c.in-Some.place slot c.self.invariant there c.index_mut-slot.ensures.value (Some now)) ∙ set-remembered t.next n c.args.file h now refl t.slots.items 2 c.self.invariant.slots found in
-    rw (← c.self.view_is, same, files) refl
+    record { remembered = rw (← c.self.view_is, same, files) refl }

@@ -9,7 +9,7 @@ use Rattle.entry_table.proofs.table.Table.remove.Goals as goal
 
 pub unreachable-requires : goal.unreachable-requires
 unreachable-requires c =
-    never-none c.self.inside c.args.self.now c.args.number.0 c.self.view_is c.self.invariant c.requires
+    never-none c.self.inside c.args.self.now c.args.number.0 c.self.view_is c.self.invariant c.requires.held
     (sym (subst (λ (es : List (ℕ × Option Held)). slot_at es c.args.number.0 ≡ None) c.as_slice.ensures.value c.in_default.ensures.none))
 
 pub unreachable-requires-in_default-take : goal.unreachable-requires-in_default-take
@@ -17,7 +17,7 @@ unreachable-requires-in_default-take c =
     let t = c.self.inside in
     let n = c.args.number.0 in
     let there = subst (λ (es : List (ℕ × Option Held)). IsPlaceOf es n c.in-Some.place) c.as_slice.ensures.value c.in-Some.ensures.place in
-    never-empty t c.args.self.now n c.self.view_is c.self.invariant c.requires (sym (found-in t n c.in-Some.place c.index_mut.result.now c.self.invariant there c.index_mut.ensures.value ∙ ap Some (sym c.take.ensures.value ∙ c.in_default-take.is)))
+    never-empty t c.args.self.now n c.self.view_is c.self.invariant c.requires.held (sym (found-in t n c.in-Some.place c.index_mut.result.now c.self.invariant there c.index_mut.ensures.value ∙ ap Some (sym c.take.ensures.value ∙ c.in_default-take.is)))
 
 pub invariant_of-self : goal.invariant_of-self
 invariant_of-self c =

@@ -16,7 +16,7 @@ use Rattle.entry_table.proofs.table.Table.unlink.Goals as goal
 
 pub unreachable-requires : goal.unreachable-requires
 unreachable-requires c =
-    never-none c.self.inside c.args.self.now c.args.number.0 c.self.view_is c.self.invariant (linked-some c.args.self.now.entries c.args.number.0 c.requires)
+    never-none c.self.inside c.args.self.now c.args.number.0 c.self.view_is c.self.invariant (linked-some c.args.self.now.entries c.args.number.0 c.requires.linked)
     (sym (subst (λ (es : List (ℕ × Option Held)). slot_at es c.args.number.0 ≡ None) c.as_slice.ensures.value c.in_default.ensures.none))
 
 pub unreachable-requires-in_default-take : goal.unreachable-requires-in_default-take
@@ -25,7 +25,7 @@ unreachable-requires-in_default-take c =
     let n = c.args.number.0 in
     let slot = c.index_mut-slot.result.now in
     let there = subst (λ (es : List (ℕ × Option Held)). IsPlaceOf es n c.in-Some.place) c.as_slice.ensures.value c.in-Some.ensures.place in
-    never-empty t c.args.self.now n c.self.view_is c.self.invariant (linked-some c.args.self.now.entries n c.requires)
+    never-empty t c.args.self.now n c.self.view_is c.self.invariant (linked-some c.args.self.now.entries n c.requires.linked)
     (sym (found-in t n c.in-Some.place slot c.self.invariant there c.index_mut-slot.ensures.value ∙ ap Some (sym c.take.ensures.value ∙ c.in_default-take.is)))
 
 pub unreachable-requires-in_default-place : goal.unreachable-requires-in_default-place
@@ -36,7 +36,7 @@ unreachable-requires-in_default-place c =
     let h = c.in-Some-take.held in
     let there = subst (λ (es : List (ℕ × Option Held)). IsPlaceOf es n c.in-Some.place) c.as_slice.ensures.value c.in-Some.ensures.place in
     let here = sym c.take.ensures.value ∙ c.in-Some-take.is in
-    linked-place t c.args.self.now n h c.in_default-place.field-0 c.self.view_is c.self.invariant c.requires (found-held t n c.in-Some.place slot c.self.invariant there c.index_mut-slot.ensures.value h h here) c.in_default-place.is
+    linked-place t c.args.self.now n h c.in_default-place.field-0 c.self.view_is c.self.invariant c.requires.linked (found-held t n c.in-Some.place slot c.self.invariant there c.index_mut-slot.ensures.value h h here) c.in_default-place.is
 
 pub invariant_of-self : goal.invariant_of-self
 invariant_of-self c =

@@ -46,7 +46,7 @@ invariant_of-self-then-has_kids c =
     let m = c.self.inside in
     let n = c.args.number.0 in
     let counted : nat_lt 0 (count_of m.table.entries n - c.args.k) ≡ false = let l = c.in-Some.ensures.left in let none = c.if-left-gt0.false in grind (arith, nat_tests) in
-    let kids = kids-less m c.args.self.now c.lower.new.self n c.args.k true c.in-Some.ensures.lowered c.if-has_kids.ensures in
+    let kids = kids-less m c.args.self.now c.lower.new.self n c.args.k true c.in-Some.ensures.lowered c.if-has_kids.ensures.kids in
     let told = told-by (seen m c.args.self.now c.lower.new.self n c.args.k m.table) n c.args.k false true (sym c.if-eq.ensures) c.in-Some.ensures.good counted kids in
     less-consistent m c.args.self.now c.lower.new.self n c.args.k c.self.invariant c.in-Some.ensures.lowered told
 
@@ -56,7 +56,7 @@ returns-then-has_kids-clause-forgot c =
     let n = c.args.number.0 in
     let map = seen m c.args.self.now c.lower.new.self n c.args.k m.table in
     let counted : nat_lt 0 (count_of m.table.entries n - c.args.k) ≡ false = let l = c.in-Some.ensures.left in let none = c.if-left-gt0.false in grind (arith, nat_tests) in
-    let kids = kids-less m c.args.self.now c.lower.new.self n c.args.k true c.in-Some.ensures.lowered c.if-has_kids.ensures in
+    let kids = kids-less m c.args.self.now c.lower.new.self n c.args.k true c.in-Some.ensures.lowered c.if-has_kids.ensures.kids in
     let told = told-by map n c.args.k false true (sym c.if-eq.ensures) c.in-Some.ensures.good counted kids in
     sym (forgot-told map n c.args.k false told) ∙ ap (λ (s : MapState). forgot s n c.args.k) c.self.view_is
 
@@ -65,7 +65,7 @@ returns-then-has_kids-clause-forgotten c =
     let m = c.self.inside in
     let n = c.args.number.0 in
     let counted : nat_lt 0 (count_of m.table.entries n - c.args.k) ≡ false = let l = c.in-Some.ensures.left in let none = c.if-left-gt0.false in grind (arith, nat_tests) in
-    let kids = kids-less m c.args.self.now c.lower.new.self n c.args.k true c.in-Some.ensures.lowered c.if-has_kids.ensures in
+    let kids = kids-less m c.args.self.now c.lower.new.self n c.args.k true c.in-Some.ensures.lowered c.if-has_kids.ensures.kids in
     let told = told-by (seen m c.args.self.now c.lower.new.self n c.args.k m.table) n c.args.k false true (sym c.if-eq.ensures) c.in-Some.ensures.good counted kids in
     less-forgotten m c.args.self.now c.lower.new.self n c.args.k c.self.view_is c.self.invariant c.in-Some.ensures.lowered c.in-Some.ensures.kept told
 
@@ -79,7 +79,7 @@ drop_upwards-requires-clause-useless c =
     let m = c.self.inside in
     let n = c.args.number.0 in
     let counted : nat_lt 0 (count_of m.table.entries n - c.args.k) ≡ false = let l = c.in-Some.ensures.left in let none = c.if-left-gt0.false in grind (arith, nat_tests) in
-    let kids = kids-less m c.args.self.now c.lower.new.self n c.args.k false c.in-Some.ensures.lowered c.if-has_kids.ensures in
+    let kids = kids-less m c.args.self.now c.lower.new.self n c.args.k false c.in-Some.ensures.lowered c.if-has_kids.ensures.kids in
     let told = told-by (seen m c.args.self.now c.lower.new.self n c.args.k m.table) n c.args.k false false (sym c.if-eq.ensures) c.in-Some.ensures.good counted kids in
     subst (λ (new : TableState). is_useless new.entries n ≡ true) (sym c.in-Some.ensures.lowered) told.useless
 
@@ -111,6 +111,6 @@ returns-clause-forgot c =
     let n = c.args.number.0 in
     let map = seen m c.args.self.now c.lower.new.self n c.args.k m.table in
     let counted : nat_lt 0 (count_of m.table.entries n - c.args.k) ≡ false = let l = c.in-Some.ensures.left in let none = c.if-left-gt0.false in grind (arith, nat_tests) in
-    let kids = kids-less m c.args.self.now c.lower.new.self n c.args.k false c.in-Some.ensures.lowered c.if-has_kids.ensures in
+    let kids = kids-less m c.args.self.now c.lower.new.self n c.args.k false c.in-Some.ensures.lowered c.if-has_kids.ensures.kids in
     let told = told-by map n c.args.k false false (sym c.if-eq.ensures) c.in-Some.ensures.good counted kids in
     sym (forgot-told map n c.args.k true told) ∙ ap (λ (s : MapState). forgot s n c.args.k) c.self.view_is

@@ -15,12 +15,12 @@ pub returns-then-has_kids : goal.returns-then-has_kids
 returns-then-has_kids c = record {
   forgot = sym (forgot-good c.args.self.now c.args.number.0 c.args.k false true (sym c.if-eq.ensures) c.if-k-eq0.false (omega (arith, c.count-count.ensures.count))
       (counted-all _ _ (omega (arith, c.count-count.ensures.count)))
-      (ap (λ (m : MapState). Rattle.std.specs.List.list_any (is_kid_of c.args.number.0) m.entries) (sym c.self.view_is) ∙ sym c.if-has_kids.ensures));
+      (ap (λ (m : MapState). Rattle.std.specs.List.list_any (is_kid_of c.args.number.0) m.entries) (sym c.self.view_is) ∙ sym c.if-has_kids.ensures.kids));
 }
 
 pub returns : goal.returns
 returns c = record {
   forgot = sym (forgot-good c.args.self.now c.args.number.0 c.args.k false false (sym c.if-eq.ensures) c.if-k-eq0.false (omega (arith, c.count-count.ensures.count))
       (counted-all _ _ (omega (arith, c.count-count.ensures.count)))
-      (ap (λ (m : MapState). Rattle.std.specs.List.list_any (is_kid_of c.args.number.0) m.entries) (sym c.self.view_is) ∙ sym c.if-has_kids.ensures));
+      (ap (λ (m : MapState). Rattle.std.specs.List.list_any (is_kid_of c.args.number.0) m.entries) (sym c.self.view_is) ∙ sym c.if-has_kids.ensures.kids));
 }

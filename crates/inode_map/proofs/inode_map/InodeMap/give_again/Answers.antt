@@ -18,7 +18,10 @@ raise-requires c =
     let map = c.args.self.now in
     let numbers = subst (λ (m : MapState). AreNumbers 2 m.next m.entries) c.self.view_is c.self.invariant.numbers in
     let h = has-entry map.entries 2 map.next c.args.parent.0 c.args.name.now c.args.number numbers c.requires.has in
-    subst (λ (m : MapState). IsSome (entry_of m.entries c.args.number.0)) (sym c.self.view_is) (some-IsSome (entry_of map.entries c.args.number.0) h.kept h.entry)
+    record {
+      held = subst (λ (m : MapState). IsSome (entry_of m.entries c.args.number.0)) (sym c.self.view_is)
+          (some-IsSome (entry_of map.entries c.args.number.0) h.kept h.entry);
+    }
 
 pub returns-then-not-raise-clause-refused : goal.returns-then-not-raise-clause-refused
 returns-then-not-raise-clause-refused c =

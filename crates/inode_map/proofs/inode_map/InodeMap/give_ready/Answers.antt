@@ -17,7 +17,7 @@ invariant_of-self c =
     let are = kept-new t.entries t.next x (record { numbers = c.self.invariant.numbers; of_use = c.self.invariant.of_use }) refl (lit< tt) in
     subst (λ (new : TableState). IsConsistent (record { table = new; bad_items = c.self.inside.bad_items; loaded = c.self.inside.loaded })) (sym (c.add.ensures.added)) (record {
       numbers = are.numbers;
-      numbers_fit = let f = c.if-next-ge-END_OF_NUMBERS.false in let e = c.next.ensures in omega arith;
+      numbers_fit = let f = c.if-next-ge-END_OF_NUMBERS.false in let e = c.next.ensures.next in omega arith;
       of_use = are.of_use;
       loaded = of-added loaded_number t.entries x c.self.inside.loaded.attrs (next-none t.entries t.next c.self.invariant.numbers) c.self.invariant.loaded;
     })

@@ -10,8 +10,8 @@ invariant_of-result c =
     let es = c.args.entries.items in
     let are = c.requires.entries in
     record {
-      numbers = rw c.in_ok-table.ensures are.numbers;
-      numbers_fit = rw c.in_ok-table.ensures are.last;
-      of_use = rw c.in_ok-table.ensures (λ n kept e. inl (each-entry es (λ (x : Kept). is_of_use es x ≡ true) n kept are.of_use e));
+      numbers = rw c.in_ok-table.ensures.table are.numbers;
+      numbers_fit = rw c.in_ok-table.ensures.table are.last;
+      of_use = rw c.in_ok-table.ensures.table (λ n kept e. inl (each-entry es (λ (x : Kept). is_of_use es x ≡ true) n kept are.of_use e));
       loaded = rw c.in_ok-loaded.ensures tt;
     }
