@@ -2,7 +2,11 @@
 //! and succeed when they are made once more. So every test passes under `rt try --test --fail-alloc N`, for each N.
 use eden_base::{Name, NameFault, NameRoom, NoMemory, Perm};
 use std::alloc::Global;
+use std::cmp::Ordering;
 use std::test::Fail;
+
+/// As many bytes as a name can have.
+static LONGEST: [u8; 255] = [b'n'; 255];
 
 /// Calls `Name::parse`, and once more where memory was refused.
 fn parse(alloc: Global, bytes: &[u8]) -> Result<Name, NameFault> {
@@ -57,29 +61,35 @@ fn refuses_what_is_no_name(rt: HostRuntime) {
 fn parses_a_name_to_a_room(rt: HostRuntime) -> Result<(), Fail> {
     let alloc = rt.alloc();
     let name = Name::parse_to(room(alloc)?, b"src")?;
-    assert!(rt; name.bytes() == b"src".as_slice());
-    let fault = match Name::parse_to(room(alloc)?, b"a/b") {
-        Ok(_) => panic!(rt; "a name with a slash"),
-        Err(fault) => fault,
-    };
-    assert!(rt; fault == NameFault::BadByte);
+    let has_bytes = name.bytes() == b"src".as_slice();
+    assert!(rt; has_bytes);
+    let refused = matches!(
+        Name::parse_to(room(alloc)?, b"a/b"),
+        Err(NameFault::BadByte)
+    );
+    assert!(rt; refused);
     Ok(())
+}
+
+/// Returns whether a name of these bytes has them, and so do its copies.
+fn is_copied(alloc: Global, bytes: &[u8]) -> Result<bool, Fail> {
+    let name = parse(alloc, bytes)?;
+    let copied = copy(alloc, &name)?;
+    let to_room = name.copy_to(room(alloc)?);
+    Ok(name.bytes() == bytes && copied.is(&name) && to_room == name)
 }
 
 #[test]
 fn copies_a_name(rt: HostRuntime) -> Result<(), Fail> {
     let alloc = rt.alloc();
-    let longest = [b'n'; 255];
     for bytes in [
         b"...".as_slice(),
-        &longest[..16],
-        &longest[..17],
-        longest.as_slice(),
+        &LONGEST[..16],
+        &LONGEST[..17],
+        LONGEST.as_slice(),
     ] {
-        let name = parse(alloc, bytes)?;
-        assert!(rt; name.bytes() == bytes);
-        assert!(rt; copy(alloc, &name)?.is(&name));
-        assert!(rt; name.copy_to(room(alloc)?) == name);
+        let as_wanted = is_copied(alloc, bytes)?;
+        assert!(rt; as_wanted);
     }
     Ok(())
 }
@@ -89,8 +99,10 @@ fn orders_names_by_bytes(rt: HostRuntime) -> Result<(), Fail> {
     let alloc = rt.alloc();
     let upper = parse(alloc, b"README")?;
     let lower = parse(alloc, b"src")?;
-    assert!(rt; upper < lower);
-    assert!(rt; upper.cmp(&lower) == std::cmp::Ordering::Less);
+    let in_order = upper < lower && upper.cmp(&lower) == Ordering::Less;
+    drop(lower);
+    drop(upper);
+    assert!(rt; in_order);
     Ok(())
 }
 
