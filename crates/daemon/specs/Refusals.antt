@@ -1,4 +1,5 @@
--- Why an event is refused: the words that printed lines have for it, and the cause that each fault is. (This project's own.)
+-- Why an event is refused: the words that printed lines have for it, and the cause that each fault is. (This project's
+-- own.)
 use Rattle.std.specs.Prelude.{ℕ, Bool, true, false, List, codes}
 use Rattle.eden_base.specs.declared.claim.ClaimFault.{ClaimFault}
 use Rattle.eden_base.specs.declared.claim.ClaimFault.TheVariants as claim

@@ -60,7 +60,8 @@ TakesBy (Some fault) old broker told new left = Stays old broker (refusal_of_tak
 TakesBy None old broker told new left = TakesFirst old broker told new left ⊎ Stays old broker NoMemory told new left
 
 -- a request was worked
-pub record WorksOff (old : ServerState) (place : ℕ) (fails : Bool) (task : Ask) (told : Happened) (new : ServerState) : Type 0 where
+pub record WorksOff (old : ServerState) (place : ℕ) (fails : Bool) (task : Ask) (told : Happened)
+    (new : ServerState) : Type 0 where
   pub later : ServedState
   pub answer : Option Answer
   pub replay : Replay old.served task.what answer later
@@ -87,12 +88,14 @@ pub record PostsOff (old : ServerState) (broker : BrokerState) (place : ℕ) (re
   pub leaves : left ≡ posted broker reply
 
 -- by the first fault of a reply
-abbrev pub PostsReply : Option PostFault → ServerState → BrokerState → ℕ → Reply → Happened → ServerState → BrokerState → Type 0
+abbrev pub PostsReply :
+    Option PostFault → ServerState → BrokerState → ℕ → Reply → Happened → ServerState → BrokerState → Type 0
 PostsReply (Some fault) old broker place reply told new left = Stays old broker (refusal_of_post fault) told new left
 PostsReply None old broker place reply told new left = PostsOff old broker place reply told new left
 
 -- by what stands at the place
-abbrev pub PostsBy : Option Reply → ServerState → BrokerState → DaemonId → ℕ → Happened → ServerState → BrokerState → Type 0
+abbrev pub PostsBy :
+    Option Reply → ServerState → BrokerState → DaemonId → ℕ → Happened → ServerState → BrokerState → Type 0
 PostsBy None old broker daemon place told new left = Stays old broker NoSuch told new left
 PostsBy (Some reply) old broker daemon place told new left =
     PostsReply (post_fault broker daemon old.generation reply) old broker place reply told new left
@@ -106,7 +109,8 @@ pub record TakesWith (broker : BrokerState) (daemon : DaemonId) (told : Happened
   pub takes : TakesBy (take_fault broker daemon server.generation) server broker told later left
   pub makes : new ≡ with_server old later
 
-abbrev pub TakesIf : BrokerState → DaemonId → Happened → BrokerState → Bool → Option ServerState → DaemonState → DaemonState → Type 0
+abbrev pub TakesIf :
+    BrokerState → DaemonId → Happened → BrokerState → Bool → Option ServerState → DaemonState → DaemonState → Type 0
 TakesIf broker daemon told left true (Some server) old new = TakesWith broker daemon told left server old new
 TakesIf broker daemon told left may server old new = Stays old broker WrongPhase told new left
 
@@ -116,7 +120,8 @@ DaemonTakes broker daemon told left old new =
     TakesIf broker daemon told left (may_take old.node.phase) old.server old new
 
 -- what is served works
-pub record WorksWith (place : ℕ) (fails : Bool) (told : Happened) (server : ServerState) (old new : DaemonState) : Type 0 where
+pub record WorksWith (place : ℕ) (fails : Bool) (told : Happened) (server : ServerState)
+    (old new : DaemonState) : Type 0 where
   pub later : ServerState
   pub works : WorksBy (at_place server.hand place) server place fails told later
   pub makes : new ≡ with_server old later
@@ -136,7 +141,8 @@ pub record PostsWith (broker : BrokerState) (daemon : DaemonId) (place : ℕ) (t
   pub posts : PostsBy (at_place server.unposted place) server broker daemon place told later left
   pub makes : new ≡ with_server old later
 
-abbrev pub PostsIf : BrokerState → DaemonId → ℕ → Happened → BrokerState → Option ServerState → DaemonState → DaemonState → Type 0
+abbrev pub PostsIf :
+    BrokerState → DaemonId → ℕ → Happened → BrokerState → Option ServerState → DaemonState → DaemonState → Type 0
 PostsIf broker daemon place told left (Some server) old new =
     PostsWith broker daemon place told left server old new
 PostsIf broker daemon place told left None old new = Stays old broker NoSuch told new left

@@ -1,6 +1,6 @@
--- What a daemon makes of a message that it hears, and of its own program's calls in a takeover. What it says and becomes
--- is the table's (`takeover_core`); what is added here is the data, which is made of what the daemon serves, and what is
--- raised from it. (EdenFS's documents on takeover; the table is this project's own.)
+-- What a daemon makes of a message that it hears, and of its own program's calls in a takeover. What it says and
+-- becomes is the table's (`takeover_core`); what is added here is the data, which is made of what the daemon serves, and
+-- what is raised from it. (EdenFS's documents on takeover; the table is this project's own.)
 use Rattle.std.specs.Prelude.{◌≡◌, ℕ, ◌⊎◌, true, false, List, [], Option, Some, None, Result, Ok, Err}
 use Rattle.std.specs.Option.{option_map}
 use Rattle.eden_base.specs.declared.claim.ClaimFault.{ClaimFault}
@@ -65,7 +65,8 @@ pub record TakesOver (manifest : Manifest) (limit : ℕ) (bytes : List ℕ) (nod
   pub served : ServedState
   pub taken : IsTakenOver manifest limit generation bytes served
   pub reacts : reaction ≡ Heeds
-  pub becomes : new ≡ record { node = table.after node (table.Raised true); server = Some (beginning generation served) }
+  pub becomes :
+    new ≡ record { node = table.after node (table.Raised true); server = Some (beginning generation served) }
 
 -- a daemon that raised nothing is gone
 pub record Loses (old : DaemonState) (node : NodeState) (reaction : Reaction) (new : DaemonState) : Type 0 where

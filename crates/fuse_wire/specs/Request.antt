@@ -1,7 +1,7 @@
 -- What a request is, by its kind: its opcode and the nodeid in its header (linux/fuse.h, enum fuse_opcode and
 -- fuse_in_header), and what a layer above has to know of it: the kernel waits for no reply to a forget, asks only on
--- numbers that it holds, and is answered in a form by the kind (libfuse's `fuse_lowlevel.h`). A kind of request is a row
--- in each table.
+-- numbers that it holds, and is answered in a form by the kind (libfuse's `fuse_lowlevel.h`). A kind of request is a
+-- row in each table.
 use Rattle.std.specs.Prelude.{◌≡◌, ℕ, ◌==◌, Bool, true, false, List, [], ◌∷◌, Option, Some, None, if◌then◌else◌}
 use Rattle.eden_base.specs.declared.number.Number.{Number}
 use Rattle.fuse_wire.specs.declared.form.Form.{Form}

@@ -43,7 +43,8 @@ holds seat daemon = option_map_or (λ (seat : Seat). seat.daemon.0 == daemon.0) 
 abbrev pub move_of : Option Seat → Event → Happened → List Move
 move_of seat (Mount daemon) (happened.Mounted generation) = mount daemon ∷ []
 move_of seat (Issue request) (happened.Asked (Some unique)) = issue (record { unique = unique; what = request }) ∷ []
-move_of seat (Issue request) (happened.Asked None) = option_map_or (λ (item : Item). issue_item item ∷ []) (item_of request) []
+move_of seat (Issue request) (happened.Asked None) =
+    option_map_or (λ (item : Item). issue_item item ∷ []) (item_of request) []
 move_of seat (Work daemon place fails) (happened.Made reply) = work reply.unique reply.answer ∷ []
 move_of seat (Work daemon place fails) (happened.Forgot item forgot) = work_item item ∷ []
 move_of seat (Post daemon place) (happened.Posted unique) = accept unique daemon ∷ []
@@ -176,9 +177,9 @@ NumbersNameTheirFirstFile world state =
 abbrev pub KnowsWorld : World → ServedState → Type 0
 KnowsWorld world served = Knows world.tree world.names (owed world) served
 
--- data of the seat's generation is in one message at most, and is the image of what knows the world as it is now, though
--- the kernel went on issuing and receiving; and so does what is served by each daemon that may claim the seat. No data is
--- of a generation to come.
+-- data of the seat's generation is in one message at most, and is the image of what knows the world as it is now,
+-- though the kernel went on issuing and receiving; and so does what is served by each daemon that may claim the seat. No
+-- data is of a generation to come.
 pub record DataIsCurrent (world : World) (state : State) : Type 0 where
   pub past : (place session generation : ℕ) (bytes : List ℕ) →
       at_place state.messages place ≡ Some (Data session generation bytes) → generation ≤ state.broker.last
@@ -186,7 +187,8 @@ pub record DataIsCurrent (world : World) (state : State) : Type 0 where
       count_by (is_data_of seat.generation) state.messages ≤ 1
   pub handed : (seat : Seat) (place session : ℕ) (bytes : List ℕ) → state.broker.seat ≡ Some seat →
       at_place state.messages place ≡ Some (Data session seat.generation bytes) →
-      (served : ServedState) × (version : ℕ) × IsHandedOver served seat.generation version bytes × KnowsWorld world served
+      (served : ServedState) × (version : ℕ)
+      × IsHandedOver served seat.generation version bytes × KnowsWorld world served
   pub held : (seat : Seat) (daemon : DaemonId) (was : DaemonState) → state.broker.seat ≡ Some seat →
       daemon_of state daemon ≡ Some was → claim_wanted was.node.phase ≡ Some seat.generation →
       (server : ServerState) × (was.server ≡ Some server) × KnowsWorld world server.served

@@ -16,7 +16,8 @@ pub record ServesWorld (world : World) (served : ServedState) : Type 0 where
   pub of_manifest : world.tree.manifest ≡ world.manifest
   pub knows : Knows world.tree world.names (owed world) served
 
--- A legal answer to an ask that is under way is one that the world may give, and what is served knows the world after it.
+-- A legal answer to an ask that is under way is one that the world may give, and what is served knows the world after
+-- it.
 abbrev pub AnswerIsMove : Type 0
 AnswerIsMove =
     (world : World) (served later : ServedState) (ask : Ask) (answer : Answer) → ServesWorld world served →

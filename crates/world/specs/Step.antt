@@ -92,7 +92,8 @@ pub record Takes (old : State) (daemon : DaemonId) (told : Happened) (new : Stat
 
 -- A daemon answers the ask, or applies the item, at a place of its hand. An error of its backing comes only where the
 -- event says that it fails.
-pub record Works (old : State) (daemon : DaemonId) (place : ℕ) (fails : Bool) (told : Happened) (new : State) : Type 0 where
+pub record Works (old : State) (daemon : DaemonId) (place : ℕ) (fails : Bool) (told : Happened)
+    (new : State) : Type 0 where
   pub was : DaemonState
   pub server : ServerState
   pub task : Ask
