@@ -144,36 +144,53 @@ fn changed(alloc: Global, receipts: Receipts, change: Change) -> Option<Receipts
     Some(Receipts::of(alloc, list))
 }
 
+/// Changes the receipts of the first of two workers, and returns whether there were enough.
+fn change_first(alloc: Global, workers: &mut Vec<Receipts>, change: Change) -> Option<()> {
+    let others = workers.pop()?;
+    let kept = workers.pop()?;
+    workers.push(changed(alloc, kept, change)?).ok()?;
+    workers.push(others).ok()
+}
+
+/// Tells what a round left, but for whether it is settled.
+fn numbers_of(round: &Round<ManifestBacking<'_>, MemoryChannel>) -> Option<Left> {
+    let channel = round.channels.as_slice().first()?;
+    Some(Left {
+        records: round.journal.records().len(),
+        first: first_place(round.receipts.as_slice(), 0),
+        second: first_place(round.receipts.as_slice(), 1),
+        taken: channel.taken(),
+        replies: channel.replies().len(),
+        is_settled: false,
+    })
+}
+
+/// Returns whether a round is settled, or nothing where memory was refused.
+fn is_settled(alloc: Global, round: Round<ManifestBacking<'_>, MemoryChannel>) -> Option<bool> {
+    let drained = drain(alloc, round);
+    let is_settled = match &drained {
+        Ok(_settled) => Some(true),
+        Err(RoundFault::Unsettled) => Some(false),
+        Err(_refused) => None,
+    };
+    drop(drained);
+    is_settled
+}
+
 /// Tells what a round left, and whether it is settled once the first worker's receipts are changed.
 fn told_of(
     alloc: Global,
     round: Round<ManifestBacking<'_>, MemoryChannel>,
     change: Change,
 ) -> Option<Left> {
-    let channel = round.channels.as_slice().first()?;
-    let records = round.journal.records().len();
-    let first = first_place(round.receipts.as_slice(), 0);
-    let second = first_place(round.receipts.as_slice(), 1);
-    let taken = channel.taken();
-    let replies = channel.replies().len();
     let mut round = round;
-    let others = round.receipts.pop()?;
-    let kept = round.receipts.pop()?;
-    round.receipts.push(changed(alloc, kept, change)?).ok()?;
-    round.receipts.push(others).ok()?;
-    let is_settled = match drain(alloc, round) {
-        Ok(_settled) => true,
-        Err(RoundFault::Unsettled) => false,
-        Err(_refused) => return None,
-    };
-    Some(Left {
-        records,
-        first,
-        second,
-        taken,
-        replies,
-        is_settled,
-    })
+    let told = numbers_of(&round);
+    let changed = change_first(alloc, &mut round.receipts, change);
+    let is_settled = is_settled(alloc, round);
+    changed?;
+    let mut told = told?;
+    told.is_settled = is_settled?;
+    Some(told)
 }
 
 /// Serves a round over a manifest, and what it gave back once more where memory was refused.
@@ -211,6 +228,47 @@ fn serve<'a, C: Channel + Drop + Send, G: Gate + Sync, R: Threads + Wait + Sync>
     )
 }
 
+/// Returns two channels, each with the asks of these uniques.
+fn two_channels(
+    alloc: Global,
+    first: &[u64],
+    second: &[u64],
+) -> Result<Vec<MemoryChannel>, NoMemory>
+    ensures two { IfOk result (λ channels. vec_len channels ≡ 2) }
+{
+    let mut channels = Vec::with_capacity(alloc, 2)?;
+    channels.push_reserved(channel(alloc, first)?);
+    channels.push_reserved(channel(alloc, second)?);
+    Ok(channels)
+}
+
+/// Begins to serve, serves a round of these channels, and tells what it left.
+fn left_over<G: Gate + Sync, R: Threads + Wait + Sync>(
+    rt: &R,
+    alloc: Global,
+    manifest: &Manifest,
+    channels: Vec<MemoryChannel>,
+    turns: usize,
+    gate: &G,
+    stop: &Stop,
+    change: Change,
+) -> Option<Left>
+    requires channels { (1 ≤ vec_len channels) × (vec_len channels ≤ 16) }
+    requires turns { (1 ≤ turns) × (turns ≤ 4096) }
+{
+    let Ok(served) = begun(alloc, manifest) else {
+        drop(channels);
+        return None;
+    };
+    match serve(rt, alloc, served, manifest, channels, turns, gate, stop) {
+        Ok(round) => told_of(alloc, round, change),
+        Err(fault) => {
+            drop(fault);
+            None
+        }
+    }
+}
+
 /// Serves a round of two channels, each with the asks of these uniques, and tells what it left.
 fn round<G: Gate + Sync, R: Threads + Wait + Sync>(
     rt: &R,
@@ -224,17 +282,12 @@ fn round<G: Gate + Sync, R: Threads + Wait + Sync>(
 ) -> Option<Left>
     requires turns { (1 ≤ turns) × (turns ≤ 4096) }
 {
-    let manifest = Manifest::read(alloc, LISTED).ok()?;
-    let Ok(served) = begun(alloc, &manifest) else {
+    let Ok(manifest) = Manifest::read(alloc, LISTED) else {
         return None;
     };
-    let mut channels = Vec::with_capacity(alloc, 2).ok()?;
-    channels.push_reserved(channel(alloc, first).ok()?);
-    channels.push_reserved(channel(alloc, second).ok()?);
-    let left = serve(rt, alloc, served, &manifest, channels, turns, gate, stop);
-    let told = match left {
-        Ok(round) => told_of(alloc, round, change),
-        Err(_fault) => None,
+    let told = match two_channels(alloc, first, second) {
+        Ok(channels) => left_over(rt, alloc, &manifest, channels, turns, gate, stop, change),
+        Err(NoMemory) => None,
     };
     drop(manifest);
     told
@@ -404,32 +457,42 @@ impl Channel for OneAsk {
     }
 }
 
-/// Returns whether a round of a channel that breaks is Broken.
-fn breaks<R: Threads + Wait + Sync>(rt: &R, alloc: Global) -> Option<bool> {
-    let manifest = Manifest::read(alloc, LISTED).ok()?;
-    let Ok(served) = begun(alloc, &manifest) else {
-        return None;
-    };
-    let mut channels = Vec::with_capacity(alloc, 1).ok()?;
+/// Returns one channel that breaks.
+fn breaking(alloc: Global) -> Result<Vec<OneAsk>, NoMemory>
+    ensures one { IfOk result (λ channels. vec_len channels ≡ 1) }
+{
+    let mut channels = Vec::with_capacity(alloc, 1)?;
     channels.push_reserved(OneAsk { is_left: true });
-    let left = serve(
-        rt,
-        alloc,
-        served,
-        &manifest,
-        channels,
-        64,
-        &OpenGate,
-        &Stop::new(),
-    );
+    Ok(channels)
+}
+
+/// Returns whether a round of such a channel is Broken.
+fn breaks<R: Threads + Wait + Sync>(
+    rt: &R,
+    alloc: Global,
+    manifest: &Manifest,
+    channels: Vec<OneAsk>,
+) -> bool
+    requires channels { vec_len channels ≡ 1 }
+{
+    let Ok(served) = begun(alloc, manifest) else {
+        drop(channels);
+        return false;
+    };
+    let stop = Stop::new();
+    let left = serve(rt, alloc, served, manifest, channels, 64, &OpenGate, &stop);
     let broken = matches!(&left, Err(RoundFault::Broken));
     drop(left);
-    drop(manifest);
-    Some(broken)
+    broken
 }
 
 #[test]
-fn a_channel_that_breaks_ends_the_round(rt: HostRuntime) {
-    let broken = breaks(&rt, rt.alloc());
-    assert!(rt; broken == Some(true));
+fn a_channel_that_breaks_ends_the_round(rt: HostRuntime) -> Result<(), Fail> {
+    let alloc = rt.alloc();
+    let channels = breaking(alloc)?;
+    let manifest = Manifest::read(alloc, LISTED)?;
+    let broken = breaks(&rt, alloc, &manifest, channels);
+    drop(manifest);
+    assert!(rt; broken);
+    Ok(())
 }
