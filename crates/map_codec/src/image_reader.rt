@@ -56,12 +56,19 @@ fn read_image(alloc: Global, bytes: &[u8]) -> Result<Image, ImageFault>
 {
     let (image, rest) = fields_at(alloc, bytes)?;
     if !rest.is_empty() {
+        drop(image);
         return Err(ImageFault::Rest);
     }
     match are_of_use(alloc, image.entries.as_slice()) {
         Ok(true) => Ok(image),
-        Ok(false) => Err(ImageFault::ZeroUse),
-        Err(NoMemory) => Err(ImageFault::NoMemory),
+        Ok(false) => {
+            drop(image);
+            Err(ImageFault::ZeroUse)
+        }
+        Err(NoMemory) => {
+            drop(image);
+            Err(ImageFault::NoMemory)
+        }
     }
 }
 
