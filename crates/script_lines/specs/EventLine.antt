@@ -67,29 +67,40 @@ create_of words = option_map (λ (made : Number × Perm × List ℕ). Create mad
 abbrev pub mkdir_of : List ℕ → Option Request
 mkdir_of words = option_map (λ (made : Number × Perm × List ℕ). Mkdir made.0 made.2 made.1) (made_of words)
 
--- the forget of a number, so many times
-abbrev pub forget_both : Option ℕ → Option ℕ → Option Request
-forget_both (Some node) (Some k) = Some (Forget (record { node = record { 0 = node }; k = k }))
-forget_both _ _ = None
+-- two numbers, where both are there
+abbrev pub both_numbers : Option ℕ → Option ℕ → Option (ℕ × ℕ)
+both_numbers (Some first) (Some second) = Some (first, second)
+both_numbers _ _ = None
+
+-- `N N`
+abbrev pub pair_of : List ℕ → Option (ℕ × ℕ)
+pair_of words =
+    option_and_then (λ (parts : List ℕ × List ℕ). both_numbers (number_of parts.0) (number_of parts.1)) (cut 32 words)
 
 -- `N K`
 abbrev pub forget_of : List ℕ → Option Request
 forget_of words =
-    option_and_then (λ (parts : List ℕ × List ℕ). forget_both (number_of parts.0) (number_of parts.1)) (cut 32 words)
+    option_map (λ (pair : ℕ × ℕ). Forget (record { node = record { 0 = pair.0 }; k = pair.1 })) (pair_of words)
 
 -- `N`
 abbrev pub getattr_of : List ℕ → Option Request
 getattr_of words = option_map (λ (node : ℕ). Getattr (record { 0 = node })) (number_of words)
 
 -- a request of an opcode of 32 bits that has no command of its own
-abbrev pub other_in : Option ℕ → Option ℕ → Option Request
-other_in (Some opcode) (Some node) = if nat_lt opcode (2 ^ 32) then other_of opcode (record { 0 = node }) else None
-other_in _ _ = None
+abbrev pub other_in : ℕ → ℕ → Option Request
+other_in opcode node = if nat_lt opcode (2 ^ 32) then other_of opcode (record { 0 = node }) else None
 
 -- `OPCODE N`
 abbrev pub other_said : List ℕ → Option Request
-other_said words =
-    option_and_then (λ (parts : List ℕ × List ℕ). other_in (number_of parts.0) (number_of parts.1)) (cut 32 words)
+other_said words = option_and_then (λ (pair : ℕ × ℕ). other_in pair.0 pair.1) (pair_of words)
+
+-- a request that has no name in it, by its first word
+abbrev pub nameless_by : List ℕ → List ℕ → Option Request
+nameless_by word rest =
+    if is_word word (codes "forget") then forget_of rest
+    else if is_word word (codes "getattr") then getattr_of rest
+    else if is_word word (codes "other") then other_said rest
+    else None
 
 -- a request, by its first word
 abbrev pub request_by : List ℕ → List ℕ → Option Request
@@ -99,10 +110,7 @@ request_by word rest =
     else if is_word word (codes "mkdir") then mkdir_of rest
     else if is_word word (codes "unlink") then unlink_of rest
     else if is_word word (codes "rmdir") then rmdir_of rest
-    else if is_word word (codes "forget") then forget_of rest
-    else if is_word word (codes "getattr") then getattr_of rest
-    else if is_word word (codes "other") then other_said rest
-    else None
+    else nameless_by word rest
 
 -- `lookup N NAME`, `create N MODE NAME`, `mkdir N MODE NAME`, `unlink N NAME`, `rmdir N NAME`, `forget N K`,
 -- `getattr N` or `other OPCODE N`
@@ -144,25 +152,13 @@ abbrev pub work_of : List ℕ → Option Event
 work_of words =
     option_and_then (λ (parts : List ℕ × List ℕ). work_both (number_of parts.0) (tried_of parts.1)) (cut 32 words)
 
--- a daemon posts from a place
-abbrev pub post_both : Option ℕ → Option ℕ → Option Event
-post_both (Some daemon) (Some place) = Some (Post (daemon_said daemon) place)
-post_both _ _ = None
-
 -- `D I`
 abbrev pub post_of : List ℕ → Option Event
-post_of words =
-    option_and_then (λ (parts : List ℕ × List ℕ). post_both (number_of parts.0) (number_of parts.1)) (cut 32 words)
-
--- a daemon hears what was said at a place
-abbrev pub hear_both : Option ℕ → Option ℕ → Option Event
-hear_both (Some daemon) (Some place) = Some (Hear (daemon_said daemon) place)
-hear_both _ _ = None
+post_of words = option_map (λ (pair : ℕ × ℕ). Post (daemon_said pair.0) pair.1) (pair_of words)
 
 -- `D K`
 abbrev pub hear_of : List ℕ → Option Event
-hear_of words =
-    option_and_then (λ (parts : List ℕ × List ℕ). hear_both (number_of parts.0) (number_of parts.1)) (cut 32 words)
+hear_of words = option_map (λ (pair : ℕ × ℕ). Hear (daemon_said pair.0) pair.1) (pair_of words)
 
 -- `D`
 abbrev pub drained_of : List ℕ → Option Event

@@ -1,6 +1,6 @@
 //! A line that says what happens.
 ghost use Rattle.std.specs.Prelude.{◌≡◌, IfOk};
-ghost use Rattle.script_lines.specs.EventLine.{event_of, daemon_event_by, mount_of, take_of, work_of, tried_of, tried_at, post_of, takeover_event_by, hear_of, drained_of, give_up_of, claim_of, crash_of, issue_of, do_of, request_of, lookup_of, create_of, mkdir_of, unlink_of, rmdir_of, forget_of, getattr_of, other_said, named_of, made_of, name_of};
+ghost use Rattle.script_lines.specs.EventLine.{event_of, daemon_event_by, mount_of, take_of, work_of, tried_of, tried_at, pair_of, post_of, takeover_event_by, hear_of, drained_of, give_up_of, claim_of, crash_of, issue_of, do_of, request_of, request_by, nameless_by, lookup_of, create_of, mkdir_of, unlink_of, rmdir_of, forget_of, getattr_of, other_said, named_of, made_of, name_of};
 
 use crate::decimal::number;
 use eden_base::{DaemonId, Name, NameFault, NoMemory, Number, Perm, cut};
@@ -120,13 +120,20 @@ fn read_tried(words: &[u8]) -> Option<(u64, bool)>
     }
 }
 
+/// Reads two numbers.
+fn read_pair(words: &[u8]) -> Option<(u64, u64)>
+    ensures { result ≡ pair_of words.now }
+{
+    let (first, second) = cut(words, b' ')?;
+    Some((number(first)?, number(second)?))
+}
+
 /// Reads the daemon that posts, and the place among its replies.
 fn read_post(words: &[u8]) -> Option<Event>
     ensures { result ≡ post_of words.now }
 {
-    let (daemon, place) = cut(words, b' ')?;
-    let daemon = DaemonId(number(daemon)?);
-    let place = number(place)?;
+    let (daemon, place) = read_pair(words)?;
+    let daemon = DaemonId(daemon);
     Some(Event::Post { daemon, place })
 }
 
@@ -134,9 +141,8 @@ fn read_post(words: &[u8]) -> Option<Event>
 fn read_hear(words: &[u8]) -> Option<Event>
     ensures { result ≡ hear_of words.now }
 {
-    let (daemon, place) = cut(words, b' ')?;
-    let daemon = DaemonId(number(daemon)?);
-    let place = number(place)?;
+    let (daemon, place) = read_pair(words)?;
+    let daemon = DaemonId(daemon);
     Some(Event::Hear { daemon, place })
 }
 
@@ -196,9 +202,16 @@ fn read_do(alloc: Global, words: &[u8]) -> Result<Option<Event>, NoMemory>
 fn read_request(alloc: Global, words: &[u8]) -> Result<Option<Request>, NoMemory>
     ensures { IfOk result (λ request. request ≡ request_of words.now) }
 {
-    let Some((word, rest)) = cut(words, b' ') else {
-        return Ok(None);
-    };
+    match cut(words, b' ') {
+        Some((word, rest)) => read_request_by(alloc, word, rest),
+        None => Ok(None),
+    }
+}
+
+/// Reads a request by the first word.
+fn read_request_by(alloc: Global, word: &[u8], rest: &[u8]) -> Result<Option<Request>, NoMemory>
+    ensures { IfOk result (λ request. request ≡ request_by word.now rest.now) }
+{
     if word == b"lookup".as_slice() {
         return read_lookup(alloc, rest);
     }
@@ -214,16 +227,23 @@ fn read_request(alloc: Global, words: &[u8]) -> Result<Option<Request>, NoMemory
     if word == b"rmdir".as_slice() {
         return read_rmdir(alloc, rest);
     }
+    Ok(read_nameless(word, rest))
+}
+
+/// Reads a request that has no name in it, by the first word.
+fn read_nameless(word: &[u8], rest: &[u8]) -> Option<Request>
+    ensures { result ≡ nameless_by word.now rest.now }
+{
     if word == b"forget".as_slice() {
-        return Ok(read_forget(rest));
+        return read_forget(rest);
     }
     if word == b"getattr".as_slice() {
-        return Ok(read_getattr(rest));
+        return read_getattr(rest);
     }
     if word == b"other".as_slice() {
-        return Ok(read_other(rest));
+        return read_other(rest);
     }
-    Ok(None)
+    None
 }
 
 /// Reads the name that is looked up, and its directory.
@@ -329,9 +349,8 @@ fn read_name(alloc: Global, bytes: &[u8]) -> Result<Option<Name>, NoMemory>
 fn read_forget(words: &[u8]) -> Option<Request>
     ensures { result ≡ forget_of words.now }
 {
-    let (node, k) = cut(words, b' ')?;
-    let node = Number(number(node)?);
-    let k = number(k)?;
+    let (node, k) = read_pair(words)?;
+    let node = Number(node);
     Some(Request::Forget(Item { node, k }))
 }
 
@@ -347,9 +366,7 @@ fn read_getattr(words: &[u8]) -> Option<Request>
 fn read_other(words: &[u8]) -> Option<Request>
     ensures { result ≡ other_said words.now }
 {
-    let (opcode, node) = cut(words, b' ')?;
-    let opcode = number(opcode)?;
-    let node = Number(number(node)?);
+    let (opcode, node) = read_pair(words)?;
     let opcode = u32::try_from(opcode).ok()?;
-    Request::other(opcode, node)
+    Request::other(opcode, Number(node))
 }
