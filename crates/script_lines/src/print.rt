@@ -1,5 +1,6 @@
 //! The lines that a script's events print.
-ghost use Rattle.std.specs.Prelude.{◌≡◌, ◌<◌, ◌^◌, sum_by, count_by, OnOk};
+ghost use Rattle.std.specs.Prelude.{◌≡◌, ◌<◌, ◌^◌, ◌∷◌, [], sum_by, count_by, OnOk};
+ghost use Rattle.std.specs.Fmt.{decimal};
 ghost use Rattle.std.specs.Io.KnownBytes.{Appends};
 ghost use Rattle.std.specs.Option.{option_copied};
 ghost use Rattle.broker_core.specs.Traffic.{gives};
@@ -45,28 +46,33 @@ fn print_happened<W: Write>(
         (line_of messages.now happened.now)) }
 {
     match happened {
-        Happened::Started(daemon) => {
-            let number = daemon.0;
-            writeln!(out, "daemon {number}")
-        }
-        Happened::Mounted(generation) => writeln!(out, "mounted {generation}"),
+        Happened::Started(daemon) => print_numbered(out, "daemon", daemon.0),
+        Happened::Mounted(generation) => print_numbered(out, "mounted", *generation),
         Happened::Asked(unique) => print_asked(out, *unique),
-        Happened::Took(unique) => writeln!(out, "took {unique}"),
+        Happened::Took(unique) => print_numbered(out, "took", *unique),
         Happened::TookForgets(count) => writeln!(out, "took forgets {count}"),
         Happened::Made(reply) => print_reply(out, "made", reply),
         Happened::Forgot { forgot, .. } => {
             let name = forgot.name();
             writeln!(out, "forgot {name}")
         }
-        Happened::Posted(unique) => writeln!(out, "posted {unique}"),
+        Happened::Posted(unique) => print_numbered(out, "posted", *unique),
         Happened::Answered(reply) => print_reply(out, "answer", reply),
         Happened::Said(place) => print_said(out, messages, *place),
         Happened::Heard => writeln!(out, "heard"),
         Happened::Ignored => writeln!(out, "ignored"),
-        Happened::Claimed(generation) => writeln!(out, "claimed {generation}"),
+        Happened::Claimed(generation) => print_numbered(out, "claimed", *generation),
         Happened::Crashed => writeln!(out, "crashed"),
         Happened::Refused(refusal) => print_refusal(out, *refusal),
     }
+}
+
+/// Prints a word and a number.
+fn print_numbered<W: Write>(out: &mut W, word: &str, number: u64) -> io::Result<()>
+    ensures { OnOk result (Appends (W.contents out.old) (W.contents out.new)
+        (line (word.now ∷ decimal number ∷ []))) }
+{
+    writeln!(out, "{word} {number}")
 }
 
 /// Prints the message at a place, counted from 1: nothing, where nothing was said there.
@@ -105,7 +111,7 @@ fn print_message<W: Write>(out: &mut W, message: &Message) -> io::Result<()>
             session,
             generation,
         } => writeln!(out, "ready {session} {generation}"),
-        Message::Pong { session } => writeln!(out, "pong {session}"),
+        Message::Pong { session } => print_numbered(out, "pong", u64::from(*session)),
         Message::Data {
             session,
             generation,
@@ -114,7 +120,7 @@ fn print_message<W: Write>(out: &mut W, message: &Message) -> io::Result<()>
             let length = bytes.as_slice().len();
             writeln!(out, "data {session} {generation} {length}")
         }
-        Message::Failed { session } => writeln!(out, "failed {session}"),
+        Message::Failed { session } => print_numbered(out, "failed", u64::from(*session)),
     }
 }
 
