@@ -26,32 +26,17 @@ fn same_answer(first: &Answer, second: &Answer) -> bool
     ensures same { IsTrue result ↔ (first.now ≡ second.now) }
 {
     match first {
-        Answer::Entry { number, attr } => match second {
-            Answer::Entry {
-                number: its,
-                attr: other,
-            } => number == its && same_attr(*attr, *other),
-            _ => false,
-        },
-        Answer::Opened { number, attr } => match second {
-            Answer::Opened {
-                number: its,
-                attr: other,
-            } => number == its && same_attr(*attr, *other),
-            _ => false,
-        },
-        Answer::Attrs { number, attr } => match second {
-            Answer::Attrs {
-                number: its,
-                attr: other,
-            } => number == its && same_attr(*attr, *other),
-            _ => false,
-        },
+        Answer::Entry { number, attr } => {
+            matches!(second, Answer::Entry { number: its, attr: other } if number == its && same_attr(*attr, *other))
+        }
+        Answer::Opened { number, attr } => {
+            matches!(second, Answer::Opened { number: its, attr: other } if number == its && same_attr(*attr, *other))
+        }
+        Answer::Attrs { number, attr } => {
+            matches!(second, Answer::Attrs { number: its, attr: other } if number == its && same_attr(*attr, *other))
+        }
         Answer::Done => matches!(second, Answer::Done),
-        Answer::Error(errno) => match second {
-            Answer::Error(other) => errno == other,
-            _ => false,
-        },
+        Answer::Error(errno) => matches!(second, Answer::Error(other) if errno == other),
     }
 }
 
@@ -96,61 +81,34 @@ pub(crate) fn same_request(first: &Request, second: &Request) -> bool
     ensures same { IsTrue result ↔ (first.now ≡ second.now) }
 {
     match first {
-        Request::Lookup { dir, name } => match second {
-            Request::Lookup {
-                dir: other,
-                name: its,
-            } => same_place(*dir, name, *other, its),
-            _ => false,
-        },
-        Request::Getattr { node } => match second {
-            Request::Getattr { node: other } => node == other,
-            _ => false,
-        },
-        Request::Create { dir, name, perm } => match second {
-            Request::Create {
-                dir: other,
-                name: its,
-                perm: bits,
-            } => { same_place(*dir, name, *other, its) && same_perm(*perm, *bits) }
-            _ => false,
-        },
-        Request::Mkdir { dir, name, perm } => match second {
-            Request::Mkdir {
-                dir: other,
-                name: its,
-                perm: bits,
-            } => { same_place(*dir, name, *other, its) && same_perm(*perm, *bits) }
-            _ => false,
-        },
-        Request::Unlink { dir, name } => match second {
-            Request::Unlink {
-                dir: other,
-                name: its,
-            } => same_place(*dir, name, *other, its),
-            _ => false,
-        },
-        Request::Rmdir { dir, name } => match second {
-            Request::Rmdir {
-                dir: other,
-                name: its,
-            } => same_place(*dir, name, *other, its),
-            _ => false,
-        },
-        Request::Forget(item) => match second {
-            Request::Forget(other) => same_item(*item, *other),
-            _ => false,
-        },
-        Request::BatchForget(batch) => match second {
-            Request::BatchForget(other) => same_batch(batch, other),
-            _ => false,
-        },
-        Request::Other { opcode, node } => match second {
-            Request::Other {
-                opcode: other,
-                node: its,
-            } => opcode == other && node == its,
-            _ => false,
-        },
+        Request::Lookup { dir, name } => {
+            matches!(second, Request::Lookup { dir: other, name: its } if same_place(*dir, name, *other, its))
+        }
+        Request::Getattr { node } => {
+            matches!(second, Request::Getattr { node: other } if node == other)
+        }
+        Request::Create { dir, name, perm } => {
+            matches!(second, Request::Create { dir: other, name: its, perm: bits }
+                if same_place(*dir, name, *other, its) && same_perm(*perm, *bits))
+        }
+        Request::Mkdir { dir, name, perm } => {
+            matches!(second, Request::Mkdir { dir: other, name: its, perm: bits }
+                if same_place(*dir, name, *other, its) && same_perm(*perm, *bits))
+        }
+        Request::Unlink { dir, name } => {
+            matches!(second, Request::Unlink { dir: other, name: its } if same_place(*dir, name, *other, its))
+        }
+        Request::Rmdir { dir, name } => {
+            matches!(second, Request::Rmdir { dir: other, name: its } if same_place(*dir, name, *other, its))
+        }
+        Request::Forget(item) => {
+            matches!(second, Request::Forget(other) if same_item(*item, *other))
+        }
+        Request::BatchForget(batch) => {
+            matches!(second, Request::BatchForget(other) if same_batch(batch, other))
+        }
+        Request::Other { opcode, node } => {
+            matches!(second, Request::Other { opcode: other, node: its } if opcode == other && node == its)
+        }
     }
 }
