@@ -1,0 +1,129 @@
+-- The one text of a frame: the length of its body in four bytes, the number of its kind in one, its body. (This
+-- project's own.)
+use Rattle.std.specs.Prelude.{◌<◌, ◌≤◌, ◌^◌, ℕ, nat_lt, List, [], ◌∷◌, ◌++◌, length, Option, Some, None, if◌then◌else◌}
+use Rattle.std.specs.Int.{w16, w32, w64}
+use Rattle.std.specs.List.{All, flat_map}
+use Rattle.takeover_core.specs.declared.message.Message.{Message}
+use Rattle.takeover_core.specs.declared.message.Message.TheVariants.{Offer, Choice, NoCommon, Busy, Ready, Pong, Data, Failed}
+use Rattle.frames.specs.declared.frame.Frame.{Frame}
+use Rattle.frames.specs.declared.frame.Frame.TheVariants.{Take, Ask, Empty, Post, Posted, Ended, Stale, NotAsked, Claim, Claimed, Unanswered, LastGeneration, Mount, Mounted, Seated, Attach, Attached, Takeover}
+use Rattle.frames.specs.declared.kind.Kind.{Kind}
+use Rattle.frames.specs.declared.kind.Kind.TheVariants as kinds
+use Rattle.frames.specs.declared.kind.MessageKind.{MessageKind}
+use Rattle.frames.specs.declared.kind.MessageKind.TheVariants as messages
+use Rattle.frames.specs.Field.{number_text}
+use Rattle.frames.specs.Kind.{number_of}
+
+-- how many bytes a body may have
+abbrev pub longest_body : ℕ
+longest_body = 65536
+
+-- ---- kinds
+
+abbrev pub message_kind : Message → MessageKind
+message_kind (Offer versions) = messages.Offer
+message_kind (Choice session version) = messages.Choice
+message_kind NoCommon = messages.NoCommon
+message_kind Busy = messages.Busy
+message_kind (Ready session generation) = messages.Ready
+message_kind (Pong session) = messages.Pong
+message_kind (Data session generation bytes) = messages.Data
+message_kind (Failed session) = messages.Failed
+
+abbrev pub kind_of : Frame → Kind
+kind_of (Take generation) = kinds.Take
+kind_of (Ask request) = kinds.Ask
+kind_of Empty = kinds.Empty
+kind_of (Post generation reply) = kinds.Post
+kind_of Posted = kinds.Posted
+kind_of Ended = kinds.Ended
+kind_of (Stale now) = kinds.Stale
+kind_of NotAsked = kinds.NotAsked
+kind_of (Claim generation) = kinds.Claim
+kind_of (Claimed generation) = kinds.Claimed
+kind_of (Unanswered asks) = kinds.Unanswered
+kind_of LastGeneration = kinds.LastGeneration
+kind_of Mount = kinds.Mount
+kind_of (Mounted generation) = kinds.Mounted
+kind_of Seated = kinds.Seated
+kind_of (Attach daemon) = kinds.Attach
+kind_of (Attached daemon) = kinds.Attached
+kind_of (Takeover message) = kinds.Takeover (message_kind message)
+
+-- ---- bodies
+
+-- a version, in two bytes
+abbrev pub version_text : ℕ → List ℕ
+version_text version = number_text w16 version
+
+-- the fields of a takeover's message
+abbrev pub message_body : Message → List ℕ
+message_body (Offer versions) = length versions ∷ flat_map version_text versions
+message_body (Choice session version) = number_text w32 session ++ number_text w16 version
+message_body NoCommon = []
+message_body Busy = []
+message_body (Ready session generation) = number_text w32 session ++ number_text w64 generation
+message_body (Pong session) = number_text w32 session
+message_body (Data session generation bytes) = number_text w32 session ++ (number_text w64 generation ++ bytes)
+message_body (Failed session) = number_text w32 session
+
+-- the fields of a frame
+abbrev pub body_of : Frame → List ℕ
+body_of (Take generation) = number_text w64 generation
+body_of (Ask request) = request
+body_of Empty = []
+body_of (Post generation reply) = number_text w64 generation ++ reply
+body_of Posted = []
+body_of Ended = []
+body_of (Stale now) = number_text w64 now
+body_of NotAsked = []
+body_of (Claim generation) = number_text w64 generation
+body_of (Claimed generation) = number_text w64 generation
+body_of (Unanswered asks) = number_text w64 asks
+body_of LastGeneration = []
+body_of Mount = []
+body_of (Mounted generation) = number_text w64 generation
+body_of Seated = []
+body_of (Attach daemon) = number_text w64 daemon.0
+body_of (Attached daemon) = number_text w64 daemon.0
+body_of (Takeover message) = message_body message
+
+-- ---- texts
+
+-- the length of a body, the number of a kind, the body
+abbrev pub framed : Kind → List ℕ → List ℕ
+framed kind body = number_text w32 (length body) ++ (number_of kind ∷ body)
+
+-- the text of a frame, if its body is not too long
+abbrev pub frame_text : Frame → Option (List ℕ)
+frame_text frame =
+    if nat_lt longest_body (length (body_of frame)) then None
+    else Some (framed (kind_of frame) (body_of frame))
+
+-- ---- numbers that have room in their fields, as those of every frame in a program have
+
+-- a version that has room in its two bytes
+abbrev pub FitsVersion : ℕ → Type 0
+FitsVersion version = version < 2 ^ 16
+
+abbrev pub FitsMessage : Message → Type 0
+FitsMessage (Offer versions) = (length versions ≤ 8) × All FitsVersion versions
+FitsMessage (Choice session version) = (session < 2 ^ 32) × (version < 2 ^ 16)
+FitsMessage (Ready session generation) = (session < 2 ^ 32) × (generation < 2 ^ 64)
+FitsMessage (Pong session) = session < 2 ^ 32
+FitsMessage (Data session generation bytes) = (session < 2 ^ 32) × (generation < 2 ^ 64)
+FitsMessage (Failed session) = session < 2 ^ 32
+FitsMessage message = Unit {0}
+
+abbrev pub Fits : Frame → Type 0
+Fits (Take generation) = generation < 2 ^ 64
+Fits (Post generation reply) = generation < 2 ^ 64
+Fits (Stale now) = now < 2 ^ 64
+Fits (Claim generation) = generation < 2 ^ 64
+Fits (Claimed generation) = generation < 2 ^ 64
+Fits (Unanswered asks) = asks < 2 ^ 64
+Fits (Mounted generation) = generation < 2 ^ 64
+Fits (Attach daemon) = daemon.0 < 2 ^ 64
+Fits (Attached daemon) = daemon.0 < 2 ^ 64
+Fits (Takeover message) = FitsMessage message
+Fits frame = Unit {0}

@@ -1,0 +1,5 @@
+pub mod Field
+pub mod FrameText
+pub mod Kind
+pub mod Reading
+pub mod Writing

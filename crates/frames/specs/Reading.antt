@@ -1,0 +1,159 @@
+-- Which frame a body is, and what the front of a stream of bytes is. (This project's own.)
+use Rattle.std.specs.Prelude.{◌≡◌, IsOkAnd, ℕ, ◌+◌, ◌*◌, ◌==◌, nat_lt, nat_le, ◌&&◌, List, [], ◌∷◌, length, take, drop, slice_index, Option, Some, None, Result, Ok, Err, if◌then◌else◌}
+use Rattle.std.specs.Int.{Width, w16, w32, w64, byte_len}
+use Rattle.takeover_core.specs.declared.message.Message.{Message}
+use Rattle.takeover_core.specs.declared.message.Message.TheVariants.{Offer, Choice, NoCommon, Busy, Ready, Pong, Data, Failed}
+use Rattle.frames.specs.declared.fault.LinkFault.{LinkFault}
+use Rattle.frames.specs.declared.fault.LinkFault.TheVariants.{TooLong, BadKind, BadBody, NoMemory}
+use Rattle.frames.specs.declared.frame.Frame.{Frame}
+use Rattle.frames.specs.declared.frame.Frame.TheVariants.{Take, Ask, Empty, Post, Posted, Ended, Stale, NotAsked, Claim, Claimed, Unanswered, LastGeneration, Mount, Mounted, Seated, Attach, Attached, Takeover}
+use Rattle.frames.specs.declared.kind.Kind.{Kind}
+use Rattle.frames.specs.declared.kind.Kind.TheVariants as kinds
+use Rattle.frames.specs.declared.kind.MessageKind.{MessageKind}
+use Rattle.frames.specs.declared.kind.MessageKind.TheVariants as messages
+use Rattle.frames.specs.Field.{number_at, numbers_at}
+use Rattle.frames.specs.FrameText.{longest_body}
+use Rattle.frames.specs.Kind.{kind_with}
+
+-- ---- bodies, as they are read
+
+-- what follows from a value that was read, unless there was a fault
+infixl 10 ◌>>=◌
+abbrev pub ◌>>=◌ : {A B : Type 0} → Result A LinkFault → (A → Result B LinkFault) → Result B LinkFault
+(Ok x) >>= f = f x
+(Err fault) >>= f = Err fault
+
+-- a call gave, seen by a view, what reading gives: a value, or BadBody
+abbrev pub Is : {X Y : Type 0} → (X → Y) → Result X LinkFault → Result Y LinkFault → Type 0
+Is view (Ok x) read = read ≡ Ok (view x)
+Is view (Err fault) read = (fault ≡ BadBody) × (read ≡ Err BadBody)
+
+-- a message whose bytes are copied when it is read
+abbrev pub HasImage : Message → Type 0
+HasImage (Data session generation bytes) = Unit {0}
+HasImage message = ⊥
+
+-- a frame whose bytes are copied when it is read
+abbrev pub HasBytes : Frame → Type 0
+HasBytes (Ask request) = Unit {0}
+HasBytes (Post generation reply) = Unit {0}
+HasBytes (Takeover message) = HasImage message
+HasBytes frame = ⊥
+
+-- a call gave what reading gives; out of memory comes in place of a frame with bytes alone
+abbrev pub Gives : {X : Type 0} → (X → Type 0) → Result X LinkFault → Result X LinkFault → Type 0
+Gives Copied (Ok x) read = read ≡ Ok x
+Gives Copied (Err NoMemory) read = IsOkAnd read Copied
+Gives Copied (Err fault) read = read ≡ Err fault
+
+-- a value where a body has as many bytes as its kind asks for
+abbrev pub of_length : {A : Type 0} → ℕ → List ℕ → A → Result A LinkFault
+of_length n body x = if length body == n then Ok x else Err BadBody
+
+-- a value where a body has as many bytes at least
+abbrev pub from_length : {A : Type 0} → ℕ → List ℕ → A → Result A LinkFault
+from_length n body x = if nat_lt (length body) n then Err BadBody else Ok x
+
+-- the number that a body is
+unfoldable pub alone : Width → List ℕ → Result ℕ LinkFault
+alone width body = of_length (byte_len width) body (number_at width body)
+
+-- the number at the front of a body, and what follows it
+unfoldable pub front : Width → List ℕ → Result (ℕ × List ℕ) LinkFault
+front width body =
+    from_length (byte_len width) body (number_at width (take (byte_len width) body), drop (byte_len width) body)
+
+-- nothing where the body is empty
+unfoldable pub nothing : List ℕ → Result (Unit {0}) LinkFault
+nothing [] = Ok tt
+nothing (byte ∷ rest) = Err BadBody
+
+-- at most eight versions behind their count
+unfoldable pub versions_of : List ℕ → Result (List ℕ) LinkFault
+versions_of [] = Err BadBody
+versions_of (count ∷ rest) =
+    if nat_le count 8 && length rest == 2 * count then Ok (numbers_at count rest) else Err BadBody
+
+-- the message of a kind and a body
+unfoldable pub message_of : MessageKind → List ℕ → Result Message LinkFault
+message_of messages.Offer body = versions_of body >>= λ versions. Ok (Offer versions)
+message_of messages.Choice body = do
+  session ← front w32 body
+  version ← alone w16 session.1
+  Ok (Choice session.0 version)
+message_of messages.NoCommon body = nothing body >>= λ _. Ok NoCommon
+message_of messages.Busy body = nothing body >>= λ _. Ok Busy
+message_of messages.Ready body = do
+  session ← front w32 body
+  generation ← alone w64 session.1
+  Ok (Ready session.0 generation)
+message_of messages.Pong body = alone w32 body >>= λ session. Ok (Pong session)
+message_of messages.Data body = do
+  session ← front w32 body
+  generation ← front w64 session.1
+  Ok (Data session.0 generation.0 generation.1)
+message_of messages.Failed body = alone w32 body >>= λ session. Ok (Failed session)
+
+-- a frame that has no field, where the body is empty
+abbrev pub bare : Frame → List ℕ → Result Frame LinkFault
+bare frame body = nothing body >>= λ _. Ok frame
+
+-- the frame of a kind and a body
+unfoldable pub frame_of : Kind → List ℕ → Result Frame LinkFault
+frame_of kinds.Take body = alone w64 body >>= λ generation. Ok (Take generation)
+frame_of kinds.Ask body = Ok (Ask body)
+frame_of kinds.Empty body = bare Empty body
+frame_of kinds.Post body = front w64 body >>= λ generation. Ok (Post generation.0 generation.1)
+frame_of kinds.Posted body = bare Posted body
+frame_of kinds.Ended body = bare Ended body
+frame_of kinds.Stale body = alone w64 body >>= λ now. Ok (Stale now)
+frame_of kinds.NotAsked body = bare NotAsked body
+frame_of kinds.Claim body = alone w64 body >>= λ generation. Ok (Claim generation)
+frame_of kinds.Claimed body = alone w64 body >>= λ generation. Ok (Claimed generation)
+frame_of kinds.Unanswered body = alone w64 body >>= λ asks. Ok (Unanswered asks)
+frame_of kinds.LastGeneration body = bare LastGeneration body
+frame_of kinds.Mount body = bare Mount body
+frame_of kinds.Mounted body = alone w64 body >>= λ generation. Ok (Mounted generation)
+frame_of kinds.Seated body = bare Seated body
+frame_of kinds.Attach body = alone w64 body >>= λ daemon. Ok (Attach (record { 0 = daemon }))
+frame_of kinds.Attached body = alone w64 body >>= λ daemon. Ok (Attached (record { 0 = daemon }))
+frame_of (kinds.Takeover kind) body = message_of kind body >>= λ message. Ok (Takeover message)
+
+-- ---- the front of a stream
+
+-- a stream begins with this frame, and has this rest behind it; or with a faulty one; or holds no whole frame yet
+pub data Said : Type 0 where
+  First : (frame : Frame) (rest : List ℕ) → Said
+  Faulty : (fault : LinkFault) → Said
+  NotYet : Said
+
+-- how long the first body is, as the first four bytes say
+abbrev pub body_len : List ℕ → ℕ
+body_len bytes = number_at w32 (take 4 bytes)
+
+-- the first body, and what follows it
+abbrev pub body_in : List ℕ → List ℕ
+body_in bytes = take (body_len bytes) (drop 5 bytes)
+
+abbrev pub behind : List ℕ → List ℕ
+behind bytes = drop (5 + body_len bytes) bytes
+
+-- a frame with a rest, or its fault
+abbrev pub said_frame : Result Frame LinkFault → List ℕ → Said
+said_frame (Ok frame) rest = First frame rest
+said_frame (Err fault) rest = Faulty fault
+
+-- what the bytes of a kind say, once the number of the kind is there
+abbrev pub said_by : Option Kind → List ℕ → Said
+said_by None bytes = Faulty BadKind
+said_by (Some kind) bytes =
+    if nat_lt (length bytes) (5 + body_len bytes) then NotYet
+    else said_frame (frame_of kind (body_in bytes)) (behind bytes)
+
+-- what a stream of bytes says
+unfoldable pub said : List ℕ → Said
+said bytes =
+    if nat_lt (length bytes) 4 then NotYet
+    else if nat_lt longest_body (body_len bytes) then Faulty TooLong
+    else if nat_lt (length bytes) 5 then NotYet
+    else said_by (kind_with (slice_index bytes 4)) bytes

@@ -1,0 +1,14 @@
+//! The frames that daemons and the broker send each other.
+#![tactic(auto)]
+
+mod body;
+mod bytes;
+mod fault;
+mod field;
+mod frame;
+mod kind;
+mod writer;
+
+pub use bytes::FuseBytes;
+pub use fault::LinkFault;
+pub use frame::Frame;

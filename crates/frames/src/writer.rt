@@ -1,0 +1,214 @@
+//! Frames as bytes.
+ghost use Rattle.std.specs.Prelude.{◌≡◌, ◌≤◌, length, IfOk, IfErr, Some};
+ghost use Rattle.std.specs.List.{All, flat_map};
+ghost use Rattle.frames.specs.FrameText.{Fits, FitsMessage, FitsVersion, body_of, framed, frame_text, kind_of, message_body, message_kind, version_text};
+ghost use Rattle.frames.specs.Writing.{HasRoom, IsNotWritten, Puts};
+
+use crate::field::{put_byte, put_slice, put_u16, put_u32, put_u64};
+use crate::kind::{Kind, MessageKind};
+use crate::{Frame, LinkFault};
+use std::alloc::Global;
+use takeover_core::Message;
+
+/// How many bytes a body may have. It is this project's own limit.
+const LONGEST_BODY: usize = 65_536;
+
+/// How many bytes stand before a body.
+const BEFORE_BODY: usize = 5;
+
+/// Returns what kind of message it is.
+fn message_kind(message: &Message) -> MessageKind
+    ensures kind { result ≡ message_kind message.now }
+{
+    match message {
+        Message::Offer(_) => MessageKind::Offer,
+        Message::Choice { .. } => MessageKind::Choice,
+        Message::NoCommon => MessageKind::NoCommon,
+        Message::Busy => MessageKind::Busy,
+        Message::Ready { .. } => MessageKind::Ready,
+        Message::Pong { .. } => MessageKind::Pong,
+        Message::Data { .. } => MessageKind::Data,
+        Message::Failed { .. } => MessageKind::Failed,
+    }
+}
+
+/// Returns what kind of frame it is.
+fn kind_of(frame: &Frame) -> Kind
+    ensures kind { result ≡ kind_of frame.now }
+{
+    match frame {
+        Frame::Take { .. } => Kind::Take,
+        Frame::Ask(_) => Kind::Ask,
+        Frame::Empty => Kind::Empty,
+        Frame::Post { .. } => Kind::Post,
+        Frame::Posted => Kind::Posted,
+        Frame::Ended => Kind::Ended,
+        Frame::Stale { .. } => Kind::Stale,
+        Frame::NotAsked => Kind::NotAsked,
+        Frame::Claim { .. } => Kind::Claim,
+        Frame::Claimed { .. } => Kind::Claimed,
+        Frame::Unanswered { .. } => Kind::Unanswered,
+        Frame::LastGeneration => Kind::LastGeneration,
+        Frame::Mount => Kind::Mount,
+        Frame::Mounted { .. } => Kind::Mounted,
+        Frame::Seated => Kind::Seated,
+        Frame::Attach(_) => Kind::Attach,
+        Frame::Attached(_) => Kind::Attached,
+        Frame::Takeover(message) => Kind::Takeover(message_kind(message)),
+    }
+}
+
+/// Returns how long the body of a message is.
+#[tactic(auto, using(crate::proofs::Written::lengths))]
+fn message_len(message: &Message) -> usize
+    ensures len { result ≡ length (message_body message.now) }
+{
+    match message {
+        Message::Offer(versions) => 1 + 2 * versions.as_slice().len(),
+        Message::Choice { .. } => 4 + 2,
+        Message::NoCommon | Message::Busy => 0,
+        Message::Ready { .. } => 4 + 8,
+        Message::Pong { .. } | Message::Failed { .. } => 4,
+        Message::Data { bytes, .. } => 4 + 8 + bytes.as_slice().len(),
+    }
+}
+
+/// Returns how long the body of a frame is.
+#[tactic(auto, using(crate::proofs::Written::lengths))]
+fn body_len(frame: &Frame) -> usize
+    ensures len { result ≡ length (body_of frame.now) }
+{
+    match frame {
+        Frame::Ask(request) => request.as_slice().len(),
+        Frame::Post { reply, .. } => 8 + reply.as_slice().len(),
+        Frame::Empty
+        | Frame::Posted
+        | Frame::Ended
+        | Frame::NotAsked
+        | Frame::LastGeneration
+        | Frame::Mount
+        | Frame::Seated => 0,
+        Frame::Take { .. }
+        | Frame::Stale { .. }
+        | Frame::Claim { .. }
+        | Frame::Claimed { .. }
+        | Frame::Unanswered { .. }
+        | Frame::Mounted { .. }
+        | Frame::Attach(_)
+        | Frame::Attached(_) => 8,
+        Frame::Takeover(message) => message_len(message),
+    }
+}
+
+/// Puts versions, in their order.
+#[tactic(auto, using(crate::proofs::Written::fields_written))]
+fn put_each(out: &mut Vec<u8>, versions: &[u16])
+    requires room { HasRoom out.old (length (flat_map version_text versions.now)) }
+    ensures text { Puts out.old out.new (flat_map version_text versions.now) }
+    ensures fits { All FitsVersion versions.now }
+{
+    for version in versions {
+        put_u16(out, *version);
+    }
+}
+
+/// Puts the fields of a message.
+#[tactic(auto, using(crate::proofs::Written::written))]
+fn put_message(out: &mut Vec<u8>, message: &Message)
+    requires room { HasRoom out.old (length (message_body message.now)) }
+    ensures text { Puts out.old out.new (message_body message.now) }
+    ensures fits { FitsMessage message.now }
+{
+    match message {
+        Message::Offer(versions) => {
+            let versions = versions.as_slice();
+            put_byte(out, versions.len() as u8);
+            put_each(out, versions);
+        }
+        Message::Choice { session, version } => {
+            put_u32(out, *session);
+            put_u16(out, *version);
+        }
+        Message::NoCommon | Message::Busy => {}
+        Message::Ready {
+            session,
+            generation,
+        } => {
+            put_u32(out, *session);
+            put_u64(out, *generation);
+        }
+        Message::Pong { session } | Message::Failed { session } => put_u32(out, *session),
+        Message::Data {
+            session,
+            generation,
+            bytes,
+        } => {
+            put_u32(out, *session);
+            put_u64(out, *generation);
+            put_slice(out, bytes.as_slice());
+        }
+    }
+}
+
+/// Puts the fields of a frame.
+#[tactic(auto, using(crate::proofs::Written::written))]
+fn put_body(out: &mut Vec<u8>, frame: &Frame)
+    requires room { HasRoom out.old (length (body_of frame.now)) }
+    ensures text { Puts out.old out.new (body_of frame.now) }
+    ensures fits { Fits frame.now }
+{
+    match frame {
+        Frame::Take { generation }
+        | Frame::Claim { generation }
+        | Frame::Claimed { generation }
+        | Frame::Mounted { generation } => put_u64(out, *generation),
+        Frame::Ask(request) => put_slice(out, request.as_slice()),
+        Frame::Post { generation, reply } => {
+            put_u64(out, *generation);
+            put_slice(out, reply.as_slice());
+        }
+        Frame::Stale { now } => put_u64(out, *now),
+        Frame::Unanswered { asks } => put_u64(out, *asks),
+        Frame::Attach(daemon) | Frame::Attached(daemon) => put_u64(out, daemon.0),
+        Frame::Takeover(message) => put_message(out, message),
+        Frame::Empty
+        | Frame::Posted
+        | Frame::Ended
+        | Frame::NotAsked
+        | Frame::LastGeneration
+        | Frame::Mount
+        | Frame::Seated => {}
+    }
+}
+
+/// Puts the whole text.
+#[tactic(auto, using(crate::proofs::Written::written))]
+fn put_frame(out: &mut Vec<u8>, len: u32, frame: &Frame)
+    requires len { len ≡ length (body_of frame.now) }
+    requires room { HasRoom out.old (length (framed (kind_of frame.now) (body_of frame.now))) }
+    ensures text { Puts out.old out.new (framed (kind_of frame.now) (body_of frame.now)) }
+    ensures fits { Fits frame.now }
+{
+    put_u32(out, len);
+    put_byte(out, kind_of(frame).number());
+    put_body(out, frame);
+}
+
+impl Frame {
+    /// Writes the text of the frame. It is all the memory that the call takes, at once.
+    #[tactic(auto, using(crate::proofs::Written::lengths))]
+    pub fn write(&self, alloc: Global) -> Result<Vec<u8>, LinkFault>
+        ensures text { IfOk result (λ bytes. frame_text self.now ≡ Some bytes.items) }
+        ensures refused { IfErr result (IsNotWritten self.now) }
+    {
+        let len = body_len(self);
+        if len > LONGEST_BODY {
+            return Err(LinkFault::TooLong);
+        }
+        let Ok(mut out) = Vec::with_capacity(alloc, BEFORE_BODY + len) else {
+            return Err(LinkFault::NoMemory);
+        };
+        put_frame(&mut out, len as u32, self);
+        Ok(out)
+    }
+}
