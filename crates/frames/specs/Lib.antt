@@ -2,4 +2,5 @@ pub mod Field
 pub mod FrameText
 pub mod Kind
 pub mod Reading
+pub mod Stream
 pub mod Writing

@@ -1,5 +1,5 @@
 -- Which frame a body is, and what the front of a stream of bytes is. (This project's own.)
-use Rattle.std.specs.Prelude.{◌≡◌, IsOkAnd, ℕ, ◌+◌, ◌*◌, ◌==◌, nat_lt, nat_le, ◌&&◌, List, [], ◌∷◌, length, take, drop, slice_index, Option, Some, None, Result, Ok, Err, if◌then◌else◌}
+use Rattle.std.specs.Prelude.{◌≡◌, ◌≤◌, ◌<◌, IsOkAnd, ℕ, ◌+◌, ◌*◌, ◌==◌, nat_lt, nat_le, ◌&&◌, List, [], ◌∷◌, length, take, drop, slice_index, Option, Some, None, Result, Ok, Err, if◌then◌else◌}
 use Rattle.std.specs.Int.{Width, w16, w32, w64, byte_len}
 use Rattle.takeover_core.specs.declared.message.Message.{Message}
 use Rattle.takeover_core.specs.declared.message.Message.TheVariants.{Offer, Choice, NoCommon, Busy, Ready, Pong, Data, Failed}
@@ -157,3 +157,39 @@ said bytes =
     else if nat_lt longest_body (body_len bytes) then Faulty TooLong
     else if nat_lt (length bytes) 5 then NotYet
     else said_by (kind_with (slice_index bytes 4)) bytes
+
+-- a frame that stands at the front: its kind, and how many bytes its body has
+abbrev pub IsFound : List ℕ → Kind × ℕ → Type 0
+IsFound bytes found =
+    (5 + found.1 ≤ length bytes)
+    × (said bytes ≡ said_frame (frame_of found.0 (take found.1 (drop 5 bytes))) (drop (5 + found.1) bytes))
+
+-- a fault that bytes can have
+abbrev pub IsFaulty : List ℕ → LinkFault → Type 0
+IsFaulty bytes NoMemory = ⊥
+IsFaulty bytes fault = said bytes ≡ Faulty fault
+
+-- what a look at the front finds
+abbrev pub Finds : List ℕ → Result (Option (Kind × ℕ)) LinkFault → Type 0
+Finds bytes (Ok None) = said bytes ≡ NotYet
+Finds bytes (Ok (Some found)) = IsFound bytes found
+Finds bytes (Err fault) = IsFaulty bytes fault
+
+-- the bytes say a frame that takes memory
+abbrev pub SaysCopied : Said → Type 0
+SaysCopied (First frame rest) = HasBytes frame
+SaysCopied what = ⊥
+
+-- what is read at the front: a frame, and how many bytes it takes up; or none yet; or a fault
+abbrev pub Reads : List ℕ → Result (Option (Frame × ℕ)) LinkFault → Type 0
+Reads bytes (Ok None) = said bytes ≡ NotYet
+Reads bytes (Ok (Some first)) = (first.1 ≤ length bytes) × (said bytes ≡ First first.0 (drop first.1 bytes))
+Reads bytes (Err NoMemory) = SaysCopied (said bytes)
+Reads bytes (Err fault) = said bytes ≡ Faulty fault
+
+-- how long the whole frame at the front is; or none yet; or a fault
+abbrev pub Measures : List ℕ → Result (Option ℕ) LinkFault → Type 0
+Measures bytes (Ok None) = said bytes ≡ NotYet
+Measures bytes (Ok (Some used)) =
+    (0 < used) × (used ≤ length bytes) × (frame : Frame) × (said bytes ≡ First frame (drop used bytes))
+Measures bytes (Err fault) = IsFaulty bytes fault

@@ -6,9 +6,12 @@ mod bytes;
 mod fault;
 mod field;
 mod frame;
+mod front;
 mod kind;
+mod reader;
 mod writer;
 
 pub use bytes::FuseBytes;
 pub use fault::LinkFault;
 pub use frame::Frame;
+pub use reader::FrameReader;

@@ -1,0 +1,46 @@
+-- A stream of bytes that comes in pieces, as its reader sees it. (This project's own.)
+use Rattle.std.specs.Prelude.{◌≡◌, ◌≢◌, ℕ, List, [], Option, Some, None, Result, Ok, Err}
+use Rattle.frames.specs.declared.fault.LinkFault.{LinkFault}
+use Rattle.frames.specs.declared.fault.LinkFault.TheVariants.{Torn, NoMemory}
+use Rattle.frames.specs.declared.frame.Frame.{Frame}
+use Rattle.frames.specs.Reading.{Said, First, Faulty, NotYet, SaysCopied, said}
+
+-- a reader: the bytes that it was fed and has not read, and the fault that stands
+pub record ReaderState : Type 0 where
+  pub unread : List ℕ
+  pub fault : Option LinkFault
+
+-- with a fault that stands
+abbrev pub faulted : ReaderState → LinkFault → ReaderState
+faulted reader fault = record { unread = reader.unread; fault = Some fault }
+
+-- what comes of a look for a frame while no fault stands: the first frame is taken off; or there is none yet; or its
+-- fault stands from now on. Out of memory comes in place of a frame that takes some, and changes nothing
+abbrev pub Takes : ReaderState → Result (Option Frame) LinkFault → ReaderState → Type 0
+Takes old (Ok (Some frame)) new = (said old.unread ≡ First frame new.unread) × (new.fault ≡ None)
+Takes old (Ok None) new = (said old.unread ≡ NotYet) × (new ≡ old)
+Takes old (Err NoMemory) new = SaysCopied (said old.unread) × (new ≡ old)
+Takes old (Err fault) new = (said old.unread ≡ Faulty fault) × (new ≡ faulted old fault)
+
+-- what comes of it with this fault standing, if any: a fault that stands is answered again
+abbrev pub TakesBeside : Option LinkFault → ReaderState → Result (Option Frame) LinkFault → ReaderState → Type 0
+TakesBeside None old result new = Takes old result new
+TakesBeside (Some fault) old result new = (result ≡ Err fault) × (new ≡ old)
+
+-- how a stream ends that has no byte more: well where it is whole frames; else torn, or at a faulty frame
+pub data Ends : List ℕ → Option LinkFault → Type 0 where
+  Whole : Ends [] None
+  Cut : {bytes : List ℕ} → bytes ≢ [] → said bytes ≡ NotYet → Ends bytes (Some Torn)
+  Bad : {bytes : List ℕ} {fault : LinkFault} → said bytes ≡ Faulty fault → Ends bytes (Some fault)
+  Behind : {bytes rest : List ℕ} {frame : Frame} {end : Option LinkFault} →
+      said bytes ≡ First frame rest → Ends rest end → Ends bytes end
+
+-- the fault that a call gave, if any
+abbrev pub fault_of : Result (Unit {0}) LinkFault → Option LinkFault
+fault_of (Ok done) = None
+fault_of (Err fault) = Some fault
+
+-- what comes of the end with this fault standing, if any
+abbrev pub Finishes : Option LinkFault → List ℕ → Result (Unit {0}) LinkFault → Type 0
+Finishes None bytes result = Ends bytes (fault_of result)
+Finishes (Some fault) bytes result = result ≡ Err fault

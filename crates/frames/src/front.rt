@@ -1,0 +1,156 @@
+//! The frame at the front of a stream.
+ghost use Rattle.std.specs.Prelude.{◌≡◌, ◌≤◌, drop, is_ok, length, Err, IsFalse};
+ghost use Rattle.frames.specs.declared.fault.LinkFault.TheVariants.{BadBody};
+ghost use Rattle.frames.specs.Reading.{Finds, Measures, Reads, frame_of, message_of};
+ghost use Rattle.frames.specs.Stream.{Ends, fault_of};
+
+use crate::body::read_frame;
+use crate::field::u32_of;
+use crate::kind::{Kind, MessageKind};
+use crate::{Frame, LinkFault};
+use std::alloc::Global;
+use takeover_core::Versions;
+
+/// How many bytes a body may have. It is this project's own limit.
+pub(crate) const LONGEST_BODY: usize = 65_536;
+
+/// How many bytes tell the length of a body.
+const LENGTH: usize = 4;
+
+/// How many bytes stand before a body.
+pub(crate) const BEFORE_BODY: usize = 5;
+
+/// Finds the frame at the front: its kind, and how many bytes its body has.
+#[tactic(auto, unfolding(crate::specs::Reading::said))]
+fn find(bytes: &[u8]) -> Result<Option<(Kind, usize)>, LinkFault>
+    ensures found { Finds bytes.now result }
+{
+    if bytes.len() < LENGTH {
+        return Ok(None);
+    }
+    let (field, _) = bytes.split_at(LENGTH);
+    let len = u32_of(field) as usize;
+    if len > LONGEST_BODY {
+        return Err(LinkFault::TooLong);
+    }
+    if bytes.len() < BEFORE_BODY {
+        return Ok(None);
+    }
+    let Some(kind) = Kind::with(bytes[LENGTH]) else {
+        return Err(LinkFault::BadKind);
+    };
+    if bytes.len() < BEFORE_BODY + len {
+        return Ok(None);
+    }
+    Ok(Some((kind, len)))
+}
+
+/// Reads the frame at the front, and how many bytes it takes up.
+pub(crate) fn read_first(alloc: Global, bytes: &[u8]) -> Result<Option<(Frame, usize)>, LinkFault>
+    ensures read { Reads bytes.now result }
+{
+    match find(bytes) {
+        Ok(None) => Ok(None),
+        Ok(Some((kind, len))) => {
+            let used = BEFORE_BODY + len;
+            match read_frame(alloc, kind, &bytes[BEFORE_BODY..used]) {
+                Ok(frame) => Ok(Some((frame, used))),
+                Err(fault) => Err(fault),
+            }
+        }
+        Err(fault) => Err(fault),
+    }
+}
+
+/// Returns whether a body is a message's of this kind.
+#[tactic(auto, unfolding(crate::specs::Reading::message_of, crate::specs::Reading::versions_of, crate::specs::Reading::alone, crate::specs::Reading::front, crate::specs::Reading::nothing))]
+fn is_message(kind: MessageKind, body: &[u8]) -> bool
+    ensures whole { result ≡ is_ok (message_of kind body.now) }
+    ensures bad { IsFalse result → message_of kind body.now ≡ Err BadBody }
+{
+    match kind {
+        MessageKind::Offer => match body {
+            [] => false,
+            [count, rest @ ..] => {
+                let count = *count as usize;
+                count <= Versions::MAX_LEN && rest.len() == 2 * count
+            }
+        },
+        MessageKind::Choice => body.len() == 4 + 2,
+        MessageKind::NoCommon | MessageKind::Busy => body.is_empty(),
+        MessageKind::Ready => body.len() == 4 + 8,
+        MessageKind::Pong | MessageKind::Failed => body.len() == 4,
+        MessageKind::Data => body.len() >= 4 + 8,
+    }
+}
+
+/// Returns whether a body is a frame's of this kind.
+#[tactic(auto, unfolding(crate::specs::Reading::frame_of, crate::specs::Reading::alone, crate::specs::Reading::front, crate::specs::Reading::nothing))]
+fn is_body(kind: Kind, body: &[u8]) -> bool
+    ensures whole { result ≡ is_ok (frame_of kind body.now) }
+    ensures bad { IsFalse result → frame_of kind body.now ≡ Err BadBody }
+{
+    match kind {
+        Kind::Ask => true,
+        Kind::Post => body.len() >= 8,
+        Kind::Empty
+        | Kind::Posted
+        | Kind::Ended
+        | Kind::NotAsked
+        | Kind::LastGeneration
+        | Kind::Mount
+        | Kind::Seated => body.is_empty(),
+        Kind::Take
+        | Kind::Stale
+        | Kind::Claim
+        | Kind::Claimed
+        | Kind::Unanswered
+        | Kind::Mounted
+        | Kind::Attach
+        | Kind::Attached => body.len() == 8,
+        Kind::Takeover(kind) => is_message(kind, body),
+    }
+}
+
+/// Returns how long the whole frame at the front is.
+fn first_len(bytes: &[u8]) -> Result<Option<usize>, LinkFault>
+    ensures len { Measures bytes.now result }
+{
+    match find(bytes) {
+        Ok(None) => Ok(None),
+        Ok(Some((kind, len))) => {
+            let used = BEFORE_BODY + len;
+            if !is_body(kind, &bytes[BEFORE_BODY..used]) {
+                return Err(LinkFault::BadBody);
+            }
+            Ok(Some(used))
+        }
+        Err(fault) => Err(fault),
+    }
+}
+
+/// Returns how long the whole frame is that begins at a place.
+fn len_at(bytes: &[u8], at: usize) -> Result<Option<usize>, LinkFault>
+    requires within { at ≤ length bytes.now }
+    ensures len { Measures (drop at bytes.now) result }
+{
+    let (_, rest) = bytes.split_at(at);
+    first_len(rest)
+}
+
+/// Returns whether a stream may end behind these bytes, of which those before a place were read.
+#[tactic(auto, using(crate::proofs::Ending::passed, crate::proofs::Ending::torn, crate::proofs::Ending::faulty, crate::proofs::Ending::whole))]
+pub(crate) fn end_of(bytes: &[u8], read: usize) -> Result<(), LinkFault>
+    requires within { read ≤ length bytes.now }
+    ensures ends { Ends (drop read bytes.now) (fault_of result) }
+{
+    let mut at = read;
+    while at < bytes.len() {
+        match len_at(bytes, at) {
+            Ok(Some(used)) => at += used,
+            Ok(None) => return Err(LinkFault::Torn),
+            Err(fault) => return Err(fault),
+        }
+    }
+    Ok(())
+}

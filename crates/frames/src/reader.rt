@@ -1,0 +1,110 @@
+//! A stream of frames that comes in pieces.
+ghost use Rattle.std.specs.Prelude.{◌≡◌, ◌++◌, [], None, IfErr, OnOk, OnErr, unwrap_or};
+ghost use Rattle.frames.specs.declared.fault.LinkFault.TheVariants.{NoMemory};
+ghost use Rattle.frames.specs.Stream.{Finishes, TakesBeside};
+
+use crate::front::{end_of, read_first};
+use crate::{Frame, LinkFault};
+use std::alloc::Global;
+use std::marker::Model;
+
+/// The bytes of a stream that were fed and not read yet, and the fault that was met, if any. Contracts see it as a
+/// `ReaderState`.
+#[derive(Drop)]
+pub struct FrameReader {
+    alloc: Global,
+    bytes: Vec<u8>,
+    read: usize,
+    fault: Option<LinkFault>,
+}
+
+impl Model for FrameReader {
+    ghost use Rattle.std.specs.Prelude.{◌≤◌, drop, vec_len};
+    ghost use Rattle.frames.specs.Stream.{ReaderState};
+
+    ghost Value = { ReaderState };
+
+    ghost view = { λ reader. record {
+      unread = drop reader.read reader.bytes.items;
+      fault = reader.fault;
+    } };
+
+    ghost invariant = { λ reader. reader.read ≤ vec_len reader.bytes };
+}
+
+impl FrameReader {
+    /// Returns a reader that was fed nothing. It takes no memory.
+    pub fn new(alloc: Global) -> FrameReader
+        ensures unread { result.unread ≡ [] }
+        ensures fault { result.fault ≡ None }
+    {
+        FrameReader {
+            alloc,
+            bytes: Vec::new(alloc),
+            read: 0,
+            fault: None,
+        }
+    }
+
+    /// Drops the bytes that were read, once they are as many as the others: then each byte is moved once at most for
+    /// each byte that was read.
+    fn drop_read(&mut self)
+        ensures same { self.new ≡ self.old }
+    {
+        if self.read < self.bytes.len() - self.read {
+            return;
+        }
+        let read = self.read;
+        self.read = 0;
+        drop(self.bytes.drain(..read));
+    }
+
+    /// Appends a piece of the stream.
+    pub fn feed(&mut self, piece: &[u8]) -> Result<(), LinkFault>
+        ensures fed { OnOk result (self.new.unread ≡ self.old.unread ++ piece.now) }
+        ensures sound { OnOk result (self.old.fault ≡ None) }
+        ensures refused { IfErr result (λ fault. fault ≡ unwrap_or self.old.fault NoMemory) }
+        ensures unchanged { OnErr result (self.new.unread ≡ self.old.unread) }
+        ensures stands { self.new.fault ≡ self.old.fault }
+    {
+        if let Some(fault) = self.fault {
+            return Err(fault);
+        }
+        self.drop_read();
+        match self.bytes.extend_from_slice(piece) {
+            Ok(()) => Ok(()),
+            Err(_refused) => Err(LinkFault::NoMemory),
+        }
+    }
+
+    /// Takes the first frame off the unread bytes, if it is whole.
+    pub fn next(&mut self) -> Result<Option<Frame>, LinkFault>
+        ensures takes { TakesBeside self.old.fault self.old result self.new }
+    {
+        if let Some(fault) = self.fault {
+            return Err(fault);
+        }
+        match read_first(self.alloc, &self.bytes[self.read..]) {
+            Ok(Some((frame, used))) => {
+                self.read += used;
+                Ok(Some(frame))
+            }
+            Ok(None) => Ok(None),
+            Err(LinkFault::NoMemory) => Err(LinkFault::NoMemory),
+            Err(fault) => {
+                self.fault = Some(fault);
+                Err(fault)
+            }
+        }
+    }
+
+    /// Returns whether the stream may end here: it reads what was fed and not read to its end, and keeps no frame.
+    pub fn finish(self) -> Result<(), LinkFault>
+        ensures ends { Finishes self.fault self.unread result }
+    {
+        if let Some(fault) = self.fault {
+            return Err(fault);
+        }
+        end_of(self.bytes.as_slice(), self.read)
+    }
+}
