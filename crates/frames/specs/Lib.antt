@@ -1,6 +1,7 @@
 pub mod Field
 pub mod FrameText
 pub mod Kind
+pub mod Laws
 pub mod Reading
 pub mod Stream
 pub mod Writing

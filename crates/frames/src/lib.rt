@@ -8,6 +8,7 @@ mod field;
 mod frame;
 mod front;
 mod kind;
+pub mod laws;
 mod reader;
 mod writer;
 

@@ -1,20 +1,16 @@
 //! Frames as bytes.
-ghost use Rattle.std.specs.Prelude.{◌≡◌, ◌≤◌, length, IfOk, IfErr, Some};
+ghost use Rattle.std.specs.Prelude.{◌≡◌, ◌++◌, ◌≤◌, ℕ, List, length, IfOk, IfErr, Some};
 ghost use Rattle.std.specs.List.{All, flat_map};
 ghost use Rattle.frames.specs.FrameText.{Fits, FitsMessage, FitsVersion, body_of, framed, frame_text, kind_of, message_body, message_kind, version_text};
+ghost use Rattle.frames.specs.Reading.{First, said};
 ghost use Rattle.frames.specs.Writing.{HasRoom, IsNotWritten, Puts};
 
 use crate::field::{put_byte, put_slice, put_u16, put_u32, put_u64};
+use crate::front::{BEFORE_BODY, LONGEST_BODY};
 use crate::kind::{Kind, MessageKind};
 use crate::{Frame, LinkFault};
 use std::alloc::Global;
 use takeover_core::Message;
-
-/// How many bytes a body may have. It is this project's own limit.
-const LONGEST_BODY: usize = 65_536;
-
-/// How many bytes stand before a body.
-const BEFORE_BODY: usize = 5;
 
 /// Returns what kind of message it is.
 fn message_kind(message: &Message) -> MessageKind
@@ -196,9 +192,10 @@ fn put_frame(out: &mut Vec<u8>, len: u32, frame: &Frame)
 
 impl Frame {
     /// Writes the text of the frame. It is all the memory that the call takes, at once.
-    #[tactic(auto, using(crate::proofs::Written::lengths))]
+    #[tactic(auto, using(crate::proofs::Written::lengths, crate::proofs::StreamLaws::framed_again))]
     pub fn write(&self, alloc: Global) -> Result<Vec<u8>, LinkFault>
         ensures text { IfOk result (λ bytes. frame_text self.now ≡ Some bytes.items) }
+        ensures read_again { IfOk result (λ bytes. (rest : List ℕ) → said (bytes.items ++ rest) ≡ First self.now rest) }
         ensures refused { IfErr result (IsNotWritten self.now) }
     {
         let len = body_len(self);

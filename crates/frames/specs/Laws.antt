@@ -1,0 +1,21 @@
+-- The laws of frames and streams.
+use Rattle.std.specs.Prelude.{◌≡◌, ◌≢◌, List, ℕ, ◌++◌, Some}
+use Rattle.frames.specs.declared.frame.Frame.{Frame}
+use Rattle.frames.specs.FrameText.{Fits, frame_text}
+use Rattle.frames.specs.Reading.{Said, First, NotYet, said}
+
+-- the text of a frame is read as that frame, and what stands behind it is left
+abbrev pub ReadsWhatWasWritten : Type 0
+ReadsWhatWasWritten =
+    (frame : Frame) (text rest : List ℕ) →
+    Fits frame → frame_text frame ≡ Some text → said (text ++ rest) ≡ First frame rest
+
+-- what was said, with more bytes behind it
+abbrev pub grown : Said → List ℕ → Said
+grown (First frame rest) more = First frame (rest ++ more)
+grown what more = what
+
+-- what a stream says stays so, whatever comes behind: so the pieces in which it comes make no difference
+abbrev pub MoreChangesNothing : Type 0
+MoreChangesNothing =
+    (bytes more : List ℕ) → said bytes ≢ NotYet → said (bytes ++ more) ≡ grown (said bytes) more

@@ -1,0 +1,15 @@
+//! What texts and streams promise. Each law is the contract of a function that does nothing, over the definitions that
+//! the contracts of `Frame` and `FrameReader` cite.
+ghost use Rattle.frames.specs.Laws.{MoreChangesNothing, ReadsWhatWasWritten};
+
+/// States that the text of a frame is read as that frame, whatever stands behind it, and that this is left unread.
+pub fn reads_what_was_written()
+    ensures law { ReadsWhatWasWritten }
+{}
+
+/// States that a first frame, or a fault, stays the same whatever bytes follow: so the pieces in which a stream comes
+/// make no difference.
+#[tactic(auto, using(crate::proofs::GrowingLaws::grows))]
+pub fn more_changes_nothing()
+    ensures law { MoreChangesNothing }
+{}
