@@ -1,7 +1,11 @@
 pub mod Ending
+pub mod FaultLaws
 pub mod FieldLaws
+pub mod FoundFields
+pub mod FoundFrames
 pub mod FrameLaws
 pub mod GrowingLaws
+pub mod SaysLaws
 pub mod StreamLaws
 pub mod Versions
 pub mod Written

@@ -1,8 +1,9 @@
 -- The laws of frames and streams.
-use Rattle.std.specs.Prelude.{◌≡◌, ◌≢◌, List, ℕ, ◌++◌, Some}
+use Rattle.std.specs.Prelude.{◌≡◌, ◌≢◌, ◌↔◌, List, ℕ, ◌++◌, Some}
 use Rattle.frames.specs.declared.frame.Frame.{Frame}
 use Rattle.frames.specs.FrameText.{Fits, frame_text}
 use Rattle.frames.specs.Reading.{Said, First, NotYet, said}
+use Rattle.frames.specs.Says.{AreBytes, Says}
 
 -- the text of a frame is read as that frame, and what stands behind it is left
 abbrev pub ReadsWhatWasWritten : Type 0
@@ -19,3 +20,7 @@ grown what more = what
 abbrev pub MoreChangesNothing : Type 0
 MoreChangesNothing =
     (bytes more : List ℕ) → said bytes ≢ NotYet → said (bytes ++ more) ≡ grown (said bytes) more
+
+-- what is read of a stream is what it says by the texts of frames, and it says nothing else
+abbrev pub SaysWhatIsRead : Type 0
+SaysWhatIsRead = (bytes : List ℕ) (what : Said) → AreBytes bytes → (Says bytes what ↔ (said bytes ≡ what))

@@ -3,5 +3,6 @@ pub mod FrameText
 pub mod Kind
 pub mod Laws
 pub mod Reading
+pub mod Says
 pub mod Stream
 pub mod Writing

@@ -1,0 +1,51 @@
+-- What a stream of bytes says, by the texts of frames alone. (This project's own.)
+use Rattle.std.specs.Prelude.{◌≡◌, ◌≢◌, ◌⊎◌, ◌<◌, ◌≤◌, ℕ, ◌+◌, List, ◌++◌, length, slice_index, Some}
+use Rattle.frames.specs.declared.fault.LinkFault.{LinkFault}
+use Rattle.frames.specs.declared.fault.LinkFault.TheVariants.{TooLong, BadKind, BadBody}
+use Rattle.frames.specs.declared.frame.Frame.{Frame}
+use Rattle.frames.specs.declared.kind.Kind.{Kind}
+use Rattle.frames.specs.FrameText.{Fits, body_of, frame_text, kind_of, longest_body}
+use Rattle.frames.specs.Kind.{number_of}
+use Rattle.frames.specs.Reading.{Said, First, Faulty, NotYet, body_in, body_len}
+
+-- each number is a byte
+abbrev pub AreBytes : List ℕ → Type 0
+AreBytes bytes = (i : ℕ) → slice_index bytes i < 256
+
+-- the text of a frame stands in front of a rest
+pub record IsFirst (bytes : List ℕ) (frame : Frame) (rest : List ℕ) : Type 0 where
+  pub text : List ℕ
+  pub is_text : frame_text frame ≡ Some text
+  pub in_front : bytes ≡ text ++ rest
+  pub fits : Fits frame
+
+-- the length of a body is whole, and not too long
+pub record HasLength (bytes : List ℕ) : Type 0 where
+  pub whole : 4 ≤ length bytes
+  pub few : body_len bytes ≤ longest_body
+
+-- and behind it stands the number of a kind
+pub record HasKind (bytes : List ℕ) (kind : Kind) : Type 0 where
+  pub len : HasLength bytes
+  pub whole : 5 ≤ length bytes
+  pub number : slice_index bytes 4 ≡ number_of kind
+
+-- the bytes of no frame of this kind
+abbrev pub IsNoBody : Kind → List ℕ → Type 0
+IsNoBody kind body = (frame : Frame) → Fits frame → kind_of frame ≡ kind → body_of frame ≢ body
+
+-- a frame, where its text stands in front; TooLong, where the length is whole and too long; BadKind, where a length is
+-- followed by the number of no kind; BadBody, where the body is whole and no frame's; and nothing, where the length is
+-- not whole, or is followed by nothing, or the body is not whole
+abbrev pub Says : List ℕ → Said → Type 0
+Says bytes (First frame rest) = IsFirst bytes frame rest
+Says bytes (Faulty TooLong) = (4 ≤ length bytes) × (longest_body < body_len bytes)
+Says bytes (Faulty BadKind) =
+    HasLength bytes × (5 ≤ length bytes) × ((kind : Kind) → slice_index bytes 4 ≢ number_of kind)
+Says bytes (Faulty BadBody) =
+    (kind : Kind) × HasKind bytes kind × (5 + body_len bytes ≤ length bytes) × IsNoBody kind (body_in bytes)
+Says bytes (Faulty fault) = ⊥
+Says bytes NotYet =
+    (length bytes < 4)
+    ⊎ ((HasLength bytes × (length bytes ≡ 4))
+    ⊎ ((kind : Kind) × HasKind bytes kind × (length bytes < 5 + body_len bytes)))
