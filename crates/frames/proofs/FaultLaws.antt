@@ -1,8 +1,7 @@
 -- A body that is no frame's is at fault by BadBody alone.
-use Rattle.std.proofs.Common.{◌≡◌, ℕ, Bool, true, false, cond, ltb, leb, eqb, List, [], ◌∷◌, length, take, drop, Result, Ok, Err, refl}
+use Rattle.std.proofs.Common.{◌≡◌, ℕ, Bool, true, false, cond, ltb, leb, eqb, List, [], ◌∷◌, length, take, drop, Result, Ok, Err}
 use Rattle.std.specs.Prelude.{◌&&◌, ◌*◌}
 use Rattle.std.specs.Int.{Width, w16, w32, w64, byte_len}
-use Rattle.takeover_core.specs.declared.message.Message.{Message}
 use Rattle.takeover_core.specs.declared.message.Message.TheVariants.{Offer, Choice, NoCommon, Busy, Ready, Pong, Data, Failed}
 use Rattle.frames.specs.declared.fault.LinkFault.{LinkFault}
 use Rattle.frames.specs.declared.fault.LinkFault.TheVariants.{BadBody}

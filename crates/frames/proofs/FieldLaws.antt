@@ -1,16 +1,15 @@
 -- A field that is read is the one that was written.
-use Rattle.std.proofs.Common.{◌≡◌, ℕ, zero, suc, ◌+◌, ◌*◌, ◌^◌, ◌<◌, ◌≤◌, List, [], ◌∷◌, ◌++◌, length, take, drop, get_or, Result, Ok, Err, refl, sym, ap, subst, ◌∙◌, append_assoc, length-append, arith}
-use Rattle.std.proofs.lemmas.Bool.Decides.{nat_tests}
+use Rattle.std.proofs.Common.{◌≡◌, ℕ, suc, ◌*◌, ◌^◌, ◌<◌, ◌≤◌, List, [], ◌∷◌, ◌++◌, length, take, drop, Ok, refl, ap, ◌∙◌, length-append, arith}
 use Rattle.std.proofs.lemmas.Bool.{le-leb, le-ltb, eq-eqb}
-use Rattle.std.proofs.lemmas.List.{take_at, drop_at, append-nil}
+use Rattle.std.proofs.lemmas.List.{take_at, drop_at}
 use Rattle.std.proofs.lemmas.List.Concat.{flat_map-cons}
 use Rattle.std.proofs.lemmas.Nat.{from_be_bytes-to_be_bytes_2, from_be_bytes-to_be_bytes_4, from_be_bytes-to_be_bytes_8}
 use Rattle.std.specs.Int.{Width, w16, w32, w64, byte_len}
 use Rattle.std.specs.List.{All, flat_map}
 use Rattle.frames.specs.Field.{number_text, number_at, numbers_at}
 use Rattle.frames.specs.FrameText.{FitsVersion, version_text}
-use Rattle.frames.specs.Reading.{alone, front, versions_of, nothing}
-use Rattle.frames.proofs.Written.{len_two, len_four, len_eight, len_versions}
+use Rattle.frames.specs.Reading.{alone, front, versions_of}
+use Rattle.frames.proofs.Written.{len_two, len_versions}
 
 -- a width of which each number below a limit is read as it was written
 pub record IsWidth (width : Width) (limit : ℕ) : Type 0 where

@@ -1,5 +1,5 @@
 -- A body that is read is the one that was written.
-use Rattle.std.proofs.Common.{◌≡◌, ℕ, ◌^◌, List, ◌++◌, Result, Ok, Some, refl}
+use Rattle.std.proofs.Common.{◌≡◌, ◌^◌, ◌++◌, Ok, Some, refl}
 use Rattle.std.specs.Int.{w16, w32, w64}
 use Rattle.takeover_core.specs.declared.message.Message.{Message}
 use Rattle.takeover_core.specs.declared.message.Message.TheVariants.{Offer, Choice, NoCommon, Busy, Ready, Pong, Data, Failed}
@@ -12,7 +12,7 @@ use Rattle.frames.specs.declared.kind.MessageKind.TheVariants as messages
 use Rattle.frames.specs.Field.{number_text}
 use Rattle.frames.specs.FrameText.{Fits, FitsMessage, body_of, kind_of, message_body, message_kind}
 use Rattle.frames.specs.Kind.{kind_with, message_kind_with, message_number, number_of}
-use Rattle.frames.specs.Reading.{frame_of, message_of, nothing, versions_of}
+use Rattle.frames.specs.Reading.{frame_of, message_of, nothing}
 use Rattle.frames.proofs.FieldLaws.{two, four, eight, alone_again, front_again, versions_again}
 
 -- each kind has a number of its own

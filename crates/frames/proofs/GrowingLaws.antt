@@ -1,15 +1,15 @@
 -- What a stream says stays so when bytes are added to it.
-use Rattle.std.proofs.Common.{◌≡◌, ◌≢◌, ℕ, Bool, true, false, cond, ltb, List, [], ◌∷◌, ◌++◌, length, take, drop, Option, Some, None, Result, Ok, Err, refl, sym, ap, subst, ◌∙◌, inl, inr, length-append, arith}
+use Rattle.std.proofs.Common.{◌≡◌, ◌≢◌, ℕ, Bool, true, false, cond, ltb, List, [], ◌∷◌, ◌++◌, length, take, drop, Option, Some, None, Result, Ok, Err, refl, sym, ap, ◌∙◌, inl, inr, length-append, arith}
 use Rattle.std.proofs.lemmas.Bool.{cases_lt, le-ltb, lt-ltb}
 use Rattle.std.proofs.lemmas.List.{take-append-le, drop-append-le}
 use Rattle.frames.specs.declared.fault.LinkFault.{LinkFault}
-use Rattle.frames.specs.declared.fault.LinkFault.TheVariants.{TooLong, BadKind}
+use Rattle.frames.specs.declared.fault.LinkFault.TheVariants.{TooLong}
 use Rattle.frames.specs.declared.frame.Frame.{Frame}
 use Rattle.frames.specs.declared.kind.Kind.{Kind}
 use Rattle.frames.specs.FrameText.{longest_body}
 use Rattle.frames.specs.Kind.{kind_with}
 use Rattle.frames.specs.Laws.{grown}
-use Rattle.frames.specs.Reading.{Said, First, Faulty, NotYet, frame_of, said, said_frame}
+use Rattle.frames.specs.Reading.{Said, Faulty, NotYet, frame_of, said, said_frame}
 use Rattle.frames.proofs.StreamLaws.{of_four, said_behind, said_long, is_long}
 
 frame_grows : (read : Result Frame LinkFault) (rest more : List ℕ) → said_frame read (rest ++ more) ≡ grown (said_frame read rest) more

@@ -1,5 +1,5 @@
 -- What a stream says by the texts of frames is what is read of it.
-use Rattle.std.proofs.Common.{◌≡◌, ◌≢◌, ◌⊎◌, ℕ, suc, ◌+◌, ◌-◌, ◌<◌, ◌≤◌, Bool, true, false, cond, ltb, List, [], ◌∷◌, ◌++◌, length, take, drop, get_or, Option, Some, None, Result, Ok, Err, refl, sym, ap, subst, ◌∙◌, inl, inr, append_assoc, length-append, length-take, arith}
+use Rattle.std.proofs.Common.{◌≡◌, ◌≢◌, ℕ, ◌+◌, ◌<◌, ◌≤◌, Bool, false, cond, ltb, List, [], ◌∷◌, ◌++◌, length, take, drop, Option, Some, None, Result, Ok, Err, refl, sym, ap, subst, ◌∙◌, inl, inr, append_assoc, length-take, arith}
 use Rattle.std.specs.Int.{w32}
 use Rattle.std.specs.Prelude.{◌↔◌, slice_index}
 use Rattle.std.proofs.lemmas.Bool.{cases_lt, le-ltb, lt-ltb}
@@ -8,10 +8,10 @@ use Rattle.frames.specs.declared.fault.LinkFault.{LinkFault}
 use Rattle.frames.specs.declared.fault.LinkFault.TheVariants.{TooLong, BadKind, BadBody, Torn, Read, Write, NoMemory}
 use Rattle.frames.specs.declared.frame.Frame.{Frame}
 use Rattle.frames.specs.declared.kind.Kind.{Kind}
-use Rattle.frames.specs.Field.{number_text, number_at}
-use Rattle.frames.specs.FrameText.{Fits, body_of, framed, frame_text, kind_of, longest_body}
+use Rattle.frames.specs.Field.{number_text}
+use Rattle.frames.specs.FrameText.{body_of, framed, kind_of, longest_body}
 use Rattle.frames.specs.Kind.{kind_with, number_of}
-use Rattle.frames.specs.Reading.{Said, First, Faulty, NotYet, behind, body_in, body_len, frame_of, said, said_frame}
+use Rattle.frames.specs.Reading.{Said, First, Faulty, NotYet, behind, body_in, body_len, frame_of, said}
 use Rattle.frames.specs.Says.{AreBytes, HasKind, HasLength, IsFirst, IsNoBody, Says}
 use Rattle.frames.proofs.FaultLaws.{frame_only}
 use Rattle.frames.proofs.FoundFields.{four_back, bytes_before, bytes_behind}
@@ -163,3 +163,7 @@ says_it bytes are =
 
 pub says_what_is_read : (bytes : List ℕ) (what : Said) → AreBytes bytes → (Says bytes what ↔ (said bytes ≡ what))
 says_what_is_read bytes what are = (is_said bytes what are, λ e. subst (Says bytes) e (says_it bytes are))
+
+-- a frame that was read stood in front as its text
+pub first_says : (bytes : List ℕ) (frame : Frame) (rest : List ℕ) → AreBytes bytes → said bytes ≡ First frame rest → IsFirst bytes frame rest
+first_says bytes frame rest are e = subst (Says bytes) e (says_it bytes are)

@@ -1,6 +1,5 @@
 -- What a stream of bytes says, by the texts of frames alone. (This project's own.)
 use Rattle.std.specs.Prelude.{◌≡◌, ◌≢◌, ◌⊎◌, ◌<◌, ◌≤◌, ℕ, ◌+◌, List, ◌++◌, length, slice_index, Some}
-use Rattle.frames.specs.declared.fault.LinkFault.{LinkFault}
 use Rattle.frames.specs.declared.fault.LinkFault.TheVariants.{TooLong, BadKind, BadBody}
 use Rattle.frames.specs.declared.frame.Frame.{Frame}
 use Rattle.frames.specs.declared.kind.Kind.{Kind}

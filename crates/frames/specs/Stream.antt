@@ -1,9 +1,10 @@
 -- A stream of bytes that comes in pieces, as its reader sees it. (This project's own.)
-use Rattle.std.specs.Prelude.{◌≡◌, ◌≢◌, ℕ, List, [], Option, Some, None, Result, Ok, Err}
+use Rattle.std.specs.Prelude.{◌≡◌, ◌≢◌, ℕ, List, [], drop, Option, Some, None, Result, Ok, Err}
 use Rattle.frames.specs.declared.fault.LinkFault.{LinkFault}
 use Rattle.frames.specs.declared.fault.LinkFault.TheVariants.{Torn, NoMemory}
 use Rattle.frames.specs.declared.frame.Frame.{Frame}
-use Rattle.frames.specs.Reading.{Said, First, Faulty, NotYet, SaysCopied, said}
+use Rattle.frames.specs.Says.{IsFirst}
+use Rattle.frames.specs.Reading.{First, Faulty, NotYet, SaysCopied, said}
 
 -- a reader: the bytes that it was fed and has not read, and the fault that stands
 pub record ReaderState : Type 0 where
@@ -26,6 +27,16 @@ Takes old (Err fault) new = (said old.unread ≡ Faulty fault) × (new ≡ fault
 abbrev pub TakesBeside : Option LinkFault → ReaderState → Result (Option Frame) LinkFault → ReaderState → Type 0
 TakesBeside None old result new = Takes old result new
 TakesBeside (Some fault) old result new = (result ≡ Err fault) × (new ≡ old)
+
+-- the text of a frame that was read stands in front
+abbrev pub ReadsText : List ℕ → Result (Option (Frame × ℕ)) LinkFault → Type 0
+ReadsText bytes (Ok (Some first)) = IsFirst bytes first.0 (drop first.1 bytes)
+ReadsText bytes result = Unit {0}
+
+-- the text of a frame that was taken off stood in front
+abbrev pub TakesText : List ℕ → Result (Option Frame) LinkFault → List ℕ → Type 0
+TakesText old (Ok (Some frame)) new = IsFirst old frame new
+TakesText old result new = Unit {0}
 
 -- how a stream ends that has no byte more: well where it is whole frames; else torn, or at a faulty frame
 pub data Ends : List ℕ → Option LinkFault → Type 0 where

@@ -2,7 +2,7 @@
 ghost use Rattle.std.specs.Prelude.{◌≡◌, ◌≤◌, drop, is_ok, length, Err, IsFalse};
 ghost use Rattle.frames.specs.declared.fault.LinkFault.TheVariants.{BadBody};
 ghost use Rattle.frames.specs.Reading.{Finds, Measures, Reads, frame_of, message_of};
-ghost use Rattle.frames.specs.Stream.{Ends, fault_of};
+ghost use Rattle.frames.specs.Stream.{Ends, ReadsText, fault_of};
 
 use crate::body::read_frame;
 use crate::field::u32_of;
@@ -46,8 +46,10 @@ fn find(bytes: &[u8]) -> Result<Option<(Kind, usize)>, LinkFault>
 }
 
 /// Reads the frame at the front, and how many bytes it takes up.
+#[tactic(auto, using(crate::proofs::SaysLaws::first_says))]
 pub(crate) fn read_first(alloc: Global, bytes: &[u8]) -> Result<Option<(Frame, usize)>, LinkFault>
     ensures read { Reads bytes.now result }
+    ensures text { ReadsText bytes.now result }
 {
     match find(bytes) {
         Ok(None) => Ok(None),

@@ -1,7 +1,7 @@
 //! A stream of frames that comes in pieces.
 ghost use Rattle.std.specs.Prelude.{◌≡◌, ◌++◌, [], None, IfErr, OnOk, OnErr, unwrap_or};
 ghost use Rattle.frames.specs.declared.fault.LinkFault.TheVariants.{NoMemory};
-ghost use Rattle.frames.specs.Stream.{Finishes, TakesBeside};
+ghost use Rattle.frames.specs.Stream.{Finishes, TakesBeside, TakesText};
 
 use crate::front::{end_of, read_first};
 use crate::{Frame, LinkFault};
@@ -77,9 +77,10 @@ impl FrameReader {
         }
     }
 
-    /// Takes the first frame off the unread bytes, if it is whole.
+    /// Takes the first frame off the unread bytes, if it is whole. It moves none of those behind it.
     pub fn next(&mut self) -> Result<Option<Frame>, LinkFault>
         ensures takes { TakesBeside self.old.fault self.old result self.new }
+        ensures text { TakesText self.old.unread result self.new.unread }
     {
         if let Some(fault) = self.fault {
             return Err(fault);

@@ -1,4 +1,4 @@
-use Rattle.std.proofs.Common.{◌+◌, arith, ℕ, Ok, Option, Some, drop, subst}
+use Rattle.std.proofs.Common.{arith, ℕ, Ok, Option, Some, drop, subst}
 use Rattle.std.proofs.lemmas.List.{length-drop}
 use Rattle.frames.specs.Reading.{Measures}
 use Rattle.frames.proofs.Ending.{passed, whole}
