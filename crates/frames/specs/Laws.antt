@@ -1,9 +1,11 @@
 -- The laws of frames and streams.
-use Rattle.std.specs.Prelude.{◌≡◌, ◌≢◌, ◌↔◌, List, ℕ, ◌++◌, Some}
+use Rattle.std.specs.Prelude.{◌≡◌, ◌≢◌, ◌↔◌, List, ℕ, ◌++◌, Option, Some}
+use Rattle.frames.specs.declared.fault.LinkFault.{LinkFault}
 use Rattle.frames.specs.declared.frame.Frame.{Frame}
 use Rattle.frames.specs.FrameText.{Fits, frame_text}
 use Rattle.frames.specs.Reading.{Said, First, NotYet, said}
 use Rattle.frames.specs.Says.{AreBytes, Says}
+use Rattle.frames.specs.Stream.{Ends}
 
 -- the text of a frame is read as that frame, and what stands behind it is left
 abbrev pub ReadsWhatWasWritten : Type 0
@@ -24,3 +26,7 @@ MoreChangesNothing =
 -- what is read of a stream is what it says by the texts of frames, and it says nothing else
 abbrev pub SaysWhatIsRead : Type 0
 SaysWhatIsRead = (bytes : List ℕ) (what : Said) → AreBytes bytes → (Says bytes what ↔ (said bytes ≡ what))
+
+-- a stream ends in one way
+abbrev pub EndsOneWay : Type 0
+EndsOneWay = (bytes : List ℕ) (end other : Option LinkFault) → Ends bytes end → Ends bytes other → end ≡ other

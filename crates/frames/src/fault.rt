@@ -1,6 +1,4 @@
 //! What can go wrong on a link.
-use eden_base::NoMemory;
-use std::alloc::{AllocError, AllocFailed};
 use thiserror::Error;
 
 /// Why a link does not go on.

@@ -1,6 +1,6 @@
 //! What texts and streams promise. Each law is the contract of a function that does nothing, over the definitions that
 //! the contracts of `Frame` and `FrameReader` cite.
-ghost use Rattle.frames.specs.Laws.{MoreChangesNothing, ReadsWhatWasWritten, SaysWhatIsRead};
+ghost use Rattle.frames.specs.Laws.{EndsOneWay, MoreChangesNothing, ReadsWhatWasWritten, SaysWhatIsRead};
 
 /// States that the text of a frame is read as that frame, whatever stands behind it, and that this is left unread.
 pub fn reads_what_was_written()
@@ -17,4 +17,9 @@ pub fn more_changes_nothing()
 /// States that what is read of a stream is what it says by the texts of frames, which is one thing alone.
 pub fn says_what_is_read()
     ensures law { SaysWhatIsRead }
+{}
+
+/// States that a stream ends in one way alone: so the end that `FrameReader::finish` tells is the one.
+pub fn ends_one_way()
+    ensures law { EndsOneWay }
 {}

@@ -1,0 +1,7 @@
+//! Tests of `frames` by its public calls.
+#![tactic(auto)]
+
+#[cfg(test)]
+mod tests;
+#[cfg(test)]
+mod vectors;

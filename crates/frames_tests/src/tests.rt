@@ -1,0 +1,171 @@
+//! Texts both ways, in every cut, and that calls succeed: a call that was refused memory is made once more, so every
+//! test passes under `rt try --test --fail-alloc N`, for each N.
+use crate::vectors::{CLAIM, FAULTS, TEXTS};
+use frames::{Frame, FrameReader, FuseBytes, LinkFault};
+use std::alloc::Global;
+use std::test::Fail;
+
+/// Calls `feed`, and once more where memory was refused.
+fn feed(reader: &mut FrameReader, piece: &[u8]) -> Result<(), LinkFault> {
+    match reader.feed(piece) {
+        Err(LinkFault::NoMemory) => reader.feed(piece),
+        fed => fed,
+    }
+}
+
+/// Calls `next`, and once more where memory was refused.
+fn next(reader: &mut FrameReader) -> Result<Option<Frame>, LinkFault> {
+    match reader.next() {
+        Err(LinkFault::NoMemory) => reader.next(),
+        taken => taken,
+    }
+}
+
+/// Calls `write`, and once more where memory was refused.
+fn write(alloc: Global, frame: &Frame) -> Result<Vec<u8>, LinkFault> {
+    match frame.write(alloc) {
+        Err(LinkFault::NoMemory) => frame.write(alloc),
+        written => written,
+    }
+}
+
+/// Returns whether the reader has this frame and no other, by its text.
+fn has_only(alloc: Global, reader: &mut FrameReader, text: &[u8]) -> bool {
+    let Ok(Some(frame)) = next(reader) else {
+        return false;
+    };
+    let written = write(alloc, &frame);
+    drop(frame);
+    let same = match &written {
+        Ok(bytes) => bytes.as_slice() == text,
+        Err(_) => false,
+    };
+    same && matches!(next(reader), Ok(None))
+}
+
+/// Returns whether a frame comes out of its text where that is cut in two at a place.
+fn comes_out(alloc: Global, text: &[u8], cut: usize) -> bool {
+    if cut > text.len() {
+        return true;
+    }
+    let (first, second) = text.split_at(cut);
+    let mut reader = FrameReader::new(alloc);
+    if feed(&mut reader, first).is_err() {
+        return false;
+    }
+    if cut < text.len() && !matches!(next(&mut reader), Ok(None)) {
+        return false;
+    }
+    if feed(&mut reader, second).is_err() {
+        return false;
+    }
+    has_only(alloc, &mut reader, text) && reader.finish().is_ok()
+}
+
+/// Returns whether a frame comes out of its text in every cut of the first bytes.
+fn comes_out_of_each_cut(alloc: Global, text: &[u8]) -> bool {
+    for cut in 0..32 {
+        if !comes_out(alloc, text, cut) {
+            return false;
+        }
+    }
+    true
+}
+
+/// Returns whether every frame comes out of its text in every cut.
+fn all_come_out(alloc: Global, texts: &[&[u8]]) -> bool {
+    for text in texts {
+        if !comes_out_of_each_cut(alloc, text) {
+            return false;
+        }
+    }
+    true
+}
+
+#[test]
+fn a_text_is_read_and_written_again_in_every_cut(rt: HostRuntime) {
+    assert!(rt; all_come_out(rt.alloc(), &TEXTS));
+}
+
+/// Returns whether the claim is told apart.
+fn is_claim(alloc: Global) -> bool {
+    let mut reader = FrameReader::new(alloc);
+    feed(&mut reader, &CLAIM).is_ok()
+        && matches!(next(&mut reader), Ok(Some(Frame::Claim { generation: 1 })))
+}
+
+#[test]
+fn a_claim_is_read_as_one(rt: HostRuntime) {
+    assert!(rt; is_claim(rt.alloc()));
+}
+
+/// Returns whether a stream is at this fault, at its front or at its end, and stays so.
+fn is_at_fault(alloc: Global, bytes: &[u8], fault: LinkFault) -> bool {
+    let mut reader = FrameReader::new(alloc);
+    if feed(&mut reader, bytes).is_err() {
+        return false;
+    }
+    let stands = match next(&mut reader) {
+        Ok(None) => fault == LinkFault::Torn,
+        Ok(Some(_)) => false,
+        Err(told) => told == fault && feed(&mut reader, &CLAIM) == Err(fault),
+    };
+    stands && reader.finish() == Err(fault)
+}
+
+/// Returns whether each stream is at its fault.
+fn all_are_at_fault(alloc: Global, faults: &[(&[u8], LinkFault)]) -> bool {
+    for (bytes, fault) in faults {
+        if !is_at_fault(alloc, bytes, *fault) {
+            return false;
+        }
+    }
+    true
+}
+
+#[test]
+fn a_fault_is_told_and_stands(rt: HostRuntime) {
+    assert!(rt; all_are_at_fault(rt.alloc(), &FAULTS));
+}
+
+/// Returns a frame of so many bytes that are all the same.
+fn long_ask(alloc: Global, len: usize) -> Result<Frame, LinkFault> {
+    match Vec::from_elem(alloc, 7, len) {
+        Ok(bytes) => Ok(Frame::Ask(FuseBytes::of(bytes))),
+        Err(_) => match Vec::from_elem(alloc, 7, len) {
+            Ok(bytes) => Ok(Frame::Ask(FuseBytes::of(bytes))),
+            Err(_) => Err(LinkFault::NoMemory),
+        },
+    }
+}
+
+/// Returns whether a frame with so many bytes is written and read.
+fn goes_through(alloc: Global, len: usize) -> bool {
+    let Ok(frame) = long_ask(alloc, len) else {
+        return false;
+    };
+    let written = write(alloc, &frame);
+    drop(frame);
+    match &written {
+        Ok(text) => comes_out(alloc, text.as_slice(), 5),
+        Err(_) => false,
+    }
+}
+
+/// Returns whether a frame with so many bytes is too long.
+fn is_too_long(alloc: Global, len: usize) -> bool {
+    match long_ask(alloc, len) {
+        Ok(frame) => {
+            let refused = matches!(frame.write(alloc), Err(LinkFault::TooLong));
+            drop(frame);
+            refused
+        }
+        Err(_) => false,
+    }
+}
+
+#[test]
+fn a_body_has_65536_bytes_at_most(rt: HostRuntime) {
+    assert!(rt; goes_through(rt.alloc(), 65_536));
+    assert!(rt; is_too_long(rt.alloc(), 65_537));
+}
