@@ -7,6 +7,7 @@ pub mod FoundFields
 pub mod FoundFrames
 pub mod FrameLaws
 pub mod GrowingLaws
+pub mod PartingLaws
 pub mod SaysLaws
 pub mod StreamLaws
 pub mod Versions

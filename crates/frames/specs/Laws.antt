@@ -1,5 +1,5 @@
 -- The laws of frames and streams.
-use Rattle.std.specs.Prelude.{◌≡◌, ◌≢◌, ◌↔◌, List, ℕ, ◌++◌, Option, Some}
+use Rattle.std.specs.Prelude.{◌≡◌, ◌≢◌, ◌↔◌, List, ℕ, [], ◌∷◌, ◌++◌, Option, Some}
 use Rattle.frames.specs.declared.fault.LinkFault.{LinkFault}
 use Rattle.frames.specs.declared.frame.Frame.{Frame}
 use Rattle.frames.specs.FrameText.{Fits, frame_text}
@@ -30,3 +30,28 @@ SaysWhatIsRead = (bytes : List ℕ) (what : Said) → AreBytes bytes → (Says b
 -- a stream ends in one way
 abbrev pub EndsOneWay : Type 0
 EndsOneWay = (bytes : List ℕ) (end other : Option LinkFault) → Ends bytes end → Ends bytes other → end ≡ other
+
+-- these frames stand at the front of the bytes, one behind the other, and then comes this rest
+abbrev pub AreFirst : List ℕ → List Frame → List ℕ → Type 0
+AreFirst bytes [] rest = bytes ≡ rest
+AreFirst bytes (frame ∷ frames) rest =
+    (others : List ℕ) × (said bytes ≡ First frame others) × AreFirst others frames rest
+
+-- frames that stand at the front of what was fed stand at the front of all
+abbrev pub PiecesJoin : Type 0
+PiecesJoin =
+    (bytes rest more : List ℕ) (frames : List Frame) →
+    AreFirst bytes frames rest → AreFirst (bytes ++ more) frames (rest ++ more)
+
+-- a frame that is taken off stands behind those that were
+abbrev pub FramesJoin : Type 0
+FramesJoin =
+    (bytes rest left : List ℕ) (frames : List Frame) (frame : Frame) →
+    AreFirst bytes frames rest → said rest ≡ First frame left → AreFirst bytes (frames ++ frame ∷ []) left
+
+-- bytes have one list of frames up to where none is whole
+abbrev pub HasOneParting : Type 0
+HasOneParting =
+    (bytes rest left : List ℕ) (frames others : List Frame) →
+    AreFirst bytes frames rest → AreFirst bytes others left → said rest ≡ NotYet → said left ≡ NotYet →
+    (frames ≡ others) × (rest ≡ left)

@@ -1,6 +1,6 @@
 //! What texts and streams promise. Each law is the contract of a function that does nothing, over the definitions that
 //! the contracts of `Frame` and `FrameReader` cite.
-ghost use Rattle.frames.specs.Laws.{EndsOneWay, MoreChangesNothing, ReadsWhatWasWritten, SaysWhatIsRead};
+ghost use Rattle.frames.specs.Laws.{EndsOneWay, FramesJoin, HasOneParting, MoreChangesNothing, PiecesJoin, ReadsWhatWasWritten, SaysWhatIsRead};
 
 /// States that the text of a frame is read as that frame, whatever stands behind it, and that this is left unread.
 pub fn reads_what_was_written()
@@ -22,4 +22,20 @@ pub fn says_what_is_read()
 /// States that a stream ends in one way alone: so the end that `FrameReader::finish` tells is the one.
 pub fn ends_one_way()
     ensures law { EndsOneWay }
+{}
+
+/// States that frames that stand at the front of what was fed stand at the front of all that will be.
+pub fn pieces_join()
+    ensures law { PiecesJoin }
+{}
+
+/// States that a frame that is taken off stands behind those that were.
+pub fn frames_join()
+    ensures law { FramesJoin }
+{}
+
+/// States that bytes have one list of frames up to where none is whole. So whatever the pieces are in which they are
+/// fed, and whenever frames are taken off, the frames are those of the bytes.
+pub fn has_one_parting()
+    ensures law { HasOneParting }
 {}
