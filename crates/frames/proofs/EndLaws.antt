@@ -12,15 +12,15 @@ pub one_end : {bytes : List ℕ} {end other : Option LinkFault} → Ends bytes e
 unfolding said
 one_end Whole Whole = refl
 one_end Whole (Cut some is) = absurd (some refl)
-one_end Whole (Bad is) = absurd cc
+one_end Whole (Bad is) = refl
 one_end Whole (Behind is later) = absurd cc
 one_end (Cut some is) Whole = absurd (some refl)
 one_end (Cut some is) (Cut more its) = refl
 one_end (Cut some is) (Bad its) = absurd cc
 one_end (Cut some is) (Behind its later) = absurd cc
-one_end (Bad is) Whole = absurd cc
+one_end (Bad is) Whole = refl
 one_end (Bad is) (Cut some its) = absurd cc
-one_end (Bad is) (Bad its) = cc
+one_end (Bad is) (Bad its) = refl
 one_end (Bad is) (Behind its later) = absurd cc
 one_end (Behind is later) Whole = absurd cc
 one_end (Behind is later) (Cut some its) = absurd cc

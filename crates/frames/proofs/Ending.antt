@@ -23,14 +23,14 @@ pub torn : (start bytes : List ℕ) (at : ℕ) → EndsAs start (drop at bytes) 
 torn start bytes at before lt is = before (Some Torn) (Cut (not_empty at bytes lt) is)
 
 -- what is left begins with a faulty frame
-pub faulty : (start left : List ℕ) (fault : LinkFault) → EndsAs start left → IsFaulty left fault → Ends start (Some fault)
+pub faulty : (start left : List ℕ) (fault : LinkFault) → EndsAs start left → IsFaulty left fault → Ends start None
 faulty start left NoMemory before is = absurd is
-faulty start left TooLong before is = before (Some TooLong) (Bad is)
-faulty start left BadKind before is = before (Some BadKind) (Bad is)
-faulty start left BadBody before is = before (Some BadBody) (Bad is)
-faulty start left Torn before is = before (Some Torn) (Bad is)
-faulty start left Read before is = before (Some Read) (Bad is)
-faulty start left Write before is = before (Some Write) (Bad is)
+faulty start left TooLong before is = before None (Bad is)
+faulty start left BadKind before is = before None (Bad is)
+faulty start left BadBody before is = before None (Bad is)
+faulty start left Torn before is = before None (Bad is)
+faulty start left Read before is = before None (Bad is)
+faulty start left Write before is = before None (Bad is)
 
 -- nothing is left
 pub whole : (start bytes : List ℕ) (at : ℕ) → EndsAs start (drop at bytes) → length bytes ≤ at → Ends start None

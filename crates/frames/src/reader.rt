@@ -99,12 +99,13 @@ impl FrameReader {
         }
     }
 
-    /// Returns whether the stream may end here: it reads what was fed and not read to its end, and keeps no frame.
+    /// Returns whether the stream may end here: it is Torn where it ends within a frame. A faulty frame is none such:
+    /// `next` tells its fault. Frames that were not taken are passed over.
     pub fn finish(self) -> Result<(), LinkFault>
         ensures ends { Finishes self.fault self.unread result }
     {
-        if let Some(fault) = self.fault {
-            return Err(fault);
+        if self.fault.is_some() {
+            return Ok(());
         }
         end_of(self.bytes.as_slice(), self.read)
     }

@@ -99,7 +99,8 @@ fn a_claim_is_read_as_one(rt: HostRuntime) {
     assert!(rt; is_claim(rt.alloc()));
 }
 
-/// Returns whether a stream is at this fault, at its front or at its end, and stays so.
+/// Returns whether a stream is at this fault, at its front or at its end, and stays so: a torn one tells it at its end
+/// alone, a faulty one before.
 fn is_at_fault(alloc: Global, bytes: &[u8], fault: LinkFault) -> bool {
     let mut reader = FrameReader::new(alloc);
     if feed(&mut reader, bytes).is_err() {
@@ -110,7 +111,11 @@ fn is_at_fault(alloc: Global, bytes: &[u8], fault: LinkFault) -> bool {
         Ok(Some(_)) => false,
         Err(told) => told == fault && feed(&mut reader, &CLAIM) == Err(fault),
     };
-    stands && reader.finish() == Err(fault)
+    let end = match fault {
+        LinkFault::Torn => Err(fault),
+        _ => Ok(()),
+    };
+    stands && reader.finish() == end
 }
 
 /// Returns whether each stream is at its fault.
