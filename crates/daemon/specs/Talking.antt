@@ -66,7 +66,7 @@ pub record TakesOver (manifest : Manifest) (limit : ℕ) (bytes : List ℕ) (nod
   pub taken : IsTakenOver manifest limit generation bytes served
   pub reacts : reaction ≡ Heeds
   pub becomes :
-    new ≡ record { node = table.after node (table.Raised true); server = Some (beginning generation served) }
+      new ≡ record { node = table.after node (table.Raised true); server = Some (beginning generation served) }
 
 -- a daemon that raised nothing is gone
 pub record Loses (old : DaemonState) (node : NodeState) (reaction : Reaction) (new : DaemonState) : Type 0 where
