@@ -2,7 +2,6 @@
 #![tactic(auto)]
 
 mod body;
-mod bytes;
 mod fault;
 mod field;
 mod frame;
@@ -12,7 +11,8 @@ pub mod laws;
 mod reader;
 mod writer;
 
-pub use bytes::FuseBytes;
 pub use fault::LinkFault;
 pub use frame::Frame;
 pub use reader::FrameReader;
+/// A FUSE request, or the reply to one, as any bytes: the type in which a takeover's message carries an image.
+pub use takeover_core::ImageBytes as FuseBytes;
