@@ -3,9 +3,9 @@ use Rattle.std.specs.Prelude.{◌≡◌, ◌+◌, ◌<◌, ◌≤◌, ℕ, List,
 use Rattle.fuse_wire.specs.declared.request.Ask.{Ask}
 use Rattle.fuse_wire.specs.declared.reply.Reply.{Reply}
 use Rattle.journal.specs.declared.channel.Taken.{Taken}
-use Rattle.journal.specs.declared.channel.Taken.TheVariants.{Ask as TheAsk, Empty, Stopped, Broken as Gone}
+use Rattle.journal.specs.declared.channel.Taken.TheVariants as took
 use Rattle.journal.specs.declared.channel.Posted.{Posted}
-use Rattle.journal.specs.declared.channel.Posted.TheVariants.{Done, Broken}
+use Rattle.journal.specs.declared.channel.Posted.TheVariants as post
 use Rattle.journal.specs.Receipts.{asks_of, replies_of}
 use Rattle.journal.specs.declared.receipt.Receipt.{Receipt}
 
@@ -40,16 +40,16 @@ told_of channel = record { taken = take channel.taken channel.asks; posted = cha
 -- what comes of a look for an ask in memory: the next one, or none where all were taken; Broken where no copy of it
 -- could be made, and then it is still there
 abbrev pub Takes : MemoryState → Taken → MemoryState → Type 0
-Takes old (TheAsk ask) new =
+Takes old (took.Ask ask) new =
     (slice_get old.asks old.taken ≡ Some ask)
     × (new ≡ record { asks = old.asks; taken = old.taken + 1; replies = old.replies })
-Takes old Empty new = (old.taken ≡ length old.asks) × (new ≡ old)
-Takes old Stopped new = ⊥
-Takes old Gone new = (old.taken < length old.asks) × (new ≡ old)
+Takes old took.Empty new = (old.taken ≡ length old.asks) × (new ≡ old)
+Takes old took.Stopped new = ⊥
+Takes old took.Broken new = (old.taken < length old.asks) × (new ≡ old)
 
 -- what comes of a reply: it joins the others, or is Broken where there are as many as asks
 abbrev pub Posts : MemoryState → Reply → Posted → MemoryState → Type 0
-Posts old reply Done new =
+Posts old reply post.Done new =
     (length old.replies < length old.asks)
     × (new ≡ record { asks = old.asks; taken = old.taken; replies = old.replies ++ reply ∷ [] })
-Posts old reply Broken new = (length old.asks ≤ length old.replies) × (new ≡ old)
+Posts old reply post.Broken new = (length old.asks ≤ length old.replies) × (new ≡ old)
