@@ -1,12 +1,13 @@
 -- Channels after a round, one at a time.
-use Rattle.std.proofs.Common.{◌≡◌, Bool, List, [], ◌∷◌, ◌++◌, Result, Ok, Err, sym, ap, ◌∙◌, subst}
+use Rattle.std.proofs.Common.{◌≡◌, ◌+◌, Bool, true, List, [], ◌∷◌, ◌++◌, length, Result, Ok, Err, sym, ap, ◌∙◌, subst}
 use Rattle.std.proofs.lemmas.List.{append-nil, append_assoc}
+use Rattle.std.proofs.lemmas.List.Sums.{sum_by_push}
 use Rattle.std.specs.Prelude.{IfOk, IfErr, OnOk}
 use Rattle.fuse_ops.specs.Served.{ServedState}
-use Rattle.journal.specs.Channel.{Told}
+use Rattle.journal.specs.Channel.{Told, grown}
 use Rattle.workers.specs.Faults.{GivesBack, IsForGood}
 use Rattle.journal.specs.Receipts.{ReceiptsState}
-use Rattle.workers.specs.Round.{AreServed}
+use Rattle.workers.specs.Round.{AreServed, receipts_in}
 use Rattle.workers.specs.declared.fault.RoundFault.{RoundFault}
 use Rattle.workers.specs.declared.fault.RoundFault.TheVariants.{Broken, Unsettled, NoMemory}
 
@@ -50,3 +51,27 @@ gives_back (Err Unsettled) served backing channels h = tt
 -- where nothing is left, all is moved
 pub moved_all : {X : Type 0} (done left all : List X) → left ≡ [] → done ++ left ≡ all → done ≡ all
 moved_all {X} done left all none whole = sym (append-nil done) ∙ ap (λ (xs : List X). done ++ xs) (sym none) ∙ whole
+
+-- one worker more is done, and its channel is served beside those before it
+pub served_on :
+    {C : Type 0} (tells : Bool) (told : C → Told) (all left rest channels more_channels : List C) (kept more_kept : List ReceiptsState)
+    (before after : C) (one : ReceiptsState) →
+    left ≡ before ∷ rest → more_channels ≡ channels ++ after ∷ [] → more_kept ≡ kept ++ one ∷ [] →
+    (tells ≡ true → told after ≡ grown (told before) one.list) →
+    ((afters : List C) (later : List ReceiptsState) → AreServed tells told left afters later →
+    AreServed tells told all (channels ++ afters) (kept ++ later)) →
+    (afters : List C) (later : List ReceiptsState) → AreServed tells told rest afters later →
+    AreServed tells told all (more_channels ++ afters) (more_kept ++ later)
+served_on {C} tells told all left rest channels more_channels kept more_kept before after one is channels_are kept_are grew more afters later done =
+    subst (λ (xs : List C). AreServed tells told all xs (more_kept ++ later))
+    (sym (ap (λ (xs : List C). xs ++ afters) channels_are ∙ append_assoc channels (after ∷ []) afters))
+    (subst (λ (ks : List ReceiptsState). AreServed tells told all (channels ++ after ∷ afters) ks)
+    (sym (ap (λ (ks : List ReceiptsState). ks ++ later) kept_are ∙ append_assoc kept (one ∷ []) later))
+    (more (after ∷ afters) (one ∷ later)
+    (subst (λ (xs : List C). AreServed tells told xs (after ∷ afters) (one ∷ later)) (sym is) (grew, done))))
+
+-- its receipts are more by one worker's
+pub counted_on :
+    (before more : List ReceiptsState) (one : ReceiptsState) → more ≡ before ++ one ∷ [] →
+    receipts_in more ≡ receipts_in before + length one.list
+counted_on before more one is = ap receipts_in is ∙ sum_by_push (λ (kept : ReceiptsState). length kept.list) before one

@@ -103,6 +103,7 @@ impl<N: Opening, B: Backing + Drop> LockedMap<N, B> {
         ensures uncounted { IfNone result (share.new.amount ≡ share.old.amount) }
     {
         if self.journal.room() == 0 {
+            drop(ask);
             return None;
         }
         let turn = serve_one(

@@ -169,6 +169,54 @@ fn serve_all<
     )
 }
 
+/// Returns what a round leaves whose workers are done, and compares the journal with their shares of the ledger.
+fn closed<N: Opening, B: Backing + Drop, C: Channel + Drop>(
+    parts: Parts<N, B>,
+    joined: Joined<N, C>,
+) -> Round<B, C>
+    requires backs { Backs (B.content parts.backing) parts.served.tree }
+    requires total { parts.total.total ≡ length parts.journal.records }
+    requires all_parts { joined.share.parts ≡ N.parts }
+    requires counted { joined.share.amount ≡ receipts_in joined.receipts.items }
+    ensures served { result.served ≡ parts.served }
+    ensures backs { Backs (B.content result.backing) result.served.tree }
+    ensures records { result.journal.records ≡ parts.journal.records }
+    ensures channels { result.channels.items ≡ joined.channels.items }
+    ensures receipts { result.receipts.items ≡ joined.receipts.items }
+    ensures counted { length result.journal.records ≡ receipts_in result.receipts.items }
+{
+    let Parts {
+        served,
+        backing,
+        journal,
+        mut total,
+    } = parts;
+    let Joined {
+        channels,
+        receipts,
+        mut share,
+        ending: _,
+    } = joined;
+    total.audit(&mut share);
+    Round {
+        served,
+        backing,
+        channels,
+        journal,
+        receipts,
+    }
+}
+
+/// Returns why a round gives nothing whose workers did not all end well.
+fn fault_of<B: Drop, C: Drop>(ending: Ending) -> RoundFault<B, C>
+    ensures for_good { IsForGood result }
+{
+    match ending {
+        Ending::Broken => RoundFault::Broken,
+        _ => RoundFault::Unsettled,
+    }
+}
+
 /// Returns what a round leaves, where each of its workers ended well.
 fn left_by<N: Opening, B: Backing + Drop, C: Channel + Drop>(
     parts: Parts<N, B>,
@@ -189,30 +237,12 @@ fn left_by<N: Opening, B: Backing + Drop, C: Channel + Drop>(
     ensures counted { IfOk result (λ round. length round.journal.records ≡ receipts_in round.receipts.items) }
     ensures for_good { IfErr result IsForGood }
 {
-    let Parts {
-        served,
-        backing,
-        journal,
-        mut total,
-    } = parts;
-    let Joined {
-        channels,
-        receipts,
-        mut share,
-        ending,
-    } = joined;
-    match ending {
-        Ending::Broken => Err(RoundFault::Broken),
-        Ending::NoRoom => Err(RoundFault::Unsettled),
-        Ending::Done => {
-            total.audit(&mut share);
-            Ok(Round {
-                served,
-                backing,
-                channels,
-                journal,
-                receipts,
-            })
+    match joined.ending {
+        Ending::Done => Ok(closed(parts, joined)),
+        ending => {
+            drop(joined);
+            drop(parts);
+            Err(fault_of(ending))
         }
     }
 }

@@ -31,6 +31,40 @@ pub fn drain<B: Backing + Drop, C: Channel + Drop>(
     ensures channels { IfOk result (λ settled. settled.channels.items ≡ round.channels.items) }
     ensures given_back { IfErr result (GivesBack round.served round.backing round.channels.items) }
 {
+    match is_settled(alloc, &round.journal, round.receipts.as_slice()) {
+        Ok(true) => Ok(settled_by(round)),
+        Ok(false) => {
+            drop(round);
+            Err(RoundFault::Unsettled)
+        }
+        Err(_refused) => Err(RoundFault::NoMemory(served_by(round))),
+    }
+}
+
+/// Returns what may be served on after a round that is settled.
+fn settled_by<B: Backing + Drop, C: Channel + Drop>(round: Round<B, C>) -> Settled<B, C>
+    ensures served { result.served ≡ round.served }
+    ensures backing { result.backing ≡ round.backing }
+    ensures channels { result.channels.items ≡ round.channels.items }
+{
+    let Returned {
+        served,
+        backing,
+        channels,
+    } = served_by(round);
+    Settled {
+        served,
+        backing,
+        channels,
+    }
+}
+
+/// Gives back what a round served, and drops its journal and receipts.
+fn served_by<B: Backing + Drop, C: Channel + Drop>(round: Round<B, C>) -> Returned<B, C>
+    ensures served { result.served ≡ round.served }
+    ensures backing { result.backing ≡ round.backing }
+    ensures channels { result.channels.items ≡ round.channels.items }
+{
     let Round {
         served,
         backing,
@@ -38,17 +72,11 @@ pub fn drain<B: Backing + Drop, C: Channel + Drop>(
         journal,
         receipts,
     } = round;
-    match is_settled(alloc, &journal, receipts.as_slice()) {
-        Ok(true) => Ok(Settled {
-            served,
-            backing,
-            channels,
-        }),
-        Ok(false) => Err(RoundFault::Unsettled),
-        Err(_refused) => Err(RoundFault::NoMemory(Returned {
-            served,
-            backing,
-            channels,
-        })),
+    drop(journal);
+    drop(receipts);
+    Returned {
+        served,
+        backing,
+        channels,
     }
 }

@@ -1,11 +1,11 @@
 //! One worker of a round.
-ghost use Rattle.std.specs.Prelude.{◌≡◌, ◌+◌, ◌<◌, ◌≤◌, length, true};
+ghost use Rattle.std.specs.Prelude.{◌≡◌, ◌+◌, ◌<◌, ◌≤◌, length, true, IfSome, IfNone};
 ghost use Rattle.journal.specs.Channel.{Told, grown, with_ask, with_replies};
 ghost use Rattle.journal.specs.Receipts.{replies_to};
 ghost use Rattle.workers.specs.Shift.{is_well};
 
 use crate::gate::Gate;
-use crate::laws::Shift;
+use crate::laws::{Shift, Turn};
 use crate::locked::{Opening, Shared};
 use checkout::Backing;
 use fuse_wire::{Answer, Ask, Reply};
@@ -44,6 +44,21 @@ fn post<C: Channel>(channel: &mut C, unique: u64, answer: Option<Answer>) -> Opt
         Posted::Done => None,
         Posted::Broken => Some(Ending::Broken),
     }
+}
+
+/// Serves an ask under the map's lock, and counts it in a worker's share. Nothing is done where the journal has no room.
+fn turn_alone<N: Opening, B: Backing + Drop, R: Wait>(
+    rt: &R,
+    shared: &Shared<N, B>,
+    ask: Ask,
+    share: &mut Share<N>,
+) -> Option<Turn>
+    requires part { 0 < share.old.parts }
+    ensures parts { share.new.parts ≡ share.old.parts }
+    ensures counted { IfSome result (λ _. share.new.amount ≡ share.old.amount + 1) }
+    ensures uncounted { IfNone result (share.new.amount ≡ share.old.amount) }
+{
+    shared.lock(rt).turn(ask, share)
 }
 
 impl<N: Opening, C: Channel + Drop> Worker<N, C> {
@@ -99,7 +114,8 @@ impl<N: Opening, C: Channel + Drop> Worker<N, C> {
         let unique = ask.unique;
         gate.before(unique);
         let what = self.receipts.copy(&ask.what);
-        let Some(turn) = shared.lock(rt).turn(ask, &mut self.share) else {
+        let Some(turn) = turn_alone(rt, shared, ask, &mut self.share) else {
+            drop(what);
             return Some(Ending::NoRoom);
         };
         self.receipts.push(Receipt {

@@ -6,6 +6,22 @@ use Rattle.journal.specs.Receipts.{IsFresh}
 use Rattle.workers.proofs.Serving.{moved_on, moved_all}
 use Rattle.workers.proofs.running.start_all.Goals as goal
 
+pub loop-channel-init : goal.loop-channel-init
+loop-channel-init g c =
+    let all = c.into_iter-channel-iterator.ensures.into_iter_gives.1 in (
+      omega (arith, c.requires.parts, all),
+      c.requires.no_amount,
+      omega (arith, c.requires.rooms, all),
+      c.requires.fresh,
+      omega (arith, c.requires.no_len, all),
+      c.requires.room,
+      rw c.requires.none c.into_iter-channel-iterator.ensures.into_iter_gives.0,
+    )
+
+-- a call that does not return
+pub unreachable-unreachable : goal.unreachable-unreachable
+unreachable-unreachable g c = c.unreachable.type_inv
+
 pub loop-channel-preserved : goal.loop-channel-preserved
 loop-channel-preserved g c =
     let was = c.loop-channel.invariant in
