@@ -19,6 +19,10 @@ use Rattle.map_codec.proofs.PlaceLaws.{entry_there, numbers_behind}
 abbrev pub IsEachAt : {X Y : Type 0} → (X → Y → Type 0) → List X → List Y → Type 0
 IsEachAt {X} {Y} R xs ys = (i : ℕ) (x : X) (y : Y) → slice_get xs i ≡ Some x → slice_get ys i ≡ Some y → R x y
 
+-- none stands in a list without members
+pub each_of_none : {X Y : Type 0} (R : X → Y → Type 0) (xs : List X) (ys : List Y) → ys ≡ [] → IsEachAt R xs ys
+each_of_none {X} {Y} R xs ys none = λ i x y here there. absurd (let no : ⊥ = cc in no)
+
 -- and so do those of the next place
 pub each_pushed : {X Y : Type 0} (R : X → Y → Type 0) (xs : List X) (ys : List Y) (y : Y) → ((x : X) → slice_get xs (length ys) ≡ Some x → R x y) → IsEachAt R xs ys → IsEachAt R xs (ys ++ y ∷ [])
 each_pushed {X} {Y} R xs ys y last each = λ i x z here there. in_ i x z here there (cases_lt i (length ys)) where

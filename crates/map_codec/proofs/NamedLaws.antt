@@ -1,8 +1,8 @@
 -- Files that are found for entries one by one.
-use Rattle.std.proofs.Common.{◌≡◌, ◌<◌, ℕ, List, [], ◌∷◌, ◌++◌, length, get_or, Option, Some, None, sym, ap, subst, ◌∙◌, inl, inr, ◌⊎◌, arith}
+use Rattle.std.proofs.Common.{◌≡◌, ◌<◌, ℕ, List, [], ◌∷◌, ◌++◌, length, get_or, replicate, Option, Some, None, sym, ap, subst, ◌∙◌, inl, inr, ◌⊎◌, arith}
 use Rattle.std.specs.Prelude.{slice_get}
 use Rattle.std.proofs.Math.ListN.{set, length-set}
-use Rattle.std.proofs.lemmas.List.{get_or-set_same, get_or-set_other}
+use Rattle.std.proofs.lemmas.List.{get_or-set_same, get_or-set_other, get_or-replicate, length-replicate}
 use Rattle.std.proofs.lemmas.Option.{slice_get-get_or, slice_get_within, get_or_from_slice_get}
 use Rattle.eden_base.proofs.MemberLemmas.{some-same}
 use Rattle.eden_base.proofs.NumberTests.{eq-or}
@@ -21,6 +21,19 @@ use Rattle.map_codec.proofs.DirectoryLaws.{IsEachAt, each_pushed, number_there}
 -- an entry names a file
 abbrev pub IsFileAt : Tree → List Kept → Kept → FileId → Type 0
 IsFileAt tree entries kept file = IsFileOf tree entries kept.number.0 file
+
+-- no file is known yet
+pub none_found : (tree : Tree) (entries : List Kept) (found : List (Option FileId)) → found ≡ replicate (length entries) None → AreFound tree entries found
+none_found tree entries found is =
+    let len : length found ≡ length entries = ap length is ∙ length-replicate (length entries) None in
+    record {
+      len = len;
+      each = λ i kept file here there.
+          let within : i < length entries = omega (arith, slice_get_within found i (Some file) there, len) in
+          let read : get_or found i None ≡ Some file = get_or_from_slice_get found i (Some file) None there in
+          let none : get_or found i None ≡ None = ap (λ (fs : List (Option FileId)). get_or fs i None) is ∙ get_or-replicate (length entries) i None None within in
+          absurd (let no : ⊥ = cc in no);
+    }
 
 -- what is read at the place of a number is its entry
 pub entry_read : (entries : List Kept) (n i : ℕ) (kept : Kept) → IsPlaceOf entries n i → kept ≡ get_or entries i kept → entry_of entries n ≡ Some kept

@@ -1,12 +1,12 @@
 -- The directory of one entry after another is looked for.
-use Rattle.std.proofs.Common.{◌≡◌, ◌+◌, [], ◌∷◌, length, length-append, ap, sym, subst, ◌∙◌, arith, true, List, Option, ℕ}
+use Rattle.std.proofs.Common.{◌≡◌, ◌+◌, [], ◌∷◌, length, length-append, refl, ap, sym, subst, ◌∙◌, arith, true, List, Option, ℕ}
 use Rattle.std.proofs.lemmas.Option.{get_or_from_slice_get}
 use Rattle.std.specs.Prelude.{slice_get}
 use Rattle.eden_base.specs.declared.place.Place.{Place}
 use Rattle.entry_table.specs.declared.kept.Kept.{Kept}
 use Rattle.map_codec.specs.Named.{IsDirectoryOf, TellsDirectory}
 use Rattle.map_codec.specs.Raising.{has_parent}
-use Rattle.map_codec.proofs.DirectoryLaws.{each_pushed, had_there}
+use Rattle.map_codec.proofs.DirectoryLaws.{each_of_none, each_pushed, had_there}
 use Rattle.map_codec.proofs.directories.directories.Goals.{in-Unwanted, in-At}
 use Rattle.map_codec.proofs.directories.directories.Goals as goal
 
@@ -34,4 +34,15 @@ loop-kept-preserved c =
       each = rw c.push_reserved.ensures.items (each_pushed (λ (kept : Kept) (at : Option ℕ). IsDirectoryOf es kept.place at) es places place
           (λ kept there. subst (λ (k : Kept). IsDirectoryOf es k.place place) (c.kept-item.is ∙ get_or_from_slice_get es i kept item (ap (slice_get es) (sym c.loop-kept.invariant.len) ∙ there)) of_this.1)
           c.loop-kept.invariant.each);
+    }
+
+pub loop-kept-init : goal.loop-kept-init
+loop-kept-init c =
+    let places = c.in_ok-places.ensures in
+    record {
+      have = refl;
+      room = omega (arith, places.capacity);
+      count = places.len;
+      len = ap length places.items;
+      each = each_of_none (λ (kept : Kept) (at : Option ℕ). IsDirectoryOf c.args.entries.now kept.place at) c.args.entries.now c.in_ok-places.places.items places.items;
     }

@@ -1,6 +1,7 @@
 -- One file after another is found.
-use Rattle.std.proofs.Common.{◌≡◌, ◌+◌, [], ◌∷◌, length, length-append, ap, ◌∙◌, arith}
-use Rattle.map_codec.proofs.NamedLaws.{next_file_found}
+use Rattle.std.proofs.Common.{◌≡◌, ◌+◌, [], ◌∷◌, length, length-append, ap, ◌∙◌, arith, rules}
+use Rattle.map_codec.proofs.DirectoryLaws.{each_of_none}
+use Rattle.map_codec.proofs.NamedLaws.{IsFileAt, next_file_found, none_found}
 use Rattle.map_codec.proofs.named.named_files.Goals as goal
 
 pub loop-place-preserved : goal.loop-place-preserved
@@ -17,3 +18,21 @@ loop-place-preserved c =
       each = rw c.push_reserved.ensures.items (next_file_found c.args.tree.now c.args.entries.now files c.loop-place.place file
           c.loop-place.invariant.len c.in-Some.ensures.file c.loop-place.invariant.each);
     }
+
+pub loop-place-init : goal.loop-place-init
+loop-place-init c =
+    let files = c.in_ok-files.ensures in
+    record {
+      known = none_found c.args.tree.now c.args.entries.now c.in_ok-found.found.items (c.in_ok-found.ensures.items_if_clones_equal (search rules));
+      way_room = omega (arith, c.in_ok-way.ensures.capacity);
+      files_room = omega (arith, files.capacity);
+      count = files.len;
+      len = ap length files.items;
+      each = each_of_none (IsFileAt c.args.tree.now c.args.entries.now) c.args.entries.now c.in_ok-files.files.items files.items;
+    }
+
+pub returns : goal.returns
+returns c = record {
+  len = omega (arith, c.loop-place.invariant.len, c.loop-place-test.false, c.loop-place.auto.place-end);
+  each = c.loop-place.invariant.each;
+}
