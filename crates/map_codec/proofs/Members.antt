@@ -1,7 +1,7 @@
 -- Members of a list that were put one behind the other, and how long they are.
 use Rattle.std.proofs.Common.{All, ◌≡◌, ℕ, ◌+◌, ◌<◌, ◌≤◌, List, [], ◌∷◌, ◌++◌, length, take, drop, get_or, sym, ap, subst, ◌∙◌, length-append, arith}
 use Rattle.std.proofs.lemmas.Grind.{common_steps}
-use Rattle.std.proofs.lemmas.List.{append-nil, take-append-drop}
+use Rattle.std.proofs.lemmas.List.{append-nil, take_all, take-append-drop}
 use Rattle.std.proofs.lemmas.List.Concat.{flat_map-cons, flat_map-append}
 use Rattle.std.proofs.lemmas.List.Elements.{All-push}
 use Rattle.std.specs.Global.{Vec}
@@ -55,6 +55,10 @@ room_for {X = X} text xs i x lt is = subst (λ (y : X). length (flat_map text (t
 pub put_next : {X : Type 0} (text : X → List ℕ) (Fits : X → Type 0) (before mid new : Vec ℕ) (xs : List X) (i : ℕ) (x : X) → i < length xs → x ≡ get_or xs i x → ArePut text Fits before mid (take i xs)
     → Puts mid new (text x) → Fits x → ArePut text Fits before new (take (i + 1) xs)
 put_next {X = X} text Fits before mid new xs i x lt is were put fits = one_put text Fits before mid new xs i x lt were (subst (λ (y : X). Puts mid new (text y)) is put) (subst Fits is fits)
+
+-- all were put where none is left
+pub all_put : {X : Type 0} (text : X → List ℕ) (Fits : X → Type 0) (before now : Vec ℕ) (xs : List X) (i : ℕ) → length xs ≤ i → ArePut text Fits before now (take i xs) → ArePut text Fits before now xs
+all_put text Fits before now xs i done = subst (ArePut text Fits before now) (take_all i xs done)
 
 -- the text of one member more is longer by that member's
 pub one_longer : {X : Type 0} (text : X → List ℕ) (xs : List X) (i : ℕ) (x : X) → i < length xs → x ≡ get_or xs i x → length (flat_map text (take (i + 1) xs)) ≡ length (flat_map text (take i xs)) + length (text x)
