@@ -1,7 +1,8 @@
 -- The slots of the map of entries, read as entries.
-use Rattle.std.proofs.Common.{◌≡◌, ℕ, ◌+◌, ◌<◌, ◌≤◌, Bool, true, false, cond, List, [], ◌∷◌, length, Option, Some, None, IsSome, is_some, refl, sym, ap, ◌∙◌, inl, inr, ◌⊎◌, arith}
+use Rattle.std.proofs.Common.{◌≡◌, ℕ, ◌+◌, ◌<◌, ◌≤◌, Bool, true, false, cond, List, [], ◌∷◌, length, drop, get_or, Option, Some, None, IsSome, is_some, refl, sym, ap, ◌∙◌, inl, inr, ◌⊎◌, arith}
 use Rattle.std.specs.Prelude.{◌==◌}
 use Rattle.std.specs.Option.{option_map, option_and_then}
+use Rattle.std.proofs.lemmas.List.{drop_more}
 use Rattle.eden_base.specs.declared.number.FileId.{FileId}
 use Rattle.eden_base.proofs.FirstLemmas.{Each-kept}
 use Rattle.eden_base.proofs.NumberTests.{eq-true, eq-false, eq-or}
@@ -122,3 +123,24 @@ pub kept-len : (es : List (ℕ × Option Held)) → length (kept_from es) ≤ le
 kept-len [] = omega arith
 kept-len ((m, Some h) ∷ es) = let r = kept-len es in omega arith
 kept-len ((m, None) ∷ es) = let r = kept-len es in omega arith
+
+-- the entry of a slot stands in front of those of the slots behind it
+kept-front : (slot : ℕ × Option Held) (h : Held) (rest : List (ℕ × Option Held)) → slot.1 ≡ Some h → kept_from (slot ∷ rest) ≡ kept_of slot.0 h ∷ kept_from rest
+kept-front (n, Some k) h rest is = let same : k ≡ h = cc in ap (λ (x : Held). kept_of n x ∷ kept_from rest) same
+kept-front (n, None) h rest is = absurd (let no : ⊥ = cc in no)
+
+-- and an empty slot has none
+kept-past : (slot : ℕ × Option Held) (rest : List (ℕ × Option Held)) → slot.1 ≡ None → kept_from (slot ∷ rest) ≡ kept_from rest
+kept-past (n, Some k) rest is = absurd (let no : ⊥ = cc in no)
+kept-past (n, None) rest is = refl
+
+-- so it is where slots are read one by one
+module _ (slots : List (ℕ × Option Held)) (i : ℕ) (slot : ℕ × Option Held) (within : i < length slots) (is : slot ≡ get_or slots i slot) where
+  front : drop i slots ≡ slot ∷ drop (i + 1) slots
+  front = drop_more slots i slot within ∙ ap (λ (s : ℕ × Option Held). s ∷ drop (i + 1) slots) (sym is)
+
+  pub next-kept : (h : Held) → slot.1 ≡ Some h → kept_from (drop i slots) ≡ kept_of slot.0 h ∷ kept_from (drop (i + 1) slots)
+  next-kept h some = ap kept_from front ∙ kept-front slot h (drop (i + 1) slots) some
+
+  pub next-empty : slot.1 ≡ None → kept_from (drop i slots) ≡ kept_from (drop (i + 1) slots)
+  next-empty none = ap kept_from front ∙ kept-past slot (drop (i + 1) slots) none
