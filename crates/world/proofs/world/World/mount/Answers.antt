@@ -1,5 +1,8 @@
 -- Who waited has the seat and serves.
-use Rattle.std.proofs.Common.{length, sym, ◌∙◌, subst, arith}
+use Rattle.std.proofs.Common.{IsTrue, ◌<◌, length, sym, ◌∙◌, subst, arith}
+use Rattle.eden_base.proofs.MemberLemmas.{some-same}
+use Rattle.daemon.specs.Daemon.{DaemonState, is_waiting}
+use Rattle.std.specs.Prelude.{slice_get}
 use Rattle.daemon.specs.Serving.{IsIndex}
 use Rattle.world.specs.State.{State}
 use Rattle.world.specs.Step.{Once}
@@ -41,3 +44,10 @@ returns c =
           (sym c.mount_refusal.ensures.fault ∙ none-unless c.mount_refusal.result c.in_default-mount_refusal.not-Some)
           c.new-server.ensures.new c.in-Ok.ensures.served c.mount-generation.ensures.generation c.mount-generation.ensures.mounted c.mount_at.ensures.mounts);
     }
+
+pub mount_at-requires-clause-waiting : goal.mount_at-requires-clause-waiting
+mount_at-requires-clause-waiting c = λ daemon there.
+    let daemons = c.self.inside.daemons.items in
+    let within : c.in-Some.index < length daemons = omega (arith, c.in-Some.ensures.index.within, c.len.ensures, c.self.inside.daemons.ok.0) in
+    let waits = waits-read daemons c.in-Some.index c.index.result.now within c.if-not-is_waiting.ensures.waiting c.index.ensures in
+    subst (λ (d : DaemonState). IsTrue (is_waiting d)) (some-same (slice_get daemons c.in-Some.index) c.index.result.now daemon waits.0 there) waits.1
