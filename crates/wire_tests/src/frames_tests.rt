@@ -1,6 +1,8 @@
 //! Texts both ways, in every cut, and that calls succeed: a call that was refused memory is made once more, so every
-//! test passes under `rt try --test --fail-alloc N`, for each N.
-use crate::vectors::{CLAIM, FAULTS, TEXTS};
+//! test here passes under `rt try --test --fail-alloc N`, for each N.
+mod vectors;
+
+use crate::frames_tests::vectors::{CLAIM, FAULTS, TEXTS};
 use frames::{Frame, FrameReader, FuseBytes, LinkFault};
 use std::alloc::Global;
 use std::test::Fail;

@@ -1,11 +1,17 @@
 //! Vectors from outside, limits, and that calls succeed: where one allocation is refused, those that take memory tell
-//! so, and succeed when they are made once more. So every test passes under `rt try --test --fail-alloc N`, for each N.
+//! so, and succeed when they are made once more. So every test here passes under `rt try --test --fail-alloc N`, for
+//! each N.
+mod calls;
+mod vectors;
+mod wide_tests;
+mod wide_vectors;
+
 ghost use Rattle.std.specs.Prelude.{◌<◌, ◌≤◌, ◌^◌};
 
-use crate::calls::{
+use crate::fuse_wire_tests::calls::{
     are_items_kept, is_kept, is_refused, is_reply_kept, is_spelled, is_written_again, read,
 };
-use crate::vectors::*;
+use crate::fuse_wire_tests::vectors::*;
 use eden_base::{Attr, Errno, Kind, NameFault, NoMemory, Number, Perm};
 use fuse_wire::{
     Answer, Ask, Item, Reply, Request, WireFault, fault_reply, read_items, read_reply, read_request,

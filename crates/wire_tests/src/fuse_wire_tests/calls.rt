@@ -2,6 +2,7 @@
 ghost use Rattle.std.specs.Prelude.{◌≡◌, IfOk};
 ghost use Rattle.fuse_wire.specs.Request.{IsSendable};
 
+use crate::again::room;
 use eden_base::{NameRoom, NoMemory};
 use fuse_wire::{
     Ask, Batch, BatchRoom, Items, Reply, Request, WireFault, read_items, read_reply, read_request,
@@ -37,14 +38,6 @@ fn copy(alloc: Global, request: &Request) -> Result<Request, NoMemory>
     match request.copy(alloc) {
         Ok(copy) => Ok(copy),
         Err(NoMemory) => request.copy(alloc),
-    }
-}
-
-/// Calls `NameRoom::new`, and once more where memory was refused.
-fn room(alloc: Global) -> Result<NameRoom, NoMemory> {
-    match NameRoom::new(alloc) {
-        Ok(room) => Ok(room),
-        Err(NoMemory) => NameRoom::new(alloc),
     }
 }
 

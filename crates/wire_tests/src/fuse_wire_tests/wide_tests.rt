@@ -2,10 +2,11 @@
 ghost use Rattle.std.specs.Prelude.{IfSome};
 ghost use Rattle.fuse_wire.specs.Request.{IsSendable};
 
-use crate::calls::{is_written, is_written_again};
-use crate::tests::{Spelled, are_replies_kept, has_items};
-use crate::wide_vectors::*;
-use eden_base::{Attr, Errno, Kind, Name, NameFault, Number, Perm};
+use super::calls::{is_written, is_written_again};
+use super::wide_vectors::*;
+use super::{Spelled, are_replies_kept, has_items};
+use crate::again::parse;
+use eden_base::{Attr, Errno, Kind, Name, Number, Perm};
 use fuse_wire::{Answer, Ask, Item, Request};
 use std::alloc::Global;
 
@@ -26,14 +27,6 @@ enum Wish {
     Getattr,
     Open,
     Forget,
-}
-
-/// Makes the name, and once more where memory was refused.
-fn name(alloc: Global) -> Result<Name, NameFault> {
-    match Name::parse(alloc, b"name") {
-        Ok(name) => Ok(name),
-        Err(_refused) => Name::parse(alloc, b"name"),
-    }
 }
 
 /// Makes a request that goes to a name.
@@ -66,7 +59,7 @@ fn request(alloc: Global, wish: Wish) -> Option<Request>
         Wish::Getattr => Some(Request::Getattr { node }),
         Wish::Open => Some(Request::Other { opcode: 14, node }),
         Wish::Forget => Some(Request::Forget(ITEM)),
-        _ => named(wish, name(alloc).ok()?),
+        _ => named(wish, parse(alloc, b"name").ok()?),
     }
 }
 

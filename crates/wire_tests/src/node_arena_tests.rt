@@ -319,8 +319,8 @@ fn next_random(state: u64) -> u64 {
         .wrapping_add(1_442_695_040_888_963_407)
 }
 
-/// Adds a value to the arena, and to a list, the most recently used first. Returns whether a value comes back just where
-/// the arena is full.
+/// Adds a value to the arena, and to a list, the most recently used first. Returns whether a value comes back just
+/// where the arena is full.
 fn are_added(nodes: &mut Nodes<u64>, list: &mut Vec<(Slot, u64)>, value: u64) -> bool {
     match nodes.add(value) {
         Ok(slot) => list.insert(0, (slot, value)).is_ok(),

@@ -1,6 +1,7 @@
 //! What a test does with a broker and hears of it, as data, so that a test is a table.
+use crate::again::parse;
 use broker_core::{Broker, DeliverFault, IssueFault, MountFault, PostFault, Seat, TakeFault};
-use eden_base::{Attr, ClaimFault, DaemonId, Errno, Kind, Name, Number, Perm};
+use eden_base::{Attr, ClaimFault, DaemonId, Errno, Kind, Number, Perm};
 use fuse_wire::{Answer, Batch, Item, Reply, Request};
 use std::alloc::Global;
 
@@ -75,14 +76,6 @@ pub enum Deed {
     Stand(u64, [u64; 3]),
 }
 
-/// Makes a name, and once more where memory was refused.
-fn name(alloc: Global) -> Option<Name> {
-    match Name::parse(alloc, b"name") {
-        Ok(name) => Some(name),
-        Err(_refused) => Name::parse(alloc, b"name").ok(),
-    }
-}
-
 /// Makes a batch of one item, and once more where memory was refused.
 fn batch(alloc: Global, item: Item) -> Option<Batch> {
     let items = [item];
@@ -104,7 +97,7 @@ fn request(alloc: Global, wish: Wish) -> Option<Request> {
     match wish {
         Wish::LookUp => Some(Request::Lookup {
             dir: Number::ROOT,
-            name: name(alloc)?,
+            name: parse(alloc, b"name").ok()?,
         }),
         Wish::Getattr(node) => Some(Request::Getattr { node: Number(node) }),
         Wish::Forget(node, k) => Some(Request::Forget(item(node, k))),

@@ -1,6 +1,8 @@
 //! Names of all kinds, limits, and that calls succeed: where one allocation is refused, those that take memory tell so,
-//! and succeed when they are made once more. So every test passes under `rt try --test --fail-alloc N`, for each N.
-use eden_base::{Name, NameFault, NameRoom, NoMemory, Perm};
+//! and succeed when they are made once more. So every test here passes under `rt try --test --fail-alloc N`, for
+//! each N.
+use crate::again::{parse, room};
+use eden_base::{Name, NameFault, NoMemory, Perm};
 use std::alloc::Global;
 use std::cmp::Ordering;
 use std::test::Fail;
@@ -8,28 +10,11 @@ use std::test::Fail;
 /// As many bytes as a name can have.
 static LONGEST: [u8; 255] = [b'n'; 255];
 
-/// Calls `Name::parse`, and once more where memory was refused.
-fn parse(alloc: Global, bytes: &[u8]) -> Result<Name, NameFault> {
-    match Name::parse(alloc, bytes) {
-        Ok(name) => Ok(name),
-        Err(NameFault::NoMemory) => Name::parse(alloc, bytes),
-        Err(fault) => Err(fault),
-    }
-}
-
 /// Calls `Name::copy`, and once more where memory was refused.
 fn copy(alloc: Global, name: &Name) -> Result<Name, NoMemory> {
     match name.copy(alloc) {
         Ok(copy) => Ok(copy),
         Err(NoMemory) => name.copy(alloc),
-    }
-}
-
-/// Calls `NameRoom::new`, and once more where memory was refused.
-fn room(alloc: Global) -> Result<NameRoom, NoMemory> {
-    match NameRoom::new(alloc) {
-        Ok(room) => Ok(room),
-        Err(NoMemory) => NameRoom::new(alloc),
     }
 }
 

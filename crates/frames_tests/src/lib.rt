@@ -1,7 +1,0 @@
-//! Tests of `frames` by its public calls.
-#![tactic(auto)]
-
-#[cfg(test)]
-mod tests;
-#[cfg(test)]
-mod vectors;

@@ -1,0 +1,15 @@
+//! Tests of `eden_base`, `node_arena`, `fuse_wire`, `broker_core` and `frames` by their public calls.
+#![tactic(auto)]
+
+#[cfg(test)]
+mod again;
+#[cfg(test)]
+mod broker_core_tests;
+#[cfg(test)]
+mod eden_base_tests;
+#[cfg(test)]
+mod frames_tests;
+#[cfg(test)]
+mod fuse_wire_tests;
+#[cfg(test)]
+mod node_arena_tests;
