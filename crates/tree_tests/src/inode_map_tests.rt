@@ -1,11 +1,13 @@
 //! Which numbers an inode map gives, and which files they name in a tree.
+mod sequence_tests;
+
 ghost use Rattle.std.specs.Prelude.{◌+◌, ◌<◌, ◌≤◌};
 ghost use Rattle.eden_base.specs.Limits.{end_of_numbers};
 
+use crate::again::{parsed, tree_of};
 use checkout::Tree;
 use eden_base::{Attr, FileId, Kind, Name, NoMemory, Number, Perm, Place};
 use inode_map::{Forgot, GiveFault, InodeMap, Kept};
-use manifest::Manifest;
 use std::alloc::{AllocError, Global};
 
 /// Gives the number of a name, and gives it again where memory was short.
@@ -24,38 +26,6 @@ fn given_below(alloc: Global, map: &mut InodeMap, name: &Name, depth: u64) -> Op
         last = given(alloc, map, last, name)?;
     }
     Some(last)
-}
-
-/// Parses a name, and parses it again where memory was short.
-fn parsed(alloc: Global, bytes: &[u8]) -> Option<Name> {
-    match Name::parse(alloc, bytes) {
-        Ok(name) => Some(name),
-        Err(_refused) => Name::parse(alloc, bytes).ok(),
-    }
-}
-
-/// Reads a manifest, and reads it again where memory was short.
-fn read(alloc: Global, text: &[u8]) -> Option<Manifest> {
-    match Manifest::read(alloc, text) {
-        Ok(manifest) => Some(manifest),
-        Err(_refused) => Manifest::read(alloc, text).ok(),
-    }
-}
-
-/// Makes the tree of a manifest, and makes it again where memory was short.
-fn tree_again(alloc: Global, manifest: &Manifest) -> Option<Tree> {
-    match Tree::of(alloc, manifest) {
-        Ok(tree) => Some(tree),
-        Err(_refused) => Tree::of(alloc, manifest).ok(),
-    }
-}
-
-/// Makes the tree of a text.
-fn tree_of(alloc: Global, text: &[u8]) -> Option<Tree> {
-    let manifest = read(alloc, text)?;
-    let tree = tree_again(alloc, &manifest);
-    drop(manifest);
-    tree
 }
 
 /// Writes a path's line, and makes the path one directory deeper.
@@ -535,7 +505,8 @@ fn tells_what_each_forget_comes_to(rt: HostRuntime) {
     assert!(rt; all_go_so(rt.alloc(), 1, &FORGOTTEN));
 }
 
-/// A map of one entry, under a name of the root, whose number is the last, and which is held as often as may be but once.
+/// A map of one entry, under a name of the root, whose number is the last, and which is held as often as may be
+/// but once.
 static AT_THE_ENDS: [Deed; 9] = [
     Deed::At(9223372036854775807, 0),
     Deed::Give(1, b"src", 9223372036854775806),

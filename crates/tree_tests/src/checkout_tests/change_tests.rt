@@ -1,5 +1,5 @@
 //! What tells a tree from its manifest's, as names come and go.
-use crate::deeds::{Deed, all_go_so};
+use super::deeds::{Deed, all_go_so};
 use crate::small::SMALL;
 use eden_base::Kind;
 

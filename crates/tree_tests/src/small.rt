@@ -1,6 +1,4 @@
 //! A small manifest, which the tests share.
-use manifest::{Manifest, ManifestFault};
-use std::alloc::Global;
 
 pub(crate) const SMALL: &[u8] =
     b"commit 0123456789abcdef0123456789abcdef01234567\ndir src\nfile 0644 12 src/a\nfile 0755 0 src/b\nfile 0644 7 README\n";
@@ -10,11 +8,3 @@ pub(crate) const COMMIT: [u8; 20] = [
     0x01, 0x23, 0x45, 0x67, 0x89, 0xab, 0xcd, 0xef, 0x01, 0x23, 0x45, 0x67, 0x89, 0xab, 0xcd, 0xef,
     0x01, 0x23, 0x45, 0x67,
 ];
-
-/// Reads a text, once more where it was refused: a text that is read was refused for memory alone.
-pub(crate) fn read_again(alloc: Global, text: &[u8]) -> Result<Manifest, ManifestFault> {
-    match Manifest::read(alloc, text) {
-        Ok(manifest) => Ok(manifest),
-        Err(_) => Manifest::read(alloc, text),
-    }
-}

@@ -1,6 +1,7 @@
 //! Trees that are made of changes, and the first change that no tree has.
-use crate::deeds::{MadeRow, Named, differs, parsed};
-use crate::small::{SMALL, read_again};
+use super::deeds::{MadeRow, Named, differs};
+use crate::again::{parsed, read_again};
+use crate::small::SMALL;
 use checkout::{ChangeFault, Changes, LinkList, Made, MadeList, Tree};
 use eden_base::{FileId, Kind, Perm};
 use manifest::{LinkChange, Manifest};

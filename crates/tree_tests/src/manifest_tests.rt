@@ -1,10 +1,9 @@
 //! What a small manifest says, and the first fault of lines that are none.
+use crate::again::read_again;
+use crate::small::SMALL;
 use eden_base::{FileId, Kind, NoMemory};
 use manifest::{Line, Manifest, ManifestFault, ManifestFaultKind};
 use std::alloc::{AllocError, Global};
-
-const SMALL: &[u8] =
-    b"commit 0123456789abcdef0123456789abcdef01234567\ndir src\nfile 0644 12 src/a\nfile 0755 0 src/b\nfile 0644 7 README\n";
 
 const HEAD: &[u8] = b"commit 0123456789abcdef0123456789abcdef01234567\n";
 
@@ -306,14 +305,6 @@ fn shares_small(manifest: &Manifest) -> bool {
     match manifest.share() {
         Ok(shared) => is_small(&shared),
         Err(NoMemory) => false,
-    }
-}
-
-/// Reads a text, once more where it was refused: a text that is read was refused for memory alone.
-fn read_again(alloc: Global, text: &[u8]) -> Result<Manifest, ManifestFault> {
-    match Manifest::read(alloc, text) {
-        Ok(manifest) => Ok(manifest),
-        Err(_) => Manifest::read(alloc, text),
     }
 }
 

@@ -1,5 +1,5 @@
 //! What a tree tells of its files, as they come and go.
-use crate::deeds::{Deed, all_go_so};
+use super::deeds::{Deed, all_go_so};
 use crate::small::{COMMIT, SMALL};
 use eden_base::{FileId, Kind, Number, Perm};
 

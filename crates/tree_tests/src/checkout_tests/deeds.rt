@@ -1,8 +1,8 @@
 //! What a test does with a tree and finds in it, as data, so that a test is a table.
-use crate::small::read_again;
+use crate::again::{parsed, tree_of};
 use checkout::{Changes, CreateFault, Made, Tree};
 use eden_base::{FileId, Kind, Name, NoMemory, Perm};
-use manifest::{LinkChange, Manifest};
+use manifest::LinkChange;
 use std::alloc::Global;
 
 /// A file that was made: its id, kind and permissions.
@@ -32,34 +32,6 @@ pub enum Deed {
     Commit(&'static [u8; 20]),
     /// Differs from the manifest's tree by these files, by these names, and by the next file.
     Differ(&'static [MadeRow], &'static [Named], u64),
-}
-
-/// Makes the tree of a manifest, again where memory was refused.
-fn tree_again(alloc: Global, manifest: &Manifest) -> Option<Tree> {
-    match Tree::of(alloc, manifest) {
-        Ok(tree) => Some(tree),
-        Err(NoMemory) => Tree::of(alloc, manifest).ok(),
-    }
-}
-
-/// Makes the tree of a text, again where memory was refused.
-fn tree_of(alloc: Global, text: &[u8]) -> Option<Tree> {
-    match read_again(alloc, text) {
-        Ok(manifest) => {
-            let tree = tree_again(alloc, &manifest);
-            drop(manifest);
-            tree
-        }
-        Err(_) => None,
-    }
-}
-
-/// Returns a name, which it makes once more where memory was refused.
-pub(crate) fn parsed(alloc: Global, name: &[u8]) -> Option<Name> {
-    match Name::parse(alloc, name) {
-        Ok(name) => Some(name),
-        Err(_) => Name::parse(alloc, name).ok(),
-    }
 }
 
 /// Makes a file where the call's conditions hold.
