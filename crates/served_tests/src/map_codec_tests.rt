@@ -1,15 +1,22 @@
-//! Images from outside, each of their cuts and changes, and limits. Where one allocation is refused, the calls that take
-//! memory tell so, and succeed when they are made once more, as under `rt try --test --fail-alloc N`.
+//! Images from outside, each of their cuts and changes, and limits. Where one allocation is refused, the calls that
+//! take memory tell so, and succeed when they are made once more, as under `rt try --test --fail-alloc N`.
+mod deeds;
+mod deep_tests;
+mod limit_tests;
+mod raise_tests;
+mod vectors;
+
 ghost use Rattle.std.specs.Prelude.{◌≡◌, IfOk, IsTrue};
 ghost use Rattle.map_codec.specs.Fit.{CountsFit, IsFit};
 
-use crate::deeds::{Deed, all_go_so};
-use crate::vectors::{CHANGED, LOOKED_UP, MOVED};
+use crate::again::{name_of, served_of};
+use crate::map_codec_tests::deeds::{Deed, all_go_so};
+use crate::map_codec_tests::vectors::{CHANGED, LOOKED_UP, MOVED};
 use checkout::ManifestBacking;
-use eden_base::{Errno, Name, NameFault, NoMemory, Number, Perm};
+use eden_base::{Errno, NameFault, NoMemory, Number, Perm};
 use fuse_ops::Served;
 use fuse_wire::{Answer, Request};
-use manifest::{Manifest, ManifestFault};
+use manifest::Manifest;
 use map_codec::{Entries, Image, ImageFault, WriteFault, image_of, read, write};
 use std::alloc::{AllocError, Global};
 
@@ -278,24 +285,6 @@ fn writes_65000_bytes_at_most(rt: HostRuntime) {
     assert!(rt; writes_no_more(rt.alloc()));
 }
 
-/// Reads a manifest, and once more where memory was refused.
-pub fn manifest_of(alloc: Global, text: &[u8]) -> Result<Manifest, ManifestFault> {
-    match Manifest::read(alloc, text) {
-        Ok(manifest) => Ok(manifest),
-        Err(_refused) => Manifest::read(alloc, text),
-    }
-}
-
-/// Begins to serve, and once more where memory was refused.
-fn served_of(alloc: Global, manifest: &Manifest) -> Result<Served, NoMemory>
-    ensures manifest { IfOk result (λ served. served.tree.manifest ≡ manifest.now) }
-{
-    match Served::new(alloc, manifest, 8) {
-        Ok(served) => Ok(served),
-        Err(NoMemory) => Served::new(alloc, manifest, 8),
-    }
-}
-
 /// Calls `image_of`, and once more where memory was refused.
 fn image_taken(alloc: Global, served: &Served) -> Result<Image, NoMemory>
     ensures fit { IfOk result IsFit }
@@ -303,14 +292,6 @@ fn image_taken(alloc: Global, served: &Served) -> Result<Image, NoMemory>
     match image_of(alloc, served, 1) {
         Ok(image) => Ok(image),
         Err(NoMemory) => image_of(alloc, served, 1),
-    }
-}
-
-/// Parses a name, and once more where memory was refused.
-fn name_of(alloc: Global, bytes: &[u8]) -> Result<Name, NameFault> {
-    match Name::parse(alloc, bytes) {
-        Ok(name) => Ok(name),
-        Err(_refused) => Name::parse(alloc, bytes),
     }
 }
 
@@ -407,7 +388,7 @@ pub(crate) fn is_spelled_after(
     askings: &[Asking],
     bytes: &[u8],
 ) -> bool {
-    match served_of(alloc, manifest) {
+    match served_of(alloc, manifest, 8) {
         Ok(mut served) => {
             let so = asks_and_spells(alloc, &mut served, manifest, askings, bytes);
             drop(served);

@@ -3,6 +3,7 @@ ghost use Rattle.std.specs.Prelude.{◌≡◌, if◌then◌else◌, IfSome};
 ghost use Rattle.manifest.specs.Tree.{file_of, tree_of};
 ghost use Rattle.fuse_ops.specs.Served.{new_served};
 
+use crate::again::manifest_of;
 use checkout::{Backing, BackingFault, ManifestBacking};
 use eden_base::{Attr, Errno, FileId, Kind, Name, NoMemory, Number, Perm};
 use fuse_ops::Served;
@@ -108,14 +109,6 @@ impl Model for Hosted {
     ghost invariant = { λ h. h.served.tree.manifest ≡ h.manifest };
 }
 
-/// Reads a text, and reads it again where memory was refused.
-fn read_again(alloc: Global, text: &[u8]) -> Option<Manifest> {
-    match Manifest::read(alloc, text) {
-        Ok(manifest) => Some(manifest),
-        Err(_refused) => Manifest::read(alloc, text).ok(),
-    }
-}
-
 /// Serves a manifest, again where memory was refused.
 fn served_of(alloc: Global, manifest: &Manifest, limit: usize) -> Option<Served>
     ensures served { IfSome result (λ served. served ≡ new_served manifest.now limit) }
@@ -129,7 +122,7 @@ fn served_of(alloc: Global, manifest: &Manifest, limit: usize) -> Option<Served>
 impl Hosted {
     /// Serves a text.
     fn of(alloc: Global, text: &[u8], limit: usize) -> Option<Hosted> {
-        let manifest = read_again(alloc, text)?;
+        let manifest = manifest_of(alloc, text).ok()?;
         match served_of(alloc, &manifest, limit) {
             Some(served) => Some(Hosted { served, manifest }),
             None => {

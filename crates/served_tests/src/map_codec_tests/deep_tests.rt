@@ -1,8 +1,8 @@
 //! Entries that stand in one another, so deep that a walk up may not take stack for each, and in a circle.
-use crate::deeds::{Deed, all_go_so};
-use crate::raise_tests::comes_to;
-use crate::tests::put;
-use crate::vectors::CHANGED;
+use super::deeds::{Deed, all_go_so};
+use super::put;
+use super::raise_tests::comes_to;
+use super::vectors::CHANGED;
 use manifest::Manifest;
 use map_codec::RaiseFault;
 use std::alloc::{AllocError, Global};

@@ -1,10 +1,10 @@
 //! What is answered where a count, or the numbers, came to their end before the image was taken.
 ghost use Rattle.std.specs.Prelude.{◌≡◌};
 
-use crate::deeds::{Deed, all_go_so};
-use crate::raise_tests::raised;
-use crate::tests::{Asking, Asks, answer_to, is_spelled, request_of};
-use crate::vectors::CHANGED;
+use super::deeds::{Deed, all_go_so};
+use super::raise_tests::raised;
+use super::vectors::CHANGED;
+use super::{Asking, Asks, answer_to, is_spelled, request_of};
 use eden_base::{Errno, Number};
 use fuse_ops::Served;
 use fuse_wire::Answer;

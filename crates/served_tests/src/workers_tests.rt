@@ -1,6 +1,7 @@
 //! What a round leaves, by what its channels hold.
 ghost use Rattle.std.specs.Prelude.{◌≡◌, ◌≤◌, vec_len, IfOk};
 
+use crate::listed::LISTED;
 use checkout::ManifestBacking;
 use eden_base::{NoMemory, Number};
 use fuse_ops::Served;
@@ -19,11 +20,6 @@ use workers::{
     Channel, Gate, MAX_CHANNELS, MemoryChannel, OpenGate, Posted, Receipts, Round, RoundFault,
     Stop, Taken, drain, serve_round,
 };
-
-const LISTED: &[u8] = b"commit 8f14e45fceea167a5a36dedd4bea2543a1b2c3d4
-dir lib
-file 0644 5 lib/x
-";
 
 /// How often a gate looks, a millisecond apart.
 const LOOKS: u32 = 10_000;
@@ -311,8 +307,8 @@ fn round_again<R: Threads + Wait + Sync>(
     }
 }
 
-/// Returns whether a round of one ask each, of these uniques, has the ask of unique 2 first in its journal, and is settled
-/// exactly where no receipt is taken out of it.
+/// Returns whether a round of one ask each, of these uniques, has the ask of unique 2 first in its journal, and is
+/// settled exactly where no receipt is taken out of it.
 fn serves_second_first<R: Threads + Wait + Clock + Sync>(
     rt: &R,
     alloc: Global,

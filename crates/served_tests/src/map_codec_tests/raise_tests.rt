@@ -1,9 +1,9 @@
 //! What is raised from images, and the first that stands against others.
 ghost use Rattle.std.specs.Prelude.{◌≡◌, IfOk};
 
-use crate::deeds::{Deed, all_go_so};
-use crate::tests::{all, image_of_bytes, is_spelled};
-use crate::vectors::{CHANGED, LOOKED_UP, MOVED};
+use super::deeds::{Deed, all_go_so};
+use super::vectors::{CHANGED, LOOKED_UP, MOVED};
+use super::{all, image_of_bytes, is_spelled};
 use fuse_ops::Served;
 use manifest::Manifest;
 use map_codec::{RaiseFault, raise};

@@ -1,20 +1,16 @@
 //! What a daemon that answered a few requests hands over, and what is served again of it. A call that is refused memory
 //! says so, and is made once more: so each allocation can be refused in turn (`rt try --test --fail-alloc N`).
-ghost use Rattle.std.specs.Prelude.{◌≡◌, IfOk};
+ghost use Rattle.std.specs.Prelude.{◌≡◌};
 
+use crate::again::{manifest_of, name_of, served_of};
+use crate::listed::LISTED;
 use checkout::ManifestBacking;
-use eden_base::{Errno, Name, NameFault, NoMemory, Number, Perm};
+use eden_base::{Errno, NameFault, NoMemory, Number, Perm};
 use fuse_ops::Served;
 use fuse_wire::{Answer, Request};
 use handover::{HandoverFault, hand_over, take_over};
-use manifest::{Manifest, ManifestFault};
+use manifest::Manifest;
 use std::alloc::Global;
-
-/// A directory with one file.
-const LISTED: &[u8] = b"commit 8f14e45fceea167a5a36dedd4bea2543a1b2c3d4
-dir lib
-file 0644 5 lib/x
-";
 
 /// What the kernel asks for: an operation, a directory's number, and a name in it.
 type Wish = (Operation, u64, &'static [u8]);
@@ -34,35 +30,9 @@ static WISHES: [Wish; 4] = [
     (Operation::Unlink, 2, b"x"),
 ];
 
-/// Reads the manifest.
-fn manifest(alloc: Global) -> Result<Manifest, ManifestFault> {
-    match Manifest::read(alloc, LISTED) {
-        Ok(manifest) => Ok(manifest),
-        Err(_refused) => Manifest::read(alloc, LISTED),
-    }
-}
-
-/// Begins to serve.
-fn begun(alloc: Global, manifest: &Manifest) -> Result<Served, NoMemory>
-    ensures over { IfOk result (λ served. served.tree.manifest ≡ manifest.now) }
-{
-    match Served::new(alloc, manifest, 4) {
-        Ok(served) => Ok(served),
-        Err(NoMemory) => Served::new(alloc, manifest, 4),
-    }
-}
-
-/// Parses a name.
-fn name(alloc: Global, bytes: &[u8]) -> Result<Name, NameFault> {
-    match Name::parse(alloc, bytes) {
-        Ok(name) => Ok(name),
-        Err(_refused) => Name::parse(alloc, bytes),
-    }
-}
-
 /// Makes the request of a wish.
 fn request(alloc: Global, wish: Wish) -> Result<Request, NameFault> {
-    let name = name(alloc, wish.2)?;
+    let name = name_of(alloc, wish.2)?;
     let dir = Number(wish.1);
     Ok(match wish.0 {
         Operation::Lookup => Request::Lookup { dir, name },
@@ -209,7 +179,7 @@ fn holds_for(alloc: Global, served: &Served, manifest: &Manifest, fact: Fact) ->
 
 /// Returns whether a fact holds of a daemon that was asked the wishes.
 fn holds_after(alloc: Global, manifest: &Manifest, fact: Fact) -> bool {
-    match begun(alloc, manifest) {
+    match served_of(alloc, manifest, 4) {
         Ok(mut served) => {
             answer_all(alloc, &mut served, manifest, &WISHES);
             let holds = holds_for(alloc, &served, manifest, fact);
@@ -222,7 +192,7 @@ fn holds_after(alloc: Global, manifest: &Manifest, fact: Fact) -> bool {
 
 /// Returns whether a fact holds.
 fn holds(alloc: Global, fact: Fact) -> bool {
-    match manifest(alloc) {
+    match manifest_of(alloc, LISTED) {
         Ok(manifest) => {
             let holds = holds_after(alloc, &manifest, fact);
             drop(manifest);

@@ -1,5 +1,0 @@
-//! Tests of `handover` by its public calls.
-#![tactic(auto)]
-
-#[cfg(test)]
-mod tests;

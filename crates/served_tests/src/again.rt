@@ -1,0 +1,37 @@
+//! Calls that take memory, each made once more where it was refused.
+ghost use Rattle.std.specs.Prelude.{◌≡◌, IfOk};
+
+use eden_base::{Name, NameFault, NoMemory};
+use fuse_ops::Served;
+use manifest::{Manifest, ManifestFault};
+use std::alloc::Global;
+
+/// Reads a manifest, and once more where memory was refused.
+pub(crate) fn manifest_of(alloc: Global, text: &[u8]) -> Result<Manifest, ManifestFault> {
+    match Manifest::read(alloc, text) {
+        Ok(manifest) => Ok(manifest),
+        Err(_refused) => Manifest::read(alloc, text),
+    }
+}
+
+/// Begins to serve, and once more where memory was refused.
+pub(crate) fn served_of(
+    alloc: Global,
+    manifest: &Manifest,
+    limit: usize,
+) -> Result<Served, NoMemory>
+    ensures manifest { IfOk result (λ served. served.tree.manifest ≡ manifest.now) }
+{
+    match Served::new(alloc, manifest, limit) {
+        Ok(served) => Ok(served),
+        Err(NoMemory) => Served::new(alloc, manifest, limit),
+    }
+}
+
+/// Parses a name, and once more where memory was refused.
+pub(crate) fn name_of(alloc: Global, bytes: &[u8]) -> Result<Name, NameFault> {
+    match Name::parse(alloc, bytes) {
+        Ok(name) => Ok(name),
+        Err(_refused) => Name::parse(alloc, bytes),
+    }
+}

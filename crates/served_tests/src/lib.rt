@@ -1,0 +1,15 @@
+//! Tests of `fuse_ops`, `map_codec`, `handover`, `journal` and `workers` by their public calls.
+#![tactic(auto)]
+
+#[cfg(test)]
+mod again;
+#[cfg(test)]
+mod fuse_ops_tests;
+#[cfg(test)]
+mod handover_tests;
+#[cfg(test)]
+mod listed;
+#[cfg(test)]
+mod map_codec_tests;
+#[cfg(test)]
+mod workers_tests;
