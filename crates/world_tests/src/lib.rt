@@ -1,11 +1,7 @@
-//! Tests of `world` by its public calls.
+//! Tests of `daemon`, `world`, `script_lines` and `world_script` by their public calls.
 #![tactic(auto)]
 
 #[cfg(test)]
-mod deeds;
+mod world_script_tests;
 #[cfg(test)]
-mod orders;
-#[cfg(test)]
-mod refused_tests;
-#[cfg(test)]
-mod tests;
+mod world_tests;

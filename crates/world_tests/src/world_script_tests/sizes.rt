@@ -1,5 +1,5 @@
-//! Scripts beyond the sizes that worked rows have: many daemons, long names, many numbers in deep and wide trees, and as
-//! much under way as may be.
+//! Scripts beyond the sizes that worked rows have: many daemons, long names, many numbers in deep and wide trees, and
+//! as much under way as may be.
 use super::prints;
 use std::alloc::{AllocError, Global};
 

@@ -1,5 +1,11 @@
 //! Worked examples of whole lists of events.
-use crate::deeds::{Counts, Deed, Fact, Found, Look, Said, Told, Wish, all_count, all_go_so};
+mod deeds;
+mod orders;
+mod refused_tests;
+
+use crate::world_tests::deeds::{
+    Counts, Deed, Fact, Found, Look, Said, Told, Wish, all_count, all_go_so,
+};
 use eden_base::Errno;
 use inode_map::Forgot;
 use world::Refusal;

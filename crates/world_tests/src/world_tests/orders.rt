@@ -1,5 +1,5 @@
 //! Every order in which two asks and one forget on one number can go their ways.
-use crate::deeds::{Deed, Wish, event, is_put, manifest, room};
+use super::deeds::{Deed, Wish, event, is_put, manifest, room};
 use eden_base::{DaemonId, NoMemory, Number};
 use manifest::Manifest;
 use std::alloc::Global;

@@ -1,5 +1,5 @@
 //! How a world goes on where an event's allocation was refused.
-use crate::deeds::{Deed, Fact, Wish, counts, event, happened, new_world};
+use super::deeds::{Deed, Fact, Wish, counts, event, happened, new_world};
 use eden_base::DaemonId;
 use std::alloc::Global;
 use world::{Event, Happened, Outcome, Refusal, World};
@@ -161,8 +161,8 @@ fn finishes_from_nothing(alloc: Global) -> bool {
     }
 }
 
-/// Passes also where one allocation is refused: what a `do` made before it was refused stands, and the kernel is answered
-/// in the end.
+/// Passes also where one allocation is refused: what a `do` made before it was refused stands, and the kernel is
+/// answered in the end.
 #[test]
 fn finishes_a_do_after_memory_was_refused(rt: HostRuntime) {
     assert!(rt; finishes_from_nothing(rt.alloc()));

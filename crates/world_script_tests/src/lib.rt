@@ -1,5 +1,0 @@
-//! Tests of `world_script` by its public calls.
-#![tactic(auto)]
-
-#[cfg(test)]
-mod tests;
