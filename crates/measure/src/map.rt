@@ -1,26 +1,21 @@
-//! Makes maps and each call on a thousand of their numbers, so that the instructions of a call can be counted:
-//! `measure_map ENTRIES`. Without words it goes through 1,000, 8,000 and 64,000 entries. `measure_map ENTRIES holes` does
-//! so with a map in which every second number was forgotten; `measure_map ENTRIES given` makes a map of so many given
-//! entries in place of that.
-#![tactic(auto)]
-
+//! Makes a map and each call on a thousand of its numbers, so that the instructions of a call can be counted:
+//! `measure map ENTRIES`. `measure map ENTRIES holes` does so with a map in which every second number was forgotten;
+//! `measure map ENTRIES given` makes a map of so many given entries in place of that.
 ghost use Rattle.std.specs.Prelude.{◌≡◌, ◌<◌, IfOk, None, IsSome, false, length};
 ghost use Rattle.std.specs.List.{list_any};
 ghost use Rattle.entry_table.specs.Entries.{entry_of, is_kid_of, AreEntries, IsLinked};
 ghost use Rattle.inode_map.specs.InodeMap.{attr_of};
-ghost use Rattle.measure_map.specs.Chain.{IsChain};
+ghost use Rattle.measure.specs.Chain.{IsChain};
 
-use anyhow::Result;
+use crate::names::{fresh_name, name_of, parent_of};
+use crate::told::Told;
+use crate::words::number_at;
 use eden_base::{Attr, FileId, Kind, Name, NoMemory, Number, Perm, Place};
 use inode_map::{Forgot, GiveFault, InodeMap, Kept};
 use std::alloc::Global;
-use std::env;
 
 /// How many numbers of a map each call is made on.
 const SOUGHT: u64 = 1000;
-
-/// How many names stand in a directory, with its own.
-const EACH: u64 = 64;
 
 const LOADED_LIMIT: usize = 64;
 
@@ -33,31 +28,14 @@ struct Sought {
     fresh: Name,
 }
 
-/// Returns the directory of an entry, by the place that it was given at.
-fn parent_of(i: u64) -> Number {
-    if i % EACH == 0 {
-        Number::ROOT
-    } else {
-        Number((i - i % EACH).wrapping_add(2))
-    }
-}
-
-/// Returns the name of an entry.
-fn name_of(alloc: Global, i: u64) -> Result<Name> {
-    let text = if i % EACH == 0 {
-        format!(in alloc; "directory{i}")?
-    } else {
-        format!(in alloc; "file{i}.txt")?
-    };
-    Ok(Name::parse(alloc, text.as_bytes())?)
-}
-
 /// Gives an entry, by its place, a number, and forgets it where it is none of every so many.
-fn give_entry(alloc: Global, map: &mut InodeMap, i: u64, every: u64) -> Result<()> {
+fn give_entry(alloc: Global, map: &mut InodeMap, i: u64, every: u64) -> Result<(), NoMemory> {
     let name = name_of(alloc, i)?;
-    let given = map.give(alloc, parent_of(i), &name);
+    let given = map.give(alloc, Number(parent_of(i)), &name);
     drop(name);
-    let number = given?;
+    let Ok(number) = given else {
+        return Err(NoMemory);
+    };
     if every == 2 && i % 2 == 1 {
         map.forget(number, 1);
     }
@@ -65,25 +43,30 @@ fn give_entry(alloc: Global, map: &mut InodeMap, i: u64, every: u64) -> Result<(
 }
 
 /// Gives entries numbers, in directories of 63 files each, until so many of them are left.
-fn fill(alloc: Global, map: &mut InodeMap, entries: u64, every: u64) -> Result<()> {
+fn fill(alloc: Global, map: &mut InodeMap, entries: u64, every: u64) -> Result<(), NoMemory> {
     for i in 0..entries.wrapping_mul(every) {
         give_entry(alloc, map, i, every)?;
     }
     Ok(())
 }
 
+/// Returns the number of an entry, by its place, with a fresh name.
+fn sought_of(alloc: Global, i: u64, fresh: Name) -> Result<Sought, NoMemory> {
+    let name = name_of(alloc, i)?;
+    Ok(Sought {
+        number: Number(i.wrapping_add(2)),
+        parent: Number(parent_of(i)),
+        name,
+        fresh,
+    })
+}
+
 /// Lists numbers that lie evenly over those of a map.
-fn list_sought(alloc: Global, entries: u64, every: u64) -> Result<Vec<Sought>> {
+fn list_sought(alloc: Global, entries: u64, every: u64) -> Result<Vec<Sought>, NoMemory> {
     let mut list = Vec::new(alloc);
     for j in 0..SOUGHT {
         let i = j.wrapping_mul(entries / SOUGHT).wrapping_mul(every);
-        let fresh = format!(in alloc; "fresh{j}.txt")?;
-        list.push(Sought {
-            number: Number(i.wrapping_add(2)),
-            parent: parent_of(i),
-            name: name_of(alloc, i)?,
-            fresh: Name::parse(alloc, fresh.as_bytes())?,
-        })?;
+        list.push(sought_of(alloc, i, fresh_name(alloc, j)?)?)?;
     }
     Ok(list)
 }
@@ -237,10 +220,12 @@ fn unlink_lonely(map: &mut InodeMap, number: Number) {
 }
 
 /// Gives a number to each name that was not there, takes every second name away, and forgets the numbers.
-fn give_all_new(alloc: Global, map: &mut InodeMap, list: &[Sought]) -> Result<u64> {
+fn give_all_new(alloc: Global, map: &mut InodeMap, list: &[Sought]) -> Result<u64, NoMemory> {
     let mut dropped = 0u64;
     for sought in list {
-        let number = give_new(alloc, map, sought.parent, &sought.fresh)?;
+        let Ok(number) = give_new(alloc, map, sought.parent, &sought.fresh) else {
+            return Err(NoMemory);
+        };
         if number.0 % 2 == 0 {
             unlink_lonely(map, number);
         }
@@ -251,20 +236,25 @@ fn give_all_new(alloc: Global, map: &mut InodeMap, list: &[Sought]) -> Result<u6
     Ok(dropped)
 }
 
-/// What came of all calls: the attributes loaded, the sum of the answers, the numbers lowered, and those dropped.
-type Told = (u64, u64, u64, u64);
-
 /// Makes each call on the numbers of a list.
-fn call_all(alloc: Global, map: &mut InodeMap, list: &[Sought]) -> Result<Told> {
+fn call_all(alloc: Global, map: &mut InodeMap, list: &[Sought]) -> Result<Told, NoMemory> {
     let loaded = remember_all(map, list);
     let sum = read_all(map, list);
     let lowered = give_all_again(alloc, map, list);
     let dropped = give_all_new(alloc, map, list)?;
-    Ok((loaded, sum, lowered, dropped))
+    Ok(Told::of(
+        &["loaded", "lowered", "dropped", "sum"],
+        &[loaded, lowered, dropped, sum],
+    ))
 }
 
 /// Fills a map, and makes each call on it.
-fn fill_and_call(alloc: Global, map: &mut InodeMap, entries: u64, every: u64) -> Result<Told> {
+fn fill_and_call(
+    alloc: Global,
+    map: &mut InodeMap,
+    entries: u64,
+    every: u64,
+) -> Result<Told, NoMemory> {
     fill(alloc, map, entries, every)?;
     let list = list_sought(alloc, entries, every)?;
     let told = call_all(alloc, map, list.as_slice());
@@ -273,24 +263,15 @@ fn fill_and_call(alloc: Global, map: &mut InodeMap, entries: u64, every: u64) ->
 }
 
 /// Makes a map of so many entries, and each call on it.
-fn told_of(alloc: Global, entries: u64, every: u64) -> Result<Told> {
+fn told_of(alloc: Global, entries: u64, every: u64) -> Result<Told, NoMemory> {
     let mut map = InodeMap::new(alloc, LOADED_LIMIT)?;
     let told = fill_and_call(alloc, &mut map, entries, every);
     drop(map);
     told
 }
 
-/// Makes each call on a map of so many entries, which are each, or every second, of those that were given.
-fn measure(rt: &HostRuntime, entries: u64, every: u64) -> Result<()> {
-    let (loaded, sum, lowered, dropped) = told_of(rt.alloc(), entries, every)?;
-    println!(rt;
-        "{entries} entries: {loaded} loaded, {lowered} lowered, {dropped} dropped, sum {sum}"
-    )?;
-    Ok(())
-}
-
 /// Lists entries of which each stands in the directory of the number before it.
-fn list_chain(alloc: Global, entries: u32) -> Result<Vec<Kept>>
+fn list_chain(alloc: Global, entries: u32) -> Result<Vec<Kept>, NoMemory>
     ensures chain { IfOk result (λ list. IsChain 2 list.items) }
     ensures len { IfOk result (λ list. length list.items ≡ entries) }
 {
@@ -329,39 +310,27 @@ fn knows_last(alloc: Global, entries: Vec<Kept>, next: u64) -> Result<bool, NoMe
 }
 
 /// Makes that of so many entries.
-fn knows_last_of(alloc: Global, entries: u32) -> Result<bool> {
+fn knows_last_of(alloc: Global, entries: u32) -> Result<bool, NoMemory> {
     let list = list_chain(alloc, entries)?;
     let next = entries as u64 + 2;
-    Ok(knows_last(alloc, list, next)?)
+    knows_last(alloc, list, next)
 }
 
-/// Makes a map of given entries.
-fn measure_given(rt: &HostRuntime, entries: u32) -> Result<()> {
-    let known = knows_last_of(rt.alloc(), entries)?;
-    println!(rt; "{entries} given entries, the last known: {known}")?;
-    Ok(())
+/// Makes a map of given entries, and tells whether it knows the last.
+fn told_of_given(alloc: Global, entries: u32) -> Result<Told, NoMemory> {
+    let known = knows_last_of(alloc, entries)?;
+    Ok(Told::of(&["known"], &[u64::from(known)]))
 }
 
-/// Goes through all sizes.
-fn measure_all(rt: &HostRuntime) -> Result<()> {
-    for entries in [1000, 8000, 64000] {
-        measure(rt, entries, 1)?;
-    }
-    for entries in [1000, 8000, 65536] {
-        measure_given(rt, entries)?;
-    }
-    Ok(())
-}
-
-fn main(rt: HostRuntime) -> Result<()> {
-    let mut words = env::args(&rt)?.skip(1);
-    let Some(word) = words.next() else {
-        return measure_all(&rt);
+/// Makes each call on a map, or a map of given entries, as words say.
+pub(crate) fn measure(alloc: Global, words: &[&str]) -> Result<Option<Told>, NoMemory> {
+    let Some(entries) = number_at(words, 0) else {
+        return Ok(None);
     };
-    let entries = word.as_str().parse::<u32>().unwrap_or(1000);
-    match words.next() {
-        None => measure(&rt, entries as u64, 1),
-        Some(word) if word.as_str() == "holes" => measure(&rt, entries as u64, 2),
-        Some(_) => measure_given(&rt, entries),
+    match words {
+        [_] => told_of(alloc, u64::from(entries), 1).map(Some),
+        [_, "holes"] => told_of(alloc, u64::from(entries), 2).map(Some),
+        [_, "given"] => told_of_given(alloc, entries).map(Some),
+        _ => Ok(None),
     }
 }

@@ -10,7 +10,7 @@ use Rattle.eden_base.specs.declared.place.Place.TheVariants.{Linked}
 use Rattle.entry_table.proofs.Places.{place-stands, stands-place}
 use Rattle.entry_table.specs.Entries.{entry_of, entry_at, stands_at, is_kid_of, is_of_use, AreNumbers, AreApart, AreEntries}
 use Rattle.entry_table.specs.declared.kept.Kept.{Kept}
-use Rattle.measure_map.specs.Chain.{IsBelow, IsChain}
+use Rattle.measure.specs.Chain.{IsBelow, IsChain}
 
 pub chain-more : (es : List Kept) (n : ℕ) (x : Kept) → IsChain n es → x.number.0 ≡ n + length es → x.count ≡ 1 → IsBelow (n + length es) x.place → IsChain n (es ++ x ∷ [])
 chain-more [] n x chain number once below = (let e : n + 0 ≡ n = omega arith in number ∙ e, once, subst (λ (m : ℕ). IsBelow m x.place) (omega arith) below, tt)

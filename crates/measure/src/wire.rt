@@ -1,11 +1,11 @@
 //! Reads requests of one form again and again, so that the instructions of a read can be counted:
-//! `measure_wire FORM ROUNDS`. Without words it reads each form a few times.
-#![tactic(auto)]
-
-use anyhow::Result;
+//! `measure wire FORM ROUNDS`.
+use crate::bytes::put_all;
+use crate::told::Told;
+use crate::words::number_at;
+use eden_base::NoMemory;
 use fuse_wire::{Ask, Items, WireFault, read_items, read_request};
 use std::alloc::{AllocError, Global};
-use std::env;
 
 /// How many messages of one form there are, so that no two reads in a row are of the same bytes.
 const MESSAGES: u32 = 64;
@@ -24,16 +24,26 @@ const FORMS: [&str; 11] = [
     "bad-name",
 ];
 
-/// Returns the opcode and the body of a form.
-fn body_of(alloc: Global, form: &str) -> Result<(u8, Vec<u8>), AllocError> {
+/// Returns the opcode of a form.
+fn opcode_of(form: &str) -> u8 {
     match form {
-        "getattr" => Ok((3, Vec::from_slice(alloc, &[0; 16])?)),
-        "forget" | "forget-items" => Ok((2, Vec::from_slice(alloc, &[1, 0, 0, 0, 0, 0, 0, 0])?)),
-        "batch" | "batch-items" => Ok((42, batch(alloc, 0)?)),
-        "bad-count" => Ok((42, batch(alloc, 1)?)),
-        "bad-body" => Ok((1, Vec::from_slice(alloc, b"src")?)),
-        "bad-name" => Ok((1, Vec::from_slice(alloc, b"a/b\0")?)),
-        _ => Ok((1, Vec::from_slice(alloc, b"src\0")?)),
+        "getattr" => 3,
+        "forget" | "forget-items" => 2,
+        "batch" | "batch-items" | "bad-count" => 42,
+        _ => 1,
+    }
+}
+
+/// Returns the body of a form.
+fn body_of(alloc: Global, form: &str) -> Result<Vec<u8>, AllocError> {
+    match form {
+        "getattr" => Vec::from_slice(alloc, &[0; 16]),
+        "forget" | "forget-items" => Vec::from_slice(alloc, &[1, 0, 0, 0, 0, 0, 0, 0]),
+        "batch" | "batch-items" => batch(alloc, 0),
+        "bad-count" => batch(alloc, 1),
+        "bad-body" => Vec::from_slice(alloc, b"src"),
+        "bad-name" => Vec::from_slice(alloc, b"a/b\0"),
+        _ => Vec::from_slice(alloc, b"src\0"),
     }
 }
 
@@ -41,31 +51,40 @@ fn body_of(alloc: Global, form: &str) -> Result<(u8, Vec<u8>), AllocError> {
 fn batch(alloc: Global, excess: u8) -> Result<Vec<u8>, AllocError> {
     let mut body = Vec::from_slice(alloc, &[excess, 1, 0, 0, 0, 0, 0, 0])?;
     for i in 0..256u64 {
-        body.extend_from_slice(&i.to_le_bytes())?;
-        body.extend_from_slice(&1u64.to_le_bytes())?;
+        let node = i.to_le_bytes();
+        put_all(&mut body, &[node.as_slice(), &[1, 0, 0, 0, 0, 0, 0, 0]])?;
     }
     Ok(body)
 }
 
-/// Writes a message of a form, with this unique, on the root.
-fn message(alloc: Global, form: &str, unique: u32) -> Result<Vec<u8>, AllocError> {
-    let (opcode, body) = body_of(alloc, form)?;
+/// Writes a message of a form, with this unique and body, on the root.
+fn spell(alloc: Global, form: &str, unique: u32, body: &[u8]) -> Result<Vec<u8>, AllocError> {
     let excess = if form == "bad-length" { 1 } else { 0 };
-    let len = body.len().wrapping_add(40).wrapping_add(excess) as u64;
-    let mut bytes = Vec::from_slice(alloc, &len.to_le_bytes()[..4])?;
-    bytes.extend_from_slice(&[opcode, 0, 0, 0])?;
-    bytes.extend_from_slice(&u64::from(unique).to_le_bytes())?;
-    bytes.extend_from_slice(&1u64.to_le_bytes())?;
-    bytes.extend_from_slice(&[0; 16])?;
-    bytes.extend_from_slice(body.as_slice())?;
+    let len = (body.len().wrapping_add(40).wrapping_add(excess) as u64).to_le_bytes();
+    let opcode = [opcode_of(form), 0, 0, 0];
+    let unique = u64::from(unique).to_le_bytes();
+    let root = 1u64.to_le_bytes();
+    let mut bytes = Vec::new(alloc);
+    put_all(
+        &mut bytes,
+        &[&len[..4], &opcode, &unique, &root, &[0; 16], body],
+    )?;
     if form == "short" {
         bytes.truncate(39);
     }
     Ok(bytes)
 }
 
+/// Writes a message of a form, with this unique.
+fn message(alloc: Global, form: &str, unique: u32) -> Result<Vec<u8>, AllocError> {
+    let body = body_of(alloc, form)?;
+    let message = spell(alloc, form, unique, body.as_slice());
+    drop(body);
+    message
+}
+
 /// Writes the messages of a form.
-fn messages(alloc: Global, form: &str) -> Result<Vec<Vec<u8>>> {
+fn messages(alloc: Global, form: &str) -> Result<Vec<Vec<u8>>, AllocError> {
     let mut texts = Vec::new(alloc);
     for unique in 0..MESSAGES {
         texts.push(message(alloc, form, unique)?)?;
@@ -133,30 +152,40 @@ fn round(
     Ok(told)
 }
 
-/// Says of how many reads of a form how many gave a request.
-fn measure(rt: &HostRuntime, form: &str, rounds: u32) -> Result<()> {
-    let texts = messages(rt.alloc(), form)?;
-    let mut asks = Vec::with_capacity(rt.alloc(), MESSAGES as usize)?;
+/// Reads messages so many times.
+fn read_rounds(
+    alloc: Global,
+    form: &str,
+    texts: &[Vec<u8>],
+    rounds: u32,
+) -> Result<(usize, u64), AllocError> {
+    let mut asks = Vec::with_capacity(alloc, MESSAGES as usize)?;
     let mut read = 0usize;
     let mut sum = 0u64;
     for _ in 0..rounds {
-        let (more, told) = round(rt.alloc(), form, texts.as_slice(), &mut asks)?;
+        let (more, told) = round(alloc, form, texts, &mut asks)?;
         read = read.wrapping_add(more);
         sum = sum.wrapping_add(told);
     }
-    let all = u64::from(rounds).wrapping_mul(u64::from(MESSAGES));
-    println!(rt; "{form}: {read} of {all} read, sum {sum}")?;
-    Ok(())
+    Ok((read, sum))
 }
 
-fn main(rt: HostRuntime) -> Result<()> {
-    let mut words = env::args(&rt)?.skip(1);
-    if let Some(form) = words.next() {
-        let rounds = words.next().and_then(|word| word.parse::<u32>().ok());
-        return measure(&rt, form.as_str(), rounds.unwrap_or(1000));
+/// Reads the messages of a form so many times.
+fn read_form(alloc: Global, form: &str, rounds: u32) -> Result<(usize, u64), AllocError> {
+    let texts = messages(alloc, form)?;
+    let told = read_rounds(alloc, form, texts.as_slice(), rounds);
+    drop(texts);
+    told
+}
+
+/// Reads the messages of a form, as words say.
+pub(crate) fn measure(alloc: Global, words: &[&str]) -> Result<Option<Told>, NoMemory> {
+    let (Some(form), Some(rounds)) = (words.first(), number_at(words, 1)) else {
+        return Ok(None);
+    };
+    if !FORMS.contains(form) {
+        return Ok(None);
     }
-    for form in FORMS {
-        measure(&rt, form, 10)?;
-    }
-    Ok(())
+    let (read, sum) = read_form(alloc, form, rounds)?;
+    Ok(Some(Told::of(&["read", "sum"], &[read as u64, sum])))
 }

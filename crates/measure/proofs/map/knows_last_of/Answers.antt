@@ -1,8 +1,8 @@
 -- The chain is fit for a map.
 use Rattle.std.proofs.Common.{◌≡◌, ◌+◌, ◌≤◌, length, arith}
 use Rattle.eden_base.specs.Limits.{end_of_numbers}
-use Rattle.measure_map.proofs.ChainLemmas.{chain-entries}
-use Rattle.measure_map.proofs.knows_last_of.Goals as goal
+use Rattle.measure.proofs.ChainLemmas.{chain-entries}
+use Rattle.measure.proofs.map.knows_last_of.Goals as goal
 
 pub knows_last-requires-clause-entries : goal.knows_last-requires-clause-entries
 knows_last-requires-clause-entries c =

@@ -1,53 +1,26 @@
-//! How long an image takes to be read, to be raised to what a daemon serves, to be made of that again and to be
-//! written, with 1,000, 3,000 and 64,000 entries. Each call is made once, so that its instructions can be counted:
-//! `measure_image ENTRIES UNLINKED`, for so many entries of which so many are unlinked.
-#![tactic(auto)]
-
+//! What an image costs: it is read, raised to what a daemon serves, made of that again and written, once each, so that
+//! the instructions of a call can be counted. `measure image ENTRIES UNLINKED` does so for so many entries, of which
+//! so many are unlinked, and with the word `times` it tells the nanoseconds of each call for an entry. An image that is
+//! too long is not written.
 ghost use Rattle.std.specs.Prelude.{IfOk};
 ghost use Rattle.map_codec.specs.Fit.{CountsFit, IsFit};
 
-use anyhow::Result;
+use crate::bytes::put_all;
+use crate::clock::{each_since, moment};
+use crate::lines::manifest_from;
+use crate::names::{EACH, name_text, parent_of};
+use crate::told::Told;
+use crate::words::number_at;
 use eden_base::NoMemory;
 use fuse_ops::Served;
 use manifest::Manifest;
 use map_codec::{Image, ImageFault, RaiseFault, WriteFault, image_of, raise, read, write};
 use std::alloc::{AllocError, Global};
-use std::env;
-use std::time::{CpuClock, Duration};
 
-/// How many names stand in a directory, with its own.
-const EACH: u64 = 64;
-
-/// Returns how many attributes may be loaded. With the number itself in the call, the proof of `image_raised` takes several
-/// times as long.
+/// Returns how many attributes may be loaded. With the number itself in the call, the proof of `image_raised` takes
+/// several times as long.
 fn loaded_limit() -> usize {
     64
-}
-
-/// Returns the directory of an entry: the root for each sixty-fourth, and that one for those behind it.
-fn parent_of(i: u64) -> u64 {
-    if i % EACH == 0 {
-        1
-    } else {
-        (i - i % EACH).wrapping_add(2)
-    }
-}
-
-/// Returns the name of an entry, as text.
-fn name_text(alloc: Global, i: u64) -> Result<String, AllocError> {
-    if i % EACH == 0 {
-        format!(in alloc; "directory{i}")
-    } else {
-        format!(in alloc; "file{i}.txt")
-    }
-}
-
-/// Puts bytes behind a text.
-fn put_all(text: &mut Vec<u8>, parts: &[&[u8]]) -> Result<(), AllocError> {
-    for part in parts {
-        text.extend_from_slice(part)?;
-    }
-    Ok(())
 }
 
 /// Puts the line of a manifest for an entry.
@@ -205,103 +178,119 @@ fn image_written(alloc: Global, image: &Image) -> Result<Vec<u8>, WriteFault>
     write(alloc, image, 1)
 }
 
-/// Returns the nanoseconds of each of so many entries.
-fn each(spent: Duration, entries: u64) -> u64 {
-    u64::from(spent.subsec_nanos()) / entries.max(1)
+/// What an image took: the nanoseconds of each call for an entry, and how many bytes were written.
+#[derive(Clone, Copy)]
+struct Took {
+    read: u64,
+    raise: u64,
+    image_of: u64,
+    write: u64,
+    bytes: u64,
 }
 
-/// Says what a call took of the processor's time for each entry.
-fn tell(rt: &HostRuntime, call: &str, started: Duration, entries: u64) -> Result<()> {
-    let nanos = each(rt.thread_cpu_time()?.saturating_sub(started), entries);
-    eprintln!(rt; "{call}: {nanos} ns an entry")?;
-    Ok(())
-}
-
-/// Writes an image, unless it is too long. Returns how many bytes were written.
-fn measure_write(rt: &HostRuntime, image: &Image, entries: u64) -> Result<usize>
+/// Writes an image, unless it is too long. Returns the time, and how many bytes were written.
+fn time_write(rt: &HostRuntime, image: &Image, entries: u64) -> (u64, u64)
     requires fit { IsFit image.now }
 {
-    let started = rt.thread_cpu_time()?;
+    let started = moment(rt);
     let written = image_written(rt.alloc(), image);
-    tell(rt, "write", started, entries)?;
+    let time = each_since(rt, started, entries);
     match written {
-        Ok(bytes) => Ok(bytes.len()),
-        Err(_) => Ok(0),
+        Ok(bytes) => (time, bytes.len() as u64),
+        Err(_fault) => (time, 0),
     }
 }
 
 /// Makes the image of what is served, and writes it.
-fn measure_taken(rt: &HostRuntime, served: &Served, entries: u64) -> Result<usize> {
-    let started = rt.thread_cpu_time()?;
+fn time_taken(rt: &HostRuntime, served: &Served, entries: u64) -> Result<Took, NoMemory> {
+    let started = moment(rt);
     let image = image_taken(rt.alloc(), served)?;
-    tell(rt, "image_of", started, entries)?;
-    let written = measure_write(rt, &image, entries);
+    let image_of = each_since(rt, started, entries);
+    let (write, bytes) = time_write(rt, &image, entries);
     drop(image);
-    written
+    Ok(Took {
+        read: 0,
+        raise: 0,
+        image_of,
+        write,
+        bytes,
+    })
 }
 
-/// Says what a raise took, and goes on with what is served.
-fn measure_served(
+/// Raises an image, and goes on with what is served then. The manifest has its files, so that memory alone can lack.
+fn time_raise(
     rt: &HostRuntime,
-    served: &Served,
-    started: Duration,
+    image: Image,
+    manifest: &Manifest,
     entries: u64,
-) -> Result<usize> {
-    tell(rt, "raise", started, entries)?;
-    measure_taken(rt, served, entries)
-}
-
-/// Raises an image, and goes on with what is served then.
-fn measure_raise(rt: &HostRuntime, image: Image, manifest: &Manifest, entries: u64) -> Result<usize>
+) -> Result<Took, NoMemory>
     requires fit { IsFit image }
     requires counts { CountsFit image.entries }
 {
-    let started = rt.thread_cpu_time()?;
-    let served = image_raised(rt.alloc(), image, manifest)?;
-    let written = measure_served(rt, &served, started, entries);
+    let started = moment(rt);
+    let Ok(served) = image_raised(rt.alloc(), image, manifest) else {
+        return Err(NoMemory);
+    };
+    let raise = each_since(rt, started, entries);
+    let took = time_taken(rt, &served, entries);
     drop(served);
-    written
+    Ok(Took { raise, ..took? })
 }
 
-/// Reads the image that bytes spell, and goes on with it.
-fn measure_read(rt: &HostRuntime, text: &[u8], manifest: &Manifest, entries: u64) -> Result<usize> {
-    let started = rt.thread_cpu_time()?;
-    let image = image_read(rt.alloc(), text)?;
-    tell(rt, "read", started, entries)?;
-    measure_raise(rt, image, manifest, entries)
+/// Reads the image that bytes spell, and goes on with it. They do spell one, so that memory alone can lack.
+fn time_read(
+    rt: &HostRuntime,
+    text: &[u8],
+    manifest: &Manifest,
+    entries: u64,
+) -> Result<Took, NoMemory> {
+    let started = moment(rt);
+    let Ok(image) = image_read(rt.alloc(), text) else {
+        return Err(NoMemory);
+    };
+    let read = each_since(rt, started, entries);
+    let took = time_raise(rt, image, manifest, entries)?;
+    Ok(Took { read, ..took })
 }
 
 /// Makes a manifest with a file for each entry.
-fn manifest_of(alloc: Global, entries: u64) -> Result<Manifest> {
-    let text = manifest_text(alloc, entries)?;
-    Ok(Manifest::read(alloc, text.as_slice())?)
+fn manifest_of(alloc: Global, entries: u64) -> Result<Manifest, NoMemory> {
+    manifest_from(alloc, manifest_text(alloc, entries)?)
 }
 
-/// Makes each call.
-fn measure(rt: &HostRuntime, entries: u64, unlinked: u64) -> Result<()> {
-    let manifest = manifest_of(rt.alloc(), entries)?;
+/// Makes an image and each call on it.
+fn time_all(
+    rt: &HostRuntime,
+    manifest: &Manifest,
+    entries: u64,
+    unlinked: u64,
+) -> Result<Took, NoMemory> {
     let text = image_text(rt.alloc(), entries, unlinked)?;
-    let written = measure_read(rt, text.as_slice(), &manifest, entries)?;
-    println!(rt; "{entries} entries, {unlinked} unlinked: {written} bytes written")?;
-    Ok(())
+    let took = time_read(rt, text.as_slice(), manifest, entries);
+    drop(text);
+    took
 }
 
-/// Returns a word's number, and another where there is no word or no number.
-fn number_or(word: Option<String>, other: u64) -> u64 {
-    match word {
-        Some(word) => word.as_str().parse::<u64>().unwrap_or(other),
-        None => other,
-    }
+/// Makes a manifest, an image over it, and each call.
+fn time_made(rt: &HostRuntime, entries: u64, unlinked: u64) -> Result<Took, NoMemory> {
+    let manifest = manifest_of(rt.alloc(), entries)?;
+    let took = time_all(rt, &manifest, entries, unlinked);
+    drop(manifest);
+    took
 }
 
-fn main(rt: HostRuntime) -> Result<()> {
-    let mut words = env::args(&rt)?.skip(1);
-    if let Some(word) = words.next() {
-        let entries = number_or(Some(word), 1000);
-        return measure(&rt, entries, number_or(words.next(), 0));
+/// Makes each call, as words say.
+pub(crate) fn measure(rt: &HostRuntime, words: &[&str]) -> Result<Option<Told>, NoMemory> {
+    let (Some(entries), Some(unlinked)) = (number_at(words, 0), number_at(words, 1)) else {
+        return Ok(None);
+    };
+    let took = time_made(rt, u64::from(entries), u64::from(unlinked))?;
+    match words {
+        [_, _] => Ok(Some(Told::of(&["bytes"], &[took.bytes]))),
+        [_, _, "times"] => Ok(Some(Told::of(
+            &["read", "raise", "image_of", "write"],
+            &[took.read, took.raise, took.image_of, took.write],
+        ))),
+        _ => Ok(None),
     }
-    for (entries, unlinked) in [(1000, 0), (1000, 100), (3000, 0), (3000, 300), (64000, 0)] {
-        measure(&rt, entries, unlinked)?;
-    }
-    Ok(())
 }

@@ -1,20 +1,25 @@
-//! Measures what the calls of an arena cost, at three capacities.
-#![tactic(auto)]
-
+//! What the calls of an arena cost: `measure arena CAPACITY` makes them on a full one, and
+//! `measure arena CAPACITY times` tells the nanoseconds of a round of them.
+use crate::clock::{each_since, moment};
+use crate::told::Told;
+use crate::words::number_at;
+use eden_base::NoMemory;
 use node_arena::{Nodes, Slot};
 use std::alloc::Global;
-use std::env;
-use std::io::Result;
-use std::time::{CpuClock, Duration};
+use std::time::CpuClock;
 
 /// How often each call is made.
 const ROUNDS: u32 = 1_000_000;
 
-const CAPACITIES: [usize; 3] = [1, 1_024, 65_536];
-
-const HEAD: &str = "capacity, and the nanoseconds of a round of calls:
-oldest, touch | oldest, remove, add | one of 8 slots: is_held, touch
-| is_held, get, get_mut | any slot: is_held, touch | is_held, get, get_mut";
+/// The calls of a round: the last two columns pick any slot, and those before them one of eight.
+const NAMES: [&str; 6] = [
+    "oldest/touch",
+    "oldest/remove/add",
+    "is_held/touch",
+    "is_held/get/get_mut",
+    "any:is_held/touch",
+    "any:is_held/get/get_mut",
+];
 
 /// Returns the next number of a fixed sequence (Knuth's MMIX generator).
 fn next_random(state: u64) -> u64 {
@@ -32,7 +37,7 @@ fn pick(slots: &[Slot], random: u64) -> Option<Slot> {
 }
 
 /// Fills an arena, and lists its slots.
-fn fill(alloc: Global, nodes: &mut Nodes<u64>) -> Result<Vec<Slot>> {
+fn fill(alloc: Global, nodes: &mut Nodes<u64>) -> Result<Vec<Slot>, NoMemory> {
     let mut slots = Vec::new(alloc);
     for value in 0..nodes.capacity() {
         if let Ok(slot) = nodes.add(value as u64) {
@@ -88,15 +93,6 @@ fn write_any(nodes: &mut Nodes<u64>, slots: &[Slot]) {
     }
 }
 
-/// Nanoseconds of one round.
-fn each(spent: Duration) -> u64 {
-    let nanos = spent
-        .as_secs()
-        .saturating_mul(1_000_000_000)
-        .saturating_add(u64::from(spent.subsec_nanos()));
-    nanos / u64::from(ROUNDS)
-}
-
 /// The calls of a round.
 #[derive(Clone, Copy)]
 enum Round {
@@ -117,10 +113,10 @@ fn make(round: Round, nodes: &mut Nodes<u64>, slots: &[Slot]) {
 }
 
 /// Returns the nanoseconds of a round.
-fn time(rt: &impl CpuClock, round: Round, nodes: &mut Nodes<u64>, slots: &[Slot]) -> Result<u64> {
-    let start = rt.thread_cpu_time()?;
+fn time(rt: &impl CpuClock, round: Round, nodes: &mut Nodes<u64>, slots: &[Slot]) -> u64 {
+    let started = moment(rt);
     make(round, nodes, slots);
-    Ok(each(rt.thread_cpu_time()?.saturating_sub(start)))
+    each_since(rt, started, u64::from(ROUNDS))
 }
 
 /// Returns the nanoseconds of a round on all slots of the arena, and on eight of them.
@@ -129,59 +125,66 @@ fn time_both(
     round: Round,
     nodes: &mut Nodes<u64>,
     slots: &[Slot],
-) -> Result<(u64, u64)> {
-    let all = time(rt, round, nodes, slots)?;
+) -> (u64, u64) {
+    let all = time(rt, round, nodes, slots);
     let few = if slots.len() > 8 { &slots[..8] } else { slots };
-    Ok((all, time(rt, round, nodes, few)?))
+    (all, time(rt, round, nodes, few))
 }
 
-/// Returns the nanoseconds of each round, in the order of the columns.
-fn time_all(rt: &impl CpuClock, nodes: &mut Nodes<u64>, slots: &[Slot]) -> Result<[u64; 6]> {
-    let oldest = time(rt, Round::TouchOldest, nodes, slots)?;
-    let replaced = time(rt, Round::ReplaceOldest, nodes, slots)?;
-    let (touched, touched_few) = time_both(rt, Round::TouchAny, nodes, slots)?;
-    let (written, written_few) = time_both(rt, Round::WriteAny, nodes, slots)?;
-    Ok([oldest, replaced, touched_few, written_few, touched, written])
+/// Returns the nanoseconds of each round, in the order of the names.
+fn time_all(rt: &impl CpuClock, nodes: &mut Nodes<u64>, slots: &[Slot]) -> [u64; 6] {
+    let oldest = time(rt, Round::TouchOldest, nodes, slots);
+    let replaced = time(rt, Round::ReplaceOldest, nodes, slots);
+    let (touched, touched_few) = time_both(rt, Round::TouchAny, nodes, slots);
+    let (written, written_few) = time_both(rt, Round::WriteAny, nodes, slots);
+    [oldest, replaced, touched_few, written_few, touched, written]
 }
 
-/// Prints a row of the table.
-fn print_row(rt: &impl Print, capacity: usize, row: &[u64]) -> Result<()> {
-    print!(rt; "{capacity:>8}")?;
-    for nanos in row {
-        print!(rt; " {nanos:>8}")?;
+/// Sums the values of an arena.
+fn sum_of(nodes: &Nodes<u64>, slots: &[Slot]) -> u64 {
+    let mut sum = 0u64;
+    for &slot in slots {
+        if nodes.is_held(slot) {
+            sum = sum.wrapping_add(*nodes.get(slot));
+        }
     }
-    println!(rt)
+    sum
 }
 
-/// Fills an arena, and measures the calls on it.
-fn time_filled(rt: &impl CpuClock, alloc: Global, nodes: &mut Nodes<u64>) -> Result<[u64; 6]> {
+/// Fills an arena and makes the calls on it. Tells the times where they are wanted, and else the sum of its values.
+fn measure_filled(
+    rt: &impl CpuClock,
+    alloc: Global,
+    nodes: &mut Nodes<u64>,
+    timed: bool,
+) -> Result<Told, NoMemory> {
     let slots = fill(alloc, nodes)?;
-    let row = time_all(rt, nodes, &slots);
+    let times = time_all(rt, nodes, slots.as_slice());
+    let sum = sum_of(nodes, slots.as_slice());
     drop(slots);
-    row
+    if timed {
+        return Ok(Told::of(&NAMES, &times));
+    }
+    Ok(Told::of(&["sum"], &[sum]))
 }
 
-/// Makes an arena, and measures the calls on it.
-fn time_made(rt: &impl CpuClock, alloc: Global, capacity: usize) -> Result<[u64; 6]> {
-    let mut nodes = Nodes::new(alloc, capacity.clamp(1, 65_536))?;
-    let row = time_filled(rt, alloc, &mut nodes);
+/// Makes an arena, and the calls on it.
+fn measure_made(rt: &HostRuntime, capacity: usize, timed: bool) -> Result<Told, NoMemory> {
+    let mut nodes = Nodes::new(rt.alloc(), capacity.clamp(1, 65_536))?;
+    let told = measure_filled(rt, rt.alloc(), &mut nodes, timed);
     drop(nodes);
-    row
+    told
 }
 
-/// Prints the table.
-fn measure(rt: &HostRuntime) -> Result<()> {
-    println!(rt; "{HEAD}")?;
-    for &capacity in &CAPACITIES {
-        let row = time_made(rt, rt.alloc(), capacity)?;
-        print_row(rt, capacity, &row)?;
+/// Makes the calls on an arena, as words say.
+pub(crate) fn measure(rt: &HostRuntime, words: &[&str]) -> Result<Option<Told>, NoMemory> {
+    let Some(capacity) = number_at(words, 0) else {
+        return Ok(None);
+    };
+    let capacity = capacity as usize;
+    match words {
+        [_] => measure_made(rt, capacity, false).map(Some),
+        [_, "times"] => measure_made(rt, capacity, true).map(Some),
+        _ => Ok(None),
     }
-    Ok(())
-}
-
-fn main(rt: HostRuntime) -> Result<()> {
-    if env::args(&rt)?.nth(1).is_some() {
-        return measure(&rt);
-    }
-    println!(rt; "usage: arena_timing measure")
 }

@@ -1,23 +1,19 @@
 //! Makes what a daemon serves and asks it a thousand requests of each kind, so that the instructions of one can be
-//! counted: `measure_requests LINES DEPTH`, for a manifest of so many lines and a directory so deep. Without words it
-//! goes through three sizes and three depths.
-#![tactic(auto)]
-
+//! counted: `measure requests LINES DEPTH`, for a manifest of so many lines and a directory so deep.
+use crate::lines::{manifest_from, manifest_text};
+use crate::names::{EACH, named};
+use crate::told::Told;
+use crate::words::number_at;
 use checkout::ManifestBacking;
 use eden_base::{Kind, Name, NoMemory, Number, Perm};
 use fuse_ops::Served;
 use fuse_wire::{Answer, Batch, Item, Request};
 use manifest::Manifest;
 use std::alloc::{AllocError, Global};
-use std::env;
-use std::io::{self, ErrorKind};
 use std::marker::Model;
 
 /// How many requests of a kind are asked.
 const ASKED: u64 = 1000;
-
-/// How many names stand in a directory of the manifest, with its own.
-const EACH: u64 = 64;
 
 const LOADED_LIMIT: usize = 64;
 
@@ -57,53 +53,14 @@ impl Hosted {
     }
 }
 
-/// Writes a line of the manifest.
-fn line_of(alloc: Global, i: u64) -> Result<String, AllocError> {
-    let dir = i / EACH;
-    if i % EACH == 0 {
-        format!(in alloc; "dir directory{dir}\n")
-    } else {
-        format!(in alloc; "file 0644 {i} directory{dir}/file{i}.txt\n")
-    }
-}
-
-/// Puts a line of the manifest behind a text.
-fn put_line(alloc: Global, text: &mut Vec<u8>, i: u64) -> Result<(), AllocError> {
-    let line = line_of(alloc, i)?;
-    let done = text.extend_from_slice(line.as_bytes());
-    drop(line);
-    done
-}
-
-/// Makes the text of a manifest of this many lines.
-fn manifest_text(alloc: Global, lines: u64) -> Result<Vec<u8>, AllocError> {
-    let mut text = Vec::from_slice(alloc, b"commit 0123456789abcdef0123456789abcdef01234567\n")?;
-    for i in 0..lines {
-        put_line(alloc, &mut text, i)?;
-    }
-    Ok(text)
-}
-
 /// Reads a manifest of this many lines.
 fn manifest_of(alloc: Global, lines: u64) -> Result<Manifest, NoMemory> {
-    let text = manifest_text(alloc, lines)?;
-    match Manifest::read(alloc, text.as_slice()) {
-        Ok(manifest) => Ok(manifest),
-        Err(_fault) => Err(NoMemory),
-    }
+    manifest_from(alloc, manifest_text(alloc, 1, lines)?)
 }
 
 /// Begins to serve a manifest of this many lines.
 fn begin(alloc: Global, lines: u64) -> Result<Hosted, NoMemory> {
     Hosted::of(alloc, manifest_of(alloc, lines)?)
-}
-
-/// Makes a name of a text that is one.
-fn named(alloc: Global, text: String) -> Result<Name, NoMemory> {
-    match Name::parse(alloc, text.as_bytes()) {
-        Ok(name) => Ok(name),
-        Err(_fault) => Err(NoMemory),
-    }
 }
 
 /// Returns the name of a line of the manifest, as text.
@@ -413,15 +370,16 @@ fn ask_batches(alloc: Global, served: &mut Hosted) -> Result<u64, NoMemory> {
     Ok(batches)
 }
 
-/// What came of all requests: the names found, the files made, the batches forgotten, and the next number.
-type Told = (u64, u64, u64, u64);
-
 /// Makes all requests.
 fn ask_all(alloc: Global, served: &mut Hosted, lines: u64, depth: u64) -> Result<Told, NoMemory> {
     let found = ask_fresh(alloc, served, lines)?;
     let done = ask_made(alloc, served, depth)?;
     let batches = ask_batches(alloc, served)?;
-    Ok((found, done, batches, served.served.map().next()))
+    let next = served.served.map().next();
+    Ok(Told::of(
+        &["found", "made", "batches", "next"],
+        &[found, done, batches, next],
+    ))
 }
 
 /// Makes all requests of a daemon that begins.
@@ -432,42 +390,10 @@ fn ask_begun(alloc: Global, lines: u64, depth: u64) -> Result<Told, NoMemory> {
     told
 }
 
-/// Makes all requests, and prints what came of them.
-fn measure(rt: &HostRuntime, lines: u64, depth: u64) -> io::Result<()> {
-    let Ok((found, done, batches, next)) = ask_begun(rt.alloc(), lines, depth) else {
-        return Err(io::Error::from(ErrorKind::OutOfMemory));
+/// Makes all requests, as words say.
+pub(crate) fn measure(alloc: Global, words: &[&str]) -> Result<Option<Told>, NoMemory> {
+    let (Some(lines), Some(depth)) = (number_at(words, 0), number_at(words, 1)) else {
+        return Ok(None);
     };
-    println!(rt;
-        "{lines} lines, depth {depth}: {found} found, {done} made, {batches} batches, next {next}"
-    )
-}
-
-/// Goes through all sizes and depths.
-fn measure_all(rt: &HostRuntime) -> io::Result<()> {
-    for &(lines, depth) in &[(1000, 1), (8000, 16), (40000, 700)] {
-        measure(rt, lines, depth)?;
-    }
-    Ok(())
-}
-
-/// Returns a word's number, or another where there is no word or no number.
-fn number_or(word: Option<&String>, other: u64) -> u64 {
-    match word {
-        Some(word) => word.as_str().parse::<u64>().unwrap_or(other),
-        None => other,
-    }
-}
-
-fn main(rt: HostRuntime) -> io::Result<()> {
-    let words: Vec<String> = env::args(&rt)?.collect(rt.alloc())?;
-    let done = match words.get(1) {
-        Some(lines) => measure(
-            &rt,
-            number_or(Some(lines), 1000),
-            number_or(words.get(2), 1),
-        ),
-        None => measure_all(&rt),
-    };
-    drop(words);
-    done
+    ask_begun(alloc, u64::from(lines), u64::from(depth)).map(Some)
 }

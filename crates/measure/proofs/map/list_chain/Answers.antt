@@ -3,9 +3,9 @@ use Rattle.std.proofs.Common.{◌≡◌, ◌+◌, List, length, refl, sym, ap, �
 use Rattle.std.specs.Vec.{vec_len}
 use Rattle.eden_base.specs.declared.place.Place.TheVariants.{Linked}
 use Rattle.entry_table.specs.declared.kept.Kept.{Kept}
-use Rattle.measure_map.specs.Chain.{IsChain}
-use Rattle.measure_map.proofs.ChainLemmas.{chain-more, more-length}
-use Rattle.measure_map.proofs.list_chain.Goals as goal
+use Rattle.measure.specs.Chain.{IsChain}
+use Rattle.measure.proofs.ChainLemmas.{chain-more, more-length}
+use Rattle.measure.proofs.map.list_chain.Goals as goal
 
 pub loop-alloc-preserved : goal.loop-alloc-preserved
 loop-alloc-preserved c =

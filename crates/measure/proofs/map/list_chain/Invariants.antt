@@ -1,8 +1,8 @@
 -- The list is a chain so far.
 use Rattle.std.proofs.Common.{◌≡◌, ◌≤◌, ◌-◌, length}
 use Rattle.std.specs.Vec.{vec_len}
-use Rattle.measure_map.specs.Chain.{IsChain}
-use Rattle.measure_map.proofs.list_chain.Given as goal
+use Rattle.measure.specs.Chain.{IsChain}
+use Rattle.measure.proofs.map.list_chain.Given as goal
 
 abbrev pub invariant-loop-alloc : goal.invariant-loop-alloc
 invariant-loop-alloc l = record {

@@ -1,0 +1,131 @@
+//! What calls cost: `measure SUBJECT WORD..` makes those of one subject, so that their instructions can be counted, or
+//! their times are told. Without words the program makes a small run of each.
+#![tactic(auto)]
+
+mod arena;
+mod bytes;
+mod clock;
+mod image;
+mod lines;
+mod map;
+mod names;
+mod requests;
+mod round;
+mod stream;
+mod told;
+mod tree;
+mod wire;
+mod words;
+
+use eden_base::NoMemory;
+use std::env;
+use std::io::{self, Error, ErrorKind};
+use told::Told;
+use words::refuse;
+
+/// The small runs: words, as the program may be started with.
+static RUNS: [&str; 47] = [
+    "arena 1",
+    "arena 1024",
+    "arena 65536",
+    "checkout 1000",
+    "checkout 8000",
+    "checkout 65536",
+    "image 1000 0",
+    "image 1000 100",
+    "image 3000 0",
+    "image 3000 300",
+    "image 64000 0",
+    "map 1000",
+    "map 8000",
+    "map 64000",
+    "map 1000 holes",
+    "map 1000 given",
+    "map 8000 given",
+    "map 65536 given",
+    "requests 1000 1",
+    "requests 8000 16",
+    "requests 40000 700",
+    "wire lookup 10",
+    "wire getattr 10",
+    "wire forget 10",
+    "wire batch 10",
+    "wire forget-items 10",
+    "wire batch-items 10",
+    "wire short 10",
+    "wire bad-length 10",
+    "wire bad-body 10",
+    "wire bad-count 10",
+    "wire bad-name 10",
+    "frames claim 10",
+    "frames ask 10",
+    "frames data 10",
+    "frames claim 10 behind 1000",
+    "frames data 10 behind 100",
+    "frames claim 100 pieces 1",
+    "frames ask 100 pieces 16",
+    "frames data 2 pieces 1",
+    "frames data 2 pieces 4096",
+    "journal 100 1 2",
+    "journal 100 16 2",
+    "journal 1000 1 2",
+    "journal 1000 16 2",
+    "journal 10000 1 2",
+    "journal 10000 16 2",
+];
+
+/// Makes the calls of a subject, as the words behind it say. There is nothing to tell where they are not its words.
+fn told_of(rt: &HostRuntime, subject: &str, words: &[&str]) -> Result<Option<Told>, NoMemory> {
+    match subject {
+        "arena" => arena::measure(rt, words),
+        "checkout" => tree::measure(rt, words),
+        "image" => image::measure(rt, words),
+        "map" => map::measure(rt.alloc(), words),
+        "requests" => requests::measure(rt.alloc(), words),
+        "wire" => wire::measure(rt.alloc(), words),
+        "frames" => stream::measure(rt.alloc(), words),
+        "journal" => round::measure(rt.alloc(), words),
+        _ => Ok(None),
+    }
+}
+
+/// Makes the calls that a line of words is for, and prints what came of them.
+fn measure(rt: &HostRuntime, line: &str) -> io::Result<()> {
+    let words: Vec<&str> = line.split_whitespace().collect(rt.alloc())?;
+    let told = match words.as_slice() {
+        [] => Ok(None),
+        [subject, rest @ ..] => told_of(rt, subject, rest),
+    };
+    drop(words);
+    match told {
+        Ok(Some(told)) => told.print(rt, line),
+        Ok(None) => refuse(rt),
+        Err(NoMemory) => Err(Error::from(ErrorKind::OutOfMemory)),
+    }
+}
+
+/// Makes the small runs.
+fn measure_each(rt: &HostRuntime) -> io::Result<()> {
+    for line in &RUNS {
+        measure(rt, line)?;
+    }
+    Ok(())
+}
+
+/// Returns the words that the program was started with, as a line.
+fn line_of(rt: &HostRuntime) -> io::Result<String> {
+    let mut line = String::new(rt.alloc());
+    for word in env::args(rt)?.skip(1) {
+        line.push_str(word.as_str())?;
+        line.push_str(" ")?;
+    }
+    Ok(line)
+}
+
+fn main(rt: HostRuntime) -> io::Result<()> {
+    let line = line_of(&rt)?;
+    if line.is_empty() {
+        return measure_each(&rt);
+    }
+    measure(&rt, line.as_str().trim_end())
+}

@@ -1,0 +1,151 @@
+//! Makes a round of so many records, each with its receipt, and asks whether it is settled, so that the instructions of
+//! that can be counted: `measure journal RECORDS WORKERS ROUNDS`.
+use crate::names::file_name;
+use crate::told::Told;
+use crate::words::number_at;
+use eden_base::{Attr, Kind, NoMemory, Number, Perm};
+use fuse_wire::{Answer, Ask, Item, Request};
+use journal::{Journal, Receipt, Receipts, Record, is_settled};
+use std::alloc::Global;
+
+/// Returns the number that a request is about.
+fn number_of(i: u32) -> Number {
+    Number(u64::from(i).wrapping_add(2))
+}
+
+/// Returns a request: of four kinds in turn, two of which carry a name.
+fn request_of(alloc: Global, i: u32) -> Result<Request, NoMemory> {
+    let dir = Number::ROOT;
+    let node = number_of(i);
+    match i % 4 {
+        0 => Ok(Request::Lookup {
+            dir,
+            name: file_name(alloc, u64::from(i))?,
+        }),
+        1 => Ok(Request::Getattr { node }),
+        2 => Ok(Request::Forget(Item { node, k: 1 })),
+        _ => Ok(Request::Create {
+            dir,
+            name: file_name(alloc, u64::from(i))?,
+            perm: Perm::DIRECTORY,
+        }),
+    }
+}
+
+/// Returns what that request is answered.
+fn answer_of(i: u32) -> Option<Answer> {
+    let number = number_of(i);
+    let attr = Attr {
+        kind: Kind::File,
+        perm: Perm::DIRECTORY,
+        size: u64::from(i),
+        nlink: 1,
+    };
+    match i % 4 {
+        0 => Some(Answer::Entry { number, attr }),
+        1 => Some(Answer::Attrs { number, attr }),
+        2 => None,
+        _ => Some(Answer::Opened { number, attr }),
+    }
+}
+
+/// Writes so many records down, as far as there is room.
+fn fill(alloc: Global, journal: &mut Journal, records: u32) -> Result<(), NoMemory> {
+    for i in 0..records {
+        let request = request_of(alloc, i)?;
+        if journal.room() > 0 {
+            let answer = answer_of(i);
+            journal.push(Record { request, answer });
+        }
+    }
+    Ok(())
+}
+
+/// Returns the receipt of a record.
+fn receipt_of(alloc: Global, i: u32) -> Result<Receipt, NoMemory> {
+    let what = request_of(alloc, i)?;
+    Ok(Receipt {
+        place: i as usize,
+        ask: Ask {
+            unique: u64::from(i),
+            what,
+        },
+        answer: answer_of(i),
+    })
+}
+
+/// Returns a worker's receipts: those of every so many records, from its own on.
+fn receipts_of(
+    alloc: Global,
+    worker: u32,
+    workers: u32,
+    records: u32,
+) -> Result<Receipts, NoMemory> {
+    let mut list = Vec::new(alloc);
+    for i in 0..records {
+        if i % workers.max(1) == worker {
+            list.push(receipt_of(alloc, i)?)?;
+        }
+    }
+    Ok(Receipts::of(alloc, list))
+}
+
+/// Returns the receipts of all workers, which take turns.
+fn list_receipts(alloc: Global, workers: u32, records: u32) -> Result<Vec<Receipts>, NoMemory> {
+    let mut list = Vec::new(alloc);
+    for worker in 0..workers {
+        list.push(receipts_of(alloc, worker, workers, records)?)?;
+    }
+    Ok(list)
+}
+
+#[inline(never)]
+fn settled(alloc: Global, journal: &Journal, workers: &[Receipts]) -> Result<bool, NoMemory> {
+    is_settled(alloc, journal, workers)
+}
+
+/// Asks so often whether a round is settled, and counts how often it is.
+fn ask_often(alloc: Global, journal: &Journal, workers: &[Receipts], rounds: u32) -> u32 {
+    let mut times = 0u32;
+    for _ in 0..rounds {
+        if settled(alloc, journal, workers) == Ok(true) {
+            times = times.wrapping_add(1);
+        }
+    }
+    times
+}
+
+/// Asks so often of a journal and receipts that are made for it.
+fn ask_made(
+    alloc: Global,
+    journal: &mut Journal,
+    records: u32,
+    workers: u32,
+    rounds: u32,
+) -> Result<u32, NoMemory> {
+    fill(alloc, journal, records)?;
+    let list = list_receipts(alloc, workers, records)?;
+    let times = ask_often(alloc, journal, list.as_slice(), rounds);
+    drop(list);
+    Ok(times)
+}
+
+/// Makes a round, and asks so often whether it is settled.
+fn times_settled(alloc: Global, records: u32, workers: u32, rounds: u32) -> Result<u32, NoMemory> {
+    let mut journal = Journal::new(alloc, records as usize)?;
+    let times = ask_made(alloc, &mut journal, records, workers, rounds);
+    drop(journal);
+    times
+}
+
+/// Asks whether a round is settled, as words say.
+pub(crate) fn measure(alloc: Global, words: &[&str]) -> Result<Option<Told>, NoMemory> {
+    let (Some(records), Some(workers)) = (number_at(words, 0), number_at(words, 1)) else {
+        return Ok(None);
+    };
+    let Some(rounds) = number_at(words, 2) else {
+        return Ok(None);
+    };
+    let times = times_settled(alloc, records, workers, rounds)?;
+    Ok(Some(Told::of(&["settled"], &[u64::from(times)])))
+}

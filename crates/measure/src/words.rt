@@ -1,0 +1,28 @@
+//! The words that the program is started with.
+use std::io::{Error, ErrorKind, Result};
+
+const USAGE: &str = "usage: measure [SUBJECT WORD..]
+  arena CAPACITY [times]
+  checkout LINES [times]
+  image ENTRIES UNLINKED [times]
+  map ENTRIES [holes | given]
+  requests LINES DEPTH
+  wire FORM ROUNDS
+  frames FORM ROUNDS [behind FRAMES | pieces BYTES]
+  journal RECORDS WORKERS ROUNDS
+The forms of wire are lookup, getattr, forget, batch, forget-items, batch-items, short, bad-length, bad-body, bad-count
+and bad-name; those of frames are claim, ask and data. Without words a small run of each is made.";
+
+/// Refuses words, and tells on standard error which there are.
+pub(crate) fn refuse(rt: &impl Eprint) -> Result<()> {
+    eprintln!(rt; "{USAGE}")?;
+    Err(Error::from(ErrorKind::InvalidInput))
+}
+
+/// Returns the number that the word at a place is.
+pub(crate) fn number_at(words: &[&str], place: usize) -> Option<u32> {
+    match words.get(place) {
+        Some(word) => word.parse::<u32>().ok(),
+        None => None,
+    }
+}
