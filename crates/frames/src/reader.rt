@@ -33,6 +33,9 @@ impl Model for FrameReader {
 }
 
 impl FrameReader {
+    /// So many bytes that were read are dropped: std's `drain` clears a buffer of this length at each call.
+    const MANY: usize = 4_096;
+
     /// Returns a reader that was fed nothing. It takes no memory.
     pub fn new(alloc: Global) -> FrameReader
         ensures unread { result.unread ≡ [] }
@@ -46,12 +49,12 @@ impl FrameReader {
         }
     }
 
-    /// Drops the bytes that were read, once they are as many as the others: then each byte is moved once at most for
-    /// each byte that was read.
+    /// Drops the bytes that were read, once they are many, and as many as the others: then each byte is moved once at
+    /// most for each byte that was read.
     fn drop_read(&mut self)
         ensures same { self.new ≡ self.old }
     {
-        if self.read < self.bytes.len() - self.read {
+        if self.read < FrameReader::MANY || self.read < self.bytes.len() - self.read {
             return;
         }
         let read = self.read;
