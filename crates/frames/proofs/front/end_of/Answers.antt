@@ -1,7 +1,7 @@
 use Rattle.std.proofs.Common.{arith, ℕ, Ok, Option, Some, drop, subst}
 use Rattle.std.proofs.lemmas.List.{length-drop}
 use Rattle.frames.specs.Reading.{Measures}
-use Rattle.frames.proofs.Ending.{passed, whole}
+use Rattle.frames.proofs.Ending.{passed, whole, torn, faulty}
 use Rattle.frames.proofs.front.end_of.Goals as goal
 
 pub loop-at-preserved : goal.loop-at-preserved
@@ -14,3 +14,7 @@ loop-at-preserved c =
 
 pub returns : goal.returns
 returns c = record { ends = whole (drop c.args.read c.args.bytes.now) c.args.bytes.now c.loop-at.at c.loop-at.invariant.1 (omega (arith, c.loop-at-test.false)) }
+
+-- What a wrong body of must-fail/ breaks; an answer makes its refusal cheap.
+pub returns-in-Ok-None : goal.returns-in-Ok-None
+returns-in-Ok-None c = grind (arith, passed, torn, faulty, whole)

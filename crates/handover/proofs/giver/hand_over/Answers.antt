@@ -1,4 +1,4 @@
-use Rattle.std.proofs.Common.{◌≡◌, ℕ, Result, Ok, Err, subst}
+use Rattle.std.proofs.Common.{◌≡◌, ℕ, Result, Ok, Err, subst, rules}
 use Rattle.std.specs.Prelude.{IfErr, None}
 use Rattle.fuse_ops.specs.Served.{ServedState}
 use Rattle.map_codec.specs.Taking.{IsImageOf}
@@ -20,3 +20,7 @@ none_written served at version image is (Err fault) refused = λ f other of_othe
 
 pub returns-in-Ok-clause-refused : goal.returns-in-Ok-clause-refused
 returns-in-Ok-clause-refused c = none_written c.args.served.now c.args.generation c.args.version c.in-Ok.image c.in-Ok.ensures.image c.text_of-text.result c.text_of-text.ensures.refused
+
+-- What a wrong body of must-fail/ breaks; an answer makes its refusal cheap.
+pub returns-in-Err-clause-refused : goal.returns-in-Err-clause-refused
+returns-in-Err-clause-refused c = search rules

@@ -1,5 +1,5 @@
 -- The next number is added.
-use Rattle.std.proofs.Common.{lit<, refl, sym, subst, arith}
+use Rattle.std.proofs.Common.{lit<, refl, sym, subst, arith, rules}
 use Rattle.entry_table.specs.Entries.{new_entry}
 use Rattle.inode_map.specs.InodeMap.{loaded_number}
 use Rattle.inode_map.specs.Inside.{IsConsistent}
@@ -21,3 +21,10 @@ invariant_of-self c =
       of_use = are.of_use;
       loaded = of-added loaded_number t.entries x c.self.inside.loaded.attrs (next-none t.entries t.next c.self.invariant.numbers) c.self.invariant.loaded;
     })
+
+-- What a wrong body of must-fail/ breaks; an answer makes its refusal cheap.
+pub returns-in-Some-clause-given : goal.returns-in-Some-clause-given
+returns-in-Some-clause-given c = search rules
+
+pub returns-in-Some-clause-accepted : goal.returns-in-Some-clause-accepted
+returns-in-Some-clause-accepted c = search rules

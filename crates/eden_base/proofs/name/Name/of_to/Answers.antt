@@ -1,0 +1,10 @@
+-- What a wrong body of must-fail/ breaks; an answer makes its refusal cheap.
+use Rattle.std.proofs.Common.{arith}
+use Rattle.std.proofs.lemmas.Grind.{common_steps}
+use Rattle.eden_base.proofs.name.Name.of_to.Goals as goal
+
+pub invariant_of-result : goal.invariant_of-result
+invariant_of-result c = grind (arith, common_steps)
+
+pub returns : goal.returns
+returns c = grind (arith, common_steps)

@@ -1,0 +1,9 @@
+-- What a wrong body of must-fail/ breaks; an answer makes its refusal cheap.
+use Rattle.std.proofs.Common.{rules}
+use Rattle.eden_base.proofs.name_room.NameRoom.new.Goals as goal
+
+pub invariant_of-result : goal.invariant_of-result
+invariant_of-result c = search rules
+
+pub returns-in-Ok : goal.returns-in-Ok
+returns-in-Ok c = search rules
