@@ -33,8 +33,8 @@ impl Model for FrameReader {
 }
 
 impl FrameReader {
-    /// So many bytes that were read are dropped: std's `drain` clears a buffer of this length at each call.
-    const MANY: usize = 4_096;
+    /// So many bytes that were read are dropped at once: std's `drain` clears a buffer of 4,096 bytes at each call.
+    const MANY: usize = 16_384;
 
     /// Returns a reader that was fed nothing. It takes no memory.
     pub fn new(alloc: Global) -> FrameReader
