@@ -1,5 +1,5 @@
--- What is under way at the kernel's side: the queues of a FUSE connection (linux/fuse.h), each first in first out. That
--- forgets have a queue of their own, and when they go first, is this project's own.
+-- What is under way at the kernel's side: the queues of a FUSE connection (linux/fuse.h), each first in first out.
+-- That forgets have a queue of their own, and when they go first, is this project's own.
 use Rattle.std.specs.Prelude.{ℕ, ◌+◌, ◌<◌, Bool, true, false, ◌||◌, ◌&&◌, ◌==◌, nat_le, nat_lt, List, [], ◌∷◌, ◌++◌, length, take, drop, map, All, sum_by, count_by, Option, Some, None, if◌then◌else◌, refl}
 use Rattle.std.specs.Option.{option_map, option_map_or}
 use Rattle.std.specs.Coded.{Coded, code_by, coded×, coded_list, coded_ℕ}

@@ -6,8 +6,8 @@ use Rattle.takeover_core.specs.declared.phase.Phase.{Phase}
 use Rattle.takeover_core.specs.declared.phase.Phase.TheVariants.{Waiting}
 use Rattle.daemon.specs.Server.{ServerState}
 
--- its phase, with the versions that it has; and what it serves and has in hand: nothing before it mounted or took over,
--- and nothing once it is gone
+-- its phase, with the versions that it has; and what it serves and has in hand: nothing before it mounted or took
+-- over, and nothing once it is gone
 pub record DaemonState : Type 0 where
   pub node : NodeState
   pub server : Option ServerState

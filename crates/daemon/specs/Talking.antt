@@ -1,6 +1,6 @@
 -- What a daemon makes of a message that it hears, and of its own program's calls in a takeover. What it says and
--- becomes is the table's (`takeover_core`); what is added here is the data, which is made of what the daemon serves, and
--- what is raised from it. (EdenFS's documents on takeover; the table is this project's own.)
+-- becomes is the table's (`takeover_core`); what is added here is the data, which is made of what the daemon serves,
+-- and what is raised from it. (EdenFS's documents on takeover; the table is this project's own.)
 use Rattle.std.specs.Prelude.{◌≡◌, ℕ, ◌⊎◌, true, false, List, [], Option, Some, None, Result, Ok, Err}
 use Rattle.std.specs.Option.{option_map}
 use Rattle.eden_base.specs.declared.claim.ClaimFault.{ClaimFault}
@@ -76,9 +76,9 @@ pub record Loses (old : DaemonState) (node : NodeState) (reaction : Reaction) (n
   pub becomes : new ≡ with_node old (table.after node (table.Raised false))
 
 -- nothing is raised from the data
-pub record CannotTakeOver (old : DaemonState) (manifest : Manifest) (bytes : List ℕ) (node : NodeState) (generation : ℕ)
+pub record CannotTakeOver (old : DaemonState) (manifest : Manifest) (text : List ℕ) (node : NodeState) (generation : ℕ)
     (reaction : Reaction) (new : DaemonState) : Type 0 where
-  pub cannot : CannotBeTakenOver manifest generation bytes
+  pub cannot : CannotBeTakenOver manifest generation text
   pub loses : Loses old node reaction new
 
 -- ---- by what the table answers

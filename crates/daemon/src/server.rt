@@ -103,7 +103,8 @@ impl Server {
         Ok(())
     }
 
-    /// Takes what waits first at the broker. The room for it comes first, but the broker's refusals before out of memory.
+    /// Takes what waits first at the broker. The room for it comes first, but the broker's refusals before out of
+    /// memory.
     pub(crate) fn take(&mut self, broker: &mut Broker, daemon: DaemonId) -> Happened
         ensures takes { TakesBy (take_fault broker.old daemon self.old.generation)
             self.old broker.old result self.new broker.new }

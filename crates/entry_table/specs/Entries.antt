@@ -1,5 +1,5 @@
--- The numbers that were given and are not forgotten, as EdenFS's inode map has them: where the file of each stands, and
--- how often the kernel holds it.
+-- The numbers that were given and are not forgotten, as EdenFS's inode map has them: where the file of each stands,
+-- and how often the kernel holds it.
 use Rattle.std.specs.Prelude.{◌≡◌, ℕ, ◌+◌, ◌-◌, ◌≤◌, Bool, true, false, ◌||◌, ◌&&◌, ◌==◌, nat_lt, List, [], ◌∷◌, nat_eq, Option, Some, is_some}
 use Rattle.std.specs.Option.{option_map, option_map_or}
 use Rattle.std.specs.List.{list_any, AllByRecursion}

@@ -4,8 +4,8 @@ use Rattle.entry_table.specs.declared.table.Table.TheInside as table
 use Rattle.entry_table.specs.Links.{link_of, is_ready}
 use Rattle.entry_table.specs.Slots.{AreSlots, IsIndexed, kept_from, spare_of}
 
--- numbers rise and stay below the next, the index has the place of each linked entry, what is reserved is ready and has
--- room, and so has a way past all entries
+-- numbers rise and stay below the next, the index has the place of each linked entry, what is reserved is ready and
+-- has room, and so has a way past all entries
 pub record IsTable (t : table.Inside) : Type 0 where
   pub slots : AreSlots 2 t.next t.slots.items
   pub indexed : IsIndexed (kept_from t.slots.items) (link_of t.index)

@@ -1,4 +1,4 @@
-//! The numbers that were given, by number and by place: where the file of each stands, and how often the kernel holds it.
+//! The numbers that were given, by number and by place: where each file stands, and how often the kernel holds it.
 #![tactic(auto)]
 
 mod index;

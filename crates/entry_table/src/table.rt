@@ -337,8 +337,8 @@ fn entries_of(alloc: Global, slots: &[Slot]) -> Result<Vec<Kept>, NoMemory>
     Ok(entries)
 }
 
-/// Makes room for one more slot. Where there is none, the empty slots go, and what is left has room for a quarter more at
-/// least, so that little is spare and each gift pays for five slots that were looked at.
+/// Makes room for one more slot. Where there is none, the empty slots go, and what is left has room for a quarter
+/// more at least, so that little is spare and each gift pays for five slots that were looked at.
 fn make_room(slots: &mut Vec<Slot>) -> Result<(), AllocError>
     ensures entries { kept_from slots.new.items ≡ kept_from slots.old.items }
     ensures files { files_from slots.new.items ≡ files_from slots.old.items }

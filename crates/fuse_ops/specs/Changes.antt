@@ -1,5 +1,5 @@
--- What making a file and taking a name away do to what a daemon knows: the shapes of their laws. (EdenFS's documents on
--- inode lifetime: a number names its file though the file's name is gone.)
+-- What making a file and taking a name away do to what a daemon knows: the shapes of their laws. (EdenFS's documents
+-- on inode lifetime: a number names its file though the file's name is gone.)
 use Rattle.std.specs.Prelude.{◌≡◌, ℕ, false, List, Some, None}
 use Rattle.eden_base.specs.declared.attr.Kind.{Kind}
 use Rattle.eden_base.specs.declared.attr.Perm.{Perm}

@@ -48,8 +48,8 @@ pub record LoadsNone (old new : MapState) : Type 0 where
   pub loaded : new.loaded ≡ old.loaded
   pub limit : new.limit ≡ old.limit
 
--- What a request makes of what is loaded, by its answer: a number that is told with attributes is loaded, and none with
--- an error. With a number that is dropped goes what is loaded of it.
+-- What a request makes of what is loaded, by its answer: a number that is told with attributes is loaded, and none
+-- with an error. With a number that is dropped goes what is loaded of it.
 abbrev pub Loads : MapState → Request → Option Answer → MapState → Type 0
 Loads old request (Some (Entry number attr)) new = LoadsTold old number attr new
 Loads old request (Some (Opened number attr)) new = LoadsTold old number attr new

@@ -1,5 +1,5 @@
--- Which answer belongs to a request of which form (libfuse's `fuse_lowlevel.h` lists the valid replies of each request;
--- `form_of` in Request.antt has its form).
+-- Which answer belongs to a request of which form (libfuse's `fuse_lowlevel.h` lists the valid replies of each
+-- request; `form_of` in Request.antt has its form).
 use Rattle.std.specs.Prelude.{Bool, true, false}
 use Rattle.fuse_wire.specs.declared.reply.Answer.{Answer}
 use Rattle.fuse_wire.specs.declared.reply.Answer.TheVariants.{Entry, Opened, Attrs, Done, Error}

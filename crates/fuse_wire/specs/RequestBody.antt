@@ -1,6 +1,6 @@
--- The body of a request, by its kind (linux/fuse.h: the struct of each opcode): how it is written, where what no reader
--- looks at is 0; all the bytes that are read as it; and what bytes are read as, or which fault is the first. A kind of
--- request is a row in each table.
+-- The body of a request, by its kind (linux/fuse.h: the struct of each opcode): how it is written, where what no
+-- reader looks at is 0; all the bytes that are read as it; and what bytes are read as, or which fault is the first. A
+-- kind of request is a row in each table.
 use Rattle.std.specs.Prelude.{All, ◌≡◌, ◌<◌, ◌≤◌, ◌^◌, ◌+◌, ◌-◌, ◌*◌, ◌%◌, ℕ, zero, suc, not, ◌||◌, ◌&&◌, ◌==◌, nat_lt, List, [], ◌∷◌, ◌++◌, length, take, drop, slice_index, Option, Some, None, Result, Ok, Err, if◌then◌else◌}
 use Rattle.std.specs.List.{flat_map}
 use Rattle.eden_base.specs.declared.attr.Perm.{Perm}

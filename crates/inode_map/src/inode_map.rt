@@ -28,7 +28,8 @@ pub enum Forgot {
     Lowered,
     /// The number is of no use any more, and left, with each directory above it that is of none.
     Dropped,
-    /// The number is unknown, or is held less often than the forget says, or the forget takes back nothing: `bad_items` counts it, and nothing else changes.
+    /// The number is unknown, or is held less often than the forget says, or the forget takes back nothing:
+    /// `bad_items` counts it, and nothing else changes.
     Bad,
     /// The root is held always; nothing changed.
     Root,
@@ -101,8 +102,8 @@ impl InodeMap {
         })
     }
 
-    /// Remembers entries that were kept before, and gives `next` as the next number. So many attributes may be loaded at
-    /// once. The entries are lost where memory is refused.
+    /// Remembers entries that were kept before, and gives `next` as the next number. So many attributes may be loaded
+    /// at once. The entries are lost where memory is refused.
     pub fn of_entries(
         alloc: Global,
         entries: Vec<Kept>,
@@ -261,7 +262,8 @@ impl InodeMap {
         Ok(self.table.add(parent, name))
     }
 
-    /// Gives the number that a name in a directory has, as `give` does. It takes no memory, and a forget of one takes it back.
+    /// Gives the number that a name in a directory has, as `give` does. It takes no memory, and a forget of one takes
+    /// it back.
     pub fn give_again(
         &mut self,
         parent: Number,

@@ -12,7 +12,7 @@ IsOf records receipt = slice_get records receipt.place ≡ Some (applied receipt
 
 -- each receipt's place is below the next one's
 abbrev pub IsRising : List Receipt → Type 0
-IsRising receipts = AllAdjacentBelow (λ (before after : Receipt). before.place < after.place) receipts (length receipts)
+IsRising receipts = AllAdjacentBelow (λ (one next : Receipt). one.place < next.place) receipts (length receipts)
 
 -- how many of these receipts have this place
 abbrev pub times : List Receipt → ℕ → ℕ

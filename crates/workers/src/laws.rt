@@ -82,7 +82,8 @@ pub fn serve_channel<N: Opening, B: Backing + Drop, C: Channel + Drop, G: Gate, 
     requires copies { turns ≤ room.copies }
     ensures parts { result.share.parts ≡ share.parts }
     ensures counted { result.share.amount ≡ share.amount + length result.receipts.list }
-    // Where it ends well, the asks that it took are those of its receipts in order, and what it posted are their answers.
+    // Where it ends well, the asks that it took are those of its receipts in order, and what it posted are their
+    // answers.
     ensures told { C.tells ≡ true → result.ending ≡ Done
         → C.told result.channel ≡ grown (C.told channel) result.receipts.list }
 {

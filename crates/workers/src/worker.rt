@@ -46,7 +46,8 @@ fn post<C: Channel>(channel: &mut C, unique: u64, answer: Option<Answer>) -> Opt
     }
 }
 
-/// Serves an ask under the map's lock, and counts it in a worker's share. Nothing is done where the journal has no room.
+/// Serves an ask under the map's lock, and counts it in a worker's share. Nothing is done where the journal has no
+/// room.
 fn turn_alone<N: Opening, B: Backing + Drop, R: Wait>(
     rt: &R,
     shared: &Shared<N, B>,

@@ -39,7 +39,8 @@ abbrev pub holds : Option Seat → DaemonId → Bool
 holds seat daemon = option_map_or (λ (seat : Seat). seat.daemon.0 == daemon.0) seat false
 
 -- The moves that an event made, by who had the seat and what is told of the event. A take only hands on what is under
--- way, messages and the end of a daemon without the seat change nothing for the kernel, and what was refused made none.
+-- way, messages and the end of a daemon without the seat change nothing for the kernel, and what was refused made
+-- none.
 abbrev pub move_of : Option Seat → Event → Happened → List Move
 move_of seat (Mount daemon) (happened.Mounted generation) = mount daemon ∷ []
 move_of seat (Issue request) (happened.Asked (Some unique)) = issue (record { unique = unique; what = request }) ∷ []
@@ -178,8 +179,8 @@ abbrev pub KnowsWorld : World → ServedState → Type 0
 KnowsWorld world served = Knows world.tree world.names (owed world) served
 
 -- data of the seat's generation is in one message at most, and is the image of what knows the world as it is now,
--- though the kernel went on issuing and receiving; and so does what is served by each daemon that may claim the seat. No
--- data is of a generation to come.
+-- though the kernel went on issuing and receiving; and so does what is served by each daemon that may claim the seat.
+-- No data is of a generation to come.
 pub record DataIsCurrent (world : World) (state : State) : Type 0 where
   pub past : (place session generation : ℕ) (bytes : List ℕ) →
       at_place state.messages place ≡ Some (Data session generation bytes) → generation ≤ state.broker.last

@@ -74,8 +74,8 @@ MessageStands state (Data session generation bytes) =
 MessageStands state other = Unit {0}
 
 -- a daemon's part is of a generation that was, and it serves something; once drained it has nothing in hand; whoever
--- serves at the seat's generation is the holder, and the holder has its part at it, in a session only where a claim may
--- follow; and what is held from the seat's generation is what the holder handed over
+-- serves at the seat's generation is the holder, and the holder has its part at it, in a session only where a claim
+-- may follow; and what is held from the seat's generation is what the holder handed over
 pub record DaemonStands (state : State) (daemon : DaemonId) (was : DaemonState) : Type 0 where
   pub at_most : (g : ℕ) → part_at was.node.phase ≡ Some g → g ≤ state.broker.last
   pub serves : (g : ℕ) → part_at was.node.phase ≡ Some g → (server : ServerState) × (was.server ≡ Some server)

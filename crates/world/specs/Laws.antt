@@ -24,8 +24,8 @@ AnswerIsMove =
     first_where (is_asked ask.unique) world.asks ≡ Some ask → Replay served ask.what (Some answer) later →
     MayMove world (work ask.unique answer) × ServesWorld (after world (work ask.unique answer)) later
 
--- An item under way that is not of the root and takes something back may be applied, and what is served knows the world
--- after it.
+-- An item under way that is not of the root and takes something back may be applied, and what is served knows the
+-- world after it.
 abbrev pub ItemIsMove : Type 0
 ItemIsMove =
     (world : World) (served later : ServedState) (item : Item) → ServesWorld world served →

@@ -21,8 +21,8 @@ use Rattle.world.specs.declared.event.Event.TheVariants.{Start, Mount, Issue, Ta
 use Rattle.daemon.specs.declared.happened.Refusal.{Refusal}
 use Rattle.daemon.specs.declared.happened.Refusal.TheVariants as refusal
 
--- the manifest that every daemon is handed, how many loaded files a daemon keeps, the kernel's side, the daemons in the
--- order in which they started, and every message that a daemon said
+-- the manifest that every daemon is handed, how many loaded files a daemon keeps, the kernel's side, the daemons in
+-- the order in which they started, and every message that a daemon said
 pub record State : Type 0 where
   pub manifest : Manifest
   pub limit : ℕ
