@@ -1,4 +1,4 @@
-//! Where the name or the batch of a request that is read gets its memory.
+//! Where the name or the batch of a request that is read or copied gets its memory.
 ghost use Rattle.std.specs.Prelude.{◌≡◌, ◌≤◌, ◌*◌, Bool, true, false, IsTrue, length, IfOk, OnErr};
 ghost use Rattle.eden_base.specs.Name.{IsNameText};
 ghost use Rattle.fuse_wire.specs.RequestBody.{items_at};
@@ -24,6 +24,16 @@ pub(crate) trait Memory: Drop {
         requires at_most { count ≤ 256 }
         ensures items { IfOk result (λ batch. batch ≡ items_at count bytes.now) }
         ensures lack { OnErr result (IsTrue may_lack) };
+
+    /// Copies a name.
+    fn copy_name(self, name: &Name) -> Result<Name, NoMemory>
+        ensures name { IfOk result (λ copy. copy ≡ name.now) }
+        ensures lack { OnErr result (IsTrue may_lack) };
+
+    /// Copies a batch.
+    fn copy_batch(self, batch: &Batch) -> Result<Batch, NoMemory>
+        ensures items { IfOk result (λ copy. copy ≡ batch.now) }
+        ensures lack { OnErr result (IsTrue may_lack) };
 }
 
 impl Memory for Global {
@@ -35,6 +45,14 @@ impl Memory for Global {
 
     fn batch(self, count: usize, bytes: &[u8]) -> Result<Batch, NoMemory> {
         Batch::read(self, count, bytes)
+    }
+
+    fn copy_name(self, name: &Name) -> Result<Name, NoMemory> {
+        name.copy(self)
+    }
+
+    fn copy_batch(self, batch: &Batch) -> Result<Batch, NoMemory> {
+        batch.copy(self)
     }
 }
 
@@ -54,5 +72,13 @@ impl Memory for Rooms {
 
     fn batch(self, count: usize, bytes: &[u8]) -> Result<Batch, NoMemory> {
         Ok(Batch::read_to(self.batch, count, bytes))
+    }
+
+    fn copy_name(self, name: &Name) -> Result<Name, NoMemory> {
+        Ok(name.copy_to(self.name))
+    }
+
+    fn copy_batch(self, batch: &Batch) -> Result<Batch, NoMemory> {
+        Ok(batch.copy_to(self.batch))
     }
 }

@@ -1,7 +1,8 @@
 //! What the kernel asks, and by which opcode.
-ghost use Rattle.std.specs.Prelude.{◌≡◌, ◌≤◌, length, IfOk};
+ghost use Rattle.std.specs.Prelude.{◌≡◌, ◌≤◌, length, IsTrue, IfOk, OnErr};
 ghost use Rattle.fuse_wire.specs.Request.{code, opcode_of, is_forget, form_of, is_ask, nodes, item_of, items_of, other_of};
 
+use crate::memory::{Memory, Rooms};
 use crate::{Batch, BatchRoom, Form, Item, Nodes};
 use eden_base::{Name, NameRoom, NoMemory, Number, Perm};
 use std::alloc::Global;
@@ -47,17 +48,18 @@ pub(crate) enum Opcode {
 }
 
 impl Request {
-    /// Returns the same request, in memory of its own.
-    pub fn copy(&self, alloc: Global) -> Result<Request, NoMemory>
+    /// Returns the same request, in this memory.
+    fn copied<M: Memory>(&self, memory: M) -> Result<Request, NoMemory>
         ensures copy { IfOk result (λ copy. copy ≡ self.now) }
+        ensures lack { OnErr result (IsTrue M.may_lack) }
     {
         match self {
             Request::Lookup { dir, name } => {
-                let name = name.copy(alloc)?;
+                let name = memory.copy_name(name)?;
                 Ok(Request::Lookup { dir: *dir, name })
             }
             Request::Create { dir, name, perm } => {
-                let name = name.copy(alloc)?;
+                let name = memory.copy_name(name)?;
                 Ok(Request::Create {
                     dir: *dir,
                     name,
@@ -65,7 +67,7 @@ impl Request {
                 })
             }
             Request::Mkdir { dir, name, perm } => {
-                let name = name.copy(alloc)?;
+                let name = memory.copy_name(name)?;
                 Ok(Request::Mkdir {
                     dir: *dir,
                     name,
@@ -73,17 +75,17 @@ impl Request {
                 })
             }
             Request::Unlink { dir, name } => {
-                let name = name.copy(alloc)?;
+                let name = memory.copy_name(name)?;
                 Ok(Request::Unlink { dir: *dir, name })
             }
             Request::Rmdir { dir, name } => {
-                let name = name.copy(alloc)?;
+                let name = memory.copy_name(name)?;
                 Ok(Request::Rmdir { dir: *dir, name })
             }
             Request::Getattr { node } => Ok(Request::Getattr { node: *node }),
             Request::Forget(item) => Ok(Request::Forget(*item)),
             Request::BatchForget(batch) => {
-                let batch = batch.copy(alloc)?;
+                let batch = memory.copy_batch(batch)?;
                 Ok(Request::BatchForget(batch))
             }
             Request::Other { opcode, node } => Ok(Request::Other {
@@ -93,42 +95,23 @@ impl Request {
         }
     }
 
+    /// Returns the same request, in memory of its own.
+    pub fn copy(&self, alloc: Global) -> Result<Request, NoMemory>
+        ensures copy { IfOk result (λ copy. copy ≡ self.now) }
+    {
+        self.copied(alloc)
+    }
+
     /// Returns the same request, in memory that was taken before: room for as many names as a request can have, and for
     /// a batch.
     pub fn copy_to(&self, room: NameRoom, _second: NameRoom, batch_room: BatchRoom) -> Request
         ensures copy { result ≡ self.now }
     {
-        match self {
-            Request::Lookup { dir, name } => Request::Lookup {
-                dir: *dir,
-                name: name.copy_to(room),
-            },
-            Request::Create { dir, name, perm } => Request::Create {
-                dir: *dir,
-                name: name.copy_to(room),
-                perm: *perm,
-            },
-            Request::Mkdir { dir, name, perm } => Request::Mkdir {
-                dir: *dir,
-                name: name.copy_to(room),
-                perm: *perm,
-            },
-            Request::Unlink { dir, name } => Request::Unlink {
-                dir: *dir,
-                name: name.copy_to(room),
-            },
-            Request::Rmdir { dir, name } => Request::Rmdir {
-                dir: *dir,
-                name: name.copy_to(room),
-            },
-            Request::Getattr { node } => Request::Getattr { node: *node },
-            Request::Forget(item) => Request::Forget(*item),
-            Request::BatchForget(batch) => Request::BatchForget(batch.copy_to(batch_room)),
-            Request::Other { opcode, node } => Request::Other {
-                opcode: *opcode,
-                node: *node,
-            },
-        }
+        let rooms = Rooms {
+            name: room,
+            batch: batch_room,
+        };
+        self.copied(rooms).unwrap()
     }
 
     /// Returns the request of an opcode that no other variant has; nothing for an opcode that one has.
