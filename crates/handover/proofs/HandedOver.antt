@@ -6,7 +6,7 @@ use Rattle.fuse_ops.specs.Served.{ServedState, plain}
 use Rattle.fuse_ops.specs.Soundness.{IsSound}
 use Rattle.map_codec.proofs.ImageRaises.{image_raises, raised_knows}
 use Rattle.map_codec.specs.Raising.{raised, IsRaisable}
-use Rattle.map_codec.specs.declared.image.Image.{Image}
+use Rattle.map_image.specs.declared.image.Image.{Image}
 use Rattle.handover.proofs.OneImage.{one_of_text}
 use Rattle.handover.specs.Handover.{CannotBeTakenOver, IsHandedOver, IsTakenOver}
 

@@ -2,11 +2,11 @@
 use Rattle.std.proofs.Common.{◌≡◌, ℕ, List, Result, Ok, sym, ◌∙◌}
 use Rattle.checkout.proofs.ChangesLaws.{one_changes}
 use Rattle.fuse_ops.specs.Served.{ServedState}
-use Rattle.map_codec.proofs.ImageLaws.{image_again}
-use Rattle.map_codec.specs.ImageText.{IsImageText}
+use Rattle.map_image.proofs.ImageLaws.{image_again}
+use Rattle.map_image.specs.ImageText.{IsImageText}
 use Rattle.map_codec.specs.Taking.{IsImageOf}
-use Rattle.map_codec.specs.declared.fault.ImageFault.{ImageFault}
-use Rattle.map_codec.specs.declared.image.Image.{Image}
+use Rattle.map_image.specs.declared.fault.ImageFault.{ImageFault}
+use Rattle.map_image.specs.declared.image.Image.{Image}
 
 pub one_of_served : (served : ServedState) (at : ℕ) (a b : Image) → IsImageOf served at a → IsImageOf served at b → b ≡ a
 one_of_served served at a b is other = λ i. record {

@@ -4,11 +4,11 @@ use Rattle.std.specs.Prelude.{◌≡◌, ◌≢◌, ℕ, List, None}
 use Rattle.manifest.specs.Manifest.{Manifest}
 use Rattle.fuse_ops.specs.Served.{ServedState}
 use Rattle.fuse_ops.specs.Soundness.{IsSound}
-use Rattle.map_codec.specs.ImageText.{IsImageText}
+use Rattle.map_image.specs.ImageText.{IsImageText}
 use Rattle.map_codec.specs.Raising.{raised, IsRaisable}
 use Rattle.map_codec.specs.Taking.{IsImageOf}
-use Rattle.map_codec.specs.Writing.{refusal}
-use Rattle.map_codec.specs.declared.image.Image.{Image}
+use Rattle.map_image.specs.Writing.{refusal}
+use Rattle.map_image.specs.declared.image.Image.{Image}
 
 -- the bytes are the text of the image of what is served at a generation, in a version
 pub record IsHandedOver (served : ServedState) (at version : ℕ) (bytes : List ℕ) : Type 0 where

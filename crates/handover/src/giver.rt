@@ -1,15 +1,16 @@
 //! The daemon that hands over what it serves.
 ghost use Rattle.std.specs.Prelude.{◌≡◌, IfErr, IfOk, None, OnOk};
-ghost use Rattle.map_codec.specs.Fit.{IsFit};
-ghost use Rattle.map_codec.specs.ImageText.{IsImageText};
-ghost use Rattle.map_codec.specs.Writing.{refusal};
+ghost use Rattle.map_image.specs.Fit.{IsFit};
+ghost use Rattle.map_image.specs.ImageText.{IsImageText};
+ghost use Rattle.map_image.specs.Writing.{refusal};
 ghost use Rattle.handover.specs.Handover.{CannotBeHandedOver, IsHandedOver};
 ghost use Rattle.handover.specs.declared.fault.HandoverFault.TheVariants.{Refused};
 
 use crate::HandoverFault;
 use eden_base::NoMemory;
 use fuse_ops::Served;
-use map_codec::{Image, WriteFault, image_of, write};
+use map_codec::image_of;
+use map_image::{Image, WriteFault, write};
 use std::alloc::Global;
 
 /// Writes an image in a version.

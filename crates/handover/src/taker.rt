@@ -1,18 +1,19 @@
 //! The daemon that takes over what another one served.
 ghost use Rattle.std.specs.Prelude.{◌≡◌, ◌≢◌, ℕ, IfErr, IfOk};
 ghost use Rattle.fuse_ops.specs.Soundness.{IsSound};
-ghost use Rattle.map_codec.specs.Fit.{CountsFit, IsFit};
-ghost use Rattle.map_codec.specs.ImageText.{IsImageText};
+ghost use Rattle.map_image.specs.Fit.{CountsFit, IsFit};
+ghost use Rattle.map_image.specs.ImageText.{IsImageText};
 ghost use Rattle.map_codec.specs.Raising.{raised, IsRaisable};
-ghost use Rattle.map_codec.specs.declared.fault.ImageFault.TheVariants.{NoMemory as OutOfMemory};
-ghost use Rattle.map_codec.specs.declared.image.Image.{Image};
+ghost use Rattle.map_image.specs.declared.fault.ImageFault.TheVariants.{NoMemory as OutOfMemory};
+ghost use Rattle.map_image.specs.declared.image.Image.{Image};
 ghost use Rattle.handover.specs.Handover.{CannotBeTakenOver, IsTakenOver};
 ghost use Rattle.handover.specs.declared.fault.HandoverFault.TheVariants.{Refused};
 
 use crate::HandoverFault;
 use fuse_ops::Served;
 use manifest::Manifest;
-use map_codec::{Image, ImageFault, RaiseFault, raise, read};
+use map_codec::{RaiseFault, raise};
+use map_image::{Image, ImageFault, read};
 use std::alloc::Global;
 
 /// Returns what is told where reading has this fault.

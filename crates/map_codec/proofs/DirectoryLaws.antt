@@ -11,7 +11,7 @@ use Rattle.eden_base.specs.declared.number.Number.{Number}
 use Rattle.entry_table.specs.Entries.{AreNumbers, entry_of, number_of_kept}
 use Rattle.entry_table.specs.declared.kept.Kept.{Kept}
 use Rattle.entry_table.proofs.EntryLemmas.{entry_of-number}
-use Rattle.map_codec.specs.Fit.{rises, entry_follows}
+use Rattle.map_image.specs.Fit.{rises, entry_follows}
 use Rattle.map_codec.specs.Named.{IsPlaceOf, number_at}
 use Rattle.map_codec.proofs.PlaceLaws.{entry_there, numbers_behind}
 

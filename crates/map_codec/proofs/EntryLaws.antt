@@ -10,8 +10,8 @@ use Rattle.entry_table.specs.declared.kept.Kept.{Kept}
 use Rattle.fuse_ops.proofs.FromEntries.{all-entries}
 use Rattle.fuse_ops.specs.Served.{ServedState}
 use Rattle.fuse_ops.specs.Soundness.{IsSound}
-use Rattle.map_codec.specs.declared.image.Image.{Image}
-use Rattle.map_codec.specs.Fit.{rises, is_next_number, entry_follows, CountsFit, IsNamedLink, IsFit}
+use Rattle.map_image.specs.declared.image.Image.{Image}
+use Rattle.map_image.specs.Fit.{rises, is_next_number, entry_follows, CountsFit, IsNamedLink, IsFit}
 use Rattle.map_codec.proofs.InOrder.{made_files_rise, changed_links_rise}
 use Rattle.map_codec.proofs.SoundRaises.{all_pass}
 

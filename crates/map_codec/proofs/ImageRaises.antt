@@ -11,7 +11,7 @@ use Rattle.fuse_ops.specs.Served.{ServedState, plain}
 use Rattle.fuse_ops.specs.Soundness.{IsSound}
 use Rattle.map_codec.specs.Raising.{AreRaisable, IsRaisable, raised, tree_told}
 use Rattle.map_codec.specs.Taking.{IsImageOf}
-use Rattle.map_codec.specs.declared.image.Image.{Image}
+use Rattle.map_image.specs.declared.image.Image.{Image}
 use Rattle.map_codec.proofs.SoundRaises.{sound_raises}
 
 module _ (served : ServedState) (at : ℕ) (image : Image) (sound : IsSound served) (tree : IsTree served.tree) (manifest : IsManifest served.tree.manifest) (is : IsImageOf served at image) where

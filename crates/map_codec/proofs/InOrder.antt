@@ -13,7 +13,7 @@ use Rattle.checkout.specs.Changes.{AreMade, AreLinkChanges, place_of}
 use Rattle.manifest.specs.Tree.{Tree, link_cmp}
 use Rattle.manifest.specs.declared.links.LinkChange.{LinkChange}
 use Rattle.checkout.specs.declared.changes.Made.{Made}
-use Rattle.map_codec.specs.Fit.{rises, made_follows, link_follows}
+use Rattle.map_image.specs.Fit.{rises, made_follows, link_follows}
 
 module _ {X K : Type 0} (R : K → K → Ordering) (place : X → K) (follows : Option X → X → Bool)
     (first : (x : X) → follows None x ≡ true)

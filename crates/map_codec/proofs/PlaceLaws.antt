@@ -14,7 +14,7 @@ use Rattle.entry_table.specs.Entries.{AreNumbers, has_number, entry_of}
 use Rattle.entry_table.specs.declared.kept.Kept.{Kept}
 use Rattle.entry_table.proofs.EntryLemmas.{numbers-rise}
 use Rattle.entry_table.proofs.EntryRuns.{cut, found-there}
-use Rattle.map_codec.specs.Fit.{rises, entry_follows}
+use Rattle.map_image.specs.Fit.{rises, entry_follows}
 use Rattle.map_codec.specs.Named.{IsPlaceOf}
 
 -- what the numbers behind one are above

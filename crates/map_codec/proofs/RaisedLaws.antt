@@ -19,7 +19,7 @@ use Rattle.entry_table.specs.Entries.{AreNumbers, IsFileOf, entry_of, is_of_use}
 use Rattle.entry_table.specs.declared.kept.Kept.{Kept}
 use Rattle.fuse_ops.specs.Served.{served_of}
 use Rattle.fuse_ops.specs.Soundness.{IsSound, IsUnlinkedPlace}
-use Rattle.map_codec.specs.Fit.{CountsFit, entry_follows, rises}
+use Rattle.map_image.specs.Fit.{CountsFit, entry_follows, rises}
 use Rattle.map_codec.specs.Raising.{AreRaisable, HasFile, is_next, is_right_mark}
 
 pub both : (b c : Bool) → (b && c) ≡ true → (b ≡ true) × (c ≡ true)

@@ -12,7 +12,7 @@ use Rattle.entry_table.specs.EntryPlaces.{Climbs, StepsUp}
 use Rattle.entry_table.specs.Entries.{IsFileOf, entry_of, is_marked}
 use Rattle.entry_table.specs.declared.kept.Kept.{Kept}
 use Rattle.entry_table.proofs.Climbing.{Climbs-append, Climbs-split, long-no_file, step-name, step-no_mark}
-use Rattle.map_codec.specs.Fit.{rises, entry_follows}
+use Rattle.map_image.specs.Fit.{rises, entry_follows}
 use Rattle.map_codec.specs.Named.{AreDirectories, IsDirectoryAt, IsDirectoryOf, IsPlaceOf, NamesNone, number_at}
 use Rattle.map_codec.proofs.DirectoryLaws.{not_root, place_inside, place_itself, place_number}
 use Rattle.map_codec.proofs.NamedLaws.{entry_read, step_at}

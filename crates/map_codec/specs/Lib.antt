@@ -1,9 +1,3 @@
-pub mod Field
-pub mod Fit
-pub mod ImageReading
-pub mod ImageText
 pub mod Named
 pub mod Raising
 pub mod Taking
-pub mod Usage
-pub mod Writing

@@ -15,7 +15,7 @@ use Rattle.entry_table.specs.declared.kept.Kept.{Kept}
 use Rattle.fuse_ops.specs.Served.{ServedState, served_of}
 use Rattle.map_codec.specs.declared.fault.RaiseFault.{RaiseFault}
 use Rattle.map_codec.specs.declared.fault.RaiseFault.TheVariants.{OtherCommit, BadChange, NoParent, NoLink, TwoNumbers, NumberTooHigh, NoMemory}
-use Rattle.map_codec.specs.declared.image.Image.{Image}
+use Rattle.map_image.specs.declared.image.Image.{Image}
 
 -- the tree that an image tells over a manifest
 abbrev pub tree_told : Manifest → Image → Tree

@@ -3,7 +3,7 @@
 use Rattle.std.specs.Prelude.{◌≡◌, ℕ}
 use Rattle.checkout.specs.Changes.{AreChanges}
 use Rattle.fuse_ops.specs.Served.{ServedState}
-use Rattle.map_codec.specs.declared.image.Image.{Image}
+use Rattle.map_image.specs.declared.image.Image.{Image}
 
 -- all that is kept, with places and counts, the next number, and what tells the checkout from its manifest
 pub record IsImageOf (served : ServedState) (at : ℕ) (image : Image) : Type 0 where

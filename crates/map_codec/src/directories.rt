@@ -1,7 +1,7 @@
 //! Where the entries of an image stand among each other.
 ghost use Rattle.std.specs.Prelude.{◌≡◌, ◌<◌, None, true, false, IfOk, IfSome, MatchOption, length};
 ghost use Rattle.entry_table.specs.Entries.{entry_of};
-ghost use Rattle.map_codec.specs.Fit.{rises, entry_follows};
+ghost use Rattle.map_image.specs.Fit.{rises, entry_follows};
 ghost use Rattle.map_codec.specs.Named.{AreDirectories, IsPlaceOf, TellsDirectory};
 ghost use Rattle.map_codec.specs.Raising.{have_parents};
 

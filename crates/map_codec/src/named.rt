@@ -3,7 +3,7 @@ ghost use Rattle.std.specs.Prelude.{◌≡◌, ◌<◌, ◌≤◌, None, IfOk, M
 ghost use Rattle.eden_base.specs.declared.number.FileId.{FileId};
 ghost use Rattle.manifest.specs.Tree.{Tree};
 ghost use Rattle.entry_table.specs.Entries.{IsFileOf};
-ghost use Rattle.map_codec.specs.Fit.{rises, entry_follows};
+ghost use Rattle.map_image.specs.Fit.{rises, entry_follows};
 ghost use Rattle.map_codec.specs.Named.{number_at, AreDirectories, AreFilesOf, AreFound, EachNames, IsWayTo, NamesNone};
 
 use checkout::Tree;

@@ -2,18 +2,19 @@
 ghost use Rattle.std.specs.Prelude.{◌≡◌, true, None, IfErr, IfOk, OnOk};
 ghost use Rattle.manifest.specs.Tree.{IsTree};
 ghost use Rattle.fuse_ops.specs.Soundness.{IsSound};
-ghost use Rattle.map_codec.specs.Fit.{entry_follows, rises, CountsFit, IsFit};
+ghost use Rattle.map_image.specs.Fit.{entry_follows, rises, CountsFit, IsFit};
 ghost use Rattle.map_codec.specs.Raising.{raised, tree_told, IsRaisable, IsRaiseRefusal, StandsAgainst, TellsATree};
 
+use crate::RaiseFault;
 use crate::directories::directories;
 use crate::entry_checks::{are_apart, are_right_marks, is_next};
 use crate::named::named_files;
-use crate::{Image, RaiseFault};
 use checkout::{ChangeFault, Tree};
 use eden_base::NoMemory;
 use fuse_ops::Served;
 use inode_map::Kept;
 use manifest::Manifest;
+use map_image::Image;
 use std::alloc::Global;
 
 /// Returns what stands against entries and a next number over a tree, if anything does.

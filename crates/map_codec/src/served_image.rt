@@ -2,12 +2,12 @@
 ghost use Rattle.std.specs.Prelude.{◌≡◌, IfOk};
 ghost use Rattle.std.specs.List.{AllByRecursion};
 ghost use Rattle.entry_table.specs.EntryPlaces.{IsNamedEntry};
-ghost use Rattle.map_codec.specs.Fit.{CountsFit, IsFit};
+ghost use Rattle.map_image.specs.Fit.{CountsFit, IsFit};
 ghost use Rattle.map_codec.specs.Taking.{IsImageOf};
 
-use crate::{Entries, Image};
 use eden_base::NoMemory;
 use fuse_ops::Served;
+use map_image::{Entries, Image};
 use std::alloc::Global;
 
 /// Returns the entries of what is served.

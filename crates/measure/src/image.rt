@@ -3,7 +3,7 @@
 //! so many are unlinked, and with the word `times` it tells the nanoseconds of each call for an entry. An image that is
 //! too long is not written.
 ghost use Rattle.std.specs.Prelude.{IfOk};
-ghost use Rattle.map_codec.specs.Fit.{CountsFit, IsFit};
+ghost use Rattle.map_image.specs.Fit.{CountsFit, IsFit};
 
 use crate::bytes::put_all;
 use crate::clock::{each_since, moment};
@@ -14,7 +14,8 @@ use crate::words::number_at;
 use eden_base::NoMemory;
 use fuse_ops::Served;
 use manifest::Manifest;
-use map_codec::{Image, ImageFault, RaiseFault, WriteFault, image_of, raise, read, write};
+use map_codec::{RaiseFault, image_of, raise};
+use map_image::{Image, ImageFault, WriteFault, read, write};
 use std::alloc::{AllocError, Global};
 
 /// Returns how many attributes may be loaded. With the number itself in the call, the proof of `image_raised` takes

@@ -7,7 +7,7 @@ mod raise_tests;
 mod vectors;
 
 ghost use Rattle.std.specs.Prelude.{◌≡◌, IfOk, IsTrue};
-ghost use Rattle.map_codec.specs.Fit.{CountsFit, IsFit};
+ghost use Rattle.map_image.specs.Fit.{CountsFit, IsFit};
 
 use crate::again::{name_of, served_of};
 use crate::map_codec_tests::deeds::{Deed, all_go_so};
@@ -17,7 +17,8 @@ use eden_base::{Errno, NameFault, NoMemory, Number, Perm};
 use fuse_ops::Served;
 use fuse_wire::{Answer, Request};
 use manifest::Manifest;
-use map_codec::{Entries, Image, ImageFault, WriteFault, image_of, read, write};
+use map_codec::image_of;
+use map_image::{Entries, Image, ImageFault, WriteFault, read, write};
 use std::alloc::{AllocError, Global};
 
 /// Calls `read`, and once more where memory was refused.

@@ -2,8 +2,8 @@ use Rattle.std.proofs.Common.{◌≡◌, ℕ, Result, Ok, Err, subst, rules}
 use Rattle.std.specs.Prelude.{IfErr, None}
 use Rattle.fuse_ops.specs.Served.{ServedState}
 use Rattle.map_codec.specs.Taking.{IsImageOf}
-use Rattle.map_codec.specs.Writing.{refusal}
-use Rattle.map_codec.specs.declared.image.Image.{Image}
+use Rattle.map_image.specs.Writing.{refusal}
+use Rattle.map_image.specs.declared.image.Image.{Image}
 use Rattle.handover.specs.Handover.{CannotBeHandedOver}
 use Rattle.handover.specs.declared.fault.HandoverFault.{HandoverFault}
 use Rattle.handover.specs.declared.fault.HandoverFault.TheVariants.{Refused}

@@ -1,8 +1,8 @@
 use Rattle.std.proofs.Common.{◌≢◌, Ok, refl}
-use Rattle.map_codec.specs.ImageReading.{Fails}
-use Rattle.map_codec.specs.declared.fault.ImageFault.{ImageFault}
-use Rattle.map_codec.specs.declared.fault.ImageFault.TheVariants.{NoMemory}
-use Rattle.map_codec.specs.declared.image.Image.{Image}
+use Rattle.map_image.specs.ImageReading.{Fails}
+use Rattle.map_image.specs.declared.fault.ImageFault.{ImageFault}
+use Rattle.map_image.specs.declared.fault.ImageFault.TheVariants.{NoMemory}
+use Rattle.map_image.specs.declared.image.Image.{Image}
 use Rattle.handover.proofs.taker.image_told.Goals as goal
 
 -- an image that is read is no fault but out of memory

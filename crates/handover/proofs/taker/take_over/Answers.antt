@@ -3,9 +3,9 @@ use Rattle.std.specs.Prelude.{IfErr}
 use Rattle.std.proofs.lemmas.Result.{err_from_is_err_and}
 use Rattle.manifest.specs.Manifest.{Manifest}
 use Rattle.fuse_ops.specs.Served.{ServedState}
-use Rattle.map_codec.specs.ImageText.{IsImageText}
+use Rattle.map_image.specs.ImageText.{IsImageText}
 use Rattle.map_codec.specs.Raising.{IsRaisable}
-use Rattle.map_codec.specs.declared.image.Image.{Image}
+use Rattle.map_image.specs.declared.image.Image.{Image}
 use Rattle.handover.specs.Handover.{CannotBeTakenOver}
 use Rattle.handover.specs.declared.fault.HandoverFault.{HandoverFault}
 use Rattle.handover.specs.declared.fault.HandoverFault.TheVariants.{Refused}

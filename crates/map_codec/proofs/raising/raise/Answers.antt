@@ -4,7 +4,7 @@ use Rattle.std.specs.List.{list_all}
 use Rattle.manifest.specs.Tree.{Tree}
 use Rattle.entry_table.specs.Entries.{is_of_use}
 use Rattle.entry_table.specs.declared.kept.Kept.{Kept}
-use Rattle.map_codec.specs.Fit.{CountsFit, entry_follows, rises}
+use Rattle.map_image.specs.Fit.{CountsFit, entry_follows, rises}
 use Rattle.map_codec.specs.Raising.{AreRaisable}
 use Rattle.map_codec.proofs.RaisedLaws.{raised_sound}
 use Rattle.map_codec.proofs.raising.raise.Goals as goal

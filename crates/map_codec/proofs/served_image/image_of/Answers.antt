@@ -1,7 +1,7 @@
 use Rattle.std.proofs.Common.{sym, subst}
 use Rattle.checkout.specs.Changes.{AreChanges}
 use Rattle.manifest.specs.Tree.{Tree}
-use Rattle.map_codec.specs.Fit.{CountsFit}
+use Rattle.map_image.specs.Fit.{CountsFit}
 use Rattle.map_codec.proofs.EntryLaws.{counts_taken, fit_taken}
 use Rattle.map_codec.proofs.served_image.image_of.Goals as goal
 

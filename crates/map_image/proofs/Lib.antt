@@ -1,0 +1,12 @@
+pub mod CountLaws
+pub mod FieldLaws
+pub mod ImageLaws
+pub mod Lengths
+pub mod ListLaws
+pub mod Loop
+pub mod MemberLaws
+pub mod Members
+pub mod Perms
+pub mod RiseLaws
+pub mod UsageLaws
+pub mod Written

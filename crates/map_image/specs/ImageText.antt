@@ -1,0 +1,150 @@
+-- The one spelling of an image in a version: its fields from front to back, numbers with the highest byte first. (This
+-- project's own; EdenFS serialises its inode map by Thrift.)
+use Rattle.std.specs.Prelude.{All, ◌≡◌, ℕ, ◌<◌, ◌^◌, ◌==◌, List, [], ◌∷◌, ◌++◌, length, Option, Some, None, if◌then◌else◌}
+use Rattle.std.specs.Int.{Width, w16, w32, w64}
+use Rattle.std.specs.List.{flat_map}
+use Rattle.eden_base.specs.declared.attr.Kind.{Kind}
+use Rattle.eden_base.specs.declared.attr.Kind.TheVariants.{Dir, File as RegularFile}
+use Rattle.eden_base.specs.declared.number.FileId.{FileId}
+use Rattle.eden_base.specs.declared.place.Place.{Place}
+use Rattle.eden_base.specs.declared.place.Place.TheVariants.{Linked, Unlinked}
+use Rattle.checkout.specs.declared.changes.Made.{Made}
+use Rattle.manifest.specs.declared.links.LinkChange.{LinkChange}
+use Rattle.entry_table.specs.declared.kept.Kept.{Kept}
+use Rattle.map_image.specs.declared.image.Image.{Image}
+use Rattle.map_image.specs.Field.{byte_text, number_bytes}
+use Rattle.map_image.specs.Fit.{IsFit}
+
+-- ---- versions: how wide a count is, and how long a text may be that is written
+
+-- what differs from version to version
+pub record Form : Type 0 where
+  pub count : Width
+  pub limit : ℕ
+  pub longest : ℕ
+
+abbrev pub first_form : Form
+first_form = record { count = w32; limit = 2 ^ 32; longest = 65000 }
+
+-- the versions that there are, a row for each
+abbrev pub form_of : ℕ → Option Form
+form_of version = if version == 1 then Some first_form else None
+
+-- ---- fields
+
+-- `EDTK`
+unfoldable pub magic : List ℕ
+magic = 69 ∷ 68 ∷ 84 ∷ 75 ∷ []
+
+-- the length in one byte, and the name
+abbrev pub name_text : List ℕ → List ℕ
+name_text name = byte_text (length name) ++ name
+
+-- whether a name leads to the entry
+abbrev pub place_mark : Place → ℕ
+place_mark (Linked parent name) = 0
+place_mark (Unlinked file) = 1
+
+abbrev pub place_text : Place → List ℕ
+place_text (Linked parent name) = number_bytes w64 parent.0 ++ name_text name
+place_text (Unlinked file) = number_bytes w64 file.0
+
+abbrev pub kind_mark : Kind → ℕ
+kind_mark RegularFile = 0
+kind_mark Dir = 1
+
+-- whether a changed name gives a file
+abbrev pub target_text : Option FileId → List ℕ
+target_text None = byte_text 0
+target_text (Some file) = byte_text 1 ++ number_bytes w64 file.0
+
+-- ---- members of the three lists
+
+-- number, mark, count, place
+abbrev pub entry_text : Width → Kept → List ℕ
+entry_text count kept =
+    number_bytes w64 kept.number.0
+    ++ (byte_text (place_mark kept.place) ++ (number_bytes count kept.count ++ place_text kept.place))
+
+-- file, kind, permissions
+abbrev pub made_text : Made → List ℕ
+made_text made =
+    number_bytes w64 made.file.0 ++ (byte_text (kind_mark made.kind) ++ number_bytes w16 made.perm.bits)
+
+-- directory, name, file
+abbrev pub link_text : LinkChange → List ℕ
+link_text link = number_bytes w64 link.dir.0 ++ (name_text link.name ++ target_text link.target)
+
+-- how many there are, and each in turn
+abbrev pub list_text : {X : Type 0} → (X → List ℕ) → List X → List ℕ
+list_text text xs = number_bytes w32 (length xs) ++ flat_map text xs
+
+-- ---- the whole
+
+-- generation, next number, next file
+abbrev pub numbers_text : Image → List ℕ
+numbers_text image =
+    number_bytes w64 image.generation
+    ++ (number_bytes w64 image.next_number ++ number_bytes w64 image.changes.next_file.0)
+
+-- magic, version, commit, and these numbers
+abbrev pub header_text : ℕ → Image → List ℕ
+header_text version image = magic ++ (number_bytes w16 version ++ (image.commit ++ numbers_text image))
+
+-- entries, made files, changed links
+abbrev pub lists_text : Width → Image → List ℕ
+lists_text count image =
+    list_text (entry_text count) image.entries
+    ++ (list_text made_text image.changes.made ++ list_text link_text image.changes.links)
+
+abbrev pub image_text : Width → ℕ → Image → List ℕ
+image_text count version image = header_text version image ++ lists_text count image
+
+-- ---- numbers that their fields can hold
+
+abbrev pub FitsPlace : Place → Type 0
+FitsPlace (Linked parent name) = parent.0 < 2 ^ 64
+FitsPlace (Unlinked file) = file.0 < 2 ^ 64
+
+pub record FitsEntry (limit : ℕ) (kept : Kept) : Type 0 where
+  pub number : kept.number.0 < 2 ^ 64
+  pub count : kept.count < limit
+  pub place : FitsPlace kept.place
+
+abbrev pub FitsMade : Made → Type 0
+FitsMade made = made.file.0 < 2 ^ 64
+
+abbrev pub FitsTarget : Option FileId → Type 0
+FitsTarget None = Unit {0}
+FitsTarget (Some file) = file.0 < 2 ^ 64
+
+pub record FitsLink (link : LinkChange) : Type 0 where
+  pub dir : link.dir.0 < 2 ^ 64
+  pub target : FitsTarget link.target
+
+-- generation, next number and next file
+pub record FitsNumbers (image : Image) : Type 0 where
+  pub generation : image.generation < 2 ^ 64
+  pub next_number : image.next_number < 2 ^ 64
+  pub next_file : image.changes.next_file.0 < 2 ^ 64
+
+-- lists that can be counted, with members that fit
+pub record FitsMembers (limit : ℕ) (image : Image) : Type 0 where
+  pub entries_few : length image.entries < 2 ^ 32
+  pub entries : All (FitsEntry limit) image.entries
+  pub made_few : length image.changes.made < 2 ^ 32
+  pub made : All FitsMade image.changes.made
+  pub links_few : length image.changes.links < 2 ^ 32
+  pub links : All FitsLink image.changes.links
+
+-- ---- the relation
+
+-- the bytes are the text of an image in a version
+pub record IsImageText (image : Image) (version : ℕ) (bytes : List ℕ) : Type 0 where
+  pub form : Form
+  pub known : form_of version ≡ Some form
+  pub is_fit : IsFit image
+  pub commit : length image.commit ≡ 20
+  pub numbers : FitsNumbers image
+  pub members : FitsMembers form.limit image
+  pub is : bytes ≡ image_text form.count version image

@@ -1,0 +1,6 @@
+pub mod Field
+pub mod Fit
+pub mod ImageReading
+pub mod ImageText
+pub mod Usage
+pub mod Writing

@@ -1,0 +1,59 @@
+//! What a daemon hands over: the numbers that it gave, and what it changed in its checkout.
+ghost use Rattle.std.specs.Prelude.{◌≡◌};
+
+use checkout::Changes;
+use entry_table::Kept;
+use std::marker::Model;
+
+/// The entries of an image, in order.
+#[derive(Drop)]
+pub struct Entries {
+    kept: Vec<Kept>,
+}
+
+impl Model for Entries {
+    ghost use Rattle.std.specs.Prelude.{List};
+    ghost use Rattle.entry_table.specs.declared.kept.Kept.{Kept};
+
+    ghost Value = { List Kept };
+
+    ghost view = { λ a. a.kept.items };
+}
+
+impl Entries {
+    /// Returns the list of these entries. Takes no memory.
+    pub fn of(kept: Vec<Kept>) -> Entries
+        ensures entries { result ≡ kept.items }
+    {
+        Entries { kept }
+    }
+
+    /// Returns the entries in their order.
+    pub fn as_slice(&self) -> &[Kept]
+        ensures entries { result.now ≡ self.now }
+    {
+        self.kept.as_slice()
+    }
+
+    /// Gives the entries back. Takes no memory.
+    pub fn into_vec(self) -> Vec<Kept>
+        ensures entries { result.items ≡ self }
+    {
+        self.kept
+    }
+}
+
+/// All that a daemon knows of its mount, as it travels to the next one.
+#[derive(Drop)]
+pub struct Image {
+    /// Names the manifest that the checkout stands on.
+    pub commit: [u8; 20],
+    /// At which the daemon has the seat.
+    pub generation: u64,
+    /// The number that is given next.
+    pub next_number: u64,
+    /// The numbers that are kept, by rising number.
+    pub entries: Entries,
+    /// What tells the checkout from its manifest.
+    pub changes: Changes,
+}

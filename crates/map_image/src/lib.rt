@@ -1,0 +1,21 @@
+//! The image of what a daemon knows of its mount, and its one spelling as bytes.
+#![tactic(auto)]
+
+mod fault;
+mod fit;
+mod header;
+mod image;
+mod image_reader;
+mod image_writer;
+mod list_reader;
+mod measure;
+mod member_reader;
+mod member_writer;
+mod reader;
+mod usage;
+mod writer;
+
+pub use fault::{ImageFault, WriteFault};
+pub use image::{Entries, Image};
+pub use image_reader::read;
+pub use image_writer::write;

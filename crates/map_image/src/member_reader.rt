@@ -1,0 +1,200 @@
+//! The members of an image's lists, taken off the front of bytes, each behind those that were taken before.
+ghost use Rattle.std.specs.Prelude.{◌≡◌};
+ghost use Rattle.std.specs.Int.{w32};
+ghost use Rattle.map_image.specs.Fit.{is_next_number, is_next_file, is_next_place};
+ghost use Rattle.map_image.specs.ImageReading.{Gives, last_of, name_at, place_at, rising_at, entry_at, file_at, kind_of_mark, perm_at, made_at, rising_place, target_at, link_at};
+
+use crate::ImageFault;
+use crate::reader::{counted_at, mark_at, named, u16_at, u32_at, u64_at};
+use checkout::Made;
+use eden_base::{FileId, Kind, Name, Number, Perm, Place};
+use entry_table::Kept;
+use manifest::LinkChange;
+use std::alloc::Global;
+
+/// Takes a name behind its length.
+#[tactic(auto, unfolding(crate::specs::ImageReading::name_at))]
+fn name_at(alloc: Global, bytes: &[u8]) -> Result<(Name, &[u8]), ImageFault>
+    ensures { Gives (λ x. (x.0, x.1.now)) result (name_at bytes.now) }
+{
+    let (field, rest) = counted_at(bytes)?;
+    named(alloc, field, rest)
+}
+
+/// Takes where an entry stands, by its mark.
+#[tactic(auto, unfolding(crate::specs::ImageReading::place_at))]
+fn place_at(alloc: Global, unlinked: bool, bytes: &[u8]) -> Result<(Place, &[u8]), ImageFault>
+    ensures { Gives (λ x. (x.0, x.1.now)) result (place_at unlinked bytes.now) }
+{
+    let (number, rest) = u64_at(bytes)?;
+    if unlinked {
+        let file = FileId(number);
+        return Ok((Place::Unlinked { file }, rest));
+    }
+    let (name, rest) = name_at(alloc, rest)?;
+    let parent = Number(number);
+    Ok((Place::Linked { parent, name }, rest))
+}
+
+/// Returns whether a number rises above the last entry's.
+pub(crate) fn is_next_number(done: &[Kept], number: u64) -> bool
+    ensures { result ≡ is_next_number (last_of done.now) number }
+{
+    match done.last() {
+        Some(last) => last.number.0 < number,
+        None => 1 < number,
+    }
+}
+
+/// Takes a number that rises.
+#[tactic(auto, unfolding(crate::specs::ImageReading::rising_at))]
+fn rising_at<'a>(done: &[Kept], bytes: &'a [u8]) -> Result<(u64, &'a [u8]), ImageFault>
+    ensures { Gives (λ x. (x.0, x.1.now)) result (rising_at (last_of done.now) bytes.now) }
+{
+    let (number, rest) = u64_at(bytes)?;
+    if !is_next_number(done, number) {
+        return Err(ImageFault::NotRising);
+    }
+    Ok((number, rest))
+}
+
+/// Takes an entry.
+#[tactic(auto, unfolding(crate::specs::ImageReading::entry_at))]
+pub(crate) fn entry_at<'a>(
+    alloc: Global,
+    done: &[Kept],
+    bytes: &'a [u8],
+) -> Result<(Kept, &'a [u8]), ImageFault>
+    ensures { Gives (λ x. (x.0, x.1.now)) result (entry_at w32 (last_of done.now) bytes.now) }
+{
+    let (number, rest) = rising_at(done, bytes)?;
+    let (unlinked, rest) = mark_at(rest)?;
+    let (count, rest) = u32_at(rest)?;
+    let (place, rest) = place_at(alloc, unlinked, rest)?;
+    let kept = Kept {
+        number: Number(number),
+        place,
+        count: u64::from(count),
+    };
+    Ok((kept, rest))
+}
+
+/// Returns whether a file rises above the last made one.
+pub(crate) fn is_next_file(done: &[Made], file: u64) -> bool
+    ensures { result ≡ is_next_file (last_of done.now) file }
+{
+    match done.last() {
+        Some(last) => last.file.0 < file,
+        None => true,
+    }
+}
+
+/// Takes a file that rises.
+#[tactic(auto, unfolding(crate::specs::ImageReading::file_at))]
+fn file_at<'a>(done: &[Made], bytes: &'a [u8]) -> Result<(u64, &'a [u8]), ImageFault>
+    ensures { Gives (λ x. (x.0, x.1.now)) result (file_at (last_of done.now) bytes.now) }
+{
+    let (file, rest) = u64_at(bytes)?;
+    if !is_next_file(done, file) {
+        return Err(ImageFault::NotRising);
+    }
+    Ok((file, rest))
+}
+
+/// Takes permissions.
+#[tactic(auto, unfolding(crate::specs::ImageReading::perm_at))]
+fn perm_at(bytes: &[u8]) -> Result<(Perm, &[u8]), ImageFault>
+    ensures { Gives (λ x. (x.0, x.1.now)) result (perm_at bytes.now) }
+{
+    let (bits, rest) = u16_at(bytes)?;
+    match Perm::of(bits) {
+        Some(perm) => Ok((perm, rest)),
+        None => Err(ImageFault::BadMark),
+    }
+}
+
+/// Returns the kind of a mark.
+fn kind_of_mark(is_dir: bool) -> Kind
+    ensures { result ≡ kind_of_mark is_dir }
+{
+    if is_dir { Kind::Dir } else { Kind::File }
+}
+
+/// Takes a made file.
+#[tactic(auto, unfolding(crate::specs::ImageReading::made_at))]
+pub(crate) fn made_at<'a>(done: &[Made], bytes: &'a [u8]) -> Result<(Made, &'a [u8]), ImageFault>
+    ensures { Gives (λ x. (x.0, x.1.now)) result (made_at (last_of done.now) bytes.now) }
+{
+    let (file, rest) = file_at(done, bytes)?;
+    let (is_dir, rest) = mark_at(rest)?;
+    let (perm, rest) = perm_at(rest)?;
+    let made = Made {
+        file: FileId(file),
+        kind: kind_of_mark(is_dir),
+        perm,
+    };
+    Ok((made, rest))
+}
+
+/// Returns whether a name in a directory rises above the last one.
+pub(crate) fn is_next_place(done: &[LinkChange], dir: u64, name: &[u8]) -> bool
+    ensures { result ≡ is_next_place (last_of done.now) dir name.now }
+{
+    match done.last() {
+        Some(last) => {
+            last.dir.0 < dir || (last.dir.0 == dir && last.name.bytes().cmp(name).is_lt())
+        }
+        None => true,
+    }
+}
+
+/// Makes a name of bytes that were taken, where it rises in its directory.
+#[tactic(auto, unfolding(crate::specs::ImageReading::rising_place))]
+fn rising_place<'a>(
+    alloc: Global,
+    done: &[LinkChange],
+    dir: u64,
+    field: &[u8],
+    rest: &'a [u8],
+) -> Result<(Name, &'a [u8]), ImageFault>
+    ensures { Gives (λ x. (x.0, x.1.now)) result (rising_place (last_of done.now) dir (field.now, rest.now)) }
+{
+    if !is_next_place(done, dir, field) {
+        return Err(ImageFault::NotRising);
+    }
+    named(alloc, field, rest)
+}
+
+/// Takes the file of a changed name, by its mark.
+#[tactic(auto, unfolding(crate::specs::ImageReading::target_at))]
+fn target_at(there: bool, bytes: &[u8]) -> Result<(Option<FileId>, &[u8]), ImageFault>
+    ensures { Gives (λ x. (x.0, x.1.now)) result (target_at there bytes.now) }
+{
+    if !there {
+        return Ok((None, bytes));
+    }
+    let (file, rest) = u64_at(bytes)?;
+    Ok((Some(FileId(file)), rest))
+}
+
+/// Takes a changed name.
+#[tactic(auto, unfolding(crate::specs::ImageReading::link_at))]
+pub(crate) fn link_at<'a>(
+    alloc: Global,
+    done: &[LinkChange],
+    bytes: &'a [u8],
+) -> Result<(LinkChange, &'a [u8]), ImageFault>
+    ensures { Gives (λ x. (x.0, x.1.now)) result (link_at (last_of done.now) bytes.now) }
+{
+    let (dir, rest) = u64_at(bytes)?;
+    let (field, rest) = counted_at(rest)?;
+    let (name, rest) = rising_place(alloc, done, dir, field, rest)?;
+    let (there, rest) = mark_at(rest)?;
+    let (target, rest) = target_at(there, rest)?;
+    let link = LinkChange {
+        dir: FileId(dir),
+        name,
+        target,
+    };
+    Ok((link, rest))
+}

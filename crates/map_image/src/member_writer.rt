@@ -1,0 +1,187 @@
+//! The members of an image's lists, put into a buffer.
+ghost use Rattle.std.specs.Prelude.{All, ◌≡◌, ◌<◌, ◌^◌, false, length};
+ghost use Rattle.std.specs.Int.{w32};
+ghost use Rattle.std.specs.List.{flat_map, list_any};
+ghost use Rattle.map_image.specs.ImageText.{name_text, place_mark, place_text, entry_text, kind_mark, made_text, target_text, link_text, list_text, FitsPlace, FitsEntry, FitsMade, FitsTarget, FitsLink};
+ghost use Rattle.map_image.specs.Writing.{HasRoom, Puts, is_too_large};
+
+use crate::writer::{put_byte, put_slice, put_u16, put_u32, put_u64};
+use checkout::Made;
+use eden_base::{FileId, Kind, Name, Place};
+use entry_table::Kept;
+use manifest::LinkChange;
+
+/// Puts a name behind its length.
+#[tactic(auto, using(crate::proofs::Written::written))]
+fn put_name(out: &mut Vec<u8>, name: &Name)
+    requires { HasRoom out.old (length (name_text name.now)) }
+    ensures { Puts out.old out.new (name_text name.now) }
+{
+    let bytes = name.bytes();
+    put_byte(out, bytes.len() as u8);
+    put_slice(out, bytes);
+}
+
+/// Returns the mark of a place.
+fn place_mark(place: &Place) -> u8
+    ensures { result ≡ place_mark place.now }
+{
+    match place {
+        Place::Linked { .. } => 0,
+        Place::Unlinked { .. } => 1,
+    }
+}
+
+/// Puts where an entry stands.
+#[tactic(auto, using(crate::proofs::Written::written))]
+fn put_place(out: &mut Vec<u8>, place: &Place)
+    requires { HasRoom out.old (length (place_text place.now)) }
+    ensures text { Puts out.old out.new (place_text place.now) }
+    ensures fits { FitsPlace place.now }
+{
+    match place {
+        Place::Linked { parent, name } => {
+            put_u64(out, parent.0);
+            put_name(out, name);
+        }
+        Place::Unlinked { file } => put_u64(out, file.0),
+    }
+}
+
+/// Puts an entry.
+#[tactic(auto, using(crate::proofs::Written::written))]
+fn put_entry(out: &mut Vec<u8>, kept: &Kept)
+    requires room { HasRoom out.old (length (entry_text w32 kept.now)) }
+    requires count { kept.now.count < 2 ^ 32 }
+    ensures text { Puts out.old out.new (entry_text w32 kept.now) }
+    ensures fits { FitsEntry (2 ^ 32) kept.now }
+{
+    put_u64(out, kept.number.0);
+    put_byte(out, place_mark(&kept.place));
+    put_u32(out, kept.count as u32);
+    put_place(out, &kept.place);
+}
+
+/// Returns the mark of a kind.
+fn kind_mark(kind: Kind) -> u8
+    ensures { result ≡ kind_mark kind }
+{
+    match kind {
+        Kind::File => 0,
+        Kind::Dir => 1,
+    }
+}
+
+/// Puts a made file.
+#[tactic(auto, using(crate::proofs::Written::written))]
+fn put_made(out: &mut Vec<u8>, made: Made)
+    requires { HasRoom out.old (length (made_text made)) }
+    ensures text { Puts out.old out.new (made_text made) }
+    ensures fits { FitsMade made }
+{
+    put_u64(out, made.file.0);
+    put_byte(out, kind_mark(made.kind));
+    put_u16(out, made.perm.bits());
+}
+
+/// Puts the file that a changed name gives, if any.
+#[tactic(auto, using(crate::proofs::Written::written))]
+fn put_target(out: &mut Vec<u8>, target: Option<FileId>)
+    requires { HasRoom out.old (length (target_text target)) }
+    ensures text { Puts out.old out.new (target_text target) }
+    ensures fits { FitsTarget target }
+{
+    match target {
+        None => put_byte(out, 0),
+        Some(file) => {
+            put_byte(out, 1);
+            put_u64(out, file.0);
+        }
+    }
+}
+
+/// Puts a changed name.
+#[tactic(auto, using(crate::proofs::Written::written))]
+fn put_link(out: &mut Vec<u8>, link: &LinkChange)
+    requires { HasRoom out.old (length (link_text link.now)) }
+    ensures text { Puts out.old out.new (link_text link.now) }
+    ensures fits { FitsLink link.now }
+{
+    put_u64(out, link.dir.0);
+    put_name(out, &link.name);
+    put_target(out, link.target);
+}
+
+/// Puts entries, in their order.
+#[tactic(auto, using(crate::proofs::Written::written))]
+fn put_each_entry(out: &mut Vec<u8>, entries: &[Kept])
+    requires room { HasRoom out.old (length (flat_map (entry_text w32) entries.now)) }
+    requires counts { list_any (is_too_large (2 ^ 32)) entries.now ≡ false }
+    ensures text { Puts out.old out.new (flat_map (entry_text w32) entries.now) }
+    ensures fits { All (FitsEntry (2 ^ 32)) entries.now }
+{
+    for kept in entries {
+        put_entry(out, kept);
+    }
+}
+
+/// Puts how many entries there are, and each.
+#[tactic(auto, using(crate::proofs::Written::written))]
+pub(crate) fn put_entries(out: &mut Vec<u8>, entries: &[Kept])
+    requires few { length entries.now < 2 ^ 32 }
+    requires room { HasRoom out.old (length (list_text (entry_text w32) entries.now)) }
+    requires counts { list_any (is_too_large (2 ^ 32)) entries.now ≡ false }
+    ensures text { Puts out.old out.new (list_text (entry_text w32) entries.now) }
+    ensures fits { All (FitsEntry (2 ^ 32)) entries.now }
+{
+    put_u32(out, entries.len() as u32);
+    put_each_entry(out, entries);
+}
+
+/// Puts made files, in their order.
+#[tactic(auto, using(crate::proofs::Written::written))]
+fn put_each_made(out: &mut Vec<u8>, files: &[Made])
+    requires { HasRoom out.old (length (flat_map made_text files.now)) }
+    ensures text { Puts out.old out.new (flat_map made_text files.now) }
+    ensures fits { All FitsMade files.now }
+{
+    for made in files {
+        put_made(out, *made);
+    }
+}
+
+/// Puts how many made files there are, and each.
+#[tactic(auto, using(crate::proofs::Written::written))]
+pub(crate) fn put_made_files(out: &mut Vec<u8>, files: &[Made])
+    requires few { length files.now < 2 ^ 32 }
+    requires room { HasRoom out.old (length (list_text made_text files.now)) }
+    ensures text { Puts out.old out.new (list_text made_text files.now) }
+    ensures fits { All FitsMade files.now }
+{
+    put_u32(out, files.len() as u32);
+    put_each_made(out, files);
+}
+
+/// Puts changed names, in their order.
+#[tactic(auto, using(crate::proofs::Written::written))]
+fn put_each_link(out: &mut Vec<u8>, links: &[LinkChange])
+    requires { HasRoom out.old (length (flat_map link_text links.now)) }
+    ensures text { Puts out.old out.new (flat_map link_text links.now) }
+    ensures fits { All FitsLink links.now }
+{
+    for link in links {
+        put_link(out, link);
+    }
+}
+
+/// Puts how many changed names there are, and each.
+#[tactic(auto, using(crate::proofs::Written::written))]
+pub(crate) fn put_links(out: &mut Vec<u8>, links: &[LinkChange])
+    requires few { length links.now < 2 ^ 32 }
+    requires room { HasRoom out.old (length (list_text link_text links.now)) }
+    ensures text { Puts out.old out.new (list_text link_text links.now) }
+    ensures fits { All FitsLink links.now }
+{
+    put_u32(out, links.len() as u32);
+    put_each_link(out, links);
+}

@@ -1,0 +1,79 @@
+//! Whether each entry of a list is of use: the kernel holds it, or an entry stands below it.
+ghost use Rattle.std.specs.Prelude.{◌≡◌, ◌||◌, ℕ, List, IfOk, OnOk};
+ghost use Rattle.std.specs.List.{list_any};
+ghost use Rattle.entry_table.specs.Entries.{is_in, is_kid_of, is_of_use};
+ghost use Rattle.entry_table.specs.declared.kept.Kept.{Kept};
+ghost use Rattle.map_image.specs.ImageReading.{are_of_use};
+ghost use Rattle.map_image.specs.Usage.{is_number, AreParents, HasParents};
+
+use eden_base::{NoMemory, Place};
+use entry_table::Kept;
+use std::alloc::Global;
+
+/// Adds the directory of a place that has one.
+fn add_parent(parents: &mut Vec<u64>, place: &Place) -> Result<(), NoMemory>
+    ensures { OnOk result ((n : ℕ) → list_any (is_number n) parents.new.items
+        ≡ (list_any (is_number n) parents.old.items || is_in n place.now)) }
+{
+    match place {
+        Place::Linked { parent, .. } => {
+            parents.push(parent.0)?;
+            Ok(())
+        }
+        Place::Unlinked { .. } => Ok(()),
+    }
+}
+
+/// Returns the directories in which entries stand, one for each.
+fn parents_in_turn(alloc: Global, entries: &[Kept]) -> Result<Vec<u64>, NoMemory>
+    ensures { IfOk result (λ parents. HasParents entries.now parents.items) }
+{
+    let mut parents = Vec::new(alloc);
+    for kept in entries {
+        add_parent(&mut parents, &kept.place)?;
+    }
+    Ok(parents)
+}
+
+/// Returns the directories in which entries stand, so that they can be searched.
+fn parents_of(alloc: Global, entries: &[Kept]) -> Result<Vec<u64>, NoMemory>
+    ensures { IfOk result (λ parents. AreParents entries.now parents.items) }
+{
+    let mut parents = parents_in_turn(alloc, entries)?;
+    parents.sort_unstable();
+    Ok(parents)
+}
+
+/// Returns whether an entry is of use, by the directories in which entries stand.
+fn is_of_use(kept: &Kept, parents: &[u64]) -> bool
+    ensures { (entries : List Kept) → AreParents entries parents.now → result ≡ is_of_use entries kept.now }
+{
+    if kept.count > 0 {
+        return true;
+    }
+    match parents.binary_search(&kept.number.0) {
+        Ok(_) => true,
+        Err(_) => false,
+    }
+}
+
+/// Returns whether each entry is of use.
+fn all_of_use(entries: &[Kept], parents: &[u64]) -> bool
+    requires { AreParents entries.now parents.now }
+    ensures { result ≡ are_of_use entries.now }
+{
+    for kept in entries {
+        if !is_of_use(kept, parents) {
+            return false;
+        }
+    }
+    true
+}
+
+/// Returns whether each entry is of use. It sorts the directories in which entries stand.
+pub(crate) fn are_of_use(alloc: Global, entries: &[Kept]) -> Result<bool, NoMemory>
+    ensures { IfOk result (λ all. all ≡ are_of_use entries.now) }
+{
+    let parents = parents_of(alloc, entries)?;
+    Ok(all_of_use(entries, parents.as_slice()))
+}
