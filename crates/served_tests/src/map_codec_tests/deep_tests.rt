@@ -1,6 +1,6 @@
 //! Entries that stand in one another, so deep that a walk up may not take stack for each, and in a circle.
 use super::deeds::{Deed, all_go_so};
-use super::put;
+use super::images::put;
 use super::raise_tests::comes_to;
 use super::vectors::CHANGED;
 use manifest::Manifest;
