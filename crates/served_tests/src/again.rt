@@ -1,5 +1,6 @@
 //! Calls that take memory, each made once more where it was refused.
 ghost use Rattle.std.specs.Prelude.{◌≡◌, IfOk};
+ghost use Rattle.fuse_ops.specs.Served.{new_served};
 
 use checkout::ManifestBacking;
 use eden_base::{Errno, Name, NameFault, NoMemory};
@@ -22,7 +23,7 @@ pub(crate) fn served_of(
     manifest: &Manifest,
     limit: usize,
 ) -> Result<Served, NoMemory>
-    ensures manifest { IfOk result (λ served. served.tree.manifest ≡ manifest.now) }
+    ensures new { IfOk result (λ served. served ≡ new_served manifest.now limit) }
 {
     match Served::new(alloc, manifest, limit) {
         Ok(served) => Ok(served),
