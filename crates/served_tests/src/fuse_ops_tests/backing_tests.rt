@@ -41,7 +41,7 @@ fn ask(alloc: Global, served: &mut Hosted, place: usize) -> bool {
     }
 }
 
-/// Answers the requests before a place, and returns whether there were so many.
+/// Answers the requests before the place `end`, and returns whether each has one.
 fn ask_before(alloc: Global, served: &mut Hosted, end: usize) -> bool {
     for place in 0..end {
         if !ask(alloc, served, place) {
@@ -89,8 +89,8 @@ fn fails_once(alloc: Global, served: &mut Hosted, place: usize, next: u64) -> Op
     Some(fails)
 }
 
-/// Answers all requests in turn, one of them from a backing that fails at once. Returns whether that one is answered
-/// EIO where it asks the backing, and what it is without a failure when it is made again.
+/// Answers the requests before `place`, and the one there from a backing that fails at once. Returns whether that is
+/// answered EIO where it asks the backing, and as without a failure when it is made again.
 fn fails_in_turn(alloc: Global, served: &mut Hosted, place: usize, next: u64) -> Option<bool> {
     if ask_before(alloc, served, place) {
         fails_once(alloc, served, place, next)

@@ -72,7 +72,7 @@ pub enum Deed {
     Show(u64, Is),
     /// Asks for those of a number that names nothing.
     ShowNone(u64),
-    /// Forgets a number so many times.
+    /// Forgets a number, as often as the second one says.
     Forget(u64, u64),
     /// Forgets each of these.
     ForgetAll(&'static [Item; 6]),
@@ -213,7 +213,7 @@ fn goes_so(alloc: Global, served: &mut Hosted, deed: Deed) -> bool {
     }
 }
 
-/// Does each deed in turn, and returns whether all go so.
+/// Does each of `deeds`, one after the other, and returns whether all go so.
 fn each_goes_so(alloc: Global, served: &mut Hosted, deeds: &[Deed]) -> bool {
     for deed in deeds {
         if !goes_so(alloc, served, *deed) {
@@ -223,7 +223,7 @@ fn each_goes_so(alloc: Global, served: &mut Hosted, deeds: &[Deed]) -> bool {
     true
 }
 
-/// Does each deed in turn on what the text says, and returns whether all go so.
+/// Does each of `deeds` on what the text says, and returns whether all go so.
 pub(crate) fn all_go_so(alloc: Global, deeds: &[Deed]) -> bool {
     match Hosted::of(alloc, TEXT, 8) {
         Some(served) => {

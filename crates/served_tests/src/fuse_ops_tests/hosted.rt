@@ -52,7 +52,7 @@ impl Hosted {
         self.served.apply(alloc, &mut backing, request)
     }
 
-    /// Answers a request from a backing that answers so many times, and then fails once.
+    /// Answers a request from a backing that gives `answers` answers, and then fails once.
     pub fn apply_failing(
         &mut self,
         alloc: Global,

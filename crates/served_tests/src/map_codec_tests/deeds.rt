@@ -29,9 +29,9 @@ pub enum Deed {
     RefuseTwice,
     /// What is raised of the changed image with eight bytes set refuses a request so.
     Limit(usize, [u8; 8], Asking, Errno),
-    /// The image of so many directories, each in the one before it, is raised.
+    /// The image of this number of directories, each in the one before it, is raised.
     RaiseChain(u32),
-    /// The image of so many entries in a circle is refused.
+    /// The image of this number of entries in a circle is refused.
     RefuseCircle(u32),
 }
 

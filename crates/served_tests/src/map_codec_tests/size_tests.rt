@@ -8,7 +8,7 @@ use eden_base::NoMemory;
 use map_image::{Entries, Image, WriteFault};
 use std::alloc::{AllocError, Global};
 
-/// Puts the text of so many entries without names, each held once.
+/// Puts the text of `count` entries without names, each held once.
 fn put_unlinked(bytes: &mut Vec<u8>, count: u32) -> Result<(), AllocError> {
     let (head, _) = CHANGED.split_at(50);
     put(bytes, &[head, count.to_be_bytes().as_slice()])?;
@@ -51,7 +51,7 @@ fn is_too_long(alloc: Global, bytes: &[u8]) -> bool {
     }
 }
 
-/// Returns whether the image of 3,092 entries has so many bytes, and is written.
+/// Returns whether the image of 3,092 entries has 64,994 bytes, and is written.
 fn writes_the_most(alloc: Global) -> bool {
     let most = unlinked(alloc, 3092);
     most.len() == 64994 && is_written_again(alloc, most.as_slice())

@@ -6,7 +6,7 @@ use eden_base::{FileId, Name, NoMemory, Number};
 use inode_map::InodeMap;
 use std::alloc::{AllocError, Global};
 
-/// Gives so many numbers, each to the name in the directory of the one before: the last.
+/// Gives `depth` numbers, each to the name in the directory of the one before, and returns the last.
 fn given_below(alloc: Global, map: &mut InodeMap, name: &Name, depth: u64) -> Option<Number> {
     let mut last = Number::ROOT;
     for _step in 0..depth {

@@ -8,8 +8,7 @@ use eden_base::{NameFault, NoMemory};
 use fuse_wire::{WireFault, fault_reply};
 use std::alloc::{AllocError, Global};
 
-/// Puts a request of so many bytes, whose body begins with these bytes, goes on with one byte repeated, and ends with
-/// NUL.
+/// Puts a request of `len` bytes, whose body begins with `front`, goes on with `byte` repeated, and ends with NUL.
 fn fill(bytes: &mut Vec<u8>, opcode: u8, front: &[u8], len: u32, byte: u8) -> Result<(), AllocError>
     requires { 1 ≤ len }
 {
@@ -22,7 +21,7 @@ fn fill(bytes: &mut Vec<u8>, opcode: u8, front: &[u8], len: u32, byte: u8) -> Re
     Ok(())
 }
 
-/// Makes a request with a body of so many bytes.
+/// Makes a request with a body of `body_len` bytes.
 fn filled(
     alloc: Global,
     opcode: u8,
@@ -42,7 +41,7 @@ fn filled(
     Ok(bytes)
 }
 
-/// Makes a lookup of a name of so many bytes, and once more where memory was refused.
+/// Makes a lookup of a name of `name_len` bytes, and once more where memory was refused.
 fn lookup_of(alloc: Global, name_len: u16) -> Result<Vec<u8>, NoMemory> {
     let body_len = u32::from(name_len) + 1;
     match filled(alloc, 1, &[], body_len, b'n') {
@@ -51,7 +50,7 @@ fn lookup_of(alloc: Global, name_len: u16) -> Result<Vec<u8>, NoMemory> {
     }
 }
 
-/// Makes a batch of so many items, and once more where memory was refused.
+/// Makes a batch of `count` items, and once more where memory was refused.
 fn batch_text(alloc: Global, count: u16) -> Result<Vec<u8>, NoMemory> {
     let body_len = 8 + 16 * u32::from(count);
     let front = count.to_le_bytes();
@@ -61,7 +60,7 @@ fn batch_text(alloc: Global, count: u16) -> Result<Vec<u8>, NoMemory> {
     }
 }
 
-/// Returns whether a lookup of a name of so many bytes is kept.
+/// Returns whether a lookup of a name of `len` bytes is kept.
 fn is_name_kept(alloc: Global, len: u16) -> bool {
     match lookup_of(alloc, len) {
         Ok(text) => {
@@ -90,7 +89,7 @@ fn keeps_names_of_all_lengths(rt: HostRuntime) {
 
 static COUNTS: [u16; 12] = [0, 1, 2, 3, 8, 28, 29, 30, 64, 100, 255, 256];
 
-/// Returns whether a batch of so many items is kept.
+/// Returns whether a batch of `count` items is kept.
 fn is_count_kept(alloc: Global, count: u16) -> bool {
     match batch_text(alloc, count) {
         Ok(text) => {
@@ -145,7 +144,7 @@ fn reads_no_name_of_256_bytes(rt: HostRuntime) {
     assert!(rt; refuses_a_longer_name(rt.alloc()));
 }
 
-/// Returns whether 256 items are read, of so many bytes.
+/// Returns whether 256 items are read, of a text of 4,144 bytes.
 fn reads_all_items(alloc: Global) -> bool {
     match batch_text(alloc, 256) {
         Ok(full) => {

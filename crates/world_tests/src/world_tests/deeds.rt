@@ -41,7 +41,7 @@ pub enum Deed {
 pub enum Look {
     /// A directory of the manifest.
     Directory,
-    /// A file of so many bytes, with so many links.
+    /// A file, by its bytes and its links.
     File(u64, u32),
 }
 
@@ -97,7 +97,7 @@ pub enum Found {
     Seat(u64, u64),
     /// Nothing is served by a daemon.
     NotServed(u64),
-    /// A daemon has so much in hand, and so many replies that it did not post.
+    /// A daemon has this many messages in hand, and this many replies that it did not post.
     UnderWay(u64, usize, usize),
     /// The place of the message that is data of the seat's generation, if there is one.
     Handed(Option<usize>),

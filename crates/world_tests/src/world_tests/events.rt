@@ -103,7 +103,7 @@ pub(crate) fn event(alloc: Global, deed: Deed) -> Option<Event> {
     }
 }
 
-/// Makes room for so many events, and once more where memory was refused.
+/// Makes room for `deeds` events, and once more where memory was refused.
 pub(crate) fn room(alloc: Global, deeds: usize) -> Option<Vec<Event>> {
     match Vec::with_capacity(alloc, deeds) {
         Ok(events) => Some(events),

@@ -137,7 +137,7 @@ fn goes_so(alloc: Global, world: &mut World, deed: Deed, told: Told) -> bool {
     }
 }
 
-/// Does deeds in turn, and returns whether each has its outcome and leaves these counts.
+/// Does deeds one after the other, and returns whether each has its outcome and leaves these counts.
 fn each_counts(alloc: Global, world: &mut World, deeds: &[(Deed, Told, Counts)]) -> bool {
     for (deed, told, expected) in deeds {
         if !goes_so(alloc, world, *deed, *told) || counts(world) != *expected {
