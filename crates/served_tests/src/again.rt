@@ -1,8 +1,11 @@
 //! Calls that take memory, each made once more where it was refused.
 ghost use Rattle.std.specs.Prelude.{◌≡◌, IfOk};
+ghost use Rattle.fuse_ops.specs.Served.{new_served};
 
-use eden_base::{Name, NameFault, NoMemory};
+use checkout::ManifestBacking;
+use eden_base::{Errno, Name, NameFault, NoMemory};
 use fuse_ops::Served;
+use fuse_wire::{Answer, Request};
 use manifest::{Manifest, ManifestFault};
 use std::alloc::Global;
 
@@ -20,7 +23,7 @@ pub(crate) fn served_of(
     manifest: &Manifest,
     limit: usize,
 ) -> Result<Served, NoMemory>
-    ensures manifest { IfOk result (λ served. served.tree.manifest ≡ manifest.now) }
+    ensures new { IfOk result (λ served. served ≡ new_served manifest.now limit) }
 {
     match Served::new(alloc, manifest, limit) {
         Ok(served) => Ok(served),
@@ -33,5 +36,22 @@ pub(crate) fn name_of(alloc: Global, bytes: &[u8]) -> Result<Name, NameFault> {
     match Name::parse(alloc, bytes) {
         Ok(name) => Ok(name),
         Err(_refused) => Name::parse(alloc, bytes),
+    }
+}
+
+/// Answers a request from a manifest, and once more where memory was refused.
+pub(crate) fn answer_to(
+    alloc: Global,
+    served: &mut Served,
+    manifest: &Manifest,
+    request: &Request,
+) -> Option<Answer>
+    requires over { served.old.tree.manifest ≡ manifest.now }
+    ensures over { served.new.tree.manifest ≡ manifest.now }
+{
+    let mut backing = ManifestBacking::of(manifest);
+    match served.apply(alloc, &mut backing, request) {
+        Some(Answer::Error(Errno::ENOMEM)) => served.apply(alloc, &mut backing, request),
+        answer => answer,
     }
 }

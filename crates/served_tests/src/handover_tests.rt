@@ -2,12 +2,11 @@
 //! says so, and is made once more: so each allocation can be refused in turn (`rt try --test --fail-alloc N`).
 ghost use Rattle.std.specs.Prelude.{◌≡◌};
 
-use crate::again::{manifest_of, name_of, served_of};
+use crate::again::{answer_to, manifest_of, name_of, served_of};
 use crate::listed::LISTED;
-use checkout::ManifestBacking;
-use eden_base::{Errno, NameFault, NoMemory, Number, Perm};
+use eden_base::{NameFault, NoMemory, Number, Perm};
 use fuse_ops::Served;
-use fuse_wire::{Answer, Request};
+use fuse_wire::Request;
 use handover::{HandoverFault, hand_over, take_over};
 use manifest::Manifest;
 use std::alloc::Global;
@@ -45,30 +44,13 @@ fn request(alloc: Global, wish: Wish) -> Result<Request, NameFault> {
     })
 }
 
-/// Answers a request.
-fn answer(
-    alloc: Global,
-    served: &mut Served,
-    manifest: &Manifest,
-    request: &Request,
-) -> Option<Answer>
-    requires over { served.old.tree.manifest ≡ manifest.now }
-    ensures over { served.new.tree.manifest ≡ manifest.now }
-{
-    let mut backing = ManifestBacking::of(manifest);
-    match served.apply(alloc, &mut backing, request) {
-        Some(Answer::Error(Errno::ENOMEM)) => served.apply(alloc, &mut backing, request),
-        answer => answer,
-    }
-}
-
 /// Answers each wish.
 fn answer_all(alloc: Global, served: &mut Served, manifest: &Manifest, wishes: &[Wish])
     requires over { served.old.tree.manifest ≡ manifest.now }
 {
     for wish in wishes {
         if let Ok(request) = request(alloc, *wish) {
-            answer(alloc, served, manifest, &request);
+            answer_to(alloc, served, manifest, &request);
             drop(request);
         }
     }

@@ -129,7 +129,7 @@ fn has_commit(manifest: &Manifest) -> bool {
     manifest.commit() == COMMIT
 }
 
-/// Returns whether a text is a manifest of that commit with so many lines below it.
+/// Returns whether a text is a manifest of that commit with `lines` lines below it.
 fn is_read(alloc: Global, text: &[u8], lines: usize) -> bool {
     match Manifest::read(alloc, text) {
         Ok(manifest) => {
@@ -236,7 +236,7 @@ fn tells_each_fault_of_line_65537(rt: HostRuntime) {
     assert!(rt; refuses_a_line_more(rt.alloc()));
 }
 
-/// Puts a commit, so many directories, each in the one before, and then one that stands below two more.
+/// Puts a commit, then `directories` directories, each in the one before, and then one that stands below two more.
 fn put_paths(text: &mut String, path: &mut String, directories: u32) -> Result<(), AllocError> {
     text.push_str("commit 0123456789abcdef0123456789abcdef01234567\n")?;
     path.push_str("d")?;

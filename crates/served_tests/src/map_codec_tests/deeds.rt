@@ -1,8 +1,8 @@
 //! What is done over one manifest and comes of it, as data, so that a test is a table.
+use super::asking::{Asking, is_spelled_after};
 use super::deep_tests::{is_chain_raised, is_circle_refused};
 use super::limit_tests::is_limited;
 use super::raise_tests::{comes_to_with, is_raised_and_spelled, is_twice_refused};
-use super::{Asking, is_spelled_after};
 use crate::again::manifest_of;
 use eden_base::Errno;
 use manifest::Manifest;
@@ -29,9 +29,9 @@ pub enum Deed {
     RefuseTwice,
     /// What is raised of the changed image with eight bytes set refuses a request so.
     Limit(usize, [u8; 8], Asking, Errno),
-    /// The image of so many directories, each in the one before it, is raised.
+    /// The image of this number of directories, each in the one before it, is raised.
     RaiseChain(u32),
-    /// The image of so many entries in a circle is refused.
+    /// The image of this number of entries in a circle is refused.
     RefuseCircle(u32),
 }
 

@@ -1,6 +1,6 @@
 //! Entries that stand in one another, so deep that a walk up may not take stack for each, and in a circle.
 use super::deeds::{Deed, all_go_so};
-use super::put;
+use super::images::put;
 use super::raise_tests::comes_to;
 use super::vectors::CHANGED;
 use manifest::Manifest;
@@ -23,7 +23,7 @@ fn put_entry(bytes: &mut Vec<u8>, number: u64, parent: u64) -> Result<(), AllocE
     )
 }
 
-/// Puts so many entries named `a`, each in the directory of the next, and the last in that of a number.
+/// Puts `count` entries named `a`, each in the directory of the next, and the last in that of the number `top`.
 fn put_entries(bytes: &mut Vec<u8>, count: u32, top: u64) -> Result<(), AllocError> {
     bytes.extend_from_slice(&count.to_be_bytes())?;
     for i in 0..count {
@@ -34,7 +34,7 @@ fn put_entries(bytes: &mut Vec<u8>, count: u32, top: u64) -> Result<(), AllocErr
     Ok(())
 }
 
-/// Puts so many directories that were made.
+/// Puts `count` directories that were made.
 fn put_made(bytes: &mut Vec<u8>, count: u32) -> Result<(), AllocError> {
     bytes.extend_from_slice(&count.to_be_bytes())?;
     for i in 0..count {
@@ -56,7 +56,7 @@ fn put_link(bytes: &mut Vec<u8>, dir: u64, file: u64) -> Result<(), AllocError> 
     )
 }
 
-/// Puts so many names `a`, the first in the root, and each other in the directory that the one before it gives.
+/// Puts `count` names `a`, the first in the root, and each other in the directory that the one before it gives.
 fn put_links(bytes: &mut Vec<u8>, count: u32) -> Result<(), AllocError> {
     bytes.extend_from_slice(&count.to_be_bytes())?;
     let mut dir: u64 = 1;
@@ -68,7 +68,7 @@ fn put_links(bytes: &mut Vec<u8>, count: u32) -> Result<(), AllocError> {
     Ok(())
 }
 
-/// Spells what stands before the entries: the numbers and files behind so many are next.
+/// Spells what stands before the entries: the next number and the next file are those behind `count` of them.
 fn put_head(bytes: &mut Vec<u8>, count: u32) -> Result<(), AllocError> {
     let (head, _) = CHANGED.split_at(34);
     let next_number = (u64::from(count) + 2).to_be_bytes();
@@ -76,7 +76,7 @@ fn put_head(bytes: &mut Vec<u8>, count: u32) -> Result<(), AllocError> {
     put(bytes, &[head, next_number.as_slice(), next_file.as_slice()])
 }
 
-/// Spells the image of so many directories, each made in the one before it, of which the deepest has the first number.
+/// Spells the image of `count` directories, each made in the one before it, of which the deepest has the first number.
 fn put_chain(bytes: &mut Vec<u8>, count: u32) -> Result<(), AllocError> {
     put_head(bytes, count)?;
     put_entries(bytes, count, 1)?;
@@ -84,20 +84,20 @@ fn put_chain(bytes: &mut Vec<u8>, count: u32) -> Result<(), AllocError> {
     put_links(bytes, count)
 }
 
-/// Spells the image of so many entries, of which each stands above itself. Nothing was changed.
+/// Spells the image of `count` entries, of which each stands above itself. No file was made, and no name changed.
 fn put_circle(bytes: &mut Vec<u8>, count: u32) -> Result<(), AllocError> {
     put_head(bytes, count)?;
     put_entries(bytes, count, 2)?;
     put(bytes, &[[0; 8].as_slice()])
 }
 
-/// Returns whether a chain of so many directories is raised.
+/// Returns whether a chain of `count` directories is raised.
 pub(crate) fn is_chain_raised(alloc: Global, manifest: &Manifest, count: u32) -> bool {
     let mut bytes = Vec::new(alloc);
     put_chain(&mut bytes, count).is_ok() && comes_to(alloc, manifest, bytes.as_slice(), None)
 }
 
-/// Returns whether a circle of so many entries is refused.
+/// Returns whether a circle of `count` entries is refused.
 pub(crate) fn is_circle_refused(alloc: Global, manifest: &Manifest, count: u32) -> bool {
     let mut bytes = Vec::new(alloc);
     put_circle(&mut bytes, count).is_ok()

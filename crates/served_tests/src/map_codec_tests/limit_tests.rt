@@ -1,10 +1,11 @@
 //! What is answered where a count, or the numbers, came to their end before the image was taken.
 ghost use Rattle.std.specs.Prelude.{◌≡◌};
 
+use super::asking::{Asking, Asks, is_spelled, request_of};
 use super::deeds::{Deed, all_go_so};
 use super::raise_tests::raised;
 use super::vectors::CHANGED;
-use super::{Asking, Asks, answer_to, is_spelled, request_of};
+use crate::again::answer_to;
 use eden_base::{Errno, Number};
 use fuse_ops::Served;
 use fuse_wire::Answer;

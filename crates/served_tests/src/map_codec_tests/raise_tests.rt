@@ -1,9 +1,10 @@
 //! What is raised from images, and the first that stands against others.
 ghost use Rattle.std.specs.Prelude.{◌≡◌, IfOk};
 
+use super::asking::is_spelled;
 use super::deeds::{Deed, all_go_so};
+use super::images::{all, image_of_bytes};
 use super::vectors::{CHANGED, LOOKED_UP, MOVED};
-use super::{all, image_of_bytes, is_spelled};
 use fuse_ops::Served;
 use manifest::Manifest;
 use map_codec::{RaiseFault, raise};

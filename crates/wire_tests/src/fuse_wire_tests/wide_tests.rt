@@ -3,8 +3,9 @@ ghost use Rattle.std.specs.Prelude.{IfSome};
 ghost use Rattle.fuse_wire.specs.Request.{IsSendable};
 
 use super::calls::{is_written, is_written_again};
+use super::has_items;
+use super::reply_tests::{Spelled, are_replies_kept};
 use super::wide_vectors::*;
-use super::{Spelled, are_replies_kept, has_items};
 use crate::again::parse;
 use eden_base::{Attr, Errno, Kind, Name, Number, Perm};
 use fuse_wire::{Answer, Ask, Item, Request};

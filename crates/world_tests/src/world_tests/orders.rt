@@ -1,11 +1,10 @@
 //! Every order in which two asks and one forget on one number can go their ways.
-use super::deeds::{Deed, Wish, event, is_put, manifest, room};
+use super::deeds::{Deed, LOOK_UP_SRC, Wish};
+use super::events::{event, is_put, manifest, room};
 use eden_base::{DaemonId, NoMemory, Number};
 use manifest::Manifest;
 use std::alloc::Global;
 use world::{Event, World};
-
-const LOOK_UP_SRC: Wish = Wish::LookUp(1, b"src");
 
 /// Two asks of five events, and a forget of three.
 const LONG: usize = 13;

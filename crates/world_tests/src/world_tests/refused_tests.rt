@@ -1,10 +1,11 @@
 //! How a world goes on where an event's allocation was refused.
-use super::deeds::{Deed, Fact, Wish, counts, event, happened, new_world};
+use super::deeds::{Deed, Fact, LOOK_UP_SRC, Wish};
+use super::events::event;
+use super::facts::{counts, happened};
+use super::runs::new_world;
 use eden_base::DaemonId;
 use std::alloc::Global;
 use world::{Event, Happened, Outcome, Refusal, World};
-
-const LOOK_UP_SRC: Wish = Wish::LookUp(1, b"src");
 
 /// Returns what an event told last.
 fn last_of(outcome: &Outcome) -> Option<Happened> {

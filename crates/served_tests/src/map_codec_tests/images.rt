@@ -1,0 +1,89 @@
+//! Images that are read and written: calls that take memory, each made once more where it was refused, and what they
+//! come to.
+ghost use Rattle.std.specs.Prelude.{IfOk};
+ghost use Rattle.map_image.specs.Fit.{CountsFit, IsFit};
+
+use map_image::{Image, ImageFault, WriteFault, read, write};
+use std::alloc::{AllocError, Global};
+
+/// Calls `read`, and once more where memory was refused.
+pub fn image_of_bytes(alloc: Global, bytes: &[u8]) -> Result<Image, ImageFault>
+    ensures fit { IfOk result IsFit }
+    ensures counts { IfOk result (λ image. CountsFit image.entries) }
+{
+    match read(alloc, bytes) {
+        Ok(image) => Ok(image),
+        Err(ImageFault::NoMemory) => read(alloc, bytes),
+        Err(fault) => Err(fault),
+    }
+}
+
+/// Calls `write`, and once more where memory was refused.
+pub(crate) fn text_of(alloc: Global, image: &Image, version: u16) -> Result<Vec<u8>, WriteFault>
+    requires { IsFit image.now }
+{
+    match write(alloc, image, version) {
+        Ok(bytes) => Ok(bytes),
+        Err(WriteFault::NoMemory) => write(alloc, image, version),
+        Err(fault) => Err(fault),
+    }
+}
+
+/// Returns whether an image is written as these bytes.
+pub(crate) fn has_text(alloc: Global, image: &Image, bytes: &[u8]) -> bool
+    requires { IsFit image.now }
+{
+    match text_of(alloc, image, 1) {
+        Ok(text) => text.as_slice() == bytes,
+        Err(_) => false,
+    }
+}
+
+/// Returns whether the image of a text is written as that text in version 1, and in no version 2.
+pub(crate) fn is_written_again(alloc: Global, bytes: &[u8]) -> bool {
+    match image_of_bytes(alloc, bytes) {
+        Ok(image) => {
+            let is_same = has_text(alloc, &image, bytes);
+            let second = text_of(alloc, &image, 2);
+            drop(image);
+            let is_refused = matches!(second, Err(WriteFault::NoSuchVersion));
+            drop(second);
+            is_same && is_refused
+        }
+        Err(_) => false,
+    }
+}
+
+/// Returns the fault of bytes that are no image.
+pub(crate) fn fault_of(alloc: Global, bytes: &[u8]) -> Option<ImageFault> {
+    match image_of_bytes(alloc, bytes) {
+        Ok(image) => {
+            drop(image);
+            None
+        }
+        Err(fault) => Some(fault),
+    }
+}
+
+/// Puts these bytes behind others.
+pub fn put(bytes: &mut Vec<u8>, parts: &[&[u8]]) -> Result<(), AllocError> {
+    for part in parts {
+        bytes.extend_from_slice(part)?;
+    }
+    Ok(())
+}
+
+/// Returns these bytes, one behind the other.
+fn joined(alloc: Global, parts: &[&[u8]]) -> Result<Vec<u8>, AllocError> {
+    let mut bytes = Vec::new(alloc);
+    put(&mut bytes, parts)?;
+    Ok(bytes)
+}
+
+/// Joins bytes, and once more where memory was refused.
+pub fn all(alloc: Global, parts: &[&[u8]]) -> Result<Vec<u8>, AllocError> {
+    match joined(alloc, parts) {
+        Ok(bytes) => Ok(bytes),
+        Err(_refused) => joined(alloc, parts),
+    }
+}

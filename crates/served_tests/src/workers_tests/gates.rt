@@ -1,0 +1,61 @@
+//! A gate that lets two asks pass in one order alone.
+use std::rt::Clock;
+use std::sync::atomic::{AtomicBool, Ordering};
+use std::thread;
+use std::time::Duration;
+use workers::Gate;
+
+/// How often a gate looks, a millisecond apart.
+const LOOKS: u32 = 10_000;
+
+/// Holds the asks of unique 1 and 2 each until the other came, and 1 then until the reply to 2 was posted.
+#[derive(Drop)]
+pub struct SecondFirst<'a, R: Clock> {
+    clock: &'a R,
+    first_came: AtomicBool,
+    second_came: AtomicBool,
+    second_left: AtomicBool,
+    pub gave_up: AtomicBool,
+}
+
+impl<'a, R: Clock> SecondFirst<'a, R> {
+    pub fn new(clock: &'a R) -> SecondFirst<'a, R> {
+        SecondFirst {
+            clock,
+            first_came: AtomicBool::new(false),
+            second_came: AtomicBool::new(false),
+            second_left: AtomicBool::new(false),
+            gave_up: AtomicBool::new(false),
+        }
+    }
+
+    /// Waits until something is so.
+    fn wait_for(&self, so: &AtomicBool) {
+        for _look in 0..LOOKS {
+            if so.load(Ordering::SeqCst) {
+                return;
+            }
+            thread::sleep(self.clock, Duration::from_millis(1));
+        }
+        self.gave_up.store(true, Ordering::SeqCst)
+    }
+}
+
+impl<'a, R: Clock> Gate for SecondFirst<'a, R> {
+    fn before(&self, unique: u64) {
+        if unique == 1 {
+            self.first_came.store(true, Ordering::SeqCst);
+            self.wait_for(&self.second_came);
+            self.wait_for(&self.second_left);
+        } else {
+            self.second_came.store(true, Ordering::SeqCst);
+            self.wait_for(&self.first_came);
+        }
+    }
+
+    fn after(&self, unique: u64) {
+        if unique == 2 {
+            self.second_left.store(true, Ordering::SeqCst)
+        }
+    }
+}

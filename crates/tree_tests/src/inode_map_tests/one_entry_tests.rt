@@ -1,0 +1,143 @@
+//! Maps that are made of one entry: at the greatest count and the last number, and of a file without a name.
+ghost use Rattle.std.specs.Prelude.{◌+◌, ◌<◌, ◌≤◌};
+ghost use Rattle.eden_base.specs.Limits.{end_of_numbers};
+
+use super::deeds::{Deed, each_goes_so};
+use crate::again::{parsed, tree_of};
+use checkout::Tree;
+use eden_base::{FileId, NoMemory, Number, Place};
+use inode_map::{Forgot, GiveFault, InodeMap, Kept};
+use std::alloc::Global;
+
+/// Where an entry stands, as data: under a name of the root, or nowhere, with the mark of a file.
+#[derive(Clone, Copy)]
+enum Spot {
+    Named(&'static [u8]),
+    Marked(u64),
+}
+
+/// Makes the place of a spot, unless its bytes are no name.
+fn place_of(alloc: Global, spot: Spot) -> Option<Place> {
+    match spot {
+        Spot::Named(bytes) => Some(Place::Linked {
+            parent: Number::ROOT,
+            name: parsed(alloc, bytes)?,
+        }),
+        Spot::Marked(file) => Some(Place::Unlinked { file: FileId(file) }),
+    }
+}
+
+/// Makes a map of one entry, whose number is the last that was given.
+fn map_of_place(
+    alloc: Global,
+    number: Number,
+    place: Place,
+    count: u64,
+) -> Result<InodeMap, NoMemory>
+    requires above_root { 2 ≤ number.0 }
+    requires fits { number.0 < end_of_numbers }
+    requires of_use { 0 < count }
+{
+    let next = number.0 + 1;
+    let entry = Kept {
+        number,
+        place,
+        count,
+    };
+    let entries = Vec::from_array(alloc, [entry])?;
+    InodeMap::of_entries(alloc, entries, next, 1)
+}
+
+/// Makes that map of a spot, and makes it again where memory was short.
+fn map_of_one(alloc: Global, number: Number, spot: Spot, count: u64) -> Option<InodeMap>
+    requires above_root { 2 ≤ number.0 }
+    requires fits { number.0 < end_of_numbers }
+    requires of_use { 0 < count }
+{
+    let place = place_of(alloc, spot)?;
+    match map_of_place(alloc, number, place, count) {
+        Ok(map) => Some(map),
+        Err(NoMemory) => {
+            let place = place_of(alloc, spot)?;
+            map_of_place(alloc, number, place, count).ok()
+        }
+    }
+}
+
+/// A map of one entry, under a name of the root, whose number is the last, and which is held as often as may be
+/// but once.
+static AT_THE_ENDS: [Deed; 9] = [
+    Deed::At(9223372036854775807, 0),
+    Deed::Give(1, b"src", 9223372036854775806),
+    Deed::Refuse(1, b"src", GiveFault::TooMany),
+    Deed::Refuse(1, b"README", GiveFault::NoNumber),
+    Deed::Refuse(9223372036854775806, b"src", GiveFault::NoNumber),
+    Deed::Count(9223372036854775806, 4294967295),
+    Deed::At(9223372036854775807, 0),
+    Deed::Forget(9223372036854775806, 4294967295, Forgot::Dropped),
+    Deed::Know(9223372036854775806, false),
+];
+
+/// Returns whether the calls on that map go so.
+fn gives_up_at_the_ends(alloc: Global) -> bool {
+    let spot = Spot::Named(b"src");
+    match map_of_one(alloc, Number(9223372036854775806), spot, 4294967294) {
+        Some(map) => {
+            let mut map = map;
+            let goes_so = each_goes_so(alloc, &mut map, &AT_THE_ENDS);
+            drop(map);
+            goes_so
+        }
+        None => false,
+    }
+}
+
+#[test]
+fn gives_up_at_the_greatest_count_and_behind_the_last_number(rt: HostRuntime) {
+    assert!(rt; gives_up_at_the_ends(rt.alloc()));
+}
+
+static MARKED: [Deed; 5] = [
+    Deed::After(1, 5),
+    Deed::Entries(&[(5, 0, 2)]),
+    Deed::At(6, 0),
+    Deed::Forget(5, 1, Forgot::Lowered),
+    Deed::Forget(5, 1, Forgot::Dropped),
+];
+
+/// Returns whether number 5 names file 7 until it is forgotten.
+fn names_until_forgotten(alloc: Global, map: &mut InodeMap, tree: &Tree) -> bool {
+    map.locate(tree, Number(5)) == Some(FileId(7))
+        && each_goes_so(alloc, map, &MARKED)
+        && map.locate(tree, Number(5)).is_none()
+}
+
+/// Returns that of a map in which number 5 is unlinked.
+fn names_a_mark(alloc: Global, tree: &Tree) -> bool {
+    match map_of_one(alloc, Number(5), Spot::Marked(7), 2) {
+        Some(map) => {
+            let mut map = map;
+            let names = names_until_forgotten(alloc, &mut map, tree);
+            drop(map);
+            names
+        }
+        None => false,
+    }
+}
+
+/// Returns that of a tree that has no files.
+fn names_a_mark_of_nothing(alloc: Global) -> bool {
+    match tree_of(alloc, b"commit 0123456789abcdef0123456789abcdef01234567\n") {
+        Some(tree) => {
+            let names = names_a_mark(alloc, &tree);
+            drop(tree);
+            names
+        }
+        None => false,
+    }
+}
+
+#[test]
+fn names_the_file_of_a_mark_until_it_is_forgotten(rt: HostRuntime) {
+    assert!(rt; names_a_mark_of_nothing(rt.alloc()));
+}

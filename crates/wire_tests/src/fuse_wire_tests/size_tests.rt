@@ -1,0 +1,176 @@
+//! Names of all lengths, batches of many, and the first length of each that is refused.
+ghost use Rattle.std.specs.Prelude.{◌<◌, ◌≤◌, ◌^◌};
+
+use super::calls::{is_kept, is_refused, is_spelled};
+use super::items_read;
+use super::reply_tests::error_bytes;
+use eden_base::{NameFault, NoMemory};
+use fuse_wire::{WireFault, fault_reply};
+use std::alloc::{AllocError, Global};
+
+/// Puts a request of `len` bytes, whose body begins with `front`, goes on with `byte` repeated, and ends with NUL.
+fn fill(bytes: &mut Vec<u8>, opcode: u8, front: &[u8], len: u32, byte: u8) -> Result<(), AllocError>
+    requires { 1 ≤ len }
+{
+    bytes.extend_from_slice(&len.to_le_bytes())?;
+    bytes.extend_from_slice(&[opcode, 0, 0, 0, 7])?;
+    bytes.resize(40, 0)?;
+    bytes.extend_from_slice(front)?;
+    bytes.resize(len as usize - 1, byte)?;
+    bytes.push(0)?;
+    Ok(())
+}
+
+/// Makes a request with a body of `body_len` bytes.
+fn filled(
+    alloc: Global,
+    opcode: u8,
+    front: &[u8],
+    body_len: u32,
+    byte: u8,
+) -> Result<Vec<u8>, NoMemory>
+    requires { body_len < 2 ^ 31 }
+{
+    let len = 40 + body_len;
+    let mut bytes = Vec::with_capacity(alloc, len as usize)?;
+    let is_filled = fill(&mut bytes, opcode, front, len, byte).is_ok();
+    if !is_filled {
+        drop(bytes);
+        return Err(NoMemory);
+    }
+    Ok(bytes)
+}
+
+/// Makes a lookup of a name of `name_len` bytes, and once more where memory was refused.
+fn lookup_of(alloc: Global, name_len: u16) -> Result<Vec<u8>, NoMemory> {
+    let body_len = u32::from(name_len) + 1;
+    match filled(alloc, 1, &[], body_len, b'n') {
+        Ok(bytes) => Ok(bytes),
+        Err(NoMemory) => filled(alloc, 1, &[], body_len, b'n'),
+    }
+}
+
+/// Makes a batch of `count` items, and once more where memory was refused.
+fn batch_text(alloc: Global, count: u16) -> Result<Vec<u8>, NoMemory> {
+    let body_len = 8 + 16 * u32::from(count);
+    let front = count.to_le_bytes();
+    match filled(alloc, 42, &front, body_len, 0) {
+        Ok(bytes) => Ok(bytes),
+        Err(NoMemory) => filled(alloc, 42, &front, body_len, 0),
+    }
+}
+
+/// Returns whether a lookup of a name of `len` bytes is kept.
+fn is_name_kept(alloc: Global, len: u16) -> bool {
+    match lookup_of(alloc, len) {
+        Ok(text) => {
+            let is_kept = is_kept(alloc, text.as_slice());
+            drop(text);
+            is_kept
+        }
+        Err(NoMemory) => false,
+    }
+}
+
+/// Returns that of each name that is not too long.
+fn is_each_name_kept(alloc: Global) -> bool {
+    for len in 1..256u16 {
+        if !is_name_kept(alloc, len) {
+            return false;
+        }
+    }
+    true
+}
+
+#[test]
+fn keeps_names_of_all_lengths(rt: HostRuntime) {
+    assert!(rt; is_each_name_kept(rt.alloc()));
+}
+
+static COUNTS: [u16; 12] = [0, 1, 2, 3, 8, 28, 29, 30, 64, 100, 255, 256];
+
+/// Returns whether a batch of `count` items is kept.
+fn is_count_kept(alloc: Global, count: u16) -> bool {
+    match batch_text(alloc, count) {
+        Ok(text) => {
+            let is_kept = is_kept(alloc, text.as_slice());
+            drop(text);
+            is_kept
+        }
+        Err(NoMemory) => false,
+    }
+}
+
+/// Returns that of each of these counts.
+fn is_each_count_kept(alloc: Global, counts: &[u16]) -> bool {
+    for count in counts {
+        if !is_count_kept(alloc, *count) {
+            return false;
+        }
+    }
+    true
+}
+
+#[test]
+fn keeps_batches_of_many_lengths(rt: HostRuntime) {
+    assert!(rt; is_each_count_kept(rt.alloc(), &COUNTS));
+}
+
+const TOO_LONG: WireFault = WireFault::BadName(NameFault::TooLong);
+
+/// Returns whether a fault of a request is answered by these bytes.
+fn is_answered(request: &[u8], fault: &WireFault, bytes: &[u8]) -> bool {
+    match fault_reply(request, fault) {
+        Some(reply) => is_spelled(&reply, bytes),
+        None => false,
+    }
+}
+
+/// Returns whether a name of 256 bytes is refused, and answered ENAMETOOLONG.
+fn refuses_a_longer_name(alloc: Global) -> bool {
+    match lookup_of(alloc, 256) {
+        Ok(longer) => {
+            let is_refused = is_refused(alloc, longer.as_slice(), TOO_LONG)
+                && is_answered(longer.as_slice(), &TOO_LONG, &error_bytes(0xdc));
+            drop(longer);
+            is_refused
+        }
+        Err(NoMemory) => false,
+    }
+}
+
+#[test]
+fn reads_no_name_of_256_bytes(rt: HostRuntime) {
+    assert!(rt; refuses_a_longer_name(rt.alloc()));
+}
+
+/// Returns whether 256 items are read, of a text of 4,144 bytes.
+fn reads_all_items(alloc: Global) -> bool {
+    match batch_text(alloc, 256) {
+        Ok(full) => {
+            let are_read = full.len() == 4144 && items_read(full.as_slice()) == Ok(256);
+            drop(full);
+            are_read
+        }
+        Err(NoMemory) => false,
+    }
+}
+
+/// Returns whether one more is refused.
+fn refuses_an_item_more(alloc: Global) -> bool {
+    match batch_text(alloc, 257) {
+        Ok(over) => {
+            let is_refused = items_read(over.as_slice()) == Err(WireFault::BadCount)
+                && is_refused(alloc, over.as_slice(), WireFault::BadCount);
+            drop(over);
+            is_refused
+        }
+        Err(NoMemory) => false,
+    }
+}
+
+#[test]
+fn reads_256_items_and_no_more(rt: HostRuntime) {
+    assert!(rt; reads_all_items(rt.alloc()));
+    assert!(rt; refuses_an_item_more(rt.alloc()));
+}

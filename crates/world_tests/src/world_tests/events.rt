@@ -1,0 +1,135 @@
+//! The events of deeds, and the manifest that they happen over: calls that take memory, each made once more where it
+//! was refused.
+use super::deeds::{Deed, Told, Wish};
+use eden_base::{DaemonId, Name, Number, Perm};
+use fuse_wire::{Batch, Item, Request};
+use manifest::Manifest;
+use std::alloc::Global;
+use world::Event;
+
+const TEXT: &[u8] =
+    b"commit 0123456789abcdef0123456789abcdef01234567\ndir src\nfile 0644 12 src/a\nfile 0755 0 src/b\nfile 0644 7 README\n";
+
+/// Reads the manifest, and once more where memory was refused.
+pub(crate) fn manifest(alloc: Global) -> Option<Manifest> {
+    match Manifest::read(alloc, TEXT) {
+        Ok(manifest) => Some(manifest),
+        Err(_refused) => Manifest::read(alloc, TEXT).ok(),
+    }
+}
+
+/// Makes a name, and once more where memory was refused.
+fn name(alloc: Global, bytes: &[u8]) -> Option<Name> {
+    match Name::parse(alloc, bytes) {
+        Ok(name) => Some(name),
+        Err(_refused) => Name::parse(alloc, bytes).ok(),
+    }
+}
+
+pub(crate) fn item(node: u64, k: u64) -> Item {
+    Item {
+        node: Number(node),
+        k,
+    }
+}
+
+/// Makes a batch, and once more where memory was refused.
+fn batch(alloc: Global) -> Option<Batch> {
+    let items = [item(2, 1), item(2, 1)];
+    match Batch::of(alloc, &items) {
+        Ok(batch) => Some(batch),
+        Err(_refused) => Batch::of(alloc, &items).ok(),
+    }
+}
+
+/// Makes the request of a wish.
+fn request(alloc: Global, wish: Wish) -> Option<Request> {
+    match wish {
+        Wish::LookUp(dir, bytes) => Some(Request::Lookup {
+            dir: Number(dir),
+            name: name(alloc, bytes)?,
+        }),
+        Wish::Create(dir, bytes) => Some(Request::Create {
+            dir: Number(dir),
+            name: name(alloc, bytes)?,
+            perm: Perm { bits: 0o644 },
+        }),
+        Wish::Unlink(dir, bytes) => Some(Request::Unlink {
+            dir: Number(dir),
+            name: name(alloc, bytes)?,
+        }),
+        Wish::Getattr(node) => Some(Request::Getattr { node: Number(node) }),
+        Wish::Open(node) => Some(Request::Other {
+            opcode: 14,
+            node: Number(node),
+        }),
+        Wish::Forget(node, k) => Some(Request::Forget(item(node, k))),
+        Wish::ForgetBatch => Some(Request::BatchForget(batch(alloc)?)),
+    }
+}
+
+fn work(daemon: u64, place: u64, fails: bool) -> Event {
+    Event::Work {
+        daemon: DaemonId(daemon),
+        place,
+        fails,
+    }
+}
+
+/// Makes the event of a deed.
+pub(crate) fn event(alloc: Global, deed: Deed) -> Option<Event> {
+    match deed {
+        Deed::Start => Some(Event::Start),
+        Deed::Mount(daemon) => Some(Event::Mount(DaemonId(daemon))),
+        Deed::Issue(wish) => Some(Event::Issue(request(alloc, wish)?)),
+        Deed::Take(daemon) => Some(Event::Take(DaemonId(daemon))),
+        Deed::Work(daemon, place) => Some(work(daemon, place, false)),
+        Deed::WorkFails(daemon, place) => Some(work(daemon, place, true)),
+        Deed::Post(daemon, place) => Some(Event::Post {
+            daemon: DaemonId(daemon),
+            place,
+        }),
+        Deed::Deliver => Some(Event::Deliver),
+        Deed::Hear(daemon, place) => Some(Event::Hear {
+            daemon: DaemonId(daemon),
+            place,
+        }),
+        Deed::Drained(daemon) => Some(Event::Drained(DaemonId(daemon))),
+        Deed::GiveUp(daemon) => Some(Event::GiveUp(DaemonId(daemon))),
+        Deed::Claim(daemon) => Some(Event::Claim(DaemonId(daemon))),
+        Deed::Crash(daemon) => Some(Event::Crash(DaemonId(daemon))),
+        Deed::Do(wish) => Some(Event::Do(request(alloc, wish)?)),
+        Deed::Show => Some(Event::Show),
+    }
+}
+
+/// Makes room for `deeds` events, and once more where memory was refused.
+pub(crate) fn room(alloc: Global, deeds: usize) -> Option<Vec<Event>> {
+    match Vec::with_capacity(alloc, deeds) {
+        Ok(events) => Some(events),
+        Err(_refused) => Vec::with_capacity(alloc, deeds).ok(),
+    }
+}
+
+/// Puts an event behind the others, and returns whether it was made.
+pub(crate) fn is_put(alloc: Global, events: &mut Vec<Event>, deed: Deed) -> bool {
+    match event(alloc, deed) {
+        Some(event) => {
+            let pushed = events.push(event);
+            let is_pushed = pushed.is_ok();
+            drop(pushed);
+            is_pushed
+        }
+        None => false,
+    }
+}
+
+/// Puts the events of deeds behind the others, and returns whether all were made.
+pub(crate) fn are_put(alloc: Global, events: &mut Vec<Event>, deeds: &[(Deed, Told)]) -> bool {
+    for (deed, _told) in deeds {
+        if !is_put(alloc, events, *deed) {
+            return false;
+        }
+    }
+    true
+}

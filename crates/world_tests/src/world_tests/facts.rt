@@ -1,0 +1,180 @@
+//! What a world tells and has, beside what a test says of it.
+use super::deeds::{Counts, Fact, Found, Look, Said, Told};
+use super::events::item;
+use broker_core::Seat;
+use eden_base::{Attr, DaemonId, Kind, Number, Perm, Place};
+use fuse_wire::{Answer, Reply};
+use inode_map::{Forgot, InodeMap};
+use world::{Happened, Outcome, World};
+
+fn attr(look: Look) -> Attr {
+    match look {
+        Look::Directory => Attr {
+            kind: Kind::Dir,
+            perm: Perm::DIRECTORY,
+            size: 0,
+            nlink: 2,
+        },
+        Look::File(size, nlink) => Attr {
+            kind: Kind::File,
+            perm: Perm { bits: 0o644 },
+            size,
+            nlink,
+        },
+    }
+}
+
+fn reply(unique: u64, said: Said) -> Reply {
+    let answer = match said {
+        Said::Entry(number, look) => Answer::Entry {
+            number: Number(number),
+            attr: attr(look),
+        },
+        Said::Opened(number, look) => Answer::Opened {
+            number: Number(number),
+            attr: attr(look),
+        },
+        Said::Attrs(number, look) => Answer::Attrs {
+            number: Number(number),
+            attr: attr(look),
+        },
+        Said::Done => Answer::Done,
+        Said::Error(errno) => Answer::Error(errno),
+    };
+    Reply { unique, answer }
+}
+
+/// Returns a fact as a world tells it.
+pub(crate) fn happened(fact: Fact) -> Happened {
+    match fact {
+        Fact::Started(daemon) => Happened::Started(DaemonId(daemon)),
+        Fact::Mounted(generation) => Happened::Mounted(generation),
+        Fact::Asked(unique) => Happened::Asked(unique),
+        Fact::Took(unique) => Happened::Took(unique),
+        Fact::TookForgets(items) => Happened::TookForgets(items),
+        Fact::Made(unique, said) => Happened::Made(reply(unique, said)),
+        Fact::Forgot(node, k, forgot) => Happened::Forgot {
+            item: item(node, k),
+            forgot,
+        },
+        Fact::Posted(unique) => Happened::Posted(unique),
+        Fact::Delivered(unique, said) => Happened::Answered(reply(unique, said)),
+        Fact::Said(place) => Happened::Said(place),
+        Fact::Heard => Happened::Heard,
+        Fact::Ignored => Happened::Ignored,
+        Fact::Claimed(generation) => Happened::Claimed(generation),
+        Fact::Crashed => Happened::Crashed,
+        Fact::Refused(refusal) => Happened::Refused(refusal),
+    }
+}
+
+/// Tells of a forget of one item that was carried out.
+fn forgotten(node: u64, k: u64, forgot: Forgot) -> [Fact; 3] {
+    [
+        Fact::Asked(None),
+        Fact::TookForgets(1),
+        Fact::Forgot(node, k, forgot),
+    ]
+}
+
+/// Tells of an ask that was carried out.
+fn answered(unique: u64, said: Said) -> [Fact; 5] {
+    [
+        Fact::Asked(Some(unique)),
+        Fact::Took(unique),
+        Fact::Made(unique, said),
+        Fact::Posted(unique),
+        Fact::Delivered(unique, said),
+    ]
+}
+
+/// Returns whether just this happened, in this order.
+fn is_all(all: &[Happened], facts: &[Fact]) -> bool {
+    if all.len() != facts.len() {
+        return false;
+    }
+    for (one, fact) in all.iter().zip(facts.iter()) {
+        if *one != happened(*fact) {
+            return false;
+        }
+    }
+    true
+}
+
+/// Returns whether an event made just this happen.
+pub(crate) fn is_told(outcome: &Outcome, told: Told) -> bool {
+    let all = outcome.happened();
+    match told {
+        Told::Nothing => all.is_empty(),
+        Told::One(fact) => is_all(all, &[fact]),
+        Told::Forgot(node, k, forgot) => is_all(all, &forgotten(node, k, forgot)),
+        Told::Answered(unique, said) => is_all(all, &answered(unique, said)),
+        Told::All(facts) => is_all(all, facts),
+    }
+}
+
+/// Returns whether a map's only number names `src` and is held once, and this one is given next.
+fn keeps_src_alone(map: &InodeMap, number: Number, next: u64) -> bool {
+    if map.after(Number(0)) != Some(number) || map.after(number).is_some() {
+        return false;
+    }
+    if map.count(number) != 1 || map.bad_items() != 0 || map.next() != next {
+        return false;
+    }
+    match map.entry(number) {
+        Some(Place::Linked { parent, name }) => {
+            *parent == Number::ROOT && name.bytes() == b"src".as_slice()
+        }
+        _other => false,
+    }
+}
+
+/// Returns whether daemon 1 keeps this number of `src` alone, the kernel holds it once, and that one is given next.
+fn keeps_alone(world: &World, number: Number, next: u64) -> bool {
+    let Some(served) = world.served(DaemonId(1)) else {
+        return false;
+    };
+    keeps_src_alone(served.map(), number, next) && world.broker().held(number) == 1
+}
+
+/// Returns whether this is found in a world.
+fn is_found(world: &World, found: Found) -> bool {
+    match found {
+        Found::Alone(number, next) => keeps_alone(world, Number(number), next),
+        Found::Seat(daemon, generation) => {
+            let daemon = DaemonId(daemon);
+            world.broker().seat() == Some(Seat { generation, daemon })
+        }
+        Found::NotServed(daemon) => world.served(DaemonId(daemon)).is_none(),
+        Found::UnderWay(daemon, hand, unposted) => {
+            let daemon = DaemonId(daemon);
+            world.hand(daemon).len() == hand && world.unposted(daemon).len() == unposted
+        }
+        Found::Handed(place) => world.handed() == place,
+    }
+}
+
+/// Returns whether each of these is found in a world.
+pub(crate) fn is_each_found(world: &World, found: &[Found]) -> bool {
+    for one in found {
+        if !is_found(world, *one) {
+            return false;
+        }
+    }
+    true
+}
+
+pub(crate) fn counts(world: &World) -> Counts {
+    let number = Number(2);
+    let broker = world.broker();
+    let count = match world.served(DaemonId(1)) {
+        Some(served) => served.map().count(number),
+        None => 0,
+    };
+    [
+        count,
+        broker.held(number),
+        broker.entries_posted(number),
+        broker.forgets_waiting(number),
+    ]
+}
