@@ -20,6 +20,7 @@ mod reply_writer;
 mod request;
 mod request_reader;
 mod request_writer;
+mod same;
 mod writer;
 
 pub use batch::{Batch, BatchRoom};

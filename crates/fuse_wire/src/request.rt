@@ -1,8 +1,9 @@
 //! What the kernel asks, and by which opcode.
-ghost use Rattle.std.specs.Prelude.{◌≡◌, ◌≤◌, length, IsTrue, IfOk, OnErr};
+ghost use Rattle.std.specs.Prelude.{◌≡◌, ◌≤◌, ◌↔◌, length, IsTrue, IfOk, OnErr};
 ghost use Rattle.fuse_wire.specs.Request.{code, opcode_of, is_forget, form_of, is_ask, nodes, item_of, items_of, other_of};
 
 use crate::memory::{Memory, Rooms};
+use crate::same::{same_perm, same_place};
 use crate::{Batch, BatchRoom, Form, Item, Nodes};
 use eden_base::{Name, NameRoom, NoMemory, Number, Perm};
 use std::alloc::Global;
@@ -112,6 +113,41 @@ impl Request {
             batch: batch_room,
         };
         self.copied(rooms).unwrap()
+    }
+
+    /// Returns whether the two are the same request.
+    pub fn is(&self, other: &Request) -> bool
+        ensures same { IsTrue result ↔ (self.now ≡ other.now) }
+    {
+        match self {
+            Request::Lookup { dir, name } => {
+                matches!(other, Request::Lookup { dir: second, name: its } if same_place(*dir, name, *second, its))
+            }
+            Request::Getattr { node } => {
+                matches!(other, Request::Getattr { node: second } if node == second)
+            }
+            Request::Create { dir, name, perm } => {
+                matches!(other, Request::Create { dir: second, name: its, perm: bits }
+                    if same_place(*dir, name, *second, its) && same_perm(*perm, *bits))
+            }
+            Request::Mkdir { dir, name, perm } => {
+                matches!(other, Request::Mkdir { dir: second, name: its, perm: bits }
+                    if same_place(*dir, name, *second, its) && same_perm(*perm, *bits))
+            }
+            Request::Unlink { dir, name } => {
+                matches!(other, Request::Unlink { dir: second, name: its } if same_place(*dir, name, *second, its))
+            }
+            Request::Rmdir { dir, name } => {
+                matches!(other, Request::Rmdir { dir: second, name: its } if same_place(*dir, name, *second, its))
+            }
+            Request::Forget(item) => { matches!(other, Request::Forget(second) if item.is(second)) }
+            Request::BatchForget(batch) => {
+                matches!(other, Request::BatchForget(second) if batch.is(second))
+            }
+            Request::Other { opcode, node } => {
+                matches!(other, Request::Other { opcode: second, node: its } if opcode == second && node == its)
+            }
+        }
     }
 
     /// Returns the request of an opcode that no other variant has; nothing for an opcode that one has.
