@@ -1,6 +1,6 @@
 //! What the kernel asks, and by which opcode.
 ghost use Rattle.std.specs.Prelude.{◌≡◌, ◌≤◌, ◌↔◌, length, IsTrue, IfOk, OnErr};
-ghost use Rattle.fuse_wire.specs.Request.{code, opcode_of, is_forget, form_of, is_ask, nodes, item_of, items_of, other_of};
+ghost use Rattle.fuse_wire.specs.Request.{code, opcode, opcode_of, nodeid, is_forget, form_of, is_ask, nodes, item_of, items_of, other_of};
 
 use crate::memory::{Memory, Rooms};
 use crate::same::{same_perm, same_place};
@@ -179,6 +179,39 @@ impl Request {
             Request::Forget(_) | Request::BatchForget(_) | Request::Other { .. } => {
                 Form::OnlyAnError
             }
+        }
+    }
+
+    /// Returns the opcode that the request goes by.
+    pub(crate) fn opcode(&self) -> Opcode
+        ensures { result ≡ opcode self.now }
+    {
+        match self {
+            Request::Lookup { .. } => Opcode::Lookup,
+            Request::Getattr { .. } => Opcode::Getattr,
+            Request::Create { .. } => Opcode::Create,
+            Request::Mkdir { .. } => Opcode::Mkdir,
+            Request::Unlink { .. } => Opcode::Unlink,
+            Request::Rmdir { .. } => Opcode::Rmdir,
+            Request::Forget(_) => Opcode::Forget,
+            Request::BatchForget(_) => Opcode::BatchForget,
+            Request::Other { opcode, .. } => Opcode::Other(*opcode),
+        }
+    }
+
+    /// Returns the nodeid of the header, which is 0 for a batch.
+    pub(crate) fn nodeid(&self) -> u64
+        ensures { result ≡ nodeid self.now }
+    {
+        match self {
+            Request::Lookup { dir, .. }
+            | Request::Create { dir, .. }
+            | Request::Mkdir { dir, .. }
+            | Request::Unlink { dir, .. }
+            | Request::Rmdir { dir, .. } => dir.0,
+            Request::Getattr { node } | Request::Other { node, .. } => node.0,
+            Request::Forget(item) => item.node.0,
+            Request::BatchForget(_) => 0,
         }
     }
 
