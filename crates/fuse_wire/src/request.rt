@@ -105,12 +105,13 @@ impl Request {
 
     /// Returns the same request, in memory that was taken before: room for as many names as a request can have, and for
     /// a batch.
-    pub fn copy_to(&self, room: NameRoom, _second: NameRoom, batch_room: BatchRoom) -> Request
+    pub fn copy_to(&self, first: NameRoom, second: NameRoom, batch: BatchRoom) -> Request
         ensures copy { result ≡ self.now }
     {
         let rooms = Rooms {
-            name: room,
-            batch: batch_room,
+            first,
+            second,
+            batch,
         };
         self.copied(rooms).unwrap()
     }

@@ -40,9 +40,9 @@ pub fn read_request(alloc: Global, bytes: &[u8]) -> Result<Ask, WireFault>
 /// Reads the request that the bytes are, to memory that was taken before: room for as many names as a request can have,
 /// and for a batch.
 pub fn read_request_to(
-    room: NameRoom,
-    _second: NameRoom,
-    batch_room: BatchRoom,
+    first: NameRoom,
+    second: NameRoom,
+    batch: BatchRoom,
     bytes: &[u8],
 ) -> Result<Ask, WireFault>
     // What is read is spelled so.
@@ -55,8 +55,9 @@ pub fn read_request_to(
     ensures never_out_of_memory { ¬ (result ≡ Err WireFault.NoMemory) }
 {
     let rooms = Rooms {
-        name: room,
-        batch: batch_room,
+        first,
+        second,
+        batch,
     };
     read_ask(rooms, bytes)
 }
