@@ -11,37 +11,21 @@ use Rattle.eden_base.specs.declared.attr.Perm.{Perm}
 use Rattle.eden_base.specs.declared.name.NameFault.{NameFault}
 use Rattle.eden_base.specs.declared.number.Number.{Number}
 use Rattle.eden_base.specs.Name.{IsNameText, name_fault}
-use Rattle.fuse_wire.specs.declared.fault.WireFault.{WireFault}
 use Rattle.fuse_wire.specs.declared.fault.WireFault.TheVariants.{BadBody, BadCount}
 use Rattle.fuse_wire.specs.declared.item.Item.{Item}
 use Rattle.fuse_wire.specs.Field.{u32_bytes, u64_bytes, u32_at, u64_at}
-use Rattle.fuse_wire.specs.Reading.{◌>>=◌}
+use Rattle.byte_codec.specs.Field.{AreBytes}
+use Rattle.byte_codec.specs.Reading.{◌>>=◌}
+use Rattle.byte_codec.proofs.ByteLemmas.{AreBytes-drop}
+use Rattle.byte_codec.proofs.StepLemmas.{bind_ok, guard_ok, test_ok, done, ok_is}
 use Rattle.fuse_wire.specs.RequestBody.{checked, name_of, made_of, items_at, batch_of, forget_of, name_text, item_text, IsMadeBody, IsBatchBody, FitsItem}
 use Rattle.fuse_wire.specs.Mode.{perm_of}
-use Rattle.fuse_wire.proofs.Fields.{AreBytes, AreBytes-drop, u32_again, u64_again, u32_below, u32_front, u64_front}
+use Rattle.fuse_wire.proofs.Fields.{u32_again, u64_again, u32_below, u32_front, u64_front}
 use Rattle.fuse_wire.proofs.Lengths.{length-u32_bytes, length-u64_bytes, length-items}
 use Rattle.fuse_wire.proofs.ReplyLaws.{behind}
 use Rattle.eden_base.proofs.PermLemmas.{same_perm}
 
--- ---- steps that did not fail
-
-pub bind_ok : {A B : Type 0} (r : Result A WireFault) (f : A → Result B WireFault) (y : B) → (r >>= f) ≡ Ok y → (x : A) × (r ≡ Ok x) × (f x ≡ Ok y)
-bind_ok (Ok x) f y e = (x, refl, e)
-bind_ok (Err fault) f y e = absurd cc
-
-pub guard_ok : {A : Type 0} (b : Bool) (fault : WireFault) (r : Result A WireFault) (y : A) → cond b (Err fault) r ≡ Ok y → (b ≡ false) × (r ≡ Ok y)
-guard_ok true fault r y e = absurd cc
-guard_ok false fault r y e = (refl, e)
-
-pub test_ok : {A : Type 0} (b : Bool) (fault : WireFault) (r : Result A WireFault) (y : A) → cond b r (Err fault) ≡ Ok y → (b ≡ true) × (r ≡ Ok y)
-test_ok true fault r y e = (refl, e)
-test_ok false fault r y e = absurd cc
-
-abbrev pub done : {A : Type 0} → A → Result A WireFault
-done x = Ok x
-
-pub ok_is : {A : Type 0} (x y : A) → done x ≡ done y → x ≡ y
-ok_is x y e = cc
+-- ---- tests
 
 and_true : (a b : Bool) → (a && b) ≡ true → (a ≡ true) × (b ≡ true)
 and_true true b e = (refl, e)
@@ -141,6 +125,9 @@ made_found place rest body name perm are e =
       parts = sym (made_front place rest body are long) ∙ ap (λ (d : List ℕ). (take place body ++ u32_bytes (u32_at second) ++ take rest (drop (place + 4) body)) ++ d) (found.1 ∙ ap name_text names);
     }
 
+beside_again : {F : Type 0} (read : Result (List ℕ) F) (name : List ℕ) (p q : Perm) → read ≡ Ok name → p ≡ q → (read >>= λ n. done (pair n p)) ≡ done (pair name q)
+beside_again read name p q is same = rw (is, same) refl
+
 pub made_again : (place rest : ℕ) (body name : List ℕ) (perm : Perm) → IsMadeBody place rest name perm body → made_of place rest body ≡ Ok (name, perm)
 unfolding made_of
 made_again place rest body name perm is =
@@ -157,8 +144,7 @@ made_again place rest body name perm is =
     let long : ltb (length body) fixed ≡ false = le-ltb _ _ (omega (arith, len, length-append is.before r1, length-append (u32_bytes is.mode) r2, length-append is.behind (name_text name), is.len_before, is.len_behind, length-u32_bytes is.mode)) in
     let read : name_of (drop fixed body) ≡ Ok name = ap name_of at_name ∙ name_again name is.is_name in
     let perms : perm_of (u32_at (drop place body)) ≡ perm = same_perm (perm_of (u32_at (drop place body))) perm low in
-    let made : (name_of (drop fixed body) >>= λ n. Ok (n, perm_of (u32_at (drop place body)))) ≡ Ok (name, perm_of (u32_at (drop place body))) = rw read refl in
-    rw long (made ∙ ap (λ (p : Perm). done (pair name p)) perms)
+    rw long (beside_again (name_of (drop fixed body)) name (perm_of (u32_at (drop place body))) perm read perms)
 
 -- ---- forgets
 

@@ -11,11 +11,13 @@ use Rattle.fuse_wire.specs.declared.fault.WireFault.TheVariants.{BadBody}
 use Rattle.fuse_wire.specs.declared.request.Opcode.{Opcode}
 use Rattle.fuse_wire.specs.declared.request.Opcode.TheVariants.{Lookup, Forget, Getattr, Mkdir, Unlink, Rmdir, Create, BatchForget, Other}
 use Rattle.fuse_wire.specs.Field.{u64_bytes, u64_at}
-use Rattle.fuse_wire.specs.Reading.{◌>>=◌}
+use Rattle.byte_codec.specs.Reading.{◌>>=◌}
 use Rattle.fuse_wire.specs.Request.{code, opcode_of, opcode, nodeid, IsNodeid, IsSendable}
 use Rattle.fuse_wire.specs.RequestBody.{name_of, made_of, batch_of, forget_of, what_of, IsBody, IsMadeBody, FitsBody}
-use Rattle.fuse_wire.proofs.Bodies.{bind_ok, test_ok, ok_is, name_found, name_again, made_found, made_again, forget_found, forget_again, batch_found, batch_again}
-use Rattle.fuse_wire.proofs.Fields.{AreBytes, u64_again}
+use Rattle.byte_codec.specs.Field.{AreBytes}
+use Rattle.byte_codec.proofs.StepLemmas.{bind_ok, test_ok, ok_is}
+use Rattle.fuse_wire.proofs.Bodies.{name_found, name_again, made_found, made_again, forget_found, forget_again, batch_found, batch_again}
+use Rattle.fuse_wire.proofs.Fields.{u64_again}
 
 -- ---- opcodes
 

@@ -16,7 +16,7 @@ use Rattle.fuse_wire.specs.declared.request.Request.{Request}
 use Rattle.fuse_wire.specs.declared.request.Request.TheVariants.{Lookup, Getattr, Create, Mkdir, Unlink, Rmdir, Forget, BatchForget, Other}
 use Rattle.fuse_wire.specs.Field.{zeros, u32_bytes, u64_bytes, u32_at, u64_at}
 use Rattle.fuse_wire.specs.Mode.{S_IFREG, perm_of}
-use Rattle.fuse_wire.specs.Reading.{◌>>=◌}
+use Rattle.byte_codec.specs.Reading.{◌>>=◌}
 use Rattle.fuse_wire.specs.Request.{opcode_of}
 
 -- ---- as written
