@@ -11,37 +11,21 @@ use Rattle.eden_base.specs.declared.attr.Perm.{Perm}
 use Rattle.eden_base.specs.declared.name.NameFault.{NameFault}
 use Rattle.eden_base.specs.declared.number.Number.{Number}
 use Rattle.eden_base.specs.Name.{IsNameText, name_fault}
-use Rattle.fuse_wire.specs.declared.fault.WireFault.{WireFault}
 use Rattle.fuse_wire.specs.declared.fault.WireFault.TheVariants.{BadBody, BadCount}
 use Rattle.fuse_wire.specs.declared.item.Item.{Item}
 use Rattle.fuse_wire.specs.Field.{u32_bytes, u64_bytes, u32_at, u64_at}
-use Rattle.fuse_wire.specs.Reading.{◌>>=◌}
-use Rattle.fuse_wire.specs.RequestBody.{checked, name_of, made_of, items_at, batch_of, forget_of, name_text, item_text, IsCreateBody, IsMkdirBody, IsBatchBody, FitsItem}
+use Rattle.byte_codec.specs.Field.{AreBytes}
+use Rattle.byte_codec.specs.Reading.{◌>>=◌}
+use Rattle.byte_codec.proofs.ByteLemmas.{AreBytes-drop}
+use Rattle.byte_codec.proofs.StepLemmas.{bind_ok, guard_ok, test_ok, done, ok_is}
+use Rattle.fuse_wire.specs.RequestBody.{checked, name_of, made_of, items_at, batch_of, forget_of, name_text, item_text, IsMadeBody, IsBatchBody, FitsItem}
 use Rattle.fuse_wire.specs.Mode.{perm_of}
-use Rattle.fuse_wire.proofs.Fields.{AreBytes, AreBytes-drop, u32_again, u64_again, u32_below, u32_front, u64_front}
+use Rattle.fuse_wire.proofs.Fields.{u32_again, u64_again, u32_below, u32_front, u64_front}
 use Rattle.fuse_wire.proofs.Lengths.{length-u32_bytes, length-u64_bytes, length-items}
 use Rattle.fuse_wire.proofs.ReplyLaws.{behind}
 use Rattle.eden_base.proofs.PermLemmas.{same_perm}
 
--- ---- steps that did not fail
-
-pub bind_ok : {A B : Type 0} (r : Result A WireFault) (f : A → Result B WireFault) (y : B) → (r >>= f) ≡ Ok y → (x : A) × (r ≡ Ok x) × (f x ≡ Ok y)
-bind_ok (Ok x) f y e = (x, refl, e)
-bind_ok (Err fault) f y e = absurd cc
-
-pub guard_ok : {A : Type 0} (b : Bool) (fault : WireFault) (r : Result A WireFault) (y : A) → cond b (Err fault) r ≡ Ok y → (b ≡ false) × (r ≡ Ok y)
-guard_ok true fault r y e = absurd cc
-guard_ok false fault r y e = (refl, e)
-
-pub test_ok : {A : Type 0} (b : Bool) (fault : WireFault) (r : Result A WireFault) (y : A) → cond b r (Err fault) ≡ Ok y → (b ≡ true) × (r ≡ Ok y)
-test_ok true fault r y e = (refl, e)
-test_ok false fault r y e = absurd cc
-
-abbrev pub done : {A : Type 0} → A → Result A WireFault
-done x = Ok x
-
-pub ok_is : {A : Type 0} (x y : A) → done x ≡ done y → x ≡ y
-ok_is x y e = cc
+-- ---- tests
 
 and_true : (a b : Bool) → (a && b) ≡ true → (a ≡ true) × (b ≡ true)
 and_true true b e = (refl, e)
@@ -100,108 +84,67 @@ name_again name is =
 pub parted : (bytes : List ℕ) (n m : ℕ) → take m (drop n bytes) ++ drop (n + m) bytes ≡ drop n bytes
 parted bytes n m = ap (λ (d : List ℕ). take m (drop n bytes) ++ d) (sym (drop-drop m n bytes)) ∙ take-append-drop m (drop n bytes)
 
--- what is read of a body behind whose fixed part a name stands
-pub record IsMade (fixed place : ℕ) (body name : List ℕ) (perm : Perm) : Type 0 where
-  pub long : fixed ≤ length body
-  pub is_name : IsNameText name
-  pub rest : drop fixed body ≡ name_text name
-  pub low : u32_at (drop place body) % 4096 ≡ perm.bits
-
 abbrev pub pair : List ℕ → Perm → List ℕ × Perm
 pair name perm = (name, perm)
 
-pub made_found : (fixed place : ℕ) (body name : List ℕ) (perm : Perm) → made_of fixed place body ≡ Ok (name, perm) → IsMade fixed place body name perm
+-- the parts of a body that has a mode at a place and so many bytes behind it
+made_front : (place rest : ℕ) (body : List ℕ) → AreBytes body → place + 4 + rest ≤ length body
+    → (take place body ++ u32_bytes (u32_at (drop place body)) ++ take rest (drop (place + 4) body)) ++ drop (place + 4 + rest) body ≡ body
+made_front place rest body are long =
+    let second = drop place body in
+    let word = u32_front second (AreBytes-drop place body are) (omega (arith, length-drop place body)) in
+    let word' : u32_bytes (u32_at second) ++ drop (place + 4) body ≡ second = ap (λ (d : List ℕ). u32_bytes (u32_at second) ++ d) (sym (drop-drop 4 place body)) ∙ word in
+    let last : take rest (drop (place + 4) body) ++ drop (place + 4 + rest) body ≡ drop (place + 4) body = parted body (place + 4) rest in
+    append_assoc (take place body ++ u32_bytes (u32_at second)) (take rest (drop (place + 4) body)) (drop (place + 4 + rest) body)
+    ∙ ap (λ (d : List ℕ). (take place body ++ u32_bytes (u32_at second)) ++ d) last
+    ∙ append_assoc (take place body) (u32_bytes (u32_at second)) (drop (place + 4) body)
+    ∙ ap (λ (d : List ℕ). take place body ++ d) word'
+    ∙ take-append-drop place body
+
+pub made_found : (place rest : ℕ) (body name : List ℕ) (perm : Perm) → AreBytes body → made_of place rest body ≡ Ok (name, perm) → IsMadeBody place rest name perm body
 unfolding made_of
-made_found fixed place body name perm e =
+made_found place rest body name perm are e =
+    let fixed = place + 4 + rest in
+    let second = drop place body in
+    let read = perm_of (u32_at second) in
     let g = guard_ok (ltb (length body) fixed) BadBody (name_of (drop fixed body) >>= λ n. Ok (n, perm_of (u32_at (drop place body)))) (name, perm) e in
     let b = bind_ok (name_of (drop fixed body)) (λ n. Ok (pair n (perm_of (u32_at (drop place body))))) (name, perm) g.1 in
-    let same : pair b.0 (perm_of (u32_at (drop place body))) ≡ pair name perm = ok_is (pair b.0 (perm_of (u32_at (drop place body)))) (pair name perm) b.2 in
+    let same : pair b.0 read ≡ pair name perm = ok_is (pair b.0 read) (pair name perm) b.2 in
     let found = name_found (drop fixed body) b.0 b.1 in
     let names : b.0 ≡ name = ap (λ (p : List ℕ × Perm). p.0) same in
-    let perms : perm_of (u32_at (drop place body)) ≡ perm = ap (λ (p : List ℕ × Perm). p.1) same in
+    let perms : read ≡ perm = ap (λ (p : List ℕ × Perm). p.1) same in
+    let long : fixed ≤ length body = ltb-false _ _ g.0 in
     record {
-      long = ltb-false _ _ g.0;
-      is_name = subst IsNameText names found.0;
-      rest = found.1 ∙ ap name_text names;
-      low = ap (λ (p : Perm). p.bits) perms;
-    }
-
-pub made_again : (fixed place : ℕ) (body name : List ℕ) (perm : Perm) → IsMade fixed place body name perm → made_of fixed place body ≡ Ok (name, perm)
-unfolding made_of
-made_again fixed place body name perm is =
-    let long : ltb (length body) fixed ≡ false = le-ltb _ _ is.long in
-    let read : name_of (drop fixed body) ≡ Ok name = ap name_of is.rest ∙ name_again name is.is_name in
-    let perms : perm_of (u32_at (drop place body)) ≡ perm = same_perm (perm_of (u32_at (drop place body))) perm is.low in
-    let made : (name_of (drop fixed body) >>= λ n. Ok (n, perm_of (u32_at (drop place body)))) ≡ Ok (name, perm_of (u32_at (drop place body))) = rw read refl in
-    rw long (made ∙ ap (λ (p : Perm). done (pair name p)) perms)
-
-pub create_found : (body name : List ℕ) (perm : Perm) → AreBytes body → IsMade 16 4 body name perm → IsCreateBody name perm body
-create_found body name perm are is =
-    let second = drop 4 body in
-    let word = u32_front second (AreBytes-drop 4 body are) (omega (arith, length-drop 4 body, is.long)) in
-    let word' : u32_bytes (u32_at second) ++ drop 8 body ≡ second = ap (λ (d : List ℕ). u32_bytes (u32_at second) ++ d) (sym (drop-drop 4 4 body)) ∙ word in
-    let last : take 8 (drop 8 body) ++ drop 16 body ≡ drop 8 body = parted body 8 8 in
-    let whole : (take 4 body ++ u32_bytes (u32_at second) ++ take 8 (drop 8 body)) ++ drop 16 body ≡ body =
-    append_assoc (take 4 body ++ u32_bytes (u32_at second)) (take 8 (drop 8 body)) (drop 16 body)
-    ∙ ap (λ (d : List ℕ). (take 4 body ++ u32_bytes (u32_at second)) ++ d) last
-    ∙ append_assoc (take 4 body) (u32_bytes (u32_at second)) (drop 8 body)
-    ∙ ap (λ (d : List ℕ). take 4 body ++ d) word'
-    ∙ take-append-drop 4 body in
-    record {
-      flags = take 4 body;
+      before = take place body;
       mode = u32_at second;
-      others = take 8 (drop 8 body);
-      four = omega (arith, length-take 4 body, is.long);
-      is_mode = record { in_range = u32_below second (AreBytes-drop 4 body are); low = is.low };
-      eight = omega (arith, length-take 8 (drop 8 body), length-drop 8 body, is.long);
-      is_name = is.is_name;
-      parts = sym whole ∙ ap (λ (d : List ℕ). (take 4 body ++ u32_bytes (u32_at second) ++ take 8 (drop 8 body)) ++ d) is.rest;
+      behind = take rest (drop (place + 4) body);
+      len_before = omega (arith, length-take place body);
+      is_mode = record { in_range = u32_below second (AreBytes-drop place body are); low = ap (λ (p : Perm). p.bits) perms };
+      len_behind = omega (arith, length-take rest (drop (place + 4) body), length-drop (place + 4) body);
+      is_name = subst IsNameText names found.0;
+      parts = sym (made_front place rest body are long) ∙ ap (λ (d : List ℕ). (take place body ++ u32_bytes (u32_at second) ++ take rest (drop (place + 4) body)) ++ d) (found.1 ∙ ap name_text names);
     }
 
-pub create_again : (body name : List ℕ) (perm : Perm) → IsCreateBody name perm body → IsMade 16 4 body name perm
-create_again body name perm is =
-    let r2 = is.others ++ name_text name in
+beside_again : {F : Type 0} (read : Result (List ℕ) F) (name : List ℕ) (p q : Perm) → read ≡ Ok name → p ≡ q → (read >>= λ n. done (pair n p)) ≡ done (pair name q)
+beside_again read name p q is same = rw (is, same) refl
+
+pub made_again : (place rest : ℕ) (body name : List ℕ) (perm : Perm) → IsMadeBody place rest name perm body → made_of place rest body ≡ Ok (name, perm)
+unfolding made_of
+made_again place rest body name perm is =
+    let fixed = place + 4 + rest in
+    let r2 = is.behind ++ name_text name in
     let r1 = u32_bytes is.mode ++ r2 in
-    let all : body ≡ is.flags ++ r1 = is.parts ∙ simp append_assoc in
-    let at4 : drop 4 body ≡ r1 = behind body is.flags r1 0 4 4 all is.four refl in
-    let at8 : drop 8 body ≡ r2 = behind body (u32_bytes is.mode) r2 4 4 8 at4 (length-u32_bytes is.mode) refl in
-    let at16 : drop 16 body ≡ name_text name = behind body is.others (name_text name) 8 8 16 at8 is.eight refl in
-    let mode : u32_at (drop 4 body) ≡ is.mode = ap u32_at at4 ∙ u32_again is.mode r2 is.is_mode.in_range in
-    record {
-      long = rw all (omega (arith, length-append is.flags r1, length-append (u32_bytes is.mode) r2, length-append is.others (name_text name), is.four, is.eight, length-u32_bytes is.mode));
-      is_name = is.is_name;
-      rest = at16;
-      low = ap (λ (m : ℕ). m % 4096) mode ∙ is.is_mode.low;
-    }
-
-pub mkdir_found : (body name : List ℕ) (perm : Perm) → AreBytes body → IsMade 8 0 body name perm → IsMkdirBody name perm body
-mkdir_found body name perm are is =
-    let word = u32_front body are (omega (arith, is.long)) in
-    let last : take 4 (drop 4 body) ++ drop 8 body ≡ drop 4 body = parted body 4 4 in
-    let whole : (u32_bytes (u32_at body) ++ take 4 (drop 4 body)) ++ drop 8 body ≡ body =
-    append_assoc (u32_bytes (u32_at body)) (take 4 (drop 4 body)) (drop 8 body) ∙ ap (λ (d : List ℕ). u32_bytes (u32_at body) ++ d) last ∙ word in
-    record {
-      mode = u32_at body;
-      others = take 4 (drop 4 body);
-      is_mode = record { in_range = u32_below body are; low = is.low };
-      four = omega (arith, length-take 4 (drop 4 body), length-drop 4 body, is.long);
-      is_name = is.is_name;
-      parts = sym whole ∙ ap (λ (d : List ℕ). (u32_bytes (u32_at body) ++ take 4 (drop 4 body)) ++ d) is.rest;
-    }
-
-pub mkdir_again : (body name : List ℕ) (perm : Perm) → IsMkdirBody name perm body → IsMade 8 0 body name perm
-mkdir_again body name perm is =
-    let r1 = is.others ++ name_text name in
-    let all : body ≡ u32_bytes is.mode ++ r1 = is.parts ∙ simp append_assoc in
-    let at4 : drop 4 body ≡ r1 = behind body (u32_bytes is.mode) r1 0 4 4 all (length-u32_bytes is.mode) refl in
-    let at8 : drop 8 body ≡ name_text name = behind body is.others (name_text name) 4 4 8 at4 is.four refl in
-    let mode : u32_at body ≡ is.mode = ap u32_at all ∙ u32_again is.mode r1 is.is_mode.in_range in
-    record {
-      long = rw all (omega (arith, length-append (u32_bytes is.mode) r1, length-append is.others (name_text name), is.four, length-u32_bytes is.mode));
-      is_name = is.is_name;
-      rest = at8;
-      low = ap (λ (m : ℕ). m % 4096) mode ∙ is.is_mode.low;
-    }
+    let all : body ≡ is.before ++ r1 = is.parts ∙ simp append_assoc in
+    let at_mode : drop place body ≡ r1 = behind body is.before r1 0 place place all is.len_before (omega arith) in
+    let at_rest : drop (place + 4) body ≡ r2 = behind body (u32_bytes is.mode) r2 place 4 (place + 4) at_mode (length-u32_bytes is.mode) refl in
+    let at_name : drop fixed body ≡ name_text name = behind body is.behind (name_text name) (place + 4) rest fixed at_rest is.len_behind refl in
+    let mode : u32_at (drop place body) ≡ is.mode = ap u32_at at_mode ∙ u32_again is.mode r2 is.is_mode.in_range in
+    let low : u32_at (drop place body) % 4096 ≡ perm.bits = ap (λ (m : ℕ). m % 4096) mode ∙ is.is_mode.low in
+    let len : length body ≡ length (is.before ++ r1) = ap length all in
+    let long : ltb (length body) fixed ≡ false = le-ltb _ _ (omega (arith, len, length-append is.before r1, length-append (u32_bytes is.mode) r2, length-append is.behind (name_text name), is.len_before, is.len_behind, length-u32_bytes is.mode)) in
+    let read : name_of (drop fixed body) ≡ Ok name = ap name_of at_name ∙ name_again name is.is_name in
+    let perms : perm_of (u32_at (drop place body)) ≡ perm = same_perm (perm_of (u32_at (drop place body))) perm low in
+    rw long (beside_again (name_of (drop fixed body)) name (perm_of (u32_at (drop place body))) perm read perms)
 
 -- ---- forgets
 

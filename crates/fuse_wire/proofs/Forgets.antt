@@ -11,12 +11,13 @@ use Rattle.fuse_wire.specs.declared.header.Header.{Header}
 use Rattle.fuse_wire.specs.declared.item.Item.{Item}
 use Rattle.fuse_wire.specs.declared.request.Opcode.{Opcode}
 use Rattle.fuse_wire.specs.declared.request.Opcode.TheVariants.{Forget, BatchForget}
-use Rattle.fuse_wire.specs.Reading.{◌>>=◌}
+use Rattle.byte_codec.specs.Reading.{◌>>=◌}
 use Rattle.fuse_wire.specs.Request.{code, opcode_of, is_forget, opcode}
 use Rattle.fuse_wire.specs.RequestBody.{batch_of, forget_of, what_of, forgotten_of, items_told}
 use Rattle.fuse_wire.specs.RequestReading.{asked, body_of, header_of, request_of, items_of, IsForgetOf}
-use Rattle.fuse_wire.proofs.Bodies.{bind_ok, done, ok_is}
-use Rattle.fuse_wire.proofs.Fields.{AreBytes, AreBytes-drop}
+use Rattle.byte_codec.specs.Field.{AreBytes}
+use Rattle.byte_codec.proofs.ByteLemmas.{AreBytes-drop}
+use Rattle.byte_codec.proofs.StepLemmas.{bind_ok, done, ok_is}
 use Rattle.fuse_wire.proofs.RequestKinds.{code-opcode_of, what_found}
 
 -- another request has no items

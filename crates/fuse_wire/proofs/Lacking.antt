@@ -4,7 +4,8 @@ use Rattle.std.specs.Prelude.{IsTrue}
 use Rattle.eden_base.specs.declared.attr.Perm.{Perm}
 use Rattle.fuse_wire.specs.declared.fault.WireFault.{WireFault}
 use Rattle.fuse_wire.specs.declared.fault.WireFault.TheVariants.{Short, BadLength, BadBody, BadCount, BadName, NoMemory}
-use Rattle.fuse_wire.specs.Reading.{◌>>=◌, Gives, MayLack, TakesSome}
+use Rattle.byte_codec.specs.Reading.{◌>>=◌}
+use Rattle.fuse_wire.specs.Reading.{Gives, MayLack, TakesSome}
 
 false_not : IsTrue false → ⊥
 false_not e = cc

@@ -7,39 +7,36 @@ use Rattle.fuse_wire.specs.declared.item.Item.{Item}
 use Rattle.fuse_wire.specs.Mode.{S_IFREG}
 use Rattle.fuse_wire.specs.Field.{zeros}
 use Rattle.fuse_wire.specs.Request.{nodeid}
-use Rattle.fuse_wire.specs.RequestBody.{create_body, mkdir_body, batch_body, body, IsBody, IsCreateBody, IsMkdirBody, IsBatchBody}
+use Rattle.fuse_wire.specs.RequestBody.{made_body, batch_body, body, IsBody, IsMode, IsMadeBody, IsBatchBody}
 use Rattle.fuse_wire.specs.RequestReading.{request_of}
 use Rattle.fuse_wire.specs.RequestText.{IsRequestText, request_text, FitsAsk}
 use Rattle.fuse_wire.proofs.Lengths.{length-zeros}
 use Rattle.fuse_wire.proofs.RequestKinds.{own_nodeid}
 use Rattle.fuse_wire.proofs.Requests.{request_again}
 
-pub create_is_body : (name : List ℕ) (perm : Perm) → IsNameText name → IsCreateBody name perm (create_body name perm)
-create_is_body name perm is = record {
-  flags = zeros 4;
-  mode = S_IFREG + perm.bits;
-  others = zeros 8;
-  four = length-zeros 4;
-  is_mode = record { in_range = omega (arith, perm.in_range); low = omega (arith, perm.in_range) };
-  eight = length-zeros 8;
+pub made_is_body : (place mode rest : ℕ) (name : List ℕ) (perm : Perm) → IsMode perm mode → IsNameText name → IsMadeBody place rest name perm (made_body place mode rest name)
+made_is_body place mode rest name perm is_mode is = record {
+  before = zeros place;
+  mode = mode;
+  behind = zeros rest;
+  len_before = length-zeros place;
+  is_mode = is_mode;
+  len_behind = length-zeros rest;
   is_name = is;
   parts = refl;
 }
 
-pub mkdir_is_body : (name : List ℕ) (perm : Perm) → IsNameText name → IsMkdirBody name perm (mkdir_body name perm)
-mkdir_is_body name perm is = record {
-  mode = perm.bits;
-  others = zeros 4;
-  is_mode = record { in_range = omega (arith, perm.in_range); low = omega (arith, perm.in_range) };
-  four = length-zeros 4;
-  is_name = is;
-  parts = refl;
-}
+-- the permissions of a mode with the type bits of a file, and of one without
+pub file_mode : (perm : Perm) → IsMode perm (S_IFREG + perm.bits)
+file_mode perm = record { in_range = omega (arith, perm.in_range); low = omega (arith, perm.in_range) }
+
+pub bare_mode : (perm : Perm) → IsMode perm perm.bits
+bare_mode perm = record { in_range = omega (arith, perm.in_range); low = omega (arith, perm.in_range) }
 
 pub batch_is_body : (items : List Item) → length items ≤ 256 → IsBatchBody items (batch_body items)
 batch_is_body items le = record { others = zeros 4; four = length-zeros 4; at_most = le; parts = refl }
 
-pub ruleset own_bodies = (create_is_body, mkdir_is_body, batch_is_body, length-zeros)
+pub ruleset own_bodies = (made_is_body, file_mode, bare_mode, batch_is_body, length-zeros)
 
 pub own_text : (ask : Ask) → length (body ask.what) ≤ 4104 → IsBody ask.what (body ask.what) → IsRequestText ask (request_text ask)
 own_text ask short is = record {

@@ -11,11 +11,13 @@ use Rattle.fuse_wire.specs.declared.fault.WireFault.TheVariants.{BadBody}
 use Rattle.fuse_wire.specs.declared.request.Opcode.{Opcode}
 use Rattle.fuse_wire.specs.declared.request.Opcode.TheVariants.{Lookup, Forget, Getattr, Mkdir, Unlink, Rmdir, Create, BatchForget, Other}
 use Rattle.fuse_wire.specs.Field.{u64_bytes, u64_at}
-use Rattle.fuse_wire.specs.Reading.{◌>>=◌}
+use Rattle.byte_codec.specs.Reading.{◌>>=◌}
 use Rattle.fuse_wire.specs.Request.{code, opcode_of, opcode, nodeid, IsNodeid, IsSendable}
-use Rattle.fuse_wire.specs.RequestBody.{name_of, made_of, batch_of, forget_of, what_of, IsBody, FitsBody}
-use Rattle.fuse_wire.proofs.Bodies.{bind_ok, test_ok, ok_is, name_found, name_again, made_found, made_again, create_found, create_again, mkdir_found, mkdir_again, forget_found, forget_again, batch_found, batch_again}
-use Rattle.fuse_wire.proofs.Fields.{AreBytes, u64_again}
+use Rattle.fuse_wire.specs.RequestBody.{name_of, made_of, batch_of, forget_of, what_of, IsBody, IsMadeBody, FitsBody}
+use Rattle.byte_codec.specs.Field.{AreBytes}
+use Rattle.byte_codec.proofs.StepLemmas.{bind_ok, test_ok, ok_is}
+use Rattle.fuse_wire.proofs.Bodies.{name_found, name_again, made_found, made_again, forget_found, forget_again, batch_found, batch_again}
+use Rattle.fuse_wire.proofs.Fields.{u64_again}
 
 -- ---- opcodes
 
@@ -44,6 +46,13 @@ named o node body what make e then =
     let found = name_found body b.0 b.1 in
     subst (WhatIs o node body) (ok_is (make b.0) what b.2) (then b.0 found.0 found.1)
 
+made : (o : Opcode) (place rest : ℕ) (node : Number) (body : List ℕ) (what : Request) (make : List ℕ × Perm → Request) → AreBytes body → (made_of place rest body >>= λ made. Ok (make made)) ≡ Ok what
+    → ((name : List ℕ) (perm : Perm) → IsMadeBody place rest name perm body → WhatIs o node body (make (name, perm))) → WhatIs o node body what
+made o place rest node body what make are e then =
+    let b = bind_ok (made_of place rest body) (λ made. Ok (make made)) what e in
+    let found = made_found place rest body b.0.0 b.0.1 are b.1 in
+    subst (WhatIs o node body) (ok_is (make b.0) what b.2) (then b.0.0 b.0.1 found)
+
 pub what_found : (o : Opcode) (node : Number) (body : List ℕ) (what : Request) → AreBytes body → opcode_of (code o) ≡ o → what_of o node body ≡ Ok what → WhatIs o node body what
 unfolding what_of
 what_found Lookup node body what are known e = named Lookup node body what (requests.Lookup node) e (λ name is parts. record { opcode_is = refl; nodeid_is = refl; body_is = (is, parts) })
@@ -51,14 +60,10 @@ what_found Unlink node body what are known e = named Unlink node body what (requ
 what_found Rmdir node body what are known e = named Rmdir node body what (requests.Rmdir node) e (λ name is parts. record { opcode_is = refl; nodeid_is = refl; body_is = (is, parts) })
 what_found Create node body what are known e =
     let make : List ℕ × Perm → Request = λ made. requests.Create node made.0 made.1 in
-    let b = bind_ok (made_of 16 4 body) (λ made. Ok (make made)) what e in
-    let found = create_found body b.0.0 b.0.1 are (made_found 16 4 body b.0.0 b.0.1 b.1) in
-    subst (WhatIs Create node body) (ok_is (make b.0) what b.2) (record { opcode_is = refl; nodeid_is = refl; body_is = found })
+    made Create 4 8 node body what make are e (λ name perm is. record { opcode_is = refl; nodeid_is = refl; body_is = is })
 what_found Mkdir node body what are known e =
     let make : List ℕ × Perm → Request = λ made. requests.Mkdir node made.0 made.1 in
-    let b = bind_ok (made_of 8 0 body) (λ made. Ok (make made)) what e in
-    let found = mkdir_found body b.0.0 b.0.1 are (made_found 8 0 body b.0.0 b.0.1 b.1) in
-    subst (WhatIs Mkdir node body) (ok_is (make b.0) what b.2) (record { opcode_is = refl; nodeid_is = refl; body_is = found })
+    made Mkdir 0 4 node body what make are e (λ name perm is. record { opcode_is = refl; nodeid_is = refl; body_is = is })
 what_found Getattr node body what are known e =
     let t = test_ok (eqb (length body) 16) BadBody (Ok (requests.Getattr node)) what e in
     subst (WhatIs Getattr node body) (ok_is (requests.Getattr node) what t.1) (record { opcode_is = refl; nodeid_is = refl; body_is = eqb-true _ _ t.0 })
@@ -81,8 +86,8 @@ unfolding what_of
 what_again (requests.Lookup dir name) node body fits n is = rw (number_is node dir n, is.1, name_again name is.0) refl
 what_again (requests.Unlink dir name) node body fits n is = rw (number_is node dir n, is.1, name_again name is.0) refl
 what_again (requests.Rmdir dir name) node body fits n is = rw (number_is node dir n, is.1, name_again name is.0) refl
-what_again (requests.Create dir name perm) node body fits n is = rw (number_is node dir n, made_again 16 4 body name perm (create_again body name perm is)) refl
-what_again (requests.Mkdir dir name perm) node body fits n is = rw (number_is node dir n, made_again 8 0 body name perm (mkdir_again body name perm is)) refl
+what_again (requests.Create dir name perm) node body fits n is = rw (number_is node dir n, made_again 4 8 body name perm is) refl
+what_again (requests.Mkdir dir name perm) node body fits n is = rw (number_is node dir n, made_again 0 4 body name perm is) refl
 what_again (requests.Getattr m) node body fits n is = rw (number_is node m n, is) refl
 what_again (requests.Forget item) node body fits n is = rw (number_is node item.node n, is, forget_again item fits) refl
 what_again (requests.BatchForget items) node body fits n is = rw (batch_again body items fits is) refl

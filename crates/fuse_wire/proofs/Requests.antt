@@ -4,19 +4,23 @@ use Rattle.std.specs.Prelude.{IfOk}
 use Rattle.std.proofs.lemmas.Bool.{ltb-false, le-ltb, eqb-true}
 use Rattle.std.proofs.lemmas.List.{drop-drop}
 use Rattle.eden_base.specs.declared.number.Number.{Number}
+use Rattle.byte_codec.specs.Field.{AreBytes}
+use Rattle.byte_codec.proofs.ByteLemmas.{AreBytes-drop}
 use Rattle.fuse_wire.specs.declared.request.Ask.{Ask}
 use Rattle.fuse_wire.specs.declared.fault.WireFault.{WireFault}
 use Rattle.fuse_wire.specs.declared.fault.WireFault.TheVariants.{Short, BadLength}
 use Rattle.fuse_wire.specs.declared.header.Header.{Header}
 use Rattle.fuse_wire.specs.declared.request.Opcode.{Opcode}
 use Rattle.fuse_wire.specs.Field.{u32_bytes, u64_bytes, u32_at, u64_at}
-use Rattle.fuse_wire.specs.Reading.{◌>>=◌, Gives}
+use Rattle.byte_codec.specs.Reading.{◌>>=◌}
+use Rattle.fuse_wire.specs.Reading.{Gives}
 use Rattle.fuse_wire.specs.Request.{code, opcode_of, opcode, IsNodeid, IsSendable}
 use Rattle.fuse_wire.specs.RequestBody.{what_of}
 use Rattle.fuse_wire.specs.RequestReading.{WantsMemory, body_of, fields_of, header_of, request_of}
 use Rattle.fuse_wire.specs.RequestText.{header, IsRequestText, FitsAsk}
-use Rattle.fuse_wire.proofs.Bodies.{bind_ok, guard_ok, test_ok, ok_is, yes_eq, parted}
-use Rattle.fuse_wire.proofs.Fields.{AreBytes, AreBytes-drop, u32_again, u64_again, u32_below, u32_front, u64_front}
+use Rattle.byte_codec.proofs.StepLemmas.{bind_ok, guard_ok, test_ok, ok_is}
+use Rattle.fuse_wire.proofs.Bodies.{yes_eq, parted}
+use Rattle.fuse_wire.proofs.Fields.{u32_again, u64_again, u32_below, u32_front, u64_front}
 use Rattle.fuse_wire.proofs.RequestKinds.{code-opcode_of, opcode_again, what_found, what_again, nodeid_read, is_sendable}
 use Rattle.fuse_wire.proofs.Lengths.{length-u32_bytes, length-u64_bytes}
 use Rattle.fuse_wire.proofs.ReplyLaws.{behind}

@@ -3,12 +3,6 @@ use Rattle.std.specs.Prelude.{◌≡◌, Bool, IsTrue, IsOkAnd, Result, Ok, Err}
 use Rattle.fuse_wire.specs.declared.fault.WireFault.{WireFault}
 use Rattle.fuse_wire.specs.declared.fault.WireFault.TheVariants.{NoMemory}
 
--- what follows from a value that was read, unless there was a fault
-infixl 10 ◌>>=◌
-abbrev pub ◌>>=◌ : {A B : Type 0} → Result A WireFault → (A → Result B WireFault) → Result B WireFault
-(Ok x) >>= f = f x
-(Err fault) >>= f = Err fault
-
 -- what a call gave that takes memory for some values: out of memory comes in place of one of them alone
 abbrev pub Gives : {X : Type 0} → (X → Type 0) → Result X WireFault → Result X WireFault → Type 0
 Gives Takes (Ok x) read = read ≡ Ok x

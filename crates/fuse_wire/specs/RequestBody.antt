@@ -16,7 +16,7 @@ use Rattle.fuse_wire.specs.declared.request.Request.{Request}
 use Rattle.fuse_wire.specs.declared.request.Request.TheVariants.{Lookup, Getattr, Create, Mkdir, Unlink, Rmdir, Forget, BatchForget, Other}
 use Rattle.fuse_wire.specs.Field.{zeros, u32_bytes, u64_bytes, u32_at, u64_at}
 use Rattle.fuse_wire.specs.Mode.{S_IFREG, perm_of}
-use Rattle.fuse_wire.specs.Reading.{◌>>=◌}
+use Rattle.byte_codec.specs.Reading.{◌>>=◌}
 use Rattle.fuse_wire.specs.Request.{opcode_of}
 
 -- ---- as written
@@ -29,25 +29,21 @@ name_text name = name ++ 0 ∷ []
 abbrev pub item_text : Item → List ℕ
 item_text item = u64_bytes item.node.0 ++ u64_bytes item.k
 
--- flags, mode, umask and one more word, then the name
-abbrev pub create_body : List ℕ → Perm → List ℕ
-create_body name perm = (zeros 4 ++ u32_bytes (S_IFREG + perm.bits) ++ zeros 8) ++ name_text name
-
--- mode and umask, then the name
-abbrev pub mkdir_body : List ℕ → Perm → List ℕ
-mkdir_body name perm = (u32_bytes perm.bits ++ zeros 4) ++ name_text name
+-- a fixed part, in which a mode stands at a place with so many bytes behind it, then a name
+abbrev pub made_body : ℕ → ℕ → ℕ → List ℕ → List ℕ
+made_body place mode rest name = (zeros place ++ u32_bytes mode ++ zeros rest) ++ name_text name
 
 -- the count and four bytes, then the items
 abbrev pub batch_body : List Item → List ℕ
 batch_body items = (u32_bytes (length items) ++ zeros 4) ++ flat_map item_text items
 
--- what follows the header
+-- what follows the header; before a mode CREATE has flags, behind it umask and one more word, MKDIR umask alone
 abbrev pub body : Request → List ℕ
 body (Lookup dir name) = name_text name
 body (Unlink dir name) = name_text name
 body (Rmdir dir name) = name_text name
-body (Create dir name perm) = create_body name perm
-body (Mkdir dir name perm) = mkdir_body name perm
+body (Create dir name perm) = made_body 4 (S_IFREG + perm.bits) 8 name
+body (Mkdir dir name perm) = made_body 0 perm.bits 4 name
 body (Getattr node) = zeros 16
 body (Forget item) = u64_bytes item.k
 body (BatchForget items) = batch_body items
@@ -60,25 +56,16 @@ pub record IsMode (perm : Perm) (mode : ℕ) : Type 0 where
   pub in_range : mode < 2 ^ 32
   pub low : mode % 4096 ≡ perm.bits
 
--- CREATE: flags, mode, umask and one more word, of which the mode is looked at
-pub record IsCreateBody (name : List ℕ) (perm : Perm) (bytes : List ℕ) : Type 0 where
-  pub flags : List ℕ
+-- CREATE and MKDIR: a fixed part of which the mode is looked at, then a name
+pub record IsMadeBody (place rest : ℕ) (name : List ℕ) (perm : Perm) (bytes : List ℕ) : Type 0 where
+  pub before : List ℕ
   pub mode : ℕ
-  pub others : List ℕ
-  pub four : length flags ≡ 4
+  pub behind : List ℕ
+  pub len_before : length before ≡ place
   pub is_mode : IsMode perm mode
-  pub eight : length others ≡ 8
+  pub len_behind : length behind ≡ rest
   pub is_name : IsNameText name
-  pub parts : bytes ≡ (flags ++ u32_bytes mode ++ others) ++ name_text name
-
--- MKDIR: mode and umask, of which the mode is looked at
-pub record IsMkdirBody (name : List ℕ) (perm : Perm) (bytes : List ℕ) : Type 0 where
-  pub mode : ℕ
-  pub others : List ℕ
-  pub is_mode : IsMode perm mode
-  pub four : length others ≡ 4
-  pub is_name : IsNameText name
-  pub parts : bytes ≡ (u32_bytes mode ++ others) ++ name_text name
+  pub parts : bytes ≡ (before ++ u32_bytes mode ++ behind) ++ name_text name
 
 -- BATCH_FORGET: the count, four bytes that are ignored, the items
 pub record IsBatchBody (items : List Item) (bytes : List ℕ) : Type 0 where
@@ -92,8 +79,8 @@ abbrev pub IsBody : Request → List ℕ → Type 0
 IsBody (Lookup dir name) bytes = IsNameText name × (bytes ≡ name_text name)
 IsBody (Unlink dir name) bytes = IsNameText name × (bytes ≡ name_text name)
 IsBody (Rmdir dir name) bytes = IsNameText name × (bytes ≡ name_text name)
-IsBody (Create dir name perm) bytes = IsCreateBody name perm bytes
-IsBody (Mkdir dir name perm) bytes = IsMkdirBody name perm bytes
+IsBody (Create dir name perm) bytes = IsMadeBody 4 8 name perm bytes
+IsBody (Mkdir dir name perm) bytes = IsMadeBody 0 4 name perm bytes
 IsBody (Getattr node) bytes = length bytes ≡ 16
 IsBody (Forget item) bytes = bytes ≡ u64_bytes item.k
 IsBody (BatchForget items) bytes = IsBatchBody items bytes
@@ -130,11 +117,11 @@ name_of body =
 abbrev pub named_with : Perm → List ℕ → Result (List ℕ × Perm) WireFault
 named_with perm rest = name_of rest >>= λ name. Ok (name, perm)
 
--- the name behind so many bytes, and the permissions of the mode, which is the word at a place in them
+-- the permissions of the mode at a place, and the name so many bytes behind it
 unfoldable pub made_of : ℕ → ℕ → List ℕ → Result (List ℕ × Perm) WireFault
-made_of fixed place body =
-    if nat_lt (length body) fixed then Err BadBody
-    else named_with (perm_of (u32_at (drop place body))) (drop fixed body)
+made_of place rest body =
+    if nat_lt (length body) (place + 4 + rest) then Err BadBody
+    else named_with (perm_of (u32_at (drop place body))) (drop (place + 4 + rest) body)
 
 -- the item in the first sixteen bytes
 abbrev pub item_at : List ℕ → Item
@@ -161,8 +148,8 @@ unfoldable pub what_of : Opcode → Number → List ℕ → Result Request WireF
 what_of opcodes.Lookup node body = name_of body >>= λ name. Ok (Lookup node name)
 what_of opcodes.Unlink node body = name_of body >>= λ name. Ok (Unlink node name)
 what_of opcodes.Rmdir node body = name_of body >>= λ name. Ok (Rmdir node name)
-what_of opcodes.Create node body = made_of 16 4 body >>= λ made. Ok (Create node made.0 made.1)
-what_of opcodes.Mkdir node body = made_of 8 0 body >>= λ made. Ok (Mkdir node made.0 made.1)
+what_of opcodes.Create node body = made_of 4 8 body >>= λ made. Ok (Create node made.0 made.1)
+what_of opcodes.Mkdir node body = made_of 0 4 body >>= λ made. Ok (Mkdir node made.0 made.1)
 what_of opcodes.Getattr node body = if length body == 16 then Ok (Getattr node) else Err BadBody
 what_of opcodes.Forget node body = forget_of node body >>= λ item. Ok (Forget item)
 what_of opcodes.BatchForget node body = batch_of body >>= λ items. Ok (BatchForget items)

@@ -1,5 +1,5 @@
 //! What the kernel forgets at once, out of line.
-ghost use Rattle.std.specs.Prelude.{◌≡◌, ◌≤◌, ◌*◌, ◌==◌, List, length, vec_len, vec_capacity, IfOk};
+ghost use Rattle.std.specs.Prelude.{◌≡◌, ◌↔◌, ◌≤◌, ◌*◌, ◌==◌, List, length, vec_len, vec_capacity, IfOk, IsTrue};
 ghost use Rattle.fuse_wire.specs.RequestBody.{items_at};
 
 use crate::reader::Reader;
@@ -131,6 +131,13 @@ impl Batch {
         ensures empty { result ≡ (length self.now == 0) }
     {
         self.as_slice().is_empty()
+    }
+
+    /// Returns whether the two have the same items, in turn.
+    pub(crate) fn is(&self, other: &Batch) -> bool
+        ensures same { IsTrue result ↔ (self.now ≡ other.now) }
+    {
+        self == other
     }
 
     /// Returns the same items, in memory of their own.

@@ -1,5 +1,5 @@
 //! What the kernel forgets.
-ghost use Rattle.std.specs.Prelude.{◌≡◌, ◌<◌, ◌≤◌, ◌+◌, ◌*◌, List, [], ◌∷◌, ◌++◌, length, drop, ◌==◌, nat_eq};
+ghost use Rattle.std.specs.Prelude.{◌≡◌, ◌↔◌, ◌<◌, ◌≤◌, ◌+◌, ◌*◌, List, [], ◌∷◌, ◌++◌, length, drop, ◌==◌, nat_eq, IsTrue};
 ghost use Rattle.fuse_wire.specs.RequestBody.{item_at, items_at};
 
 use crate::reader::Reader;
@@ -17,6 +17,13 @@ pub struct Item {
 impl Item {
     /// In bytes (`struct fuse_forget_one`).
     pub(crate) const LEN: usize = 16;
+
+    /// Returns whether the two are the same item.
+    pub(crate) fn is(&self, other: &Item) -> bool
+        ensures same { IsTrue result ↔ (self.now ≡ other.now) }
+    {
+        self.node == other.node && self.k == other.k
+    }
 
     /// Reads the item that comes next.
     pub(crate) fn read(fields: &mut Reader) -> Item

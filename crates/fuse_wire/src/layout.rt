@@ -3,19 +3,16 @@
 /// The end of `struct fuse_in_header`: uid, gid, pid, padding.
 pub(crate) const SENDER_LEN: usize = 16;
 
-/// `struct fuse_create_in`: flags, mode, umask, open_flags.
-pub(crate) const CREATE_FIXED: usize = 16;
+/// A mode.
+pub(crate) const MODE_LEN: usize = 4;
 
-/// The place of the mode in `struct fuse_create_in`.
+/// The place of the mode in `struct fuse_create_in`: flags, mode, umask, open_flags.
 pub(crate) const CREATE_MODE: usize = 4;
 
 /// The end of `struct fuse_create_in`, behind the mode: umask, open_flags.
 pub(crate) const CREATE_REST_LEN: usize = 8;
 
-/// `struct fuse_mkdir_in`: mode, umask.
-pub(crate) const MKDIR_FIXED: usize = 8;
-
-/// The place of the mode in `struct fuse_mkdir_in`.
+/// The place of the mode in `struct fuse_mkdir_in`: mode, umask.
 pub(crate) const MKDIR_MODE: usize = 0;
 
 /// The end of `struct fuse_mkdir_in`, behind the mode: umask.
@@ -32,9 +29,6 @@ pub(crate) const BATCH_FIXED: usize = 8;
 
 /// The end of `struct fuse_batch_forget_in`, behind the count: dummy.
 pub(crate) const BATCH_REST_LEN: usize = 4;
-
-/// `struct fuse_forget_one`, an item of a batch: nodeid, nlookup.
-pub(crate) const ITEM_LEN: usize = 16;
 
 /// `struct fuse_out_header`: len, error, unique.
 pub(crate) const REPLY_HEADER_LEN: usize = 16;

@@ -2,6 +2,7 @@
 #![tactic(auto)]
 
 mod batch;
+mod body_form;
 mod errno;
 mod fault;
 mod form;
@@ -18,8 +19,10 @@ mod reply_reader;
 mod reply_to_fault;
 mod reply_writer;
 mod request;
+mod request_body;
 mod request_reader;
 mod request_writer;
+mod same;
 mod writer;
 
 pub use batch::{Batch, BatchRoom};

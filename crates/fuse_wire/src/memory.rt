@@ -7,7 +7,8 @@ use crate::{Batch, BatchRoom};
 use eden_base::{Name, NameRoom, NoMemory};
 use std::alloc::Global;
 
-/// Memory for what one request holds: an allocator, which may be out of it, or rooms that were taken before.
+/// Memory for what one request holds, at most two names or a batch: an allocator, which may be out of it, or rooms that
+/// were taken before.
 pub(crate) trait Memory: Drop {
     /// It may be refused.
     ghost may_lack: { Bool };
@@ -16,6 +17,14 @@ pub(crate) trait Memory: Drop {
     fn name(self, bytes: &[u8]) -> Result<Name, NoMemory>
         requires { IsNameText bytes.now }
         ensures name { IfOk result (λ name. name ≡ bytes.now) }
+        ensures lack { OnErr result (IsTrue may_lack) };
+
+    /// Copies the bytes of two names.
+    fn names(self, first: &[u8], second: &[u8]) -> Result<(Name, Name), NoMemory>
+        requires is_first { IsNameText first.now }
+        requires is_second { IsNameText second.now }
+        ensures first { IfOk result (λ names. names.0 ≡ first.now) }
+        ensures second { IfOk result (λ names. names.1 ≡ second.now) }
         ensures lack { OnErr result (IsTrue may_lack) };
 
     /// Reads so many items.
@@ -28,6 +37,12 @@ pub(crate) trait Memory: Drop {
     /// Copies a name.
     fn copy_name(self, name: &Name) -> Result<Name, NoMemory>
         ensures name { IfOk result (λ copy. copy ≡ name.now) }
+        ensures lack { OnErr result (IsTrue may_lack) };
+
+    /// Copies two names.
+    fn copy_names(self, first: &Name, second: &Name) -> Result<(Name, Name), NoMemory>
+        ensures first { IfOk result (λ copies. copies.0 ≡ first.now) }
+        ensures second { IfOk result (λ copies. copies.1 ≡ second.now) }
         ensures lack { OnErr result (IsTrue may_lack) };
 
     /// Copies a batch.
@@ -43,12 +58,24 @@ impl Memory for Global {
         Name::of(self, bytes)
     }
 
+    fn names(self, first: &[u8], second: &[u8]) -> Result<(Name, Name), NoMemory> {
+        let first = Name::of(self, first)?;
+        let second = Name::of(self, second)?;
+        Ok((first, second))
+    }
+
     fn batch(self, count: usize, bytes: &[u8]) -> Result<Batch, NoMemory> {
         Batch::read(self, count, bytes)
     }
 
     fn copy_name(self, name: &Name) -> Result<Name, NoMemory> {
         name.copy(self)
+    }
+
+    fn copy_names(self, first: &Name, second: &Name) -> Result<(Name, Name), NoMemory> {
+        let first = first.copy(self)?;
+        let second = second.copy(self)?;
+        Ok((first, second))
     }
 
     fn copy_batch(self, batch: &Batch) -> Result<Batch, NoMemory> {
@@ -59,7 +86,8 @@ impl Memory for Global {
 /// Room for whatever request comes.
 #[derive(Drop)]
 pub(crate) struct Rooms {
-    pub name: NameRoom,
+    pub first: NameRoom,
+    pub second: NameRoom,
     pub batch: BatchRoom,
 }
 
@@ -67,7 +95,13 @@ impl Memory for Rooms {
     ghost may_lack = { false };
 
     fn name(self, bytes: &[u8]) -> Result<Name, NoMemory> {
-        Ok(Name::of_to(self.name, bytes))
+        Ok(Name::of_to(self.first, bytes))
+    }
+
+    fn names(self, first: &[u8], second: &[u8]) -> Result<(Name, Name), NoMemory> {
+        let first = Name::of_to(self.first, first);
+        let second = Name::of_to(self.second, second);
+        Ok((first, second))
     }
 
     fn batch(self, count: usize, bytes: &[u8]) -> Result<Batch, NoMemory> {
@@ -75,7 +109,13 @@ impl Memory for Rooms {
     }
 
     fn copy_name(self, name: &Name) -> Result<Name, NoMemory> {
-        Ok(name.copy_to(self.name))
+        Ok(name.copy_to(self.first))
+    }
+
+    fn copy_names(self, first: &Name, second: &Name) -> Result<(Name, Name), NoMemory> {
+        let first = first.copy_to(self.first);
+        let second = second.copy_to(self.second);
+        Ok((first, second))
     }
 
     fn copy_batch(self, batch: &Batch) -> Result<Batch, NoMemory> {

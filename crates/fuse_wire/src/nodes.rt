@@ -41,6 +41,16 @@ impl Nodes {
         Nodes { numbers }
     }
 
+    /// Returns two numbers, in this order.
+    pub(crate) fn two(first: Number, second: Number) -> Nodes
+        ensures { result ≡ first ∷ second ∷ [] }
+    {
+        let mut numbers = ArrayVec::new();
+        numbers.push(first);
+        numbers.push(second);
+        Nodes { numbers }
+    }
+
     /// Returns the numbers in their order.
     pub fn as_slice(&self) -> &[Number]
         ensures numbers { result.now ≡ self.now }

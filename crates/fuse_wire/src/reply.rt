@@ -1,4 +1,7 @@
 //! What a daemon answers.
+ghost use Rattle.std.specs.Prelude.{◌≡◌, ◌↔◌, IsTrue};
+
+use crate::same::same_attr;
 use eden_base::{Attr, Errno, Number};
 
 /// What became of a request.
@@ -13,6 +16,27 @@ pub enum Answer {
     /// Of UNLINK and RMDIR.
     Done,
     Error(Errno),
+}
+
+impl Answer {
+    /// Returns whether the two are the same answer.
+    pub fn is(&self, other: &Answer) -> bool
+        ensures same { IsTrue result ↔ (self.now ≡ other.now) }
+    {
+        match self {
+            Answer::Entry { number, attr } => {
+                matches!(other, Answer::Entry { number: its, attr: second } if number == its && same_attr(*attr, *second))
+            }
+            Answer::Opened { number, attr } => {
+                matches!(other, Answer::Opened { number: its, attr: second } if number == its && same_attr(*attr, *second))
+            }
+            Answer::Attrs { number, attr } => {
+                matches!(other, Answer::Attrs { number: its, attr: second } if number == its && same_attr(*attr, *second))
+            }
+            Answer::Done => matches!(other, Answer::Done),
+            Answer::Error(errno) => matches!(other, Answer::Error(second) if errno == second),
+        }
+    }
 }
 
 /// An answer, and the `unique` of the request that it goes to.

@@ -1,8 +1,9 @@
 //! What the kernel asks, and by which opcode.
-ghost use Rattle.std.specs.Prelude.{◌≡◌, ◌≤◌, length, IsTrue, IfOk, OnErr};
-ghost use Rattle.fuse_wire.specs.Request.{code, opcode_of, is_forget, form_of, is_ask, nodes, item_of, items_of, other_of};
+ghost use Rattle.std.specs.Prelude.{◌≡◌, ◌≤◌, ◌↔◌, length, IsTrue, IfOk, OnErr};
+ghost use Rattle.fuse_wire.specs.Request.{code, opcode, opcode_of, nodeid, is_forget, form_of, is_ask, nodes, item_of, items_of, other_of};
 
 use crate::memory::{Memory, Rooms};
+use crate::same::{same_perm, same_place};
 use crate::{Batch, BatchRoom, Form, Item, Nodes};
 use eden_base::{Name, NameRoom, NoMemory, Number, Perm};
 use std::alloc::Global;
@@ -104,14 +105,50 @@ impl Request {
 
     /// Returns the same request, in memory that was taken before: room for as many names as a request can have, and for
     /// a batch.
-    pub fn copy_to(&self, room: NameRoom, _second: NameRoom, batch_room: BatchRoom) -> Request
+    pub fn copy_to(&self, first: NameRoom, second: NameRoom, batch: BatchRoom) -> Request
         ensures copy { result ≡ self.now }
     {
         let rooms = Rooms {
-            name: room,
-            batch: batch_room,
+            first,
+            second,
+            batch,
         };
         self.copied(rooms).unwrap()
+    }
+
+    /// Returns whether the two are the same request.
+    pub fn is(&self, other: &Request) -> bool
+        ensures same { IsTrue result ↔ (self.now ≡ other.now) }
+    {
+        match self {
+            Request::Lookup { dir, name } => {
+                matches!(other, Request::Lookup { dir: second, name: its } if same_place(*dir, name, *second, its))
+            }
+            Request::Getattr { node } => {
+                matches!(other, Request::Getattr { node: second } if node == second)
+            }
+            Request::Create { dir, name, perm } => {
+                matches!(other, Request::Create { dir: second, name: its, perm: bits }
+                    if same_place(*dir, name, *second, its) && same_perm(*perm, *bits))
+            }
+            Request::Mkdir { dir, name, perm } => {
+                matches!(other, Request::Mkdir { dir: second, name: its, perm: bits }
+                    if same_place(*dir, name, *second, its) && same_perm(*perm, *bits))
+            }
+            Request::Unlink { dir, name } => {
+                matches!(other, Request::Unlink { dir: second, name: its } if same_place(*dir, name, *second, its))
+            }
+            Request::Rmdir { dir, name } => {
+                matches!(other, Request::Rmdir { dir: second, name: its } if same_place(*dir, name, *second, its))
+            }
+            Request::Forget(item) => { matches!(other, Request::Forget(second) if item.is(second)) }
+            Request::BatchForget(batch) => {
+                matches!(other, Request::BatchForget(second) if batch.is(second))
+            }
+            Request::Other { opcode, node } => {
+                matches!(other, Request::Other { opcode: second, node: its } if opcode == second && node == its)
+            }
+        }
     }
 
     /// Returns the request of an opcode that no other variant has; nothing for an opcode that one has.
@@ -143,6 +180,39 @@ impl Request {
             Request::Forget(_) | Request::BatchForget(_) | Request::Other { .. } => {
                 Form::OnlyAnError
             }
+        }
+    }
+
+    /// Returns the opcode that the request goes by.
+    pub(crate) fn opcode(&self) -> Opcode
+        ensures { result ≡ opcode self.now }
+    {
+        match self {
+            Request::Lookup { .. } => Opcode::Lookup,
+            Request::Getattr { .. } => Opcode::Getattr,
+            Request::Create { .. } => Opcode::Create,
+            Request::Mkdir { .. } => Opcode::Mkdir,
+            Request::Unlink { .. } => Opcode::Unlink,
+            Request::Rmdir { .. } => Opcode::Rmdir,
+            Request::Forget(_) => Opcode::Forget,
+            Request::BatchForget(_) => Opcode::BatchForget,
+            Request::Other { opcode, .. } => Opcode::Other(*opcode),
+        }
+    }
+
+    /// Returns the nodeid of the header, which is 0 for a batch.
+    pub(crate) fn nodeid(&self) -> u64
+        ensures { result ≡ nodeid self.now }
+    {
+        match self {
+            Request::Lookup { dir, .. }
+            | Request::Create { dir, .. }
+            | Request::Mkdir { dir, .. }
+            | Request::Unlink { dir, .. }
+            | Request::Rmdir { dir, .. } => dir.0,
+            Request::Getattr { node } | Request::Other { node, .. } => node.0,
+            Request::Forget(item) => item.node.0,
+            Request::BatchForget(_) => 0,
         }
     }
 

@@ -5,7 +5,6 @@ mod channel;
 mod journal;
 mod memory_channel;
 mod receipt;
-mod same;
 mod settled;
 
 pub use channel::{Channel, Posted, Taken};

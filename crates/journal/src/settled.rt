@@ -6,9 +6,22 @@ ghost use Rattle.journal.specs.declared.receipt.Receipt.{Receipt as ReceiptValue
 
 use crate::journal::{Journal, Record};
 use crate::receipt::{Receipt, Receipts};
-use crate::same::{same_outcome, same_request};
 use eden_base::NoMemory;
+use fuse_wire::Answer;
 use std::alloc::Global;
+
+/// Returns whether two requests have the same answer, or both have none.
+fn same_outcome(first: &Option<Answer>, second: &Option<Answer>) -> bool
+    ensures same { IsTrue result ↔ (first.now ≡ second.now) }
+{
+    match first {
+        Some(first) => match second {
+            Some(second) => first.is(second),
+            None => false,
+        },
+        None => second.is_none(),
+    }
+}
 
 /// Returns whether the record at a receipt's place has its request and its answer.
 fn is_of(records: &[Record], receipt: &Receipt) -> bool
@@ -16,8 +29,7 @@ fn is_of(records: &[Record], receipt: &Receipt) -> bool
 {
     match records.get(receipt.place) {
         Some(record) => {
-            same_request(&record.request, &receipt.ask.what)
-                && same_outcome(&record.answer, &receipt.answer)
+            record.request.is(&receipt.ask.what) && same_outcome(&record.answer, &receipt.answer)
         }
         None => false,
     }

@@ -1,7 +1,7 @@
 use Rattle.std.proofs.Common.{take, length-take, arith}
 use Rattle.fuse_wire.proofs.Lengths.{length-items}
 use Rattle.fuse_wire.proofs.Written.{one_written}
-use Rattle.fuse_wire.proofs.request_writer.put_items.Goals as goal
+use Rattle.fuse_wire.proofs.body_form.put_items.Goals as goal
 
 pub put_item-requires : goal.put_item-requires
 put_item-requires c =

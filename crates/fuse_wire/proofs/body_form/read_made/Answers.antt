@@ -5,12 +5,12 @@ use Rattle.fuse_wire.specs.declared.fault.WireFault.{WireFault}
 use Rattle.fuse_wire.specs.Reading.{Gives, MayLack, TakesSome}
 use Rattle.fuse_wire.specs.RequestBody.{name_of, made_of}
 use Rattle.fuse_wire.proofs.Lacking.{fault_beside}
-use Rattle.fuse_wire.proofs.request_reader.read_made.Goals as goal
+use Rattle.fuse_wire.proofs.body_form.read_made.Goals as goal
 
 pub returns-in_err-name : goal.returns-in_err-name
 returns-in_err-name g c =
     let may = g.M.Memory.may_lack in
     let fault = c.in_err-name.field-0.0 in
     let told : c.from_residual-in_err-name.result ≡ Err fault = search rules in
-    let whole = subst (Gives (MayLack may TakesSome) (Err fault)) (sym c.in_ok-perm.ensures.rest) (fault_beside may c.in_ok-perm.perm fault (name_of c.in_ok-perm.rest.now) c.in_err-name.ensures) in
-    subst (λ (r : Result (List ℕ × Perm) WireFault). Gives (MayLack may TakesSome) r (made_of c.args.fixed c.args.place c.args.body.now)) (sym told) whole
+    let whole = subst (Gives (MayLack may TakesSome) (Err fault)) (sym c.in_ok-perm.ensures.rest) (fault_beside may c.in_ok-perm.perm fault (name_of c.in_ok-perm.named.now) c.in_err-name.ensures) in
+    subst (λ (r : Result (List ℕ × Perm) WireFault). Gives (MayLack may TakesSome) r (made_of c.args.place c.args.rest c.args.body.now)) (sym told) whole

@@ -1,29 +1,28 @@
-//! The bytes that a message carries.
+//! Bytes that a message carries whole.
 ghost use Rattle.std.specs.Prelude.{◌≡◌, nat_eq};
 
 use std::marker::Model;
 
-/// The bytes of an image, which is an inode map as it is handed over. They are made from a `Vec` and given back as one
-/// without taking memory.
+/// Any bytes, as a FUSE message or an image is. They are made of a `Vec` and given back as one without taking memory.
 #[derive(Drop)]
-pub struct ImageBytes {
+pub struct Bytes {
     bytes: Vec<u8>,
 }
 
-impl Model for ImageBytes {
+impl Model for Bytes {
     ghost use Rattle.std.specs.Prelude.{ℕ, List};
 
     ghost Value = { List ℕ };
 
-    ghost view = { λ image. image.bytes.items };
+    ghost view = { λ x. x.bytes.items };
 }
 
-impl ImageBytes {
+impl Bytes {
     /// Returns these bytes, in the same memory.
-    pub fn of(bytes: Vec<u8>) -> ImageBytes
+    pub fn of(bytes: Vec<u8>) -> Bytes
         ensures bytes { result ≡ bytes.items }
     {
-        ImageBytes { bytes }
+        Bytes { bytes }
     }
 
     /// Returns the bytes in their order.
@@ -41,7 +40,7 @@ impl ImageBytes {
     }
 }
 
-impl PartialEq for ImageBytes {
+impl PartialEq for Bytes {
     ghost use Rattle.std.specs.Cmp.{partial_equiv_from_equiv};
     ghost use Rattle.std.specs.Cmp.Lexicographic.{pointwise, nat_list_eq_equiv};
 
@@ -49,12 +48,12 @@ impl PartialEq for ImageBytes {
 
     ghost laws = { partial_equiv_from_equiv nat_list_eq_equiv };
 
-    fn eq(&self, other: &ImageBytes) -> bool {
+    fn eq(&self, other: &Bytes) -> bool {
         self.as_slice() == other.as_slice()
     }
 }
 
-impl Eq for ImageBytes {
+impl Eq for Bytes {
     ghost use Rattle.std.specs.Cmp.Lexicographic.{nat_list_eq_equiv};
 
     ghost laws = { nat_list_eq_equiv };

@@ -1,7 +1,7 @@
 -- What a wrong body of must-fail/ breaks; an answer makes its refusal cheap.
 use Rattle.std.proofs.Common.{rules}
 use Rattle.fuse_wire.specs.RequestBody.{name_of}
-use Rattle.fuse_wire.proofs.request_reader.read_name.Goals as goal
+use Rattle.fuse_wire.proofs.body_form.read_name.Goals as goal
 
 pub returns-in-Some : goal.returns-in-Some
 unfolding name_of

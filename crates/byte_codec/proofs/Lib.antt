@@ -1,0 +1,4 @@
+pub mod ByteLemmas
+pub mod FieldLaws
+pub mod StepLemmas
+pub mod WriteLemmas

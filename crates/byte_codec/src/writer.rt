@@ -1,0 +1,49 @@
+//! Fields put at the end of a buffer that has room for them.
+ghost use Rattle.std.specs.Prelude.{length};
+ghost use Rattle.std.specs.Int.{w16, w32, w64};
+ghost use Rattle.byte_codec.specs.Field.{byte_text, number_bytes};
+ghost use Rattle.byte_codec.specs.Writing.{HasRoom, Puts};
+
+/// Puts `byte` at the end of `out`.
+#[tactic(auto, unfolding(crate::specs::Field::byte_text))]
+pub fn put_byte(out: &mut Vec<u8>, byte: u8)
+    requires room { HasRoom out.old 1 }
+    ensures text { Puts out.old out.new (byte_text byte) }
+{
+    out.push_reserved(byte);
+}
+
+/// Puts `bytes` at the end of `out`, as they are.
+pub fn put_slice(out: &mut Vec<u8>, bytes: &[u8])
+    requires room { HasRoom out.old (length bytes.now) }
+    ensures text { Puts out.old out.new bytes.now }
+{
+    out.extend_from_slice(bytes).unwrap();
+}
+
+/// Puts `number` at the end of `out`, in two bytes.
+#[tactic(auto, unfolding(crate::specs::Field::number_bytes))]
+pub fn put_u16(out: &mut Vec<u8>, number: u16)
+    requires room { HasRoom out.old 2 }
+    ensures text { Puts out.old out.new (number_bytes w16 number) }
+{
+    put_slice(out, &number.to_be_bytes());
+}
+
+/// Puts `number` at the end of `out`, in four bytes.
+#[tactic(auto, unfolding(crate::specs::Field::number_bytes))]
+pub fn put_u32(out: &mut Vec<u8>, number: u32)
+    requires room { HasRoom out.old 4 }
+    ensures text { Puts out.old out.new (number_bytes w32 number) }
+{
+    put_slice(out, &number.to_be_bytes());
+}
+
+/// Puts `number` at the end of `out`, in eight bytes.
+#[tactic(auto, unfolding(crate::specs::Field::number_bytes))]
+pub fn put_u64(out: &mut Vec<u8>, number: u64)
+    requires room { HasRoom out.old 8 }
+    ensures text { Puts out.old out.new (number_bytes w64 number) }
+{
+    put_slice(out, &number.to_be_bytes());
+}

@@ -1,0 +1,202 @@
+//! The forms that bodies have, each with its length, its writing and its reading: a name; a mode and a name; the item
+//! of a FORGET; the items of a batch.
+ghost use Rattle.std.specs.Prelude.{All, ◌≡◌, ◌≤◌, ◌+◌, ◌*◌, ℕ, length, IfOk, IfErr, Ok, Err};
+ghost use Rattle.std.specs.List.{flat_map};
+ghost use Rattle.eden_base.specs.Name.{IsNameText};
+ghost use Rattle.fuse_wire.specs.Reading.{Gives, TakesSome, TakesNone, MayLack};
+ghost use Rattle.fuse_wire.specs.RequestBody.{name_text, made_body, batch_body, item_text, FitsItem, name_of, named_with, made_of, forget_of, batch_of, items_at};
+ghost use Rattle.fuse_wire.specs.Writing.{HasRoom, Puts};
+
+use crate::layout::{BATCH_FIXED, BATCH_REST_LEN, FORGET_LEN, MODE_LEN};
+use crate::memory::Memory;
+use crate::reader::Reader;
+use crate::writer::Writer;
+use crate::{Batch, Item, Items, WireFault, mode};
+use eden_base::{Name, NoMemory, Number, Perm};
+
+/// Returns the length of a name and its NUL.
+#[tactic(auto, using(crate::proofs::Lengths::name_is_short))]
+pub(crate) fn name_len(name: &Name) -> usize
+    ensures len { result ≡ length (name_text name.now) }
+    ensures at_most { result ≤ 256 }
+    ensures is_name { IsNameText name.now }
+{
+    name.bytes().len() + 1
+}
+
+/// Writes a name, and NUL.
+#[tactic(auto, using(crate::proofs::Written::written))]
+pub(crate) fn put_name(fields: &mut Writer, name: &Name)
+    requires { HasRoom fields.old (length (name_text name.now)) }
+    ensures { Puts fields.old fields.new (name_text name.now) }
+{
+    fields.put_slice(name.bytes());
+    fields.put_slice(&[0]);
+}
+
+/// Reads a name, and NUL.
+#[tactic(auto, unfolding(crate::specs::RequestBody::name_of))]
+pub(crate) fn read_name<M: Memory>(memory: M, body: &[u8]) -> Result<Name, WireFault>
+    ensures { Gives (MayLack M.may_lack TakesSome) result (name_of body.now) }
+{
+    if body.is_empty() {
+        return Err(WireFault::BadBody);
+    }
+    let end = body.len() - 1;
+    if body[end] != 0 {
+        return Err(WireFault::BadBody);
+    }
+    let bytes = &body[..end];
+    if let Some(fault) = Name::fault(bytes) {
+        return Err(WireFault::BadName(fault));
+    }
+    match memory.name(bytes) {
+        Ok(name) => Ok(name),
+        Err(NoMemory) => Err(WireFault::NoMemory),
+    }
+}
+
+/// Returns the length of a fixed part, in which a mode stands at `place` with `rest` bytes behind it, and of the name
+/// behind that part.
+#[tactic(auto, using(crate::proofs::Lengths::lengths))]
+pub(crate) fn made_len(place: usize, rest: usize, name: &Name) -> usize
+    requires { place + rest ≤ 12 }
+    ensures len { (mode : ℕ) → result ≡ length (made_body place mode rest name.now) }
+    ensures at_most { result ≤ 272 }
+    ensures is_name { IsNameText name.now }
+{
+    place + MODE_LEN + rest + name_len(name)
+}
+
+/// Writes `place` bytes that are 0, a mode, `rest` bytes that are 0, then a name.
+#[tactic(auto, using(crate::proofs::Written::written))]
+pub(crate) fn put_made(fields: &mut Writer, place: usize, mode: u32, rest: usize, name: &Name)
+    requires { HasRoom fields.old (length (made_body place mode rest name.now)) }
+    ensures { Puts fields.old fields.new (made_body place mode rest name.now) }
+{
+    fields.put_zeros(place);
+    fields.put_u32(mode);
+    fields.put_zeros(rest);
+    put_name(fields, name);
+}
+
+/// Returns the permissions of the mode at `place`, and what stands `rest` bytes behind it.
+#[tactic(auto, unfolding(crate::specs::RequestBody::made_of))]
+fn mode_part(place: usize, rest: usize, body: &[u8]) -> Result<(Perm, &[u8]), WireFault>
+    requires { place + rest ≤ 12 }
+    ensures rest { IfOk result (λ part. made_of place rest body.now ≡ named_with part.0 part.1.now) }
+    ensures fault { IfErr result (λ fault. Gives TakesNone (Err fault) (made_of place rest body.now)) }
+{
+    let fixed = place + MODE_LEN + rest;
+    if body.len() < fixed {
+        return Err(WireFault::BadBody);
+    }
+    let (_, mode_on) = body.split_at(place);
+    let mode = Reader::new(mode_on).u32();
+    let (_, named) = body.split_at(fixed);
+    Ok((mode::perm_of(mode), named))
+}
+
+/// Reads a name, and the permissions of the mode that stands at `place`, `rest` bytes before the name.
+pub(crate) fn read_made<M: Memory>(
+    memory: M,
+    place: usize,
+    rest: usize,
+    body: &[u8],
+) -> Result<(Name, Perm), WireFault>
+    requires { place + rest ≤ 12 }
+    ensures { Gives (MayLack M.may_lack TakesSome) result (made_of place rest body.now) }
+{
+    let (perm, named) = mode_part(place, rest, body)?;
+    let name = read_name(memory, named)?;
+    Ok((name, perm))
+}
+
+/// Reads the item of a FORGET (`struct fuse_forget_in`).
+#[tactic(auto, unfolding(crate::specs::RequestBody::forget_of))]
+pub(crate) fn read_forget(node: Number, body: &[u8]) -> Result<Item, WireFault>
+    ensures value { result ≡ forget_of node body.now }
+    ensures never_out_of_memory { Gives TakesNone result (forget_of node body.now) }
+{
+    if body.len() != FORGET_LEN {
+        return Err(WireFault::BadBody);
+    }
+    let k = Reader::new(body).u64();
+    Ok(Item { node, k })
+}
+
+/// Returns the length of a batch with its items.
+#[tactic(auto, using(crate::proofs::Lengths::lengths))]
+pub(crate) fn batch_len(items: &[Item]) -> usize
+    requires { length items.now ≤ 256 }
+    ensures len { result ≡ length (batch_body items.now) }
+    ensures at_most { result ≤ 4104 }
+{
+    BATCH_FIXED + Item::LEN * items.len()
+}
+
+/// Writes the count and a padding, then the items (`struct fuse_batch_forget_in`).
+#[tactic(auto, using(crate::proofs::Written::written))]
+pub(crate) fn put_batch(fields: &mut Writer, items: &[Item])
+    requires at_most { length items.now ≤ 256 }
+    requires room { HasRoom fields.old (length (batch_body items.now)) }
+    ensures body { Puts fields.old fields.new (batch_body items.now) }
+    ensures fits { All FitsItem items.now }
+{
+    fields.put_u32(items.len() as u32);
+    fields.put_zeros(BATCH_REST_LEN);
+    put_items(fields, items);
+}
+
+/// Writes the items of a batch, in their order.
+#[tactic(auto, using(crate::proofs::Written::written))]
+fn put_items(fields: &mut Writer, items: &[Item])
+    requires { HasRoom fields.old (length (flat_map item_text items.now)) }
+    ensures lines { Puts fields.old fields.new (flat_map item_text items.now) }
+    ensures fits { All FitsItem items.now }
+{
+    for item in items {
+        put_item(fields, *item);
+    }
+}
+
+/// Writes an item of a batch (`struct fuse_forget_one`).
+#[tactic(auto, using(crate::proofs::Written::written))]
+fn put_item(fields: &mut Writer, item: Item)
+    requires { HasRoom fields.old 16 }
+    ensures item { Puts fields.old fields.new (item_text item) }
+    ensures fits { FitsItem item }
+{
+    fields.put_u64(item.node.0);
+    fields.put_u64(item.k);
+}
+
+/// Returns how many items a BATCH_FORGET has, and their bytes (`struct fuse_batch_forget_in`).
+#[tactic(auto, unfolding(crate::specs::RequestBody::batch_of))]
+pub(crate) fn items_part(body: &[u8]) -> Result<(usize, &[u8]), WireFault>
+    ensures items { IfOk result (λ part. batch_of body.now ≡ Ok (items_at part.0 part.1.now)) }
+    ensures whole { IfOk result (λ part. length part.1.now ≡ 16 * part.0) }
+    ensures at_most { IfOk result (λ part. part.0 ≤ 256) }
+    ensures fault { IfErr result (λ fault. Gives TakesNone (Err fault) (batch_of body.now)) }
+{
+    if body.len() < BATCH_FIXED {
+        return Err(WireFault::BadBody);
+    }
+    let count = Reader::new(body).u32() as usize;
+    if count > Items::MAX_LEN || body.len() != BATCH_FIXED + Item::LEN * count {
+        return Err(WireFault::BadCount);
+    }
+    let (_, items) = body.split_at(BATCH_FIXED);
+    Ok((count, items))
+}
+
+/// Reads the items of a BATCH_FORGET.
+pub(crate) fn read_batch<M: Memory>(memory: M, body: &[u8]) -> Result<Batch, WireFault>
+    ensures { Gives (MayLack M.may_lack TakesSome) result (batch_of body.now) }
+{
+    let (count, items) = items_part(body)?;
+    match memory.batch(count, items) {
+        Ok(batch) => Ok(batch),
+        Err(NoMemory) => Err(WireFault::NoMemory),
+    }
+}
