@@ -8,8 +8,8 @@ use checkout::ManifestBacking;
 use eden_base::{Errno, NameFault, NoMemory, Number, Perm};
 use fuse_ops::Served;
 use fuse_wire::{Answer, Request};
-use handover::{HandoverFault, hand_over, take_over};
 use manifest::Manifest;
+use map_codec::{HandoverFault, hand_over, take_over};
 use std::alloc::Global;
 
 /// What the kernel asks for: an operation, a directory's number, and a name in it.

@@ -4,12 +4,12 @@ use Rattle.fuse_ops.specs.Served.{ServedState}
 use Rattle.map_codec.specs.Taking.{IsImageOf}
 use Rattle.map_image.specs.Writing.{refusal}
 use Rattle.map_image.specs.declared.image.Image.{Image}
-use Rattle.handover.specs.Handover.{CannotBeHandedOver}
-use Rattle.handover.specs.declared.fault.HandoverFault.{HandoverFault}
-use Rattle.handover.specs.declared.fault.HandoverFault.TheVariants.{Refused}
+use Rattle.map_codec.specs.Handover.{CannotBeHandedOver}
+use Rattle.map_codec.specs.declared.fault.HandoverFault.{HandoverFault}
+use Rattle.map_codec.specs.declared.fault.HandoverFault.TheVariants.{Refused}
 use Rattle.std.specs.Global.{Vec}
-use Rattle.handover.proofs.OneImage.{one_of_served}
-use Rattle.handover.proofs.giver.hand_over.Goals as goal
+use Rattle.map_codec.proofs.OneImage.{one_of_served}
+use Rattle.map_codec.proofs.giver.hand_over.Goals as goal
 
 -- of one image that was refused, no other can be written
 none_written : (served : ServedState) (at version : ℕ) (image : Image) → IsImageOf served at image → (r : Result (Vec ℕ) HandoverFault) → IfErr r (λ fault. fault ≡ Refused → refusal image version ≡ None → ⊥)

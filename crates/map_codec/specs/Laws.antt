@@ -4,7 +4,7 @@ use Rattle.manifest.specs.Manifest.{Manifest, IsManifest}
 use Rattle.manifest.specs.Tree.{IsTree}
 use Rattle.fuse_ops.specs.Served.{ServedState, plain}
 use Rattle.fuse_ops.specs.Soundness.{IsSound}
-use Rattle.handover.specs.Handover.{CannotBeTakenOver, IsHandedOver, IsTakenOver}
+use Rattle.map_codec.specs.Handover.{CannotBeTakenOver, IsHandedOver, IsTakenOver}
 
 -- what is taken over from the bytes of what was served over the same manifest knows the same, at whatever limit
 abbrev pub TakenKnows : Type 0

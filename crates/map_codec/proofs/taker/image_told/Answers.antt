@@ -3,7 +3,7 @@ use Rattle.map_image.specs.ImageReading.{Fails}
 use Rattle.map_image.specs.declared.fault.ImageFault.{ImageFault}
 use Rattle.map_image.specs.declared.fault.ImageFault.TheVariants.{NoMemory}
 use Rattle.map_image.specs.declared.image.Image.{Image}
-use Rattle.handover.proofs.taker.image_told.Goals as goal
+use Rattle.map_codec.proofs.taker.image_told.Goals as goal
 
 -- an image that is read is no fault but out of memory
 no_fault : (image : Image) (fault : ImageFault) → fault ≢ NoMemory → Fails fault (Ok image) → ⊥

@@ -3,13 +3,12 @@ ghost use Rattle.std.specs.Prelude.{◌≡◌, IfErr, IfOk, None, OnOk};
 ghost use Rattle.map_image.specs.Fit.{IsFit};
 ghost use Rattle.map_image.specs.ImageText.{IsImageText};
 ghost use Rattle.map_image.specs.Writing.{refusal};
-ghost use Rattle.handover.specs.Handover.{CannotBeHandedOver, IsHandedOver};
-ghost use Rattle.handover.specs.declared.fault.HandoverFault.TheVariants.{Refused};
+ghost use Rattle.map_codec.specs.Handover.{CannotBeHandedOver, IsHandedOver};
+ghost use Rattle.map_codec.specs.declared.fault.HandoverFault.TheVariants.{Refused};
 
-use crate::HandoverFault;
+use crate::{HandoverFault, image_of};
 use eden_base::NoMemory;
 use fuse_ops::Served;
-use map_codec::image_of;
 use map_image::{Image, WriteFault, write};
 use std::alloc::Global;
 

@@ -6,11 +6,11 @@ use Rattle.fuse_ops.specs.Served.{ServedState}
 use Rattle.map_image.specs.ImageText.{IsImageText}
 use Rattle.map_codec.specs.Raising.{IsRaisable}
 use Rattle.map_image.specs.declared.image.Image.{Image}
-use Rattle.handover.specs.Handover.{CannotBeTakenOver}
-use Rattle.handover.specs.declared.fault.HandoverFault.{HandoverFault}
-use Rattle.handover.specs.declared.fault.HandoverFault.TheVariants.{Refused}
-use Rattle.handover.proofs.OneImage.{one_of_text}
-use Rattle.handover.proofs.taker.take_over.Goals as goal
+use Rattle.map_codec.specs.Handover.{CannotBeTakenOver}
+use Rattle.map_codec.specs.declared.fault.HandoverFault.{HandoverFault}
+use Rattle.map_codec.specs.declared.fault.HandoverFault.TheVariants.{Refused}
+use Rattle.map_codec.proofs.OneImage.{one_of_text}
+use Rattle.map_codec.proofs.taker.take_over.Goals as goal
 
 pub returns-in_err-image-clause-refused : goal.returns-in_err-image-clause-refused
 returns-in_err-image-clause-refused c =

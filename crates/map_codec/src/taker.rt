@@ -6,13 +6,12 @@ ghost use Rattle.map_image.specs.ImageText.{IsImageText};
 ghost use Rattle.map_codec.specs.Raising.{raised, IsRaisable};
 ghost use Rattle.map_image.specs.declared.fault.ImageFault.TheVariants.{NoMemory as OutOfMemory};
 ghost use Rattle.map_image.specs.declared.image.Image.{Image};
-ghost use Rattle.handover.specs.Handover.{CannotBeTakenOver, IsTakenOver};
-ghost use Rattle.handover.specs.declared.fault.HandoverFault.TheVariants.{Refused};
+ghost use Rattle.map_codec.specs.Handover.{CannotBeTakenOver, IsTakenOver};
+ghost use Rattle.map_codec.specs.declared.fault.HandoverFault.TheVariants.{Refused};
 
-use crate::HandoverFault;
+use crate::{HandoverFault, RaiseFault, raise};
 use fuse_ops::Served;
 use manifest::Manifest;
-use map_codec::{RaiseFault, raise};
 use map_image::{Image, ImageFault, read};
 use std::alloc::Global;
 
@@ -61,8 +60,8 @@ fn served_again(
     }
 }
 
-/// Takes over what the bytes tell, over a manifest, where they are an image of this generation. So many attributes may
-/// be loaded at once, and one at least; none is at first.
+/// Takes over what `bytes` tell, over a manifest, where they are an image of this generation. At most `limit`
+/// attributes are loaded at once, or one if that is 0; none is at first.
 pub fn take_over(
     alloc: Global,
     bytes: &[u8],

@@ -7,8 +7,8 @@ use Rattle.fuse_ops.specs.Soundness.{IsSound}
 use Rattle.map_codec.proofs.ImageRaises.{image_raises, raised_knows}
 use Rattle.map_codec.specs.Raising.{raised, IsRaisable}
 use Rattle.map_image.specs.declared.image.Image.{Image}
-use Rattle.handover.proofs.OneImage.{one_of_text}
-use Rattle.handover.specs.Handover.{CannotBeTakenOver, IsHandedOver, IsTakenOver}
+use Rattle.map_codec.proofs.OneImage.{one_of_text}
+use Rattle.map_codec.specs.Handover.{CannotBeTakenOver, IsHandedOver, IsTakenOver}
 
 pub taken_knows : (manifest : Manifest) (limit at g version : ℕ) (bytes : List ℕ) (made later : ServedState) → IsSound made → IsTree made.tree → IsManifest manifest → made.tree.manifest ≡ manifest → IsHandedOver made g version bytes → IsTakenOver manifest limit at bytes later
     → plain later ≡ plain made
