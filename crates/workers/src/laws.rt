@@ -3,10 +3,11 @@ ghost use Rattle.std.specs.Prelude.{◌≡◌, ◌+◌, ◌<◌, ◌≤◌, ◌+
 ghost use Rattle.eden_base.specs.declared.number.FileId.{FileId};
 ghost use Rattle.fuse_ops.specs.Loading.{Backs, FailsAs, Loads};
 ghost use Rattle.fuse_ops.specs.Served.{Replay};
-ghost use Rattle.journal.specs.Channel.{grown};
+ghost use Rattle.workers.specs.Channel.{grown};
 ghost use Rattle.journal.specs.Journal.{applied};
 ghost use Rattle.workers.specs.declared.worker.Ending.TheVariants.{Done};
 
+use crate::channel::Channel;
 use crate::gate::Gate;
 use crate::locked::{Opening, Shared};
 use crate::stop::Stop;
@@ -14,7 +15,7 @@ use crate::worker::{Ending, Worker};
 use checkout::Backing;
 use fuse_ops::Served;
 use fuse_wire::{Answer, Ask};
-use journal::{Channel, Journal, Receipts, Record};
+use journal::{Journal, Receipts, Record};
 use std::alloc::Global;
 use std::sync::Wait;
 use std::sync::ledger::Share;

@@ -1,5 +1,5 @@
 use Rattle.std.specs.Prelude.{◌≡◌, ◌+◌, ◌≤◌, length, true}
-use Rattle.journal.specs.Channel.{grown}
+use Rattle.workers.specs.Channel.{grown}
 use Rattle.workers.proofs.laws.serve_channel.Given as goal
 
 abbrev pub invariant-loop-turn : goal.invariant-loop-turn

@@ -1,9 +1,9 @@
 //! A channel over asks that are known before.
 ghost use Rattle.std.specs.Prelude.{◌≡◌, ◌<◌, ◌≤◌, ℕ, [], length, true, IfOk};
 ghost use Rattle.fuse_wire.specs.declared.request.Ask.{Ask as AskValue};
-ghost use Rattle.journal.specs.Channel.{told_of, with_ask, with_replies, Takes, Posts};
-ghost use Rattle.journal.specs.declared.channel.Taken.TheVariants as took;
-ghost use Rattle.journal.specs.declared.channel.Posted.TheVariants as post;
+ghost use Rattle.workers.specs.Channel.{told_of, with_ask, with_replies, Takes, Posts};
+ghost use Rattle.workers.specs.declared.channel.Taken.TheVariants as took;
+ghost use Rattle.workers.specs.declared.channel.Posted.TheVariants as post;
 
 use crate::channel::{Channel, Posted, Taken};
 use eden_base::NoMemory;
@@ -22,7 +22,7 @@ pub struct MemoryChannel {
 
 impl Model for MemoryChannel {
     ghost use Rattle.std.specs.Prelude.{◌≤◌, vec_len, vec_capacity};
-    ghost use Rattle.journal.specs.Channel.{MemoryState};
+    ghost use Rattle.workers.specs.Channel.{MemoryState};
 
     ghost Value = { MemoryState };
 

@@ -2,10 +2,10 @@
 use Rattle.std.specs.Prelude.{◌≡◌, ◌+◌, ◌<◌, ◌≤◌, ℕ, List, [], ◌∷◌, ◌++◌, length, take, slice_get, Some}
 use Rattle.fuse_wire.specs.declared.request.Ask.{Ask}
 use Rattle.fuse_wire.specs.declared.reply.Reply.{Reply}
-use Rattle.journal.specs.declared.channel.Taken.{Taken}
-use Rattle.journal.specs.declared.channel.Taken.TheVariants as took
-use Rattle.journal.specs.declared.channel.Posted.{Posted}
-use Rattle.journal.specs.declared.channel.Posted.TheVariants as post
+use Rattle.workers.specs.declared.channel.Taken.{Taken}
+use Rattle.workers.specs.declared.channel.Taken.TheVariants as took
+use Rattle.workers.specs.declared.channel.Posted.{Posted}
+use Rattle.workers.specs.declared.channel.Posted.TheVariants as post
 use Rattle.journal.specs.Receipts.{asks_of, replies_of}
 use Rattle.journal.specs.declared.receipt.Receipt.{Receipt}
 

@@ -1,9 +1,9 @@
 //! What a worker takes asks from, and posts replies to.
 ghost use Rattle.std.specs.Prelude.{◌≡◌, ◌∷◌, [], Bool, true};
 ghost use Rattle.fuse_wire.specs.declared.request.Ask.{Ask as AskValue};
-ghost use Rattle.journal.specs.Channel.{Told, with_ask, with_replies};
-ghost use Rattle.journal.specs.declared.channel.Taken.TheVariants as took;
-ghost use Rattle.journal.specs.declared.channel.Posted.TheVariants as post;
+ghost use Rattle.workers.specs.Channel.{Told, with_ask, with_replies};
+ghost use Rattle.workers.specs.declared.channel.Taken.TheVariants as took;
+ghost use Rattle.workers.specs.declared.channel.Posted.TheVariants as post;
 
 use fuse_wire::{Ask, Reply};
 

@@ -1,9 +1,9 @@
 -- What a channel in memory tells of an ask that was taken.
 use Rattle.std.proofs.Common.{◌≡◌, ℕ, ◌+◌, zero, suc, List, [], ◌∷◌, ◌++◌, take, slice_get, Some, ap, ◌∙◌, subst, arith}
 use Rattle.fuse_wire.specs.declared.request.Ask.{Ask}
-use Rattle.journal.specs.Channel.{MemoryState, Takes, told_of, with_ask}
-use Rattle.journal.specs.declared.channel.Taken.{Taken}
-use Rattle.journal.specs.declared.channel.Taken.TheVariants.{Ask as TheAsk}
+use Rattle.workers.specs.Channel.{MemoryState, Takes, told_of, with_ask}
+use Rattle.workers.specs.declared.channel.Taken.{Taken}
+use Rattle.workers.specs.declared.channel.Taken.TheVariants.{Ask as TheAsk}
 
 -- the first ones and the next one
 taken_more :
