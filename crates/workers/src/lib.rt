@@ -4,13 +4,14 @@
 mod channel;
 mod fault;
 mod gate;
-pub mod laws;
 mod locked;
 mod memory_channel;
 mod round;
 mod running;
 mod settled;
+mod shift;
 mod stop;
+mod turn;
 mod worker;
 
 pub use channel::{Channel, Posted, Taken};
@@ -21,5 +22,7 @@ pub use locked::{LockedMap, Opening, Shared};
 pub use memory_channel::MemoryChannel;
 pub use round::{MAX_CHANNELS, MAX_TURNS, Round, serve_round};
 pub use settled::{Settled, drain};
+pub use shift::{Shift, serve_channel};
 pub use stop::Stop;
+pub use turn::{Turn, serve_one};
 pub use worker::Ending;

@@ -7,8 +7,8 @@ ghost use Rattle.workers.specs.declared.worker.Ending.TheVariants.{Done};
 
 use crate::channel::Channel;
 use crate::gate::Gate;
-use crate::laws::{Shift, serve_channel};
 use crate::locked::{Opening, Shared};
+use crate::shift::{Shift, serve_channel};
 use crate::stop::Stop;
 use crate::worker::Ending;
 use checkout::Backing;

@@ -6,8 +6,9 @@ ghost use Rattle.workers.specs.Shift.{is_well};
 
 use crate::channel::{Channel, Posted, Taken};
 use crate::gate::Gate;
-use crate::laws::{Shift, Turn};
 use crate::locked::{Opening, Shared};
+use crate::shift::Shift;
+use crate::turn::Turn;
 use checkout::Backing;
 use fuse_wire::{Answer, Ask, Reply};
 use journal::{Receipt, Receipts};

@@ -1,6 +1,6 @@
 use Rattle.std.specs.Prelude.{◌≡◌, ◌+◌, ◌≤◌, length, true}
 use Rattle.workers.specs.Channel.{grown}
-use Rattle.workers.proofs.laws.serve_channel.Given as goal
+use Rattle.workers.proofs.shift.serve_channel.Given as goal
 
 abbrev pub invariant-loop-turn : goal.invariant-loop-turn
 invariant-loop-turn g l =
