@@ -7,7 +7,7 @@ use Rattle.eden_base.specs.declared.claim.ClaimFault.{ClaimFault}
 use Rattle.eden_base.specs.declared.claim.ClaimFault.TheVariants as claim
 use Rattle.manifest.specs.Manifest.{Manifest}
 use Rattle.fuse_ops.specs.Served.{ServedState}
-use Rattle.handover.specs.Handover.{IsHandedOver, CannotBeHandedOver, IsTakenOver, CannotBeTakenOver}
+use Rattle.map_codec.specs.Handover.{IsHandedOver, CannotBeHandedOver, IsTakenOver, CannotBeTakenOver}
 use Rattle.takeover_core.specs.Node.{NodeState}
 use Rattle.takeover_core.specs.Phases as table
 use Rattle.takeover_core.specs.declared.heard.Heard.{Heard as Answer}

@@ -1,4 +1,3 @@
 pub mod Journal
 pub mod Receipts
-pub mod Channel
 pub mod Settled

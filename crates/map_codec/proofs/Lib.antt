@@ -1,8 +1,10 @@
 pub mod DirectoryLaws
 pub mod EntryLaws
+pub mod HandedOver
 pub mod ImageRaises
 pub mod InOrder
 pub mod NamedLaws
+pub mod OneImage
 pub mod PlaceLaws
 pub mod RaisedLaws
 pub mod RaisingLaws

@@ -1,4 +1,4 @@
-//! Why an image could not be raised.
+//! Why an image could not be raised, and why nothing is handed or taken over.
 use thiserror::Error;
 
 /// Why nothing that a daemon could serve is raised from an image. The first that holds is told, in this order.
@@ -17,6 +17,16 @@ pub enum RaiseFault {
     TwoNumbers,
     #[error("the next number is not above all entries, or none is left")]
     NumberTooHigh,
+    #[error("out of memory")]
+    NoMemory,
+}
+
+/// Why nothing is handed or taken over.
+#[derive(Clone, Copy, Debug, PartialEq, Eq, Error)]
+pub enum HandoverFault {
+    /// No memory would help: what is served, or the bytes, cannot be handed or taken over.
+    #[error("refused")]
+    Refused,
     #[error("out of memory")]
     NoMemory,
 }

@@ -1,13 +1,19 @@
-//! The image of what a daemon serves, and what is served raised from an image.
+//! The image of what a daemon serves, and what is served raised from an image; and both as the bytes that one daemon
+//! hands to the next.
 #![tactic(auto)]
 
 mod directories;
 mod entry_checks;
 mod fault;
+mod giver;
+pub mod laws;
 mod named;
 mod raising;
 mod served_image;
+mod taker;
 
-pub use fault::RaiseFault;
+pub use fault::{HandoverFault, RaiseFault};
+pub use giver::hand_over;
 pub use raising::raise;
 pub use served_image::image_of;
+pub use taker::take_over;

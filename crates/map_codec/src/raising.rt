@@ -89,8 +89,8 @@ fn entries_of(image: Image) -> Vec<Kept>
     image.entries.into_vec()
 }
 
-/// Raises what a daemon serves from an image, over the manifest that the daemon was handed. So many attributes may be
-/// loaded at once, and one at least; none is at first.
+/// Raises what a daemon serves from an image, over the manifest that the daemon was handed. At most `limit` attributes
+/// are loaded at once, or one if that is 0; none is at first.
 pub fn raise(
     alloc: Global,
     image: Image,

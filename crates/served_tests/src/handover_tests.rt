@@ -7,8 +7,8 @@ use crate::listed::LISTED;
 use eden_base::{NameFault, NoMemory, Number, Perm};
 use fuse_ops::Served;
 use fuse_wire::Request;
-use handover::{HandoverFault, hand_over, take_over};
 use manifest::Manifest;
+use map_codec::{HandoverFault, hand_over, take_over};
 use std::alloc::Global;
 
 /// What the kernel asks for: an operation, a directory's number, and a name in it.

@@ -1,4 +1,4 @@
-//! Tests of `fuse_ops`, `map_image`, `map_codec`, `handover`, `journal` and `workers` by their public calls.
+//! Tests of `fuse_ops`, `map_image`, `map_codec`, `journal` and `workers` by their public calls.
 #![tactic(auto)]
 
 #[cfg(test)]

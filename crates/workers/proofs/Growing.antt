@@ -4,7 +4,7 @@ use Rattle.std.proofs.lemmas.List.{append_assoc, append-nil}
 use Rattle.std.proofs.lemmas.List.Concat.{flat_map-append}
 use Rattle.fuse_wire.specs.declared.request.Ask.{Ask}
 use Rattle.fuse_wire.specs.declared.reply.Reply.{Reply}
-use Rattle.journal.specs.Channel.{Told, grown, with_ask, with_replies}
+use Rattle.workers.specs.Channel.{Told, grown, with_ask, with_replies}
 use Rattle.journal.specs.Receipts.{asks_of, replies_of, replies_to}
 use Rattle.journal.specs.declared.receipt.Receipt.{Receipt}
 

@@ -1,3 +1,4 @@
 pub mod Growing
 pub mod Replaying
 pub mod Serving
+pub mod Taking

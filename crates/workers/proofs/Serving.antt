@@ -4,7 +4,7 @@ use Rattle.std.proofs.lemmas.List.{append-nil, append_assoc}
 use Rattle.std.proofs.lemmas.List.Sums.{sum_by_push}
 use Rattle.std.specs.Prelude.{IfOk, IfErr, OnOk}
 use Rattle.fuse_ops.specs.Served.{ServedState}
-use Rattle.journal.specs.Channel.{Told, grown}
+use Rattle.workers.specs.Channel.{Told, grown}
 use Rattle.workers.specs.Faults.{GivesBack, IsForGood}
 use Rattle.journal.specs.Receipts.{ReceiptsState}
 use Rattle.workers.specs.Round.{AreServed, receipts_in}

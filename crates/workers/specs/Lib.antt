@@ -1,3 +1,4 @@
+pub mod Channel
 pub mod Replays
 pub mod Shift
 pub mod Round

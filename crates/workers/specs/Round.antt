@@ -1,7 +1,7 @@
 -- What a round leaves of its channels. (This project's own.)
 use Rattle.std.specs.Prelude.{◌≡◌, ℕ, Bool, true, List, [], ◌∷◌, length, ⊤}
 use Rattle.std.specs.List.{sum_by}
-use Rattle.journal.specs.Channel.{Told, grown}
+use Rattle.workers.specs.Channel.{Told, grown}
 use Rattle.journal.specs.Receipts.{ReceiptsState}
 use Rattle.journal.specs.declared.receipt.Receipt.{Receipt}
 use Rattle.workers.specs.declared.worker.Ending.{Ending}

@@ -1,21 +1,28 @@
 //! One round of workers under the map's lock.
 #![tactic(auto)]
 
+mod channel;
 mod fault;
 mod gate;
-pub mod laws;
 mod locked;
+mod memory_channel;
 mod round;
 mod running;
 mod settled;
+mod shift;
 mod stop;
+mod turn;
 mod worker;
 
+pub use channel::{Channel, Posted, Taken};
 pub use fault::{Returned, RoundFault};
 pub use gate::{Gate, OpenGate};
-pub use journal::{Channel, Journal, MemoryChannel, Posted, Receipt, Receipts, Record, Taken};
+pub use journal::{Journal, Receipt, Receipts, Record};
 pub use locked::{LockedMap, Opening, Shared};
+pub use memory_channel::MemoryChannel;
 pub use round::{MAX_CHANNELS, MAX_TURNS, Round, serve_round};
 pub use settled::{Settled, drain};
+pub use shift::{Shift, serve_channel};
 pub use stop::Stop;
+pub use turn::{Turn, serve_one};
 pub use worker::Ending;

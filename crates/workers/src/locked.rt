@@ -4,7 +4,7 @@ ghost use Rattle.fuse_ops.specs.Loading.{Backs};
 ghost use Rattle.journal.specs.Journal.{applied};
 ghost use Rattle.workers.specs.Replays.{Replays};
 
-use crate::laws::{Turn, serve_one};
+use crate::turn::{Turn, serve_one};
 use checkout::Backing;
 use fuse_ops::Served;
 use fuse_wire::Ask;

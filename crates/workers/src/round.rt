@@ -8,6 +8,7 @@ ghost use Rattle.journal.specs.Receipts.{IsFresh};
 ghost use Rattle.workers.specs.Faults.{GivesBack, IsForGood};
 ghost use Rattle.workers.specs.declared.worker.Ending.TheVariants.{Done};
 
+use crate::channel::Channel;
 use crate::fault::{Returned, RoundFault};
 use crate::gate::Gate;
 use crate::locked::{LockedMap, Opening, Parts, Shared};
@@ -17,7 +18,7 @@ use crate::worker::Ending;
 use checkout::Backing;
 use eden_base::NoMemory;
 use fuse_ops::Served;
-use journal::{Channel, Journal, Receipts};
+use journal::{Journal, Receipts};
 use std::alloc::Global;
 use std::marker::Brand;
 use std::sync::ledger::{Blank, Share};

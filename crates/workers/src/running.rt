@@ -5,13 +5,14 @@ ghost use Rattle.journal.specs.Receipts.{IsFresh};
 ghost use Rattle.workers.specs.Round.{AreServed, Tells, receipts_in};
 ghost use Rattle.workers.specs.declared.worker.Ending.TheVariants.{Done};
 
+use crate::channel::Channel;
 use crate::gate::Gate;
-use crate::laws::{Shift, serve_channel};
 use crate::locked::{Opening, Shared};
+use crate::shift::{Shift, serve_channel};
 use crate::stop::Stop;
 use crate::worker::Ending;
 use checkout::Backing;
-use journal::{Channel, Receipts};
+use journal::Receipts;
 use std::marker::{Model, PhantomData};
 use std::snapshot::Snapshot;
 use std::sync::Wait;

@@ -3,11 +3,12 @@ ghost use Rattle.std.specs.Prelude.{◌≡◌, IfOk, IfErr, OnOk};
 ghost use Rattle.journal.specs.Settled.{IsSettled};
 ghost use Rattle.workers.specs.Faults.{GivesBack, IsUndrained};
 
+use crate::channel::Channel;
 use crate::fault::{Returned, RoundFault};
 use crate::round::Round;
 use checkout::Backing;
 use fuse_ops::Served;
-use journal::{Channel, is_settled};
+use journal::is_settled;
 use std::alloc::Global;
 
 /// What may be served on after a round: nothing is in hand, and nothing unposted.

@@ -1,15 +1,17 @@
 //! One worker of a round.
 ghost use Rattle.std.specs.Prelude.{◌≡◌, ◌+◌, ◌<◌, ◌≤◌, length, true, IfSome, IfNone};
-ghost use Rattle.journal.specs.Channel.{Told, grown, with_ask, with_replies};
+ghost use Rattle.workers.specs.Channel.{Told, grown, with_ask, with_replies};
 ghost use Rattle.journal.specs.Receipts.{replies_to};
 ghost use Rattle.workers.specs.Shift.{is_well};
 
+use crate::channel::{Channel, Posted, Taken};
 use crate::gate::Gate;
-use crate::laws::{Shift, Turn};
 use crate::locked::{Opening, Shared};
+use crate::shift::Shift;
+use crate::turn::Turn;
 use checkout::Backing;
 use fuse_wire::{Answer, Ask, Reply};
-use journal::{Channel, Posted, Receipt, Receipts, Taken};
+use journal::{Receipt, Receipts};
 use std::sync::Wait;
 use std::sync::ledger::Share;
 

@@ -7,7 +7,7 @@ use Rattle.manifest.specs.Manifest.{Manifest, IsManifest}
 use Rattle.eden_base.specs.declared.number.DaemonId.{DaemonId}
 use Rattle.broker_core.specs.declared.seat.Seat.{Seat}
 use Rattle.fuse_ops.specs.Served.{ServedState, plain}
-use Rattle.handover.specs.Handover.{IsHandedOver}
+use Rattle.map_codec.specs.Handover.{IsHandedOver}
 use Rattle.takeover_core.specs.Histories.{seat_of}
 use Rattle.takeover_core.specs.Phases.{claim_wanted}
 use Rattle.takeover_core.specs.declared.message.Message.{Message}

@@ -8,8 +8,8 @@ use Rattle.eden_base.proofs.NumberTests.{true-eq}
 use Rattle.manifest.specs.Tree.{Tree, IsTree}
 use Rattle.broker_core.specs.declared.seat.Seat.{Seat}
 use Rattle.fuse_ops.specs.Served.{plain}
-use Rattle.handover.specs.Handover.{IsHandedOver}
-use Rattle.handover.proofs.HandedOver.{taken_knows}
+use Rattle.map_codec.specs.Handover.{IsHandedOver}
+use Rattle.map_codec.proofs.HandedOver.{taken_knows}
 use Rattle.takeover_core.specs.Phases as table
 use Rattle.takeover_core.specs.Histories.{seat_of}
 use Rattle.takeover_core.specs.Node.{NodeState}

@@ -18,7 +18,7 @@ use Rattle.entry_table.specs.Entries.{IsFileOf, count_of}
 use Rattle.fuse_ops.specs.Served.{ServedState}
 use Rattle.fuse_ops.specs.Soundness.{IsSound}
 use Rattle.inode_map.specs.declared.inode_map.Forgot.TheVariants.{Bad, Root}
-use Rattle.handover.specs.Handover.{IsHandedOver}
+use Rattle.map_codec.specs.Handover.{IsHandedOver}
 use Rattle.takeover_core.specs.Phases.{claim_wanted}
 use Rattle.takeover_core.specs.declared.message.Message.TheVariants.{Data}
 use Rattle.world.specs.Handing.{IsHanding}

@@ -1,4 +1,6 @@
-//! The daemon at an index of the list of daemons.
+//! The daemon at an index of the list of daemons. Each function lends one daemon to one call, and says by
+//! `ChangesAt` what becomes of the list. Where `World` lends the daemon itself, by `&mut self.daemons[index]`, the checker
+//! tells only which daemon was lent and that it was put back, and each proof over `World` would join these two by itself.
 ghost use Rattle.std.specs.Prelude.{◌≡◌, ◌<◌, Some, IsTrue, IfOk, OnErr, slice_get, vec_len};
 ghost use Rattle.takeover_core.specs.Phases.{is_holding};
 ghost use Rattle.daemon.specs.Daemon.{DaemonState, is_waiting};

@@ -6,6 +6,7 @@ mod event;
 mod history;
 pub mod laws;
 mod outcome;
+mod said;
 mod world;
 
 pub use daemon::{Happened, Refusal};

@@ -1,8 +1,8 @@
 //! All daemons and the kernel's side of their mount.
-ghost use Rattle.std.specs.Prelude.{◌≡◌, ◌<◌, ◌≤◌, ◌+◌, ◌++◌, [], IfOk, IfSome, length, position, vec_len, vec_capacity};
+ghost use Rattle.std.specs.Prelude.{◌≡◌, [], IfOk, IfSome};
 ghost use Rattle.std.specs.Option.{option_copied};
-ghost use Rattle.world.specs.State.{started, server_of, served_of, hand_of, unposted_of, handed_of, is_data_of};
-ghost use Rattle.world.specs.Step.{Once, Step, told_reaction, what_is_said};
+ghost use Rattle.world.specs.State.{started, server_of, served_of, hand_of, unposted_of, handed_of};
+ghost use Rattle.world.specs.Step.{Once, Step};
 ghost use Rattle.world.specs.World.{first_world, World as Ideal};
 ghost use Rattle.world.specs.Agreement.{Matches, MovesOn};
 
@@ -12,8 +12,9 @@ use crate::daemon_at::{
 };
 use crate::event::Event;
 use crate::outcome::Outcome;
+use crate::said::{index_of_data, say};
 use broker_core::{Broker, DeliverFault};
-use daemon::{Daemon, Happened, Reaction, Refusal, Server, index_of, opening};
+use daemon::{Daemon, Happened, Refusal, Server, index_of, opening};
 use eden_base::{DaemonId, NoMemory};
 use fuse_ops::Served;
 use fuse_wire::{Ask, Reply, Request};
@@ -418,41 +419,5 @@ impl World {
             Some(fault) => Some(Refusal::from(fault)),
             None => Some(Refusal::NoMemory),
         }
-    }
-}
-
-/// Says what a daemon has to say, behind what was said before, and returns what is told of it.
-fn say(messages: &mut Vec<Message>, reaction: Reaction) -> Happened
-    requires room { vec_len messages.old + 1 ≤ vec_capacity messages.old }
-    ensures told { result ≡ told_reaction (vec_len messages.old) reaction }
-    ensures said { messages.new.items ≡ messages.old.items ++ what_is_said reaction }
-{
-    match reaction {
-        Reaction::Ignores => Happened::Ignored,
-        Reaction::Heeds => Happened::Heard,
-        Reaction::Says(said) => {
-            messages.push_reserved(said);
-            Happened::Said(messages.len())
-        }
-    }
-}
-
-/// Returns the index of the first message that is data of this generation.
-fn index_of_data(messages: &[Message], generation: u64) -> Option<usize>
-    ensures index { result ≡ position (is_data_of generation) messages.now }
-    ensures within { IfSome result (λ index. index < length messages.now) }
-{
-    messages
-        .iter()
-        .position(|message| is_data(message, generation))
-}
-
-/// Tells whether a message is data of this generation.
-fn is_data(message: &Message, generation: u64) -> bool
-    ensures value { result ≡ is_data_of generation message.now }
-{
-    match message {
-        Message::Data { generation: at, .. } => *at == generation,
-        _ => false,
     }
 }

@@ -1,2 +1,0 @@
-pub mod HandedOver
-pub mod OneImage

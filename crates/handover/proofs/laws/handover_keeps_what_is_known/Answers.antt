@@ -1,5 +1,0 @@
-use Rattle.handover.proofs.HandedOver.{can_be_taken, taken_knows}
-use Rattle.handover.proofs.laws.handover_keeps_what_is_known.Goals as goal
-
-pub returns : goal.returns
-returns c = record { keeps = taken_knows; taken = can_be_taken }

@@ -1,2 +1,0 @@
-pub mod Handover
-pub mod Laws

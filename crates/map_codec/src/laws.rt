@@ -1,0 +1,8 @@
+//! What holds of the definitions alone. A caller's proof that wants a law calls its function, which does nothing.
+ghost use Rattle.map_codec.specs.Laws.{CanBeTaken, TakenKnows};
+
+/// States that what is taken over of what was handed over knows the same, and that nothing stands against taking it.
+pub fn handover_keeps_what_is_known()
+    ensures keeps { TakenKnows }
+    ensures taken { CanBeTaken }
+{}

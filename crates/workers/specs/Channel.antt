@@ -1,0 +1,55 @@
+-- What a channel tells of itself: what was taken from it, and what was posted to it. (This project's own.)
+use Rattle.std.specs.Prelude.{◌≡◌, ◌+◌, ◌<◌, ◌≤◌, ℕ, List, [], ◌∷◌, ◌++◌, length, take, slice_get, Some}
+use Rattle.fuse_wire.specs.declared.request.Ask.{Ask}
+use Rattle.fuse_wire.specs.declared.reply.Reply.{Reply}
+use Rattle.workers.specs.declared.channel.Taken.{Taken}
+use Rattle.workers.specs.declared.channel.Taken.TheVariants as took
+use Rattle.workers.specs.declared.channel.Posted.{Posted}
+use Rattle.workers.specs.declared.channel.Posted.TheVariants as post
+use Rattle.journal.specs.Receipts.{asks_of, replies_of}
+use Rattle.journal.specs.declared.receipt.Receipt.{Receipt}
+
+-- the asks that were taken from a channel and the replies that were posted to it, first to last
+pub record Told : Type 0 where
+  pub taken : List Ask
+  pub posted : List Reply
+
+-- one more ask was taken
+abbrev pub with_ask : Told → Ask → Told
+with_ask told ask = record { taken = told.taken ++ ask ∷ []; posted = told.posted }
+
+-- these replies were posted
+abbrev pub with_replies : Told → List Reply → Told
+with_replies told replies = record { taken = told.taken; posted = told.posted ++ replies }
+
+-- the asks of these receipts were taken, and their answers posted
+abbrev pub grown : Told → List Receipt → Told
+grown told receipts =
+    record { taken = told.taken ++ asks_of receipts; posted = told.posted ++ replies_of receipts }
+
+-- a channel in memory: its asks, how many of them were taken, and the replies
+pub record MemoryState : Type 0 where
+  pub asks : List Ask
+  pub taken : ℕ
+  pub replies : List Reply
+
+-- what it tells
+abbrev pub told_of : MemoryState → Told
+told_of channel = record { taken = take channel.taken channel.asks; posted = channel.replies }
+
+-- what comes of a look for an ask in memory: the next one, or none where all were taken; Broken where no copy of it
+-- could be made, and then it is still there
+abbrev pub Takes : MemoryState → Taken → MemoryState → Type 0
+Takes old (took.Ask ask) new =
+    (slice_get old.asks old.taken ≡ Some ask)
+    × (new ≡ record { asks = old.asks; taken = old.taken + 1; replies = old.replies })
+Takes old took.Empty new = (old.taken ≡ length old.asks) × (new ≡ old)
+Takes old took.Stopped new = ⊥
+Takes old took.Broken new = (old.taken < length old.asks) × (new ≡ old)
+
+-- what comes of a reply: it joins the others, or is Broken where there are as many as asks
+abbrev pub Posts : MemoryState → Reply → Posted → MemoryState → Type 0
+Posts old reply post.Done new =
+    (length old.replies < length old.asks)
+    × (new ≡ record { asks = old.asks; taken = old.taken; replies = old.replies ++ reply ∷ [] })
+Posts old reply post.Broken new = (length old.asks ≤ length old.replies) × (new ≡ old)

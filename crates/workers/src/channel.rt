@@ -1,0 +1,50 @@
+//! What a worker takes asks from, and posts replies to.
+ghost use Rattle.std.specs.Prelude.{◌≡◌, ◌∷◌, [], Bool, true};
+ghost use Rattle.fuse_wire.specs.declared.request.Ask.{Ask as AskValue};
+ghost use Rattle.workers.specs.Channel.{Told, with_ask, with_replies};
+ghost use Rattle.workers.specs.declared.channel.Taken.TheVariants as took;
+ghost use Rattle.workers.specs.declared.channel.Posted.TheVariants as post;
+
+use fuse_wire::{Ask, Reply};
+
+/// What comes of a look for an ask.
+#[derive(Drop)]
+pub enum Taken {
+    Ask(Ask),
+    /// There is none now.
+    Empty,
+    /// There will be none.
+    Stopped,
+    /// The mount is over.
+    Broken,
+}
+
+/// What comes of a reply.
+#[derive(Clone, Copy, PartialEq, Eq)]
+pub enum Posted {
+    Done,
+    /// The mount is over.
+    Broken,
+}
+
+/// The kernel's side of one worker. One that tells its lists says what was taken from it and posted to it; of one that
+/// doesn't, as a socket, no clause speaks.
+pub trait Channel {
+    /// Whether it tells its lists.
+    ghost tells: { Bool };
+
+    /// What was taken from it and posted to it.
+    ghost told: { Self → Told };
+
+    /// Takes the next ask.
+    fn take(&mut self) -> Taken
+        ensures taken { tells ≡ true → (ask : AskValue) → result ≡ took.Ask ask
+            → told self.new ≡ with_ask (told self.old) ask }
+        ensures empty { tells ≡ true → result ≡ took.Empty → told self.new ≡ told self.old }
+        ensures stopped { tells ≡ true → result ≡ took.Stopped → told self.new ≡ told self.old };
+
+    /// Posts the reply to an ask that was taken.
+    fn post(&mut self, reply: Reply) -> Posted
+        ensures posted { tells ≡ true → result ≡ post.Done
+            → told self.new ≡ with_replies (told self.old) (reply ∷ []) };
+}

@@ -1,0 +1,119 @@
+//! A channel over asks that are known before.
+ghost use Rattle.std.specs.Prelude.{◌≡◌, ◌<◌, ◌≤◌, ℕ, [], length, true, IfOk};
+ghost use Rattle.fuse_wire.specs.declared.request.Ask.{Ask as AskValue};
+ghost use Rattle.workers.specs.Channel.{told_of, with_ask, with_replies, Takes, Posts};
+ghost use Rattle.workers.specs.declared.channel.Taken.TheVariants as took;
+ghost use Rattle.workers.specs.declared.channel.Posted.TheVariants as post;
+
+use crate::channel::{Channel, Posted, Taken};
+use eden_base::NoMemory;
+use fuse_wire::{Ask, Reply};
+use std::alloc::Global;
+use std::marker::Model;
+
+/// Asks in memory, and the replies that were posted, one for each ask at most. Contracts see it as a `MemoryState`.
+#[derive(Drop)]
+pub struct MemoryChannel {
+    alloc: Global,
+    asks: Vec<Ask>,
+    taken: usize,
+    replies: Vec<Reply>,
+}
+
+impl Model for MemoryChannel {
+    ghost use Rattle.std.specs.Prelude.{◌≤◌, vec_len, vec_capacity};
+    ghost use Rattle.workers.specs.Channel.{MemoryState};
+
+    ghost Value = { MemoryState };
+
+    ghost view = { λ channel. record {
+      asks = channel.asks.items;
+      taken = channel.taken;
+      replies = channel.replies.items;
+    } };
+
+    ghost invariant = { λ channel. (channel.taken ≤ vec_len channel.asks)
+        × (vec_len channel.asks ≤ vec_capacity channel.replies) };
+}
+
+impl MemoryChannel {
+    /// Returns a channel of these asks, with room for one reply to each. The asks are lost where memory is refused.
+    pub fn new(alloc: Global, asks: Vec<Ask>) -> Result<MemoryChannel, NoMemory>
+        ensures asks { IfOk result (λ channel. channel.asks ≡ asks.items) }
+        ensures taken { IfOk result (λ channel. channel.taken ≡ 0) }
+        ensures replies { IfOk result (λ channel. channel.replies ≡ []) }
+    {
+        let replies = Vec::with_capacity(alloc, asks.len())?;
+        Ok(MemoryChannel {
+            alloc,
+            asks,
+            taken: 0,
+            replies,
+        })
+    }
+
+    /// Returns the asks, taken or not.
+    pub fn asks(&self) -> &[Ask]
+        ensures asks { result.now ≡ self.now.asks }
+    {
+        self.asks.as_slice()
+    }
+
+    /// Returns how many asks were taken.
+    pub fn taken(&self) -> usize
+        ensures taken { result ≡ self.now.taken }
+    {
+        self.taken
+    }
+
+    /// Returns the replies, first posted first.
+    pub fn replies(&self) -> &[Reply]
+        ensures replies { result.now ≡ self.now.replies }
+    {
+        self.replies.as_slice()
+    }
+
+    /// Takes a copy of the next ask. It is Broken where memory is refused for the copy.
+    pub fn take(&mut self) -> Taken
+        ensures takes { Takes self.old result self.new }
+    {
+        if self.taken == self.asks.len() {
+            return Taken::Empty;
+        }
+        let ask = &self.asks[self.taken];
+        match ask.what.copy(self.alloc) {
+            Ok(what) => {
+                let unique = ask.unique;
+                self.taken += 1;
+                Taken::Ask(Ask { unique, what })
+            }
+            Err(NoMemory) => Taken::Broken,
+        }
+    }
+
+    /// Keeps the reply. It is Broken past as many as there are asks.
+    pub fn post(&mut self, reply: Reply) -> Posted
+        ensures posts { Posts self.old reply result self.new }
+    {
+        if self.replies.len() >= self.asks.len() {
+            return Posted::Broken;
+        }
+        self.replies.push_reserved(reply);
+        Posted::Done
+    }
+}
+
+impl Channel for MemoryChannel {
+    ghost tells = { true };
+
+    ghost told = { λ channel. told_of channel };
+
+    #[tactic(auto, using(crate::proofs::Taking::told_more))]
+    fn take(&mut self) -> Taken {
+        MemoryChannel::take(self)
+    }
+
+    fn post(&mut self, reply: Reply) -> Posted {
+        MemoryChannel::post(self, reply)
+    }
+}

@@ -1,0 +1,48 @@
+//! One request served under the map's lock: public for what its contract says.
+ghost use Rattle.std.specs.Prelude.{◌≡◌, ◌+◌, ◌<◌, ◌++◌, ◌∷◌, [], length};
+ghost use Rattle.eden_base.specs.declared.number.FileId.{FileId};
+ghost use Rattle.fuse_ops.specs.Loading.{Backs, FailsAs, Loads};
+ghost use Rattle.fuse_ops.specs.Served.{Replay};
+ghost use Rattle.journal.specs.Journal.{applied};
+
+use checkout::Backing;
+use fuse_ops::Served;
+use fuse_wire::{Answer, Ask};
+use journal::{Journal, Record};
+use std::alloc::Global;
+
+/// What a turn gives: the place of its record in the journal, and the answer. A forget has no answer.
+#[derive(Drop)]
+pub struct Turn {
+    pub place: usize,
+    pub answer: Option<Answer>,
+}
+
+/// Serves one ask, and journals its request with the answer.
+pub fn serve_one<B: Backing>(
+    alloc: Global,
+    served: &mut Served,
+    journal: &mut Journal,
+    backing: &mut B,
+    ask: Ask,
+) -> Turn
+    requires backs { Backs (B.content backing.old) served.old.tree }
+    requires room { 0 < journal.old.room }
+    ensures place { result.place ≡ length journal.old.records }
+    ensures pushes { journal.new.records ≡ journal.old.records ++ applied ask.what result.answer ∷ [] }
+    ensures room { journal.new.room + 1 ≡ journal.old.room }
+    // The answer is that of `apply`.
+    ensures replay { Replay served.old ask.what result.answer served.new }
+    ensures loads { Loads served.old.map ask.what result.answer served.new.map }
+    ensures fails { FailsAs result.answer (B.failed backing.old) (B.failed backing.new) }
+    ensures same_content { (file : FileId) → B.content backing.new file ≡ B.content backing.old file }
+    ensures same_manifest { served.new.tree.manifest ≡ served.old.tree.manifest }
+{
+    let place = journal.records().len();
+    let answer = served.apply(alloc, backing, &ask.what);
+    journal.push(Record {
+        request: ask.what,
+        answer,
+    });
+    Turn { place, answer }
+}

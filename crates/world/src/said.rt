@@ -1,0 +1,43 @@
+//! What daemons said to one another.
+ghost use Rattle.std.specs.Prelude.{◌≡◌, ◌<◌, ◌≤◌, ◌+◌, ◌++◌, IfSome, length, position, vec_len, vec_capacity};
+ghost use Rattle.world.specs.State.{is_data_of};
+ghost use Rattle.world.specs.Step.{told_reaction, what_is_said};
+
+use daemon::{Happened, Reaction};
+use takeover_core::Message;
+
+/// Says what a daemon has to say, behind what was said before, and returns what is told of it.
+pub(crate) fn say(messages: &mut Vec<Message>, reaction: Reaction) -> Happened
+    requires room { vec_len messages.old + 1 ≤ vec_capacity messages.old }
+    ensures told { result ≡ told_reaction (vec_len messages.old) reaction }
+    ensures said { messages.new.items ≡ messages.old.items ++ what_is_said reaction }
+{
+    match reaction {
+        Reaction::Ignores => Happened::Ignored,
+        Reaction::Heeds => Happened::Heard,
+        Reaction::Says(said) => {
+            messages.push_reserved(said);
+            Happened::Said(messages.len())
+        }
+    }
+}
+
+/// Returns the index of the first message that is data of this generation.
+pub(crate) fn index_of_data(messages: &[Message], generation: u64) -> Option<usize>
+    ensures index { result ≡ position (is_data_of generation) messages.now }
+    ensures within { IfSome result (λ index. index < length messages.now) }
+{
+    messages
+        .iter()
+        .position(|message| is_data(message, generation))
+}
+
+/// Tells whether a message is data of this generation.
+fn is_data(message: &Message, generation: u64) -> bool
+    ensures value { result ≡ is_data_of generation message.now }
+{
+    match message {
+        Message::Data { generation: at, .. } => *at == generation,
+        _ => false,
+    }
+}
