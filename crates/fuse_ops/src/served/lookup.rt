@@ -1,0 +1,245 @@
+//! LOOKUP and GETATTR: the numbers that are given to names, and the attributes that are told of files.
+ghost use Rattle.std.specs.Prelude.{◌≡◌, ◌<◌, None, Some, Ok, IsSome, IfOk, OnOk, OnErr};
+ghost use Rattle.eden_base.specs.declared.number.FileId.{FileId};
+ghost use Rattle.std.specs.Option.{option_map, IfNone, IfSome};
+ghost use Rattle.manifest.specs.Tree.{IsTree, attr_of, file_of as tree_file, is_unlinked};
+ghost use Rattle.fuse_wire.specs.declared.request.Request.TheVariants.{Lookup, Getattr};
+ghost use Rattle.entry_table.specs.Entries.{entry_at, number_of_kept};
+ghost use Rattle.inode_map.specs.InodeMap.{attr_of as loaded_attr};
+ghost use Rattle.fuse_ops.specs.Answers.{IsBacked};
+ghost use Rattle.fuse_ops.specs.Loading.{Backs, FailsAs, Loads, loaded_told};
+ghost use Rattle.fuse_ops.specs.Soundness.{Names};
+ghost use Rattle.fuse_ops.specs.Work.{errno_of, Finds, GivesEntry, IsSamePlainly, lacks_name, LooksUp, Shows};
+
+use super::{Found, Linkage, Located, Served};
+use checkout::{Backing, BackingFault, Tree};
+use eden_base::{Attr, END_OF_NUMBERS, Errno, FileId, Kind, Name, Number};
+use fuse_wire::Answer;
+use inode_map::GiveFault;
+use std::alloc::Global;
+
+impl Served {
+    /// Answers a lookup. A name that has a number gives that number's file, so its directory isn't looked at.
+    pub(super) fn look_up<B: Backing>(
+        &mut self,
+        alloc: Global,
+        backing: &mut B,
+        dir: Number,
+        name: &Name,
+    ) -> Answer
+        requires backs { Backs (B.content backing.old) self.old.tree }
+        ensures answer { LooksUp self.old dir name.now result self.new }
+        ensures loads { Loads self.old.map (Lookup dir name.now) (Some result) self.new.map }
+        ensures fails { FailsAs (Some result) (B.failed backing.old) (B.failed backing.new) }
+        ensures same_content { (file : FileId) → B.content backing.new file ≡ B.content backing.old file }
+    {
+        if let Some(number) = self.map.number_for(dir, name) {
+            return self.enter_again(backing, dir, name, number);
+        }
+        match self.find(dir, name) {
+            Ok(found) => self.enter_next(alloc, backing, dir, name, found),
+            Err(errno) => Answer::Error(errno),
+        }
+    }
+
+    /// Tells the entry of a name that has a number, which is held once more. The count is raised first, and taken back
+    /// where the backing fails.
+    fn enter_again<B: Backing>(
+        &mut self,
+        backing: &mut B,
+        dir: Number,
+        name: &Name,
+        number: Number,
+    ) -> Answer
+        requires backs { Backs (B.content backing.old) self.old.tree }
+        requires has { Some number ≡ option_map number_of_kept (entry_at self.old.map.entries dir.0 name.now) }
+        ensures answer { LooksUp self.old dir name.now result self.new }
+        ensures loads { Loads self.old.map (Lookup dir name.now) (Some result) self.new.map }
+        ensures fails { FailsAs (Some result) (B.failed backing.old) (B.failed backing.new) }
+        ensures same_content { (file : FileId) → B.content backing.new file ≡ B.content backing.old file }
+    {
+        let number = match self.map.give_again(dir, name, number) {
+            Ok(number) => number,
+            Err(fault) => return Answer::Error(errno_of(fault)),
+        };
+        if let Some(attr) = self.loaded(number, Linkage::Linked) {
+            return Answer::Entry { number, attr };
+        }
+        let Some(file) = self.file_of(number) else {
+            unreachable!()
+        };
+        match self.load_asked(backing, number, file) {
+            Ok(attr) => Answer::Entry { number, attr },
+            Err(BackingFault) => {
+                self.map.forget(number, 1);
+                Answer::Error(Errno::EIO)
+            }
+        }
+    }
+
+    /// Tells the entry of a file that was found under a name without a number, which is given the next. What stands
+    /// against that is looked for before the backing is asked.
+    fn enter_next<B: Backing>(
+        &mut self,
+        alloc: Global,
+        backing: &mut B,
+        dir: Number,
+        name: &Name,
+        found: Found,
+    ) -> Answer
+        requires backs { Backs (B.content backing.old) self.old.tree }
+        requires found { Finds self.old dir.0 name.now (Ok found) }
+        requires free { entry_at self.old.map.entries dir.0 name.now ≡ None }
+        ensures entry { GivesEntry self.old dir name.now found.file result self.new }
+        ensures loads { Loads self.old.map (Lookup dir name.now) (Some result) self.new.map }
+        ensures fails { FailsAs (Some result) (B.failed backing.old) (B.failed backing.new) }
+        ensures same_content { (file : FileId) → B.content backing.new file ≡ B.content backing.old file }
+    {
+        if self.map.next() >= END_OF_NUMBERS {
+            return Answer::Error(Errno::ENOSPC);
+        }
+        let Ok(attr) = ask(&self.tree, backing, found.file) else {
+            return Answer::Error(Errno::EIO);
+        };
+        match self.map.give_next(alloc, dir, name) {
+            Ok(number) => {
+                self.map.remember(number, found.file);
+                self.map.load(number, attr);
+                Answer::Entry { number, attr }
+            }
+            Err(fault) => Answer::Error(errno_of(fault)),
+        }
+    }
+
+    /// Answers a GETATTR. It takes no memory.
+    pub(super) fn get_attr<B: Backing>(&mut self, backing: &mut B, node: Number) -> Answer
+        requires backs { Backs (B.content backing.old) self.old.tree }
+        ensures answer { Shows self.old node result }
+        ensures plainly { IsSamePlainly self.old self.new }
+        ensures loads { Loads self.old.map (Getattr node) (Some result) self.new.map }
+        ensures fails { FailsAs (Some result) (B.failed backing.old) (B.failed backing.new) }
+        ensures same_content { (file : FileId) → B.content backing.new file ≡ B.content backing.old file }
+    {
+        let Some(located) = self.linked_file_of(node) else {
+            return Answer::Error(Errno::ESTALE);
+        };
+        match self.load(backing, node, located) {
+            Ok(attr) => Answer::Attrs { number: node, attr },
+            Err(BackingFault) => Answer::Error(Errno::EIO),
+        }
+    }
+
+    /// Tells the attributes of a number's file. The root's are never loaded.
+    fn load<B: Backing>(
+        &mut self,
+        backing: &mut B,
+        number: Number,
+        located: Located,
+    ) -> Result<Attr, BackingFault>
+        requires backs { Backs (B.content backing.old) self.old.tree }
+        requires names { Names self.old number.0 located.file }
+        requires linkage { is_unlinked self.old.tree located.file ≡ lacks_name located.linkage }
+        ensures attr { IfOk result (λ told. attr_of self.old.tree located.file ≡ Some told) }
+        ensures loaded { IfOk result (λ told. self.new
+            ≡ record self.old { map = record self.old.map { loaded = loaded_told self.old.map number told } }) }
+        ensures unchanged { OnErr result (self.new ≡ self.old) }
+        ensures backed { OnErr result (IsBacked self.old.tree located.file) }
+        ensures answered { OnOk result (B.failed backing.new ≡ B.failed backing.old) }
+        ensures failed { OnErr result (B.failed backing.old < B.failed backing.new) }
+        ensures same_content { (file : FileId) → B.content backing.new file ≡ B.content backing.old file }
+    {
+        if number == Number::ROOT {
+            return ask(&self.tree, backing, located.file);
+        }
+        if let Some(attr) = self.loaded(number, located.linkage) {
+            return Ok(attr);
+        }
+        self.load_asked(backing, number, located.file)
+    }
+
+    /// Tells the attributes that are loaded of a number, which become the most recent. Whether a name leads to the file
+    /// is not loaded, since names come and go.
+    fn loaded(&mut self, number: Number, linkage: Linkage) -> Option<Attr>
+        requires other { number.0 ≡ 1 → ⊥ }
+        ensures attr { IfSome result (λ told. (file : FileId) → Names self.old number.0 file
+            → is_unlinked self.old.tree file ≡ lacks_name linkage → attr_of self.old.tree file ≡ Some told) }
+        ensures loaded { IfSome result (λ told. self.new
+            ≡ record self.old { map = record self.old.map { loaded = loaded_told self.old.map number told } }) }
+        ensures unloaded { IfNone result (loaded_attr self.old.map.loaded number.0 ≡ None) }
+        ensures unchanged { IfNone result (self.new ≡ self.old) }
+    {
+        let loaded = self.map.attr(number)?;
+        Some(Attr {
+            kind: loaded.kind,
+            perm: loaded.perm,
+            size: loaded.size,
+            nlink: linkage.nlink(loaded.kind),
+        })
+    }
+
+    /// Asks for the attributes of a number's file, of which none are loaded, and loads them.
+    fn load_asked<B: Backing>(
+        &mut self,
+        backing: &mut B,
+        number: Number,
+        file: FileId,
+    ) -> Result<Attr, BackingFault>
+        requires backs { Backs (B.content backing.old) self.old.tree }
+        requires names { Names self.old number.0 file }
+        requires other { number.0 ≡ 1 → ⊥ }
+        requires unloaded { loaded_attr self.old.map.loaded number.0 ≡ None }
+        ensures attr { IfOk result (λ told. attr_of self.old.tree file ≡ Some told) }
+        ensures loaded { IfOk result (λ told. self.new
+            ≡ record self.old { map = record self.old.map { loaded = loaded_told self.old.map number told } }) }
+        ensures unchanged { OnErr result (self.new ≡ self.old) }
+        ensures backed { OnErr result (IsBacked self.old.tree file) }
+        ensures answered { OnOk result (B.failed backing.new ≡ B.failed backing.old) }
+        ensures failed { OnErr result (B.failed backing.old < B.failed backing.new) }
+        ensures same_content { (file : FileId) → B.content backing.new file ≡ B.content backing.old file }
+    {
+        let told = ask(&self.tree, backing, file)?;
+        self.map.load(number, told);
+        Ok(told)
+    }
+}
+
+/// Asks the backing for a file of a tree, where it is a regular one of the manifest. What is known of others is the
+/// tree's to tell.
+fn ask<B: Backing>(tree: &Tree, backing: &mut B, file: FileId) -> Result<Attr, BackingFault>
+    requires is_tree { IsTree tree.now }
+    requires there { IsSome (tree_file tree.now file) }
+    requires backs { Backs (B.content backing.old) tree.now }
+    ensures attr { IfOk result (λ told. attr_of tree.now file ≡ Some told) }
+    ensures backed { OnErr result (IsBacked tree.now file) }
+    ensures answered { OnOk result (B.failed backing.new ≡ B.failed backing.old) }
+    ensures failed { OnErr result (B.failed backing.old < B.failed backing.new) }
+    ensures same_content { (other : FileId) → B.content backing.new other ≡ B.content backing.old other }
+{
+    let Some(attr) = tree.attr(file) else {
+        unreachable!()
+    };
+    if attr.kind == Kind::Dir {
+        return Ok(attr);
+    }
+    if tree.perm_made(file).is_some() {
+        return Ok(attr);
+    }
+    let content = backing.attr(file)?;
+    Ok(Attr {
+        kind: content.kind,
+        perm: content.perm,
+        size: content.size,
+        nlink: attr.nlink,
+    })
+}
+
+/// Returns what is answered where no number could be given.
+fn errno_of(fault: GiveFault) -> Errno
+    ensures { result ≡ errno_of fault }
+{
+    match fault {
+        GiveFault::NoNumber => Errno::ENOSPC,
+        GiveFault::TooMany => Errno::EOVERFLOW,
+        GiveFault::NoMemory => Errno::ENOMEM,
+    }
+}
