@@ -1,19 +1,23 @@
 //! The numbers and the tree that one daemon serves.
 ghost use Rattle.std.specs.Prelude.{◌≡◌, not, None, Some, Ok, IfOk, if◌then◌else◌};
+ghost use Rattle.eden_base.specs.declared.errno.Errno.TheVariants.{EIO};
 ghost use Rattle.eden_base.specs.declared.number.FileId.{FileId};
+ghost use Rattle.fuse_wire.specs.declared.reply.Answer.TheVariants.{Error};
+ghost use Rattle.fuse_wire.specs.declared.request.Request.TheVariants.{Create, Mkdir, Unlink, Rmdir};
 ghost use Rattle.std.specs.Option.{option_map, IfSome};
 ghost use Rattle.manifest.specs.Tree.{IsTree, is_unlinked, nlink_of_kind};
 ghost use Rattle.inode_map.specs.InodeMap.{forgotten};
+ghost use Rattle.fuse_ops.specs.Answers.{against_unlink, against_rmdir};
 ghost use Rattle.fuse_ops.specs.Loading.{Backs, FailsAs, Loads};
 ghost use Rattle.fuse_ops.specs.Served.{new_served, served_of, forgotten_all, IsLocated, Replay};
 ghost use Rattle.fuse_ops.specs.Soundness.{IsSound, AreRemembered, AreLoaded};
-ghost use Rattle.fuse_ops.specs.Work.{Finds, lacks_name};
+ghost use Rattle.fuse_ops.specs.Work.{Finds, Takes, lacks_name};
 
 mod lookup;
 mod names;
 
 use checkout::{Backing, Tree};
-use eden_base::{Errno, FileId, Kind, Name, NoMemory, Number};
+use eden_base::{Errno, FileId, Kind, Name, NoMemory, Number, Perm};
 use fuse_wire::{Answer, Item, Request};
 use inode_map::{InodeMap, Kept};
 use manifest::{Manifest, nlink_of_kind};
@@ -172,6 +176,67 @@ impl Served {
             }
             Request::Other { .. } => Some(Answer::Error(Errno::ENOSYS)),
         }
+    }
+
+    /// Answers a CREATE.
+    #[tactic(auto, using(crate::proofs::Steps::steps))]
+    fn create(&mut self, alloc: Global, dir: Number, name: &Name, perm: Perm) -> Answer
+        ensures replay { Replay self.old (Create dir name.now perm) (Some result) self.new }
+        ensures loads { Loads self.old.map (Create dir name.now perm) (Some result) self.new.map }
+        ensures no_eio { result ≡ Error EIO → ⊥ }
+    {
+        match self.make(alloc, dir, name, Kind::File, perm) {
+            Ok((number, attr)) => Answer::Opened { number, attr },
+            Err(errno) => Answer::Error(errno),
+        }
+    }
+
+    /// Answers a MKDIR.
+    #[tactic(auto, using(crate::proofs::Steps::steps))]
+    fn make_dir(&mut self, alloc: Global, dir: Number, name: &Name, perm: Perm) -> Answer
+        ensures replay { Replay self.old (Mkdir dir name.now perm) (Some result) self.new }
+        ensures loads { Loads self.old.map (Mkdir dir name.now perm) (Some result) self.new.map }
+        ensures no_eio { result ≡ Error EIO → ⊥ }
+    {
+        match self.make(alloc, dir, name, Kind::Dir, perm) {
+            Ok((number, attr)) => Answer::Entry { number, attr },
+            Err(errno) => Answer::Error(errno),
+        }
+    }
+
+    /// Answers an UNLINK. It takes no memory.
+    fn unlink(&mut self, dir: Number, name: &Name) -> Answer
+        ensures takes { Takes self.old dir name.now (against_unlink self.old.tree) result self.new }
+        ensures loads { Loads self.old.map (Unlink dir name.now) (Some result) self.new.map }
+    {
+        let found = match self.find(dir, name) {
+            Ok(found) => found,
+            Err(errno) => return Answer::Error(errno),
+        };
+        if self.tree.kind(found.file) == Some(Kind::Dir) {
+            return Answer::Error(Errno::EISDIR);
+        }
+        self.take_name(dir, found.dir, name);
+        Answer::Done
+    }
+
+    /// Answers an RMDIR. It takes no memory.
+    fn remove_dir(&mut self, dir: Number, name: &Name) -> Answer
+        ensures takes { Takes self.old dir name.now (against_rmdir self.old.tree) result self.new }
+        ensures loads { Loads self.old.map (Rmdir dir name.now) (Some result) self.new.map }
+    {
+        let found = match self.find(dir, name) {
+            Ok(found) => found,
+            Err(errno) => return Answer::Error(errno),
+        };
+        if self.tree.kind(found.file) != Some(Kind::Dir) {
+            return Answer::Error(Errno::ENOTDIR);
+        }
+        if !self.tree.is_empty_dir(found.file) {
+            return Answer::Error(Errno::ENOTEMPTY);
+        }
+        self.take_name(dir, found.dir, name);
+        Answer::Done
     }
 
     /// Returns the file that a number names. Where that is not remembered, the way to the root is walked.
