@@ -9,10 +9,10 @@ abbrev pub ◌>>=◌ : {F A B : Type 0} → Result A F → (A → Result B F) �
 (Ok x) >>= f = f x
 (Err fault) >>= f = Err fault
 
--- what a call gave, seen by a view, is what reading gives
-abbrev pub Gives : {F X Y : Type 0} → (X → Y) → Result X F → Result Y F → Type 0
-Gives view (Ok x) read = read ≡ Ok (view x)
-Gives view (Err fault) read = read ≡ Err fault
+-- what a call gave, seen by a view, is what reading gives: a value, or the fault for too few bytes
+abbrev pub Gives : {F X Y : Type 0} → F → (X → Y) → Result X F → Result Y F → Type 0
+Gives short view (Ok x) read = read ≡ Ok (view x)
+Gives short view (Err fault) read = (fault ≡ short) × (read ≡ Err short)
 
 -- the first bytes, this count of them
 unfoldable pub bytes_at : {F : Type 0} → F → ℕ → List ℕ → Result (List ℕ × List ℕ) F

@@ -1,5 +1,4 @@
 //! Fields taken off the front of bytes: a value, and what follows it.
-ghost use Rattle.std.specs.Prelude.{◌≡◌, IfErr};
 ghost use Rattle.std.specs.Int.{w16, w32, w64};
 ghost use Rattle.byte_codec.specs.Reading.{Gives, byte_at, bytes_at, number_at};
 
@@ -8,8 +7,7 @@ use crate::field::{u16_in, u32_in, u64_in};
 /// Takes `count` bytes off the front of `bytes`, or tells `short` where there are fewer.
 #[tactic(auto, unfolding(crate::specs::Reading::bytes_at))]
 pub fn bytes_at<F: Copy>(bytes: &[u8], count: usize, short: F) -> Result<(&[u8], &[u8]), F>
-    ensures field { Gives (λ x. (x.0.now, x.1.now)) result (bytes_at short count bytes.now) }
-    ensures short { IfErr result (λ fault. fault ≡ short) }
+    ensures field { Gives short (λ x. (x.0.now, x.1.now)) result (bytes_at short count bytes.now) }
 {
     if bytes.len() < count {
         return Err(short);
@@ -21,8 +19,7 @@ pub fn bytes_at<F: Copy>(bytes: &[u8], count: usize, short: F) -> Result<(&[u8],
 /// Takes one byte off the front of `bytes`, or tells `short` where there is none.
 #[tactic(auto, unfolding(crate::specs::Reading::byte_at))]
 pub fn byte_at<F: Copy>(bytes: &[u8], short: F) -> Result<(u8, &[u8]), F>
-    ensures field { Gives (λ x. (x.0, x.1.now)) result (byte_at short bytes.now) }
-    ensures short { IfErr result (λ fault. fault ≡ short) }
+    ensures field { Gives short (λ x. (x.0, x.1.now)) result (byte_at short bytes.now) }
 {
     match bytes {
         [] => Err(short),
@@ -33,8 +30,7 @@ pub fn byte_at<F: Copy>(bytes: &[u8], short: F) -> Result<(u8, &[u8]), F>
 /// Takes a number of two bytes off the front of `bytes`, or tells `short` where there are fewer.
 #[tactic(auto, unfolding(crate::specs::Reading::number_at, crate::specs::Reading::bytes_at))]
 pub fn u16_at<F: Copy>(bytes: &[u8], short: F) -> Result<(u16, &[u8]), F>
-    ensures field { Gives (λ x. (x.0, x.1.now)) result (number_at short w16 bytes.now) }
-    ensures short { IfErr result (λ fault. fault ≡ short) }
+    ensures field { Gives short (λ x. (x.0, x.1.now)) result (number_at short w16 bytes.now) }
 {
     if bytes.len() < 2 {
         return Err(short);
@@ -46,8 +42,7 @@ pub fn u16_at<F: Copy>(bytes: &[u8], short: F) -> Result<(u16, &[u8]), F>
 /// Takes a number of four bytes off the front of `bytes`, or tells `short` where there are fewer.
 #[tactic(auto, unfolding(crate::specs::Reading::number_at, crate::specs::Reading::bytes_at))]
 pub fn u32_at<F: Copy>(bytes: &[u8], short: F) -> Result<(u32, &[u8]), F>
-    ensures field { Gives (λ x. (x.0, x.1.now)) result (number_at short w32 bytes.now) }
-    ensures short { IfErr result (λ fault. fault ≡ short) }
+    ensures field { Gives short (λ x. (x.0, x.1.now)) result (number_at short w32 bytes.now) }
 {
     if bytes.len() < 4 {
         return Err(short);
@@ -59,8 +54,7 @@ pub fn u32_at<F: Copy>(bytes: &[u8], short: F) -> Result<(u32, &[u8]), F>
 /// Takes a number of eight bytes off the front of `bytes`, or tells `short` where there are fewer.
 #[tactic(auto, unfolding(crate::specs::Reading::number_at, crate::specs::Reading::bytes_at))]
 pub fn u64_at<F: Copy>(bytes: &[u8], short: F) -> Result<(u64, &[u8]), F>
-    ensures field { Gives (λ x. (x.0, x.1.now)) result (number_at short w64 bytes.now) }
-    ensures short { IfErr result (λ fault. fault ≡ short) }
+    ensures field { Gives short (λ x. (x.0, x.1.now)) result (number_at short w64 bytes.now) }
 {
     if bytes.len() < 8 {
         return Err(short);

@@ -10,13 +10,14 @@ ghost use Rattle.daemon.specs.Talking.{MountsSo, EndsSo, HandsOver, ServesOn, Ta
 use crate::happened::{Happened, Refusal};
 use crate::server::Server;
 use broker_core::Broker;
+use byte_codec::Bytes;
 use eden_base::{ClaimFault, DaemonId, NoMemory};
 use handover::{HandoverFault, hand_over, take_over};
 use manifest::Manifest;
 use std::alloc::Global;
 use std::marker::Model;
 use std::mem;
-use takeover_core::{DrainFault, Heard, ImageBytes, Message, Node, Phase, Versions};
+use takeover_core::{DrainFault, Heard, Message, Node, Phase, Versions};
 
 /// The versions of the image that every daemon reads and writes.
 const VERSIONS: [u16; 1] = [1];
@@ -201,7 +202,7 @@ impl Daemon {
         let mut node = node;
         match self.data(alloc, generation, version) {
             Ok(bytes) => {
-                let said = node.data_made(ImageBytes::of(bytes));
+                let said = node.data_made(Bytes::of(bytes));
                 Ok(self.turn(node, Reaction::Says(said)))
             }
             Err(HandoverFault::Refused) => {

@@ -7,12 +7,12 @@ ghost use Rattle.frames.specs.Reading.{Gives, HasBytes, HasImage, Is, bare, fram
 
 use crate::field::{nothing, u16_alone, u32_alone, u64_alone};
 use crate::kind::{Kind, MessageKind};
-use crate::{Frame, FuseBytes, LinkFault};
+use crate::{Frame, LinkFault};
 use arrayvec::ArrayVec;
-use byte_codec::{u16_in, u32_at, u64_at};
+use byte_codec::{u16_in, u32_at, u64_at, Bytes};
 use eden_base::DaemonId;
 use std::alloc::Global;
-use takeover_core::{ImageBytes, Message, Versions};
+use takeover_core::{Message, Versions};
 
 /// Copies bytes that are kept.
 fn copy(alloc: Global, bytes: &[u8]) -> Result<Vec<u8>, LinkFault>
@@ -66,7 +66,7 @@ fn read_data(alloc: Global, body: &[u8]) -> Result<Message, LinkFault>
 {
     let (session, rest) = u32_at(body, LinkFault::BadBody)?;
     let (generation, image) = u64_at(rest, LinkFault::BadBody)?;
-    let bytes = ImageBytes::of(copy(alloc, image)?);
+    let bytes = Bytes::of(copy(alloc, image)?);
     Ok(Message::Data {
         session,
         generation,
@@ -120,7 +120,7 @@ fn read_post(alloc: Global, body: &[u8]) -> Result<Frame, LinkFault>
     ensures { Gives HasBytes result (frame_of kinds.Post body.now) }
 {
     let (generation, bytes) = u64_at(body, LinkFault::BadBody)?;
-    let reply = FuseBytes::of(copy(alloc, bytes)?);
+    let reply = Bytes::of(copy(alloc, bytes)?);
     Ok(Frame::Post { generation, reply })
 }
 
@@ -141,7 +141,7 @@ pub(crate) fn read_frame(alloc: Global, kind: Kind, body: &[u8]) -> Result<Frame
         Kind::Take => Ok(Frame::Take {
             generation: u64_alone(body)?,
         }),
-        Kind::Ask => Ok(Frame::Ask(FuseBytes::of(copy(alloc, body)?))),
+        Kind::Ask => Ok(Frame::Ask(Bytes::of(copy(alloc, body)?))),
         Kind::Empty => bare(Frame::Empty, body),
         Kind::Post => read_post(alloc, body),
         Kind::Posted => bare(Frame::Posted, body),

@@ -1,5 +1,5 @@
 //! What one end of a link says to the other.
-use crate::FuseBytes;
+use byte_codec::Bytes;
 use eden_base::DaemonId;
 use takeover_core::Message;
 
@@ -10,11 +10,11 @@ pub enum Frame {
     /// A daemon at this generation takes the next FUSE request.
     Take { generation: u64 },
     /// The FUSE request that was taken.
-    Ask(FuseBytes),
+    Ask(Bytes),
     /// There is no FUSE request now.
     Empty,
     /// A daemon at this generation posts a FUSE reply.
-    Post { generation: u64, reply: FuseBytes },
+    Post { generation: u64, reply: Bytes },
     /// The reply was passed on.
     Posted,
     /// The mount is over.

@@ -14,5 +14,3 @@ mod writer;
 pub use fault::LinkFault;
 pub use frame::Frame;
 pub use reader::FrameReader;
-/// A FUSE request, or the reply to one, as any bytes: the type in which a takeover's message carries an image.
-pub use takeover_core::ImageBytes as FuseBytes;

@@ -4,8 +4,9 @@
 //! after each piece all whole frames are taken.
 use crate::told::Told;
 use crate::words::number_at;
+use byte_codec::Bytes;
 use eden_base::NoMemory;
-use frames::{Frame, FrameReader, FuseBytes, LinkFault};
+use frames::{Frame, FrameReader, LinkFault};
 use std::alloc::{AllocError, Global};
 use takeover_core::Message;
 
@@ -20,11 +21,11 @@ const LONGEST_DATA: usize = 65_524;
 /// Makes a frame of a form.
 fn frame_of(alloc: Global, form: &str) -> Result<Frame, AllocError> {
     match form {
-        "ask" => Ok(Frame::Ask(FuseBytes::of(Vec::from_elem(alloc, 1, ASK)?))),
+        "ask" => Ok(Frame::Ask(Bytes::of(Vec::from_elem(alloc, 1, ASK)?))),
         "data" => Ok(Frame::Takeover(Message::Data {
             session: 1,
             generation: 1,
-            bytes: FuseBytes::of(Vec::from_elem(alloc, 1, LONGEST_DATA)?),
+            bytes: Bytes::of(Vec::from_elem(alloc, 1, LONGEST_DATA)?),
         })),
         _ => Ok(Frame::Claim { generation: 1 }),
     }

@@ -2,7 +2,6 @@
 #![tactic(auto)]
 
 mod heard;
-mod image_bytes;
 pub mod laws;
 mod message;
 mod node;
@@ -10,7 +9,6 @@ mod phase;
 mod versions;
 
 pub use heard::Heard;
-pub use image_bytes::ImageBytes;
 pub use message::Message;
 pub use node::{DrainFault, Node};
 pub use phase::Phase;

@@ -1,5 +1,6 @@
 //! What one daemon says to another.
-use crate::{ImageBytes, Versions};
+use crate::Versions;
+use byte_codec::Bytes;
 
 /// A message of a takeover. A session is one attempt at it, numbered from 1 by the daemon that serves.
 #[derive(Drop, PartialEq, Eq)]
@@ -28,7 +29,7 @@ pub enum Message {
     Data {
         session: u32,
         generation: u64,
-        bytes: ImageBytes,
+        bytes: Bytes,
     },
     /// The session is over without a takeover.
     Failed {

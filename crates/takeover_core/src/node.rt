@@ -3,7 +3,8 @@ ghost use Rattle.std.specs.Prelude.{◌≡◌, ℕ, List, Some, None, IsTrue, If
 ghost use Rattle.takeover_core.specs.Node.{new_node};
 ghost use Rattle.takeover_core.specs.Phases.{after, heard, said, drain_fault, is_raising, is_making, is_holding, may_take, claim_wanted, Mounted, Hear, Raised, Drained, DataMade, DataFailed, GiveUp, Claimed, Crash};
 
-use crate::{Heard, ImageBytes, Message, Phase, Versions};
+use crate::{Heard, Message, Phase, Versions};
+use byte_codec::Bytes;
 use eden_base::{ClaimFault, LAST_GENERATION, LAST_SESSION};
 use std::marker::Model;
 use thiserror::Error;
@@ -322,7 +323,7 @@ impl Node {
 
     /// Hands the data over, in the bytes' own memory, and returns the message that is to be said. From here on the
     /// daemon does not serve without a claim.
-    pub fn data_made(&mut self, bytes: ImageBytes) -> Message
+    pub fn data_made(&mut self, bytes: Bytes) -> Message
         requires making { IsTrue (is_making self.old.phase) }
         ensures message { Some result ≡ said (heard self.old (DataMade bytes)) }
         ensures after { self.new ≡ after self.old (DataMade bytes) }

@@ -3,7 +3,8 @@
 mod vectors;
 
 use crate::frames_tests::vectors::{CLAIM, FAULTS, TEXTS};
-use frames::{Frame, FrameReader, FuseBytes, LinkFault};
+use byte_codec::Bytes;
+use frames::{Frame, FrameReader, LinkFault};
 use std::alloc::Global;
 use std::test::Fail;
 
@@ -138,9 +139,9 @@ fn a_fault_is_told_and_stands(rt: HostRuntime) {
 /// Returns a frame of so many bytes that are all the same.
 fn long_ask(alloc: Global, len: usize) -> Result<Frame, LinkFault> {
     match Vec::from_elem(alloc, 7, len) {
-        Ok(bytes) => Ok(Frame::Ask(FuseBytes::of(bytes))),
+        Ok(bytes) => Ok(Frame::Ask(Bytes::of(bytes))),
         Err(_) => match Vec::from_elem(alloc, 7, len) {
-            Ok(bytes) => Ok(Frame::Ask(FuseBytes::of(bytes))),
+            Ok(bytes) => Ok(Frame::Ask(Bytes::of(bytes))),
             Err(_) => Err(LinkFault::NoMemory),
         },
     }

@@ -1,7 +1,8 @@
 //! Each pair of a phase and a call, once. The rows are those of the table of phases, written out by hand.
 use super::Node;
 use super::tests::is;
-use crate::{Heard, ImageBytes, Message, Phase, Versions};
+use crate::{Heard, Message, Phase, Versions};
+use byte_codec::Bytes;
 use eden_base::ClaimFault;
 use std::alloc::Global;
 
@@ -231,7 +232,7 @@ fn data(alloc: Global, session: u32) -> Message {
     Message::Data {
         session,
         generation: 5,
-        bytes: ImageBytes::of(Vec::new(alloc)),
+        bytes: Bytes::of(Vec::new(alloc)),
     }
 }
 
@@ -301,7 +302,7 @@ fn make(alloc: Global, node: &mut Node, call: Call) -> Heard {
         (Call::DrainedButForOneAsk, _) => drain(node, 1, 0),
         (Call::DrainedButForOneReply, _) => drain(node, 0, 1),
         (Call::DataMade, Phase::Making { .. }) => {
-            Heard::Say(node.data_made(ImageBytes::of(Vec::new(alloc))))
+            Heard::Say(node.data_made(Bytes::of(Vec::new(alloc))))
         }
         (Call::DataFailed, Phase::Making { .. }) => Heard::Say(node.data_failed()),
         (Call::GiveUp, _) => node.give_up(),

@@ -2,8 +2,9 @@
 ghost use Rattle.std.specs.Prelude.{◌≤◌, length};
 
 use super::{DrainFault, Node};
-use crate::{Heard, ImageBytes, Message, Phase, Versions};
+use crate::{Heard, Message, Phase, Versions};
 use arrayvec::ArrayString;
+use byte_codec::Bytes;
 use eden_base::ClaimFault;
 use std::alloc::Global;
 use std::fmt::Write;
@@ -203,7 +204,7 @@ fn drains(node: &mut Node, expected: Message) -> bool {
 fn hands_data(alloc: Global, old: &mut Node, new: &mut Node, expected: Heard) -> bool {
     match old.phase() {
         Phase::Making { .. } => {
-            let data = old.data_made(ImageBytes::of(Vec::new(alloc)));
+            let data = old.data_made(Bytes::of(Vec::new(alloc)));
             comes(new, data, expected)
         }
         _ => false,
