@@ -9,7 +9,7 @@ use crate::field::{nothing, u16_alone, u32_alone, u64_alone};
 use crate::kind::{Kind, MessageKind};
 use crate::{Frame, LinkFault};
 use arrayvec::ArrayVec;
-use byte_codec::{u16_in, u32_at, u64_at, Bytes};
+use byte_codec::{Bytes, u16_in, u32_at, u64_at};
 use eden_base::DaemonId;
 use std::alloc::Global;
 use takeover_core::{Message, Versions};
