@@ -2,3 +2,4 @@ pub mod ByteLemmas
 pub mod FieldLaws
 pub mod StepLemmas
 pub mod WriteLemmas
+pub mod YieldLemmas

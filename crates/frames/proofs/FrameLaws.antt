@@ -1,19 +1,21 @@
 -- A body that is read is the one that was written.
 use Rattle.std.proofs.Common.{◌≡◌, ◌^◌, ◌++◌, Ok, Some, refl}
 use Rattle.std.specs.Int.{w16, w32, w64}
+use Rattle.byte_codec.specs.Field.{number_bytes}
+use Rattle.byte_codec.proofs.FieldLaws.{two, four, eight, number_again}
 use Rattle.takeover_core.specs.declared.message.Message.{Message}
 use Rattle.takeover_core.specs.declared.message.Message.TheVariants.{Offer, Choice, NoCommon, Busy, Ready, Pong, Data, Failed}
+use Rattle.frames.specs.declared.fault.LinkFault.TheVariants.{BadBody}
 use Rattle.frames.specs.declared.frame.Frame.{Frame}
 use Rattle.frames.specs.declared.frame.Frame.TheVariants.{Take, Ask, Empty, Post, Posted, Ended, Stale, NotAsked, Claim, Claimed, Unanswered, LastGeneration, Mount, Mounted, Seated, Attach, Attached, Takeover}
 use Rattle.frames.specs.declared.kind.Kind.{Kind}
 use Rattle.frames.specs.declared.kind.Kind.TheVariants as kinds
 use Rattle.frames.specs.declared.kind.MessageKind.{MessageKind}
 use Rattle.frames.specs.declared.kind.MessageKind.TheVariants as messages
-use Rattle.frames.specs.Field.{number_text}
 use Rattle.frames.specs.FrameText.{Fits, FitsMessage, body_of, kind_of, message_body, message_kind}
 use Rattle.frames.specs.Kind.{kind_with, message_kind_with, message_number, number_of}
 use Rattle.frames.specs.Reading.{frame_of, message_of, nothing}
-use Rattle.frames.proofs.FieldLaws.{two, four, eight, alone_again, front_again, versions_again}
+use Rattle.frames.proofs.FieldLaws.{alone_again, versions_again}
 
 -- each kind has a number of its own
 pub message_kind_again : (kind : MessageKind) → message_kind_with (message_number kind) ≡ Some kind
@@ -59,14 +61,14 @@ pub message_again : (message : Message) → FitsMessage message → message_of (
 unfolding message_of nothing
 message_again (Offer versions) fit = rw (versions_again versions fit.0 fit.1) refl
 message_again (Choice session version) fit =
-    rw (front_again w32 (2 ^ 32) session (number_text w16 version) four fit.0, alone_again w16 (2 ^ 16) version two fit.1) refl
+    rw (number_again BadBody w32 (2 ^ 32) session (number_bytes w16 version) four fit.0, alone_again w16 (2 ^ 16) version two fit.1) refl
 message_again NoCommon fit = refl
 message_again Busy fit = refl
 message_again (Ready session generation) fit =
-    rw (front_again w32 (2 ^ 32) session (number_text w64 generation) four fit.0, alone_again w64 (2 ^ 64) generation eight fit.1) refl
+    rw (number_again BadBody w32 (2 ^ 32) session (number_bytes w64 generation) four fit.0, alone_again w64 (2 ^ 64) generation eight fit.1) refl
 message_again (Pong session) fit = rw (alone_again w32 (2 ^ 32) session four fit) refl
 message_again (Data session generation bytes) fit =
-    rw (front_again w32 (2 ^ 32) session (number_text w64 generation ++ bytes) four fit.0, front_again w64 (2 ^ 64) generation bytes eight fit.1) refl
+    rw (number_again BadBody w32 (2 ^ 32) session (number_bytes w64 generation ++ bytes) four fit.0, number_again BadBody w64 (2 ^ 64) generation bytes eight fit.1) refl
 message_again (Failed session) fit = rw (alone_again w32 (2 ^ 32) session four fit) refl
 
 pub body_again : (frame : Frame) → Fits frame → frame_of (kind_of frame) (body_of frame) ≡ Ok frame
@@ -74,7 +76,7 @@ unfolding frame_of nothing
 body_again (Take generation) fit = rw (alone_again w64 (2 ^ 64) generation eight fit) refl
 body_again (Ask request) fit = refl
 body_again Empty fit = refl
-body_again (Post generation reply) fit = rw (front_again w64 (2 ^ 64) generation reply eight fit) refl
+body_again (Post generation reply) fit = rw (number_again BadBody w64 (2 ^ 64) generation reply eight fit) refl
 body_again Posted fit = refl
 body_again Ended fit = refl
 body_again (Stale now) fit = rw (alone_again w64 (2 ^ 64) now eight fit) refl

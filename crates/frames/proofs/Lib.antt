@@ -1,7 +1,6 @@
 pub mod EndLaws
 pub mod Ending
 pub mod Examples
-pub mod FaultLaws
 pub mod FieldLaws
 pub mod FoundFields
 pub mod FoundFrames

@@ -4,23 +4,24 @@ use Rattle.std.specs.Int.{w32}
 use Rattle.std.specs.Prelude.{◌↔◌, slice_index}
 use Rattle.std.proofs.lemmas.Bool.{cases_lt, le-ltb, lt-ltb}
 use Rattle.std.proofs.lemmas.List.{take-append-drop, drop-drop, length-drop}
+use Rattle.byte_codec.specs.Field.{AreBytes, number_bytes}
+use Rattle.byte_codec.proofs.ByteLemmas.{AreBytes-drop, AreBytes-take}
+use Rattle.byte_codec.proofs.FieldLaws.{four_back}
+use Rattle.byte_codec.proofs.YieldLemmas.{faulted, yielded}
 use Rattle.frames.specs.declared.fault.LinkFault.{LinkFault}
 use Rattle.frames.specs.declared.fault.LinkFault.TheVariants.{TooLong, BadKind, BadBody, Torn, Read, Write, NoMemory}
 use Rattle.frames.specs.declared.frame.Frame.{Frame}
 use Rattle.frames.specs.declared.kind.Kind.{Kind}
-use Rattle.frames.specs.Field.{number_text}
 use Rattle.frames.specs.FrameText.{body_of, framed, kind_of, longest_body}
 use Rattle.frames.specs.Kind.{kind_with, number_of}
 use Rattle.frames.specs.Reading.{Said, First, Faulty, NotYet, behind, body_in, body_len, frame_of, said}
-use Rattle.frames.specs.Says.{AreBytes, HasKind, HasLength, IsFirst, IsNoBody, Says}
-use Rattle.frames.proofs.FaultLaws.{frame_only}
-use Rattle.frames.proofs.FoundFields.{four_back, bytes_before, bytes_behind}
-use Rattle.frames.proofs.FoundFrames.{IsFrameOf, frame_found, number_found_again}
+use Rattle.frames.specs.Says.{HasKind, HasLength, IsFirst, IsNoBody, Says}
+use Rattle.frames.proofs.FoundFrames.{IsFrameOf, frame_yields, number_found_again}
 use Rattle.frames.proofs.FrameLaws.{body_again, kind_again}
 use Rattle.frames.proofs.StreamLaws.{text_again}
 
 are_body : (bytes : List ℕ) → AreBytes bytes → AreBytes (body_in bytes)
-are_body bytes are = bytes_before (body_len bytes) (drop 5 bytes) (bytes_behind 5 bytes are)
+are_body bytes are = AreBytes-take (body_len bytes) (drop 5 bytes) (AreBytes-drop 5 bytes are)
 
 -- ---- what is said is read
 
@@ -32,8 +33,8 @@ its_kind : (n : ℕ) (kind : Kind) → n ≡ number_of kind → kind_with n ≡ 
 its_kind n kind e = ap kind_with e ∙ kind_again kind
 
 no_frame : (kind : Kind) (body : List ℕ) (read : Result Frame LinkFault) → frame_of kind body ≡ read → AreBytes body → IsNoBody kind body → frame_of kind body ≡ Err BadBody
-no_frame kind body (Ok frame) e are none = let found = frame_found kind body frame are e in absurd (none frame found.fits found.kind_is found.body_is)
-no_frame kind body (Err fault) e are none = let is = frame_only kind body fault e in cc
+no_frame kind body (Ok frame) e are none = let found = yielded (frame_of kind body) frame (frame_yields kind body are) e in absurd (none frame found.fits found.kind_is found.body_is)
+no_frame kind body (Err fault) e are none = let is = faulted (frame_of kind body) fault (frame_yields kind body are) e in cc
 
 too_long : (bytes : List ℕ) → 4 ≤ length bytes → longest_body < body_len bytes → said bytes ≡ Faulty TooLong
 unfolding said
@@ -92,13 +93,13 @@ in_parts bytes kind are has whole =
     let head = take 4 bytes in
     let body = body_in bytes in
     let long : length body ≡ len = omega (arith, length-take len (drop 5 bytes), length-drop 5 bytes, whole) in
-    let spelled : number_text w32 len ≡ head = four_back.back head (omega (arith, length-take 4 bytes, has.len.whole)) (bytes_before 4 bytes are) in
+    let spelled : number_bytes w32 len ≡ head = four_back.back head (omega (arith, length-take 4 bytes, has.len.whole)) (AreBytes-take 4 bytes are) in
     let tail : drop 5 bytes ≡ body ++ behind bytes = sym (take-append-drop len (drop 5 bytes)) ∙ ap (λ (t : List ℕ). body ++ t) (drop-drop len 5 bytes) in
     five_parts bytes has.whole
     ∙ ap (λ (t : List ℕ). head ++ (slice_index bytes 4 ∷ t)) tail
     ∙ ap (λ (n : ℕ). head ++ (n ∷ (body ++ behind bytes))) has.number
-    ∙ ap (λ (t : List ℕ). t ++ (number_of kind ∷ (body ++ behind bytes))) (sym spelled ∙ ap (number_text w32) (sym long))
-    ∙ sym (append_assoc (number_text w32 (length body)) (number_of kind ∷ body) (behind bytes))
+    ∙ ap (λ (t : List ℕ). t ++ (number_of kind ∷ (body ++ behind bytes))) (sym spelled ∙ ap (number_bytes w32) (sym long))
+    ∙ sym (append_assoc (number_bytes w32 (length body)) (number_of kind ∷ body) (behind bytes))
 
 first_is : (bytes : List ℕ) (kind : Kind) (frame : Frame) → AreBytes bytes → HasKind bytes kind → 5 + body_len bytes ≤ length bytes → IsFrameOf kind (body_in bytes) frame → IsFirst bytes frame (behind bytes)
 first_is bytes kind frame are has whole found =
@@ -119,7 +120,7 @@ Something bytes = (what : Said) × Says bytes what
 
 by_frame : (bytes : List ℕ) (kind : Kind) (read : Result Frame LinkFault) → frame_of kind (body_in bytes) ≡ read → AreBytes bytes → HasKind bytes kind → 5 + body_len bytes ≤ length bytes → Something bytes
 by_frame bytes kind (Ok frame) e are has whole =
-    (First frame (behind bytes), first_is bytes kind frame are has whole (frame_found kind (body_in bytes) frame (are_body bytes are) e))
+    (First frame (behind bytes), first_is bytes kind frame are has whole (yielded (frame_of kind (body_in bytes)) frame (frame_yields kind (body_in bytes) (are_body bytes are)) e))
 by_frame bytes kind (Err fault) e are has whole = (
   Faulty BadBody,
   (

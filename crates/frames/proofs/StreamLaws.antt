@@ -3,19 +3,19 @@ use Rattle.std.proofs.Common.{◌≡◌, ℕ, ◌+◌, ◌≤◌, Bool, true, fa
 use Rattle.std.specs.Int.{w32}
 use Rattle.std.proofs.lemmas.Bool.{cases_lt, le-ltb, lt-ltb, ltb-false}
 use Rattle.std.proofs.lemmas.List.{take_at, drop_at, drop-drop}
+use Rattle.byte_codec.specs.Field.{number_bytes, number_in}
+use Rattle.byte_codec.proofs.FieldLaws.{four}
 use Rattle.frames.specs.declared.fault.LinkFault.TheVariants.{TooLong, BadKind}
 use Rattle.frames.specs.declared.frame.Frame.{Frame}
 use Rattle.frames.specs.declared.kind.Kind.{Kind}
-use Rattle.frames.specs.Field.{number_text, number_at}
 use Rattle.frames.specs.FrameText.{Fits, body_of, framed, frame_text, kind_of, longest_body}
 use Rattle.frames.specs.Kind.{kind_with, number_of}
 use Rattle.frames.specs.Reading.{Said, First, Faulty, NotYet, frame_of, said, said_by, said_frame}
-use Rattle.frames.proofs.FieldLaws.{four}
 use Rattle.frames.proofs.FrameLaws.{body_again, kind_again}
 
 -- the number that four bytes are
 abbrev pub of_four : ℕ → ℕ → ℕ → ℕ → ℕ
-of_four a b c d = number_at w32 (a ∷ b ∷ c ∷ d ∷ [])
+of_four a b c d = number_in w32 (a ∷ b ∷ c ∷ d ∷ [])
 
 -- what follows the number of a kind, where a body has this length
 abbrev pub said_behind : Option Kind → ℕ → List ℕ → Said
@@ -51,7 +51,7 @@ is_long a b c d n bytes =
 
 -- ---- a text in front
 
-pub front_is : (head body rest : List ℕ) (n : ℕ) (kind : Kind) → length head ≡ 4 → number_at w32 head ≡ length body → length body ≤ longest_body → kind_with n ≡ Some kind → said ((head ++ (n ∷ body)) ++ rest) ≡ said_frame (frame_of kind body) rest
+pub front_is : (head body rest : List ℕ) (n : ℕ) (kind : Kind) → length head ≡ 4 → number_in w32 head ≡ length body → length body ≤ longest_body → kind_with n ≡ Some kind → said ((head ++ (n ∷ body)) ++ rest) ≡ said_frame (frame_of kind body) rest
 front_is [] body rest n kind four e few is = absurd (omega (arith, four))
 front_is (a ∷ []) body rest n kind four e few is = absurd (omega (arith, four))
 front_is (a ∷ b ∷ []) body rest n kind four e few is = absurd (omega (arith, four))
@@ -66,7 +66,7 @@ front_is (a ∷ b ∷ c ∷ d ∷ x ∷ head) body rest n kind four e few is = a
 pub framed_again : (frame : Frame) (rest : List ℕ) → Fits frame → length (body_of frame) ≤ longest_body → said (framed (kind_of frame) (body_of frame) ++ rest) ≡ First frame rest
 framed_again frame rest fit few =
     let body = body_of frame in
-    let head = number_text w32 (length body) in
+    let head = number_bytes w32 (length body) in
     let told = four.again (length body) (omega (arith, few)) in
     front_is head body rest (number_of (kind_of frame)) (kind_of frame) (four.len (length body)) told few (kind_again (kind_of frame))
     ∙ ap (λ read. said_frame read rest) (body_again frame fit)

@@ -1,25 +1,9 @@
--- Texts that are put one behind the other, and their lengths.
-use Rattle.std.proofs.Common.{◌≡◌, ℕ, ◌+◌, ◌*◌, List, [], ◌∷◌, ◌++◌, length, refl, sym, ap, ◌∙◌, append_assoc, length-append, arith}
-use Rattle.std.proofs.lemmas.List.{append-nil}
+-- The length of versions, and what is put of a frame.
+use Rattle.std.proofs.Common.{◌≡◌, ℕ, ◌*◌, List, [], ◌∷◌, length, refl, ap, ◌∙◌, length-append, arith}
 use Rattle.std.proofs.lemmas.List.Concat.{flat_map-cons}
-use Rattle.std.specs.Global.{Vec}
-use Rattle.std.specs.Int.{w16, w32, w64}
 use Rattle.std.specs.List.{flat_map}
-use Rattle.frames.specs.Field.{number_text}
+use Rattle.byte_codec.proofs.WriteLemmas.{len_two, field_lengths, fields_written}
 use Rattle.frames.specs.FrameText.{version_text}
-use Rattle.frames.specs.Writing.{Puts}
-
-pub len_two : (n : ℕ) → length (number_text w16 n) ≡ 2
-unfolding number_text
-len_two n = refl
-
-pub len_four : (n : ℕ) → length (number_text w32 n) ≡ 4
-unfolding number_text
-len_four n = refl
-
-pub len_eight : (n : ℕ) → length (number_text w64 n) ≡ 8
-unfolding number_text
-len_eight n = refl
 
 -- each version has two bytes
 pub len_versions : (versions : List ℕ) → length (flat_map version_text versions) ≡ 2 * length versions
@@ -27,26 +11,6 @@ len_versions [] = refl
 len_versions (version ∷ versions) =
     ap length (flat_map-cons version_text version versions) ∙ omega (arith, length-append (version_text version) (flat_map version_text versions), len_two version, len_versions versions)
 
-pub ruleset field_lengths = (len_two, len_four, len_eight, length-append)
-
 pub ruleset lengths = (field_lengths, len_versions)
-
--- where nothing is put, the empty text is
-pub none_put : (out : Vec ℕ) → Puts out out []
-none_put out = record { items = sym (append-nil out.items); len = omega arith; capacity = omega arith }
-
--- two texts that are put one after the other are one text
-pub both_put : (old mid new : Vec ℕ) (xs ys : List ℕ) → Puts mid new ys → Puts old mid xs → Puts old new (xs ++ ys)
-both_put old mid new xs ys second first = record {
-  items = second.items ∙ ap (λ (t : List ℕ). t ++ ys) first.items ∙ append_assoc old.items xs ys;
-  len = omega (arith, length-append xs ys, first.len, second.len);
-  capacity = omega (arith, first.capacity, second.capacity);
-}
-
--- so is a byte before a text
-pub byte_put : (old mid new : Vec ℕ) (byte : ℕ) (ys : List ℕ) → Puts mid new ys → Puts old mid (byte ∷ []) → Puts old new (byte ∷ ys)
-byte_put old mid new byte ys second first = both_put old mid new (byte ∷ []) ys second first
-
-pub ruleset fields_written = (none_put, both_put, byte_put, field_lengths)
 
 pub ruleset written = (fields_written, len_versions)

@@ -1,17 +1,19 @@
 -- The one text of a frame: the length of its body in four bytes, the number of its kind in one, its body. (This
 -- project's own.)
-use Rattle.std.specs.Prelude.{◌<◌, ◌≤◌, ◌^◌, ℕ, nat_lt, List, [], ◌∷◌, ◌++◌, length, Option, Some, None, if◌then◌else◌}
+use Rattle.std.specs.Prelude.{◌≡◌, ◌<◌, ◌≤◌, ◌^◌, ℕ, nat_lt, List, [], ◌∷◌, ◌++◌, length, Option, Some, None, IsSome, if◌then◌else◌}
 use Rattle.std.specs.Int.{w16, w32, w64}
 use Rattle.std.specs.List.{All, flat_map}
+use Rattle.byte_codec.specs.Field.{number_bytes}
 use Rattle.takeover_core.specs.declared.message.Message.{Message}
 use Rattle.takeover_core.specs.declared.message.Message.TheVariants.{Offer, Choice, NoCommon, Busy, Ready, Pong, Data, Failed}
+use Rattle.frames.specs.declared.fault.LinkFault.{LinkFault}
+use Rattle.frames.specs.declared.fault.LinkFault.TheVariants.{TooLong, NoMemory}
 use Rattle.frames.specs.declared.frame.Frame.{Frame}
 use Rattle.frames.specs.declared.frame.Frame.TheVariants.{Take, Ask, Empty, Post, Posted, Ended, Stale, NotAsked, Claim, Claimed, Unanswered, LastGeneration, Mount, Mounted, Seated, Attach, Attached, Takeover}
 use Rattle.frames.specs.declared.kind.Kind.{Kind}
 use Rattle.frames.specs.declared.kind.Kind.TheVariants as kinds
 use Rattle.frames.specs.declared.kind.MessageKind.{MessageKind}
 use Rattle.frames.specs.declared.kind.MessageKind.TheVariants as messages
-use Rattle.frames.specs.Field.{number_text}
 use Rattle.frames.specs.Kind.{number_of}
 
 -- how many bytes a body may have
@@ -54,51 +56,57 @@ kind_of (Takeover message) = kinds.Takeover (message_kind message)
 
 -- a version, in two bytes
 abbrev pub version_text : ℕ → List ℕ
-version_text version = number_text w16 version
+version_text version = number_bytes w16 version
 
 -- the fields of a takeover's message
 abbrev pub message_body : Message → List ℕ
 message_body (Offer versions) = length versions ∷ flat_map version_text versions
-message_body (Choice session version) = number_text w32 session ++ number_text w16 version
+message_body (Choice session version) = number_bytes w32 session ++ number_bytes w16 version
 message_body NoCommon = []
 message_body Busy = []
-message_body (Ready session generation) = number_text w32 session ++ number_text w64 generation
-message_body (Pong session) = number_text w32 session
-message_body (Data session generation bytes) = number_text w32 session ++ (number_text w64 generation ++ bytes)
-message_body (Failed session) = number_text w32 session
+message_body (Ready session generation) = number_bytes w32 session ++ number_bytes w64 generation
+message_body (Pong session) = number_bytes w32 session
+message_body (Data session generation bytes) = number_bytes w32 session ++ (number_bytes w64 generation ++ bytes)
+message_body (Failed session) = number_bytes w32 session
 
 -- the fields of a frame
 abbrev pub body_of : Frame → List ℕ
-body_of (Take generation) = number_text w64 generation
+body_of (Take generation) = number_bytes w64 generation
 body_of (Ask request) = request
 body_of Empty = []
-body_of (Post generation reply) = number_text w64 generation ++ reply
+body_of (Post generation reply) = number_bytes w64 generation ++ reply
 body_of Posted = []
 body_of Ended = []
-body_of (Stale now) = number_text w64 now
+body_of (Stale now) = number_bytes w64 now
 body_of NotAsked = []
-body_of (Claim generation) = number_text w64 generation
-body_of (Claimed generation) = number_text w64 generation
-body_of (Unanswered asks) = number_text w64 asks
+body_of (Claim generation) = number_bytes w64 generation
+body_of (Claimed generation) = number_bytes w64 generation
+body_of (Unanswered asks) = number_bytes w64 asks
 body_of LastGeneration = []
 body_of Mount = []
-body_of (Mounted generation) = number_text w64 generation
+body_of (Mounted generation) = number_bytes w64 generation
 body_of Seated = []
-body_of (Attach daemon) = number_text w64 daemon.0
-body_of (Attached daemon) = number_text w64 daemon.0
+body_of (Attach daemon) = number_bytes w64 daemon.0
+body_of (Attached daemon) = number_bytes w64 daemon.0
 body_of (Takeover message) = message_body message
 
 -- ---- texts
 
 -- the length of a body, the number of a kind, the body
 abbrev pub framed : Kind → List ℕ → List ℕ
-framed kind body = number_text w32 (length body) ++ (number_of kind ∷ body)
+framed kind body = number_bytes w32 (length body) ++ (number_of kind ∷ body)
 
 -- the text of a frame, if its body is not too long
 abbrev pub frame_text : Frame → Option (List ℕ)
 frame_text frame =
     if nat_lt longest_body (length (body_of frame)) then None
     else Some (framed (kind_of frame) (body_of frame))
+
+-- a frame is not written where it has no text; out of memory comes only where it has one
+abbrev pub IsNotWritten : Frame → LinkFault → Type 0
+IsNotWritten frame TooLong = frame_text frame ≡ None
+IsNotWritten frame NoMemory = IsSome (frame_text frame)
+IsNotWritten frame fault = ⊥
 
 -- ---- numbers that have room in their fields, as those of every frame in a program have
 

@@ -1,5 +1,5 @@
 -- The kinds of frames, a number for each. (This project's own.)
-use Rattle.std.specs.Prelude.{ℕ, ◌==◌, Option, Some, None, if◌then◌else◌}
+use Rattle.std.specs.Prelude.{ℕ, List, [], ◌∷◌, ◌==◌, Option, Some, None, if◌then◌else◌}
 use Rattle.frames.specs.declared.kind.Kind.{Kind}
 use Rattle.frames.specs.declared.kind.Kind.TheVariants as kinds
 use Rattle.frames.specs.declared.kind.MessageKind.{MessageKind}
@@ -37,42 +37,28 @@ number_of kinds.Attach = 16
 number_of kinds.Attached = 17
 number_of (kinds.Takeover kind) = message_number kind
 
+-- the first of these that has a number; or else what is left
+abbrev pub first_with : {K : Type 0} → (K → ℕ) → ℕ → List K → Option K → Option K
+first_with number n [] left = left
+first_with number n (kind ∷ others) left = if n == number kind then Some kind else first_with number n others left
+
+-- all kinds of messages
+abbrev pub message_kinds : List MessageKind
+message_kinds = messages.Offer ∷ messages.Choice ∷ messages.NoCommon ∷ messages.Busy ∷ messages.Ready ∷ messages.Pong ∷ messages.Data ∷ messages.Failed ∷ []
+
 -- the kind of message that has a number, if one has
 unfoldable pub message_kind_with : ℕ → Option MessageKind
-message_kind_with n =
-    if n == 32 then Some messages.Offer
-    else if n == 33 then Some messages.Choice
-    else if n == 34 then Some messages.NoCommon
-    else if n == 35 then Some messages.Busy
-    else if n == 36 then Some messages.Ready
-    else if n == 37 then Some messages.Pong
-    else if n == 38 then Some messages.Data
-    else if n == 39 then Some messages.Failed
-    else None
+message_kind_with n = first_with message_number n message_kinds None
 
--- it is a frame's kind, too
+-- all kinds of frames but those of messages
+abbrev pub plain_kinds : List Kind
+plain_kinds = kinds.Take ∷ kinds.Ask ∷ kinds.Empty ∷ kinds.Post ∷ kinds.Posted ∷ kinds.Ended ∷ kinds.Stale ∷ kinds.NotAsked ∷ kinds.Claim ∷ kinds.Claimed ∷ kinds.Unanswered ∷ kinds.LastGeneration ∷ kinds.Mount ∷ kinds.Mounted ∷ kinds.Seated ∷ kinds.Attach ∷ kinds.Attached ∷ []
+
+-- a kind of message is a frame's kind, too
 abbrev pub of_takeover : Option MessageKind → Option Kind
 of_takeover None = None
 of_takeover (Some kind) = Some (kinds.Takeover kind)
 
 -- the kind of frame that has a number, if one has
 unfoldable pub kind_with : ℕ → Option Kind
-kind_with n =
-    if n == 1 then Some kinds.Take
-    else if n == 2 then Some kinds.Ask
-    else if n == 3 then Some kinds.Empty
-    else if n == 4 then Some kinds.Post
-    else if n == 5 then Some kinds.Posted
-    else if n == 6 then Some kinds.Ended
-    else if n == 7 then Some kinds.Stale
-    else if n == 8 then Some kinds.NotAsked
-    else if n == 9 then Some kinds.Claim
-    else if n == 10 then Some kinds.Claimed
-    else if n == 11 then Some kinds.Unanswered
-    else if n == 12 then Some kinds.LastGeneration
-    else if n == 13 then Some kinds.Mount
-    else if n == 14 then Some kinds.Mounted
-    else if n == 15 then Some kinds.Seated
-    else if n == 16 then Some kinds.Attach
-    else if n == 17 then Some kinds.Attached
-    else of_takeover (message_kind_with n)
+kind_with n = first_with number_of n plain_kinds (of_takeover (message_kind_with n))

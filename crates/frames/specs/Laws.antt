@@ -1,10 +1,11 @@
 -- The laws of frames and streams.
 use Rattle.std.specs.Prelude.{◌≡◌, ◌≢◌, ◌↔◌, List, ℕ, [], ◌∷◌, ◌++◌, Option, Some}
+use Rattle.byte_codec.specs.Field.{AreBytes}
 use Rattle.frames.specs.declared.fault.LinkFault.{LinkFault}
 use Rattle.frames.specs.declared.frame.Frame.{Frame}
 use Rattle.frames.specs.FrameText.{Fits, frame_text}
 use Rattle.frames.specs.Reading.{Said, First, NotYet, said}
-use Rattle.frames.specs.Says.{AreBytes, Says}
+use Rattle.frames.specs.Says.{Says}
 use Rattle.frames.specs.Stream.{Ends}
 
 -- the text of a frame is read as that frame, and what stands behind it is left

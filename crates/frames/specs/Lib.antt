@@ -1,8 +1,6 @@
-pub mod Field
 pub mod FrameText
 pub mod Kind
 pub mod Laws
 pub mod Reading
 pub mod Says
 pub mod Stream
-pub mod Writing

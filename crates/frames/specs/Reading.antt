@@ -1,6 +1,8 @@
 -- Which frame a body is, and what the front of a stream of bytes is. (This project's own.)
-use Rattle.std.specs.Prelude.{◌≡◌, ◌≤◌, ◌<◌, IsOkAnd, ℕ, ◌+◌, ◌*◌, ◌==◌, nat_lt, nat_le, ◌&&◌, List, [], ◌∷◌, length, take, drop, slice_index, Option, Some, None, Result, Ok, Err, if◌then◌else◌}
+use Rattle.std.specs.Prelude.{◌≡◌, ◌≤◌, ◌<◌, IsOkAnd, ℕ, suc, zero, ◌+◌, ◌*◌, ◌==◌, nat_lt, nat_le, ◌&&◌, List, [], ◌∷◌, length, take, drop, slice_index, Option, Some, None, Result, Ok, Err, if◌then◌else◌}
 use Rattle.std.specs.Int.{Width, w16, w32, w64, byte_len}
+use Rattle.byte_codec.specs.Field.{number_in}
+use Rattle.byte_codec.specs.Reading.{◌>>=◌, number_at}
 use Rattle.takeover_core.specs.declared.message.Message.{Message}
 use Rattle.takeover_core.specs.declared.message.Message.TheVariants.{Offer, Choice, NoCommon, Busy, Ready, Pong, Data, Failed}
 use Rattle.frames.specs.declared.fault.LinkFault.{LinkFault}
@@ -11,17 +13,10 @@ use Rattle.frames.specs.declared.kind.Kind.{Kind}
 use Rattle.frames.specs.declared.kind.Kind.TheVariants as kinds
 use Rattle.frames.specs.declared.kind.MessageKind.{MessageKind}
 use Rattle.frames.specs.declared.kind.MessageKind.TheVariants as messages
-use Rattle.frames.specs.Field.{number_at, numbers_at}
 use Rattle.frames.specs.FrameText.{longest_body}
 use Rattle.frames.specs.Kind.{kind_with}
 
 -- ---- bodies, as they are read
-
--- what follows from a value that was read, unless there was a fault
-infixl 10 ◌>>=◌
-abbrev pub ◌>>=◌ : {A B : Type 0} → Result A LinkFault → (A → Result B LinkFault) → Result B LinkFault
-(Ok x) >>= f = f x
-(Err fault) >>= f = Err fault
 
 -- a call gave, seen by a view, what reading gives: a value, or BadBody
 abbrev pub Is : {X Y : Type 0} → (X → Y) → Result X LinkFault → Result Y LinkFault → Type 0
@@ -46,27 +41,23 @@ Gives Copied (Ok x) read = read ≡ Ok x
 Gives Copied (Err NoMemory) read = IsOkAnd read Copied
 Gives Copied (Err fault) read = read ≡ Err fault
 
--- a value where a body has as many bytes as its kind asks for
-abbrev pub of_length : {A : Type 0} → ℕ → List ℕ → A → Result A LinkFault
-of_length n body x = if length body == n then Ok x else Err BadBody
-
--- a value where a body has as many bytes at least
-abbrev pub from_length : {A : Type 0} → ℕ → List ℕ → A → Result A LinkFault
-from_length n body x = if nat_lt (length body) n then Err BadBody else Ok x
-
 -- the number that a body is
 unfoldable pub alone : Width → List ℕ → Result ℕ LinkFault
-alone width body = of_length (byte_len width) body (number_at width body)
+alone width body = if length body == byte_len width then Ok (number_in width body) else Err BadBody
 
 -- the number at the front of a body, and what follows it
-unfoldable pub front : Width → List ℕ → Result (ℕ × List ℕ) LinkFault
-front width body =
-    from_length (byte_len width) body (number_at width (take (byte_len width) body), drop (byte_len width) body)
+abbrev pub front : Width → List ℕ → Result (ℕ × List ℕ) LinkFault
+front width body = number_at BadBody width body
 
 -- nothing where the body is empty
 unfoldable pub nothing : List ℕ → Result (Unit {0}) LinkFault
 nothing [] = Ok tt
 nothing (byte ∷ rest) = Err BadBody
+
+-- numbers of two bytes, one behind the other
+abbrev pub numbers_at : ℕ → List ℕ → List ℕ
+numbers_at zero bytes = []
+numbers_at (suc n) bytes = number_in w16 (take 2 bytes) ∷ numbers_at n (drop 2 bytes)
 
 -- at most eight versions behind their count
 unfoldable pub versions_of : List ℕ → Result (List ℕ) LinkFault
@@ -129,7 +120,7 @@ pub data Said : Type 0 where
 
 -- how long the first body is, as the first four bytes say
 abbrev pub body_len : List ℕ → ℕ
-body_len bytes = number_at w32 (take 4 bytes)
+body_len bytes = number_in w32 (take 4 bytes)
 
 -- the first body, and what follows it
 abbrev pub body_in : List ℕ → List ℕ

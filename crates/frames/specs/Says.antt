@@ -7,10 +7,6 @@ use Rattle.frames.specs.FrameText.{Fits, body_of, frame_text, kind_of, longest_b
 use Rattle.frames.specs.Kind.{number_of}
 use Rattle.frames.specs.Reading.{Said, First, Faulty, NotYet, body_in, body_len}
 
--- each number is a byte
-abbrev pub AreBytes : List ℕ → Type 0
-AreBytes bytes = (i : ℕ) → slice_index bytes i < 256
-
 -- the text of a frame stands in front of a rest
 pub record IsFirst (bytes : List ℕ) (frame : Frame) (rest : List ℕ) : Type 0 where
   pub text : List ℕ

@@ -3,14 +3,13 @@ ghost use Rattle.std.specs.Prelude.{◌≡◌, ◌*◌, ◌≤◌, length, IfOk,
 ghost use Rattle.frames.specs.declared.fault.LinkFault.TheVariants.{NoMemory};
 ghost use Rattle.frames.specs.declared.kind.Kind.TheVariants as kinds;
 ghost use Rattle.frames.specs.declared.kind.MessageKind.TheVariants as messages;
-ghost use Rattle.frames.specs.Field.{numbers_at};
-ghost use Rattle.frames.specs.Reading.{Gives, HasBytes, HasImage, Is, bare, frame_of, message_of, versions_of};
+ghost use Rattle.frames.specs.Reading.{Gives, HasBytes, HasImage, Is, bare, frame_of, message_of, numbers_at, versions_of};
 
-use crate::field::{nothing, u16_alone, u16_of, u32_alone, u32_front, u64_alone, u64_front};
+use crate::field::{nothing, u16_alone, u32_alone, u64_alone};
 use crate::kind::{Kind, MessageKind};
 use crate::{Frame, LinkFault};
 use arrayvec::ArrayVec;
-use byte_codec::Bytes;
+use byte_codec::{Bytes, u16_in, u32_at, u64_at};
 use eden_base::DaemonId;
 use std::alloc::Global;
 use takeover_core::{Message, Versions};
@@ -26,7 +25,7 @@ fn copy(alloc: Global, bytes: &[u8]) -> Result<Vec<u8>, LinkFault>
     }
 }
 
-/// Reads so many versions.
+/// Reads `count` versions.
 #[tactic(auto, using(crate::proofs::Versions::one_more, crate::proofs::Versions::no_more))]
 fn read_each(count: usize, bytes: &[u8]) -> Versions
     requires few { count ≤ 8 }
@@ -37,7 +36,7 @@ fn read_each(count: usize, bytes: &[u8]) -> Versions
     let mut rest = bytes;
     for _ in 0..count {
         let (field, after) = rest.split_at(2);
-        versions.push(u16_of(field));
+        versions.push(u16_in(field));
         rest = after;
     }
     Versions::of(versions.as_slice())
@@ -65,8 +64,8 @@ fn read_versions(body: &[u8]) -> Result<Versions, LinkFault>
 fn read_data(alloc: Global, body: &[u8]) -> Result<Message, LinkFault>
     ensures { Gives HasImage result (message_of messages.Data body.now) }
 {
-    let (session, rest) = u32_front(body)?;
-    let (generation, image) = u64_front(rest)?;
+    let (session, rest) = u32_at(body, LinkFault::BadBody)?;
+    let (generation, image) = u64_at(rest, LinkFault::BadBody)?;
     let bytes = Bytes::of(copy(alloc, image)?);
     Ok(Message::Data {
         session,
@@ -83,7 +82,7 @@ fn read_message(alloc: Global, kind: MessageKind, body: &[u8]) -> Result<Message
     match kind {
         MessageKind::Offer => Ok(Message::Offer(read_versions(body)?)),
         MessageKind::Choice => {
-            let (session, rest) = u32_front(body)?;
+            let (session, rest) = u32_at(body, LinkFault::BadBody)?;
             let version = u16_alone(rest)?;
             Ok(Message::Choice { session, version })
         }
@@ -96,7 +95,7 @@ fn read_message(alloc: Global, kind: MessageKind, body: &[u8]) -> Result<Message
             Ok(Message::Busy)
         }
         MessageKind::Ready => {
-            let (session, rest) = u32_front(body)?;
+            let (session, rest) = u32_at(body, LinkFault::BadBody)?;
             let generation = u64_alone(rest)?;
             Ok(Message::Ready {
                 session,
@@ -120,7 +119,7 @@ fn read_message(alloc: Global, kind: MessageKind, body: &[u8]) -> Result<Message
 fn read_post(alloc: Global, body: &[u8]) -> Result<Frame, LinkFault>
     ensures { Gives HasBytes result (frame_of kinds.Post body.now) }
 {
-    let (generation, bytes) = u64_front(body)?;
+    let (generation, bytes) = u64_at(body, LinkFault::BadBody)?;
     let reply = Bytes::of(copy(alloc, bytes)?);
     Ok(Frame::Post { generation, reply })
 }

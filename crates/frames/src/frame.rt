@@ -27,7 +27,7 @@ pub enum Frame {
     Claim { generation: u64 },
     /// The claim was granted, and the seat is at this generation.
     Claimed { generation: u64 },
-    /// So many FUSE requests that were taken have no reply yet.
+    /// This count of FUSE requests that were taken have no reply yet.
     Unanswered { asks: u64 },
     /// The seat is at the last generation.
     LastGeneration,

@@ -5,9 +5,9 @@ ghost use Rattle.frames.specs.Reading.{Finds, Measures, Reads, frame_of, message
 ghost use Rattle.frames.specs.Stream.{Ends, ReadsText, fault_of};
 
 use crate::body::read_frame;
-use crate::field::u32_of;
 use crate::kind::{Kind, MessageKind};
 use crate::{Frame, LinkFault};
+use byte_codec::u32_in;
 use std::alloc::Global;
 use takeover_core::Versions;
 
@@ -29,7 +29,7 @@ fn find(bytes: &[u8]) -> Result<Option<(Kind, usize)>, LinkFault>
         return Ok(None);
     }
     let (field, _) = bytes.split_at(LENGTH);
-    let len = u32_of(field) as usize;
+    let len = u32_in(field) as usize;
     if len > LONGEST_BODY {
         return Err(LinkFault::TooLong);
     }
@@ -65,7 +65,7 @@ pub(crate) fn read_first(alloc: Global, bytes: &[u8]) -> Result<Option<(Frame, u
 }
 
 /// Returns whether a body is a message's of this kind.
-#[tactic(auto, unfolding(crate::specs::Reading::message_of, crate::specs::Reading::versions_of, crate::specs::Reading::alone, crate::specs::Reading::front, crate::specs::Reading::nothing))]
+#[tactic(auto, unfolding(crate::specs::Reading::message_of, crate::specs::Reading::versions_of, crate::specs::Reading::alone, byte_codec::specs::Reading::number_at, byte_codec::specs::Reading::bytes_at, crate::specs::Reading::nothing))]
 fn is_message(kind: MessageKind, body: &[u8]) -> bool
     ensures whole { result ≡ is_ok (message_of kind body.now) }
     ensures bad { IsFalse result → message_of kind body.now ≡ Err BadBody }
@@ -87,7 +87,7 @@ fn is_message(kind: MessageKind, body: &[u8]) -> bool
 }
 
 /// Returns whether a body is a frame's of this kind.
-#[tactic(auto, unfolding(crate::specs::Reading::frame_of, crate::specs::Reading::alone, crate::specs::Reading::front, crate::specs::Reading::nothing))]
+#[tactic(auto, unfolding(crate::specs::Reading::frame_of, crate::specs::Reading::alone, byte_codec::specs::Reading::number_at, byte_codec::specs::Reading::bytes_at, crate::specs::Reading::nothing))]
 fn is_body(kind: Kind, body: &[u8]) -> bool
     ensures whole { result ≡ is_ok (frame_of kind body.now) }
     ensures bad { IsFalse result → frame_of kind body.now ≡ Err BadBody }

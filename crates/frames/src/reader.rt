@@ -33,7 +33,7 @@ impl Model for FrameReader {
 }
 
 impl FrameReader {
-    /// So many bytes that were read are dropped at once: std's `drain` clears a buffer of 4,096 bytes at each call.
+    /// Read bytes below this count are kept, since std's `drain` clears a buffer of 4,096 bytes at each call.
     const MANY: usize = 16_384;
 
     /// Returns a reader that was fed nothing. It takes no memory.

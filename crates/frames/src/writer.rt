@@ -1,14 +1,14 @@
 //! Frames as bytes.
 ghost use Rattle.std.specs.Prelude.{◌≡◌, ◌++◌, ◌≤◌, ℕ, List, length, IfOk, IfErr, Some};
 ghost use Rattle.std.specs.List.{All, flat_map};
-ghost use Rattle.frames.specs.FrameText.{Fits, FitsMessage, FitsVersion, body_of, framed, frame_text, kind_of, message_body, message_kind, version_text};
+ghost use Rattle.byte_codec.specs.Writing.{HasRoom, Puts};
+ghost use Rattle.frames.specs.FrameText.{Fits, FitsMessage, FitsVersion, IsNotWritten, body_of, framed, frame_text, kind_of, message_body, message_kind, version_text};
 ghost use Rattle.frames.specs.Reading.{First, said};
-ghost use Rattle.frames.specs.Writing.{HasRoom, IsNotWritten, Puts};
 
-use crate::field::{put_byte, put_slice, put_u16, put_u32, put_u64};
 use crate::front::{BEFORE_BODY, LONGEST_BODY};
 use crate::kind::{Kind, MessageKind};
 use crate::{Frame, LinkFault};
+use byte_codec::{put_byte, put_slice, put_u16, put_u32, put_u64};
 use std::alloc::Global;
 use takeover_core::Message;
 
@@ -97,7 +97,7 @@ fn body_len(frame: &Frame) -> usize
 }
 
 /// Puts versions, in their order.
-#[tactic(auto, using(crate::proofs::Written::fields_written))]
+#[tactic(auto, using(byte_codec::proofs::WriteLemmas::fields_written))]
 fn put_each(out: &mut Vec<u8>, versions: &[u16])
     requires room { HasRoom out.old (length (flat_map version_text versions.now)) }
     ensures text { Puts out.old out.new (flat_map version_text versions.now) }
@@ -109,7 +109,7 @@ fn put_each(out: &mut Vec<u8>, versions: &[u16])
 }
 
 /// Puts the fields of a message.
-#[tactic(auto, using(crate::proofs::Written::written))]
+#[tactic(auto, using(crate::proofs::Written::written), unfolding(byte_codec::specs::Field::byte_text))]
 fn put_message(out: &mut Vec<u8>, message: &Message)
     requires room { HasRoom out.old (length (message_body message.now)) }
     ensures text { Puts out.old out.new (message_body message.now) }
@@ -178,7 +178,7 @@ fn put_body(out: &mut Vec<u8>, frame: &Frame)
 }
 
 /// Puts the whole text.
-#[tactic(auto, using(crate::proofs::Written::written))]
+#[tactic(auto, using(crate::proofs::Written::written), unfolding(byte_codec::specs::Field::byte_text))]
 fn put_frame(out: &mut Vec<u8>, len: u32, frame: &Frame)
     requires len { len ≡ length (body_of frame.now) }
     requires room { HasRoom out.old (length (framed (kind_of frame.now) (body_of frame.now))) }

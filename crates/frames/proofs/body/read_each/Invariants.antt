@@ -1,5 +1,5 @@
 use Rattle.std.proofs.Common.{◌≡◌, ◌*◌, ◌≤◌, ◌-◌, ◌++◌, length}
-use Rattle.frames.specs.Field.{numbers_at}
+use Rattle.frames.specs.Reading.{numbers_at}
 use Rattle.frames.proofs.body.read_each.Given as goal
 
 abbrev pub invariant-loop : goal.invariant-loop

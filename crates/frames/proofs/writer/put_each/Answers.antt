@@ -2,7 +2,7 @@ use Rattle.std.proofs.Common.{◌<◌, arith, get_or, sym, subst}
 use Rattle.std.proofs.lemmas.Grind.{get_or_default_zero}
 use Rattle.std.proofs.lemmas.List.Folds.{length-flat_map-take}
 use Rattle.frames.specs.FrameText.{version_text}
-use Rattle.frames.proofs.Written.{len_two}
+use Rattle.byte_codec.proofs.WriteLemmas.{len_two}
 use Rattle.frames.proofs.writer.put_each.Goals as goal
 
 pub put_u16-requires : goal.put_u16-requires

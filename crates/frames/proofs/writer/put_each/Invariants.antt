@@ -1,7 +1,7 @@
 use Rattle.std.proofs.Common.{take}
 use Rattle.std.specs.List.{flat_map}
 use Rattle.frames.specs.FrameText.{version_text}
-use Rattle.frames.specs.Writing.{Puts}
+use Rattle.byte_codec.specs.Writing.{Puts}
 use Rattle.frames.proofs.writer.put_each.Given as goal
 
 abbrev pub invariant-loop-version : goal.invariant-loop-version
