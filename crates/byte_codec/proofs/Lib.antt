@@ -1,4 +1,5 @@
 pub mod ByteLemmas
 pub mod FieldLaws
+pub mod PairLaws
 pub mod StepLemmas
 pub mod WriteLemmas
