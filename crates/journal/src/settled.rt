@@ -29,8 +29,7 @@ fn is_of(records: &[Record], receipt: &Receipt) -> bool
 {
     match records.get(receipt.place) {
         Some(record) => {
-            record.request.is(&receipt.ask.what)
-                && same_outcome(&record.answer, &receipt.answer)
+            record.request.is(&receipt.ask.what) && same_outcome(&record.answer, &receipt.answer)
         }
         None => false,
     }
