@@ -42,6 +42,17 @@ Once-makes old event told new fine made = subst (λ (o : Option Refusal). OnceBy
 
 -- ---- one daemon changed
 
+-- the daemon that was read at an index is changed, and stands there again
+pub changed-at : (does : DaemonState → DaemonState → Type 0) (daemons : List DaemonState) (index : ℕ) (was later : DaemonState) →
+    index < length daemons → was ≡ get_or daemons index was → does was later → ChangesAt does daemons index (set daemons index later)
+changed-at does daemons index was later within read does-so = record {
+  was = was;
+  later = later;
+  is_there = slice_get_read daemons (length daemons) index was refl within read;
+  does_so = does-so;
+  makes = refl;
+}
+
 -- the event is refused, and nothing changes
 abbrev Stays : State → Refusal → Happened → State → Type 0
 Stays old refusal told new = (told ≡ happened.Refused refusal) × (new ≡ old)

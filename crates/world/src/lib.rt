@@ -1,7 +1,6 @@
 //! All daemons and the kernel's side as one list of events, and the theorem that holds after each of them.
 #![tactic(auto)]
 
-mod daemon_at;
 mod event;
 mod history;
 pub mod laws;

@@ -6,10 +6,6 @@ ghost use Rattle.world.specs.Step.{Once, Step};
 ghost use Rattle.world.specs.World.{first_world, World as Ideal};
 ghost use Rattle.world.specs.Agreement.{Matches, MovesOn};
 
-use crate::daemon_at::{
-    answer_at, crash_at, drain_at, give_up_at, hear_at, make_room_at, mount_at, post_at, take_at,
-    work_at,
-};
 use crate::event::Event;
 use crate::outcome::Outcome;
 use crate::said::{index_of_data, say};
@@ -216,7 +212,8 @@ impl World {
         };
         let generation = self.broker.mount(daemon);
         let server = Server::new(self.alloc, generation, manifest, served);
-        mount_at(&mut self.daemons, index, generation, server);
+        let waited = &mut self.daemons[index];
+        waited.mount(generation, server);
         Happened::Mounted(generation)
     }
 
@@ -237,7 +234,8 @@ impl World {
         let Some(index) = index_of(daemon.0, self.daemons.len()) else {
             return Happened::Refused(Refusal::NoDaemon);
         };
-        take_at(&mut self.daemons, index, &mut self.broker, daemon)
+        let taker = &mut self.daemons[index];
+        taker.take(&mut self.broker, daemon)
     }
 
     /// Lets a daemon work what stands at a place of its hand.
@@ -247,7 +245,8 @@ impl World {
         let Some(index) = index_of(daemon.0, self.daemons.len()) else {
             return Happened::Refused(Refusal::NoDaemon);
         };
-        work_at(&mut self.daemons, index, place, fails)
+        let worker = &mut self.daemons[index];
+        worker.work(place, fails)
     }
 
     /// Lets a daemon post the reply at a place. It takes no memory.
@@ -257,7 +256,8 @@ impl World {
         let Some(index) = index_of(daemon.0, self.daemons.len()) else {
             return Happened::Refused(Refusal::NoDaemon);
         };
-        post_at(&mut self.daemons, index, &mut self.broker, daemon, place)
+        let poster = &mut self.daemons[index];
+        poster.post(&mut self.broker, daemon, place)
     }
 
     /// Lets the reply that was posted first reach the kernel.
@@ -285,14 +285,8 @@ impl World {
             return Happened::Refused(Refusal::NoMemory);
         }
         let said = &self.messages[at];
-        let Ok(reaction) = hear_at(
-            &mut self.daemons,
-            index,
-            self.alloc,
-            &self.manifest,
-            self.limit,
-            said,
-        ) else {
+        let hearer = &mut self.daemons[index];
+        let Ok(reaction) = hearer.hear(self.alloc, &self.manifest, self.limit, said) else {
             return Happened::Refused(Refusal::NoMemory);
         };
         say(&mut self.messages, reaction)
@@ -311,7 +305,8 @@ impl World {
                 None => Happened::Refused(Refusal::NoMemory),
             };
         }
-        match drain_at(&mut self.daemons, index) {
+        let drainer = &mut self.daemons[index];
+        match drainer.drain() {
             Ok(reaction) => say(&mut self.messages, reaction),
             Err(fault) => Happened::Refused(Refusal::from(fault)),
         }
@@ -327,7 +322,8 @@ impl World {
         if self.messages.reserve(1).is_err() {
             return Happened::Refused(Refusal::NoMemory);
         }
-        let reaction = give_up_at(&mut self.daemons, index);
+        let doubter = &mut self.daemons[index];
+        let reaction = doubter.give_up();
         say(&mut self.messages, reaction)
     }
 
@@ -343,11 +339,13 @@ impl World {
         };
         match self.broker.claim(daemon, generation) {
             Ok(next) => {
-                answer_at(&mut self.daemons, index, Ok(next));
+                let holder = &mut self.daemons[index];
+                holder.take_answer(Ok(next));
                 Happened::Claimed(next)
             }
             Err(fault) => {
-                answer_at(&mut self.daemons, index, Err(fault));
+                let holder = &mut self.daemons[index];
+                holder.take_answer(Err(fault));
                 Happened::Refused(Refusal::from(fault))
             }
         }
@@ -360,7 +358,8 @@ impl World {
         let Some(index) = index_of(daemon.0, self.daemons.len()) else {
             return Happened::Refused(Refusal::NoDaemon);
         };
-        crash_at(&mut self.daemons, index);
+        let ended = &mut self.daemons[index];
+        ended.crash();
         self.broker.gone(daemon);
         Happened::Crashed
     }
@@ -412,7 +411,8 @@ impl World {
     {
         let seat = self.broker.seat()?;
         let index = index_of(seat.daemon.0, self.daemons.len())?;
-        if make_room_at(&mut self.daemons, index) {
+        let server = &mut self.daemons[index];
+        if server.make_room() {
             return None;
         }
         match self.broker.refusal(request) {

@@ -1,11 +1,12 @@
 -- Who is gone.
-use Rattle.std.proofs.Common.{length, subst, arith}
+use Rattle.std.proofs.Common.{length, set, subst, arith}
 use Rattle.daemon.specs.Serving.{IsIndex}
+use Rattle.daemon.specs.Talking.{EndsSo}
 use Rattle.world.specs.State.{State}
 use Rattle.world.specs.Step.{Once}
 use Rattle.world.specs.declared.event.Event.TheVariants.{Crash}
 use Rattle.daemon.specs.declared.happened.Happened.TheVariants as happened
-use Rattle.world.proofs.StepLemmas.{Once-crashes}
+use Rattle.world.proofs.StepLemmas.{changed-at, Once-crashes}
 use Rattle.world.proofs.world.World.crash.Goals as goal
 
 pub returns : goal.returns
@@ -17,6 +18,6 @@ returns c =
       within = omega (arith, c.in-Some.ensures.index.within, c.len.ensures, c.self.inside.daemons.ok.0);
     } in
     record {
-      once = subst (λ (s : State). Once s (Crash c.args.daemon) happened.Crashed (record old { broker = c.gone.new.self; daemons = c.crash_at.new.daemons.items })) c.self.view_is
-          (Once-crashes old c.args.daemon c.in-Some.index c.gone.new.self c.crash_at.new.daemons.items at c.gone.ensures.gone c.crash_at.ensures.gone);
+      once = subst (λ (s : State). Once s (Crash c.args.daemon) happened.Crashed (record old { broker = c.gone.new.self; daemons = (set old.daemons c.in-Some.index c.crash.new.self) })) c.self.view_is
+          (Once-crashes old c.args.daemon c.in-Some.index c.gone.new.self (set old.daemons c.in-Some.index c.crash.new.self) at c.gone.ensures.gone (changed-at (EndsSo) old.daemons c.in-Some.index c.index_mut-ended.result.now c.crash.new.self at.within c.index_mut-ended.ensures.value c.crash.ensures.gone));
     }

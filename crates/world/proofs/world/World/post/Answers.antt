@@ -1,10 +1,10 @@
 -- Who posted.
-use Rattle.std.proofs.Common.{length, subst, arith}
-use Rattle.daemon.specs.Serving.{IsIndex}
+use Rattle.std.proofs.Common.{length, set, subst, arith}
+use Rattle.daemon.specs.Serving.{DaemonPosts, IsIndex}
 use Rattle.world.specs.State.{State}
 use Rattle.world.specs.Step.{Once}
 use Rattle.world.specs.declared.event.Event.TheVariants.{Post}
-use Rattle.world.proofs.StepLemmas.{Once-posts}
+use Rattle.world.proofs.StepLemmas.{changed-at, Once-posts}
 use Rattle.world.proofs.world.World.post.Goals as goal
 
 pub returns : goal.returns
@@ -16,6 +16,6 @@ returns c =
       within = omega (arith, c.in-Some.ensures.index.within, c.len.ensures, c.self.inside.daemons.ok.0);
     } in
     record {
-      once = subst (λ (s : State). Once s (Post c.args.daemon c.args.place) c.post_at.result (record old { broker = c.post_at.new.broker; daemons = c.post_at.new.daemons.items })) c.self.view_is
-          (Once-posts old c.args.daemon c.args.place c.in-Some.index c.post_at.result c.post_at.new.broker c.post_at.new.daemons.items at c.post_at.ensures.posts);
+      once = subst (λ (s : State). Once s (Post c.args.daemon c.args.place) c.post.result (record old { broker = c.post.new.broker; daemons = (set old.daemons c.in-Some.index c.post.new.self) })) c.self.view_is
+          (Once-posts old c.args.daemon c.args.place c.in-Some.index c.post.result c.post.new.broker (set old.daemons c.in-Some.index c.post.new.self) at (changed-at (DaemonPosts old.broker c.args.daemon c.args.place c.post.result c.post.new.broker) old.daemons c.in-Some.index c.index_mut-poster.result.now c.post.new.self at.within c.index_mut-poster.ensures.value c.post.ensures.posts));
     }

@@ -1,10 +1,10 @@
 -- Who took.
-use Rattle.std.proofs.Common.{length, subst, arith}
-use Rattle.daemon.specs.Serving.{IsIndex}
+use Rattle.std.proofs.Common.{length, set, subst, arith}
+use Rattle.daemon.specs.Serving.{DaemonTakes, IsIndex}
 use Rattle.world.specs.State.{State}
 use Rattle.world.specs.Step.{Once}
 use Rattle.world.specs.declared.event.Event.TheVariants.{Take}
-use Rattle.world.proofs.StepLemmas.{Once-takes}
+use Rattle.world.proofs.StepLemmas.{changed-at, Once-takes}
 use Rattle.world.proofs.world.World.take.Goals as goal
 
 pub returns : goal.returns
@@ -16,6 +16,6 @@ returns c =
       within = omega (arith, c.in-Some.ensures.index.within, c.len.ensures, c.self.inside.daemons.ok.0);
     } in
     record {
-      once = subst (λ (s : State). Once s (Take c.args.daemon) c.take_at.result (record old { broker = c.take_at.new.broker; daemons = c.take_at.new.daemons.items })) c.self.view_is
-          (Once-takes old c.args.daemon c.in-Some.index c.take_at.result c.take_at.new.broker c.take_at.new.daemons.items at c.take_at.ensures.takes);
+      once = subst (λ (s : State). Once s (Take c.args.daemon) c.take.result (record old { broker = c.take.new.broker; daemons = (set old.daemons c.in-Some.index c.take.new.self) })) c.self.view_is
+          (Once-takes old c.args.daemon c.in-Some.index c.take.result c.take.new.broker (set old.daemons c.in-Some.index c.take.new.self) at (changed-at (DaemonTakes old.broker c.args.daemon c.take.result c.take.new.broker) old.daemons c.in-Some.index c.index_mut-taker.result.now c.take.new.self at.within c.index_mut-taker.ensures.value c.take.ensures.takes));
     }

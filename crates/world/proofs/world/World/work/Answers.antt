@@ -1,10 +1,10 @@
 -- Who worked.
-use Rattle.std.proofs.Common.{length, subst, arith}
-use Rattle.daemon.specs.Serving.{IsIndex}
+use Rattle.std.proofs.Common.{length, set, subst, arith}
+use Rattle.daemon.specs.Serving.{DaemonWorks, IsIndex}
 use Rattle.world.specs.State.{State}
 use Rattle.world.specs.Step.{Once}
 use Rattle.world.specs.declared.event.Event.TheVariants.{Work}
-use Rattle.world.proofs.StepLemmas.{Once-works}
+use Rattle.world.proofs.StepLemmas.{changed-at, Once-works}
 use Rattle.world.proofs.world.World.work.Goals as goal
 
 pub returns : goal.returns
@@ -16,6 +16,6 @@ returns c =
       within = omega (arith, c.in-Some.ensures.index.within, c.len.ensures, c.self.inside.daemons.ok.0);
     } in
     record {
-      once = subst (λ (s : State). Once s (Work c.args.daemon c.args.place c.args.fails) c.work_at.result (record old { daemons = c.work_at.new.daemons.items })) c.self.view_is
-          (Once-works old c.args.daemon c.args.place c.args.fails c.in-Some.index c.work_at.result c.work_at.new.daemons.items at c.work_at.ensures.works);
+      once = subst (λ (s : State). Once s (Work c.args.daemon c.args.place c.args.fails) c.work.result (record old { daemons = (set old.daemons c.in-Some.index c.work.new.self) })) c.self.view_is
+          (Once-works old c.args.daemon c.args.place c.args.fails c.in-Some.index c.work.result (set old.daemons c.in-Some.index c.work.new.self) at (changed-at (DaemonWorks c.args.place c.args.fails c.work.result) old.daemons c.in-Some.index c.index_mut-worker.result.now c.work.new.self at.within c.index_mut-worker.ensures.value c.work.ensures.works));
     }
