@@ -2,7 +2,8 @@
 ghost use Rattle.std.specs.Prelude.{◌≡◌, not, None, Some, Ok, IfOk, if◌then◌else◌};
 ghost use Rattle.eden_base.specs.declared.number.FileId.{FileId};
 ghost use Rattle.std.specs.Option.{option_map, IfSome};
-ghost use Rattle.manifest.specs.Tree.{IsTree, is_unlinked, nlink_of_kind};
+ghost use Rattle.manifest.specs.Tree.{IsTree, nlink_of_kind};
+ghost use Rattle.checkout.specs.ChangedTree.{is_unlinked};
 ghost use Rattle.inode_map.specs.InodeMap.{forgotten};
 ghost use Rattle.fuse_ops.specs.Loading.{Backs, FailsAs, Loads};
 ghost use Rattle.fuse_ops.specs.Served.{new_served, served_of, forgotten_all, IsLocated, Replay};

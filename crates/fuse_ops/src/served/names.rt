@@ -3,7 +3,8 @@ ghost use Rattle.std.specs.Prelude.{◌≡◌, ◌<◌, false, Some, Ok, IsSome,
 ghost use Rattle.eden_base.specs.Limits.{end_of_numbers};
 ghost use Rattle.eden_base.specs.declared.number.FileId.{FileId};
 ghost use Rattle.std.specs.Option.{IfSome};
-ghost use Rattle.manifest.specs.Tree.{child_of, is_full_dir};
+ghost use Rattle.manifest.specs.Tree.{child_of};
+ghost use Rattle.checkout.specs.ChangedTree.{is_full_dir};
 ghost use Rattle.eden_base.specs.declared.errno.Errno.TheVariants.{EIO};
 ghost use Rattle.fuse_wire.specs.declared.reply.Answer.TheVariants.{Error};
 ghost use Rattle.fuse_wire.specs.declared.request.Request.TheVariants.{Create, Mkdir, Unlink, Rmdir};
