@@ -13,7 +13,8 @@ use Rattle.checkout.specs.Changed.{changed, links_with}
 use Rattle.checkout.specs.Changes.{place_of}
 use Rattle.manifest.specs.Manifest.{Line, Manifest, IsManifest}
 use Rattle.checkout.specs.Rounds.{first_of}
-use Rattle.manifest.specs.Tree.{has_links, is_linked, link_cmp, links_from}
+use Rattle.manifest.specs.Tree.{link_cmp, links_from}
+use Rattle.checkout.specs.ChangedTree.{has_links, is_linked}
 use Rattle.checkout.proofs.ChangeLists.{all_weaker}
 use Rattle.checkout.proofs.ChangedLinks.{any_link}
 use Rattle.checkout.proofs.ChangedMaps.{changed_links-changed, each_stands, links_with-put, target_else}

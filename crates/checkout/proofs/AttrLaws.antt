@@ -7,7 +7,8 @@ use Rattle.eden_base.specs.declared.attr.Kind.{Kind}
 use Rattle.eden_base.specs.declared.attr.Perm.{Perm}
 use Rattle.eden_base.specs.declared.number.FileId.{FileId}
 use Rattle.manifest.specs.Manifest.{File}
-use Rattle.manifest.specs.Tree.{Tree, child_of, file_of, is_linked, is_unlinked, is_full_dir, next_file, made_file, nlink_of_kind, attr_of, created, removed, IsTree}
+use Rattle.manifest.specs.Tree.{Tree, child_of, file_of, nlink_of_kind, IsTree}
+use Rattle.checkout.specs.ChangedTree.{is_linked, is_unlinked, is_full_dir, next_file, made_file, attr_of, created, removed}
 use Rattle.checkout.proofs.CreateLaws.{child_of-created, child_of-created_elsewhere, child_of-created_cases, file_of-created, file_of-created_other}
 use Rattle.checkout.proofs.LinkLaws.{linked_from_child, child_from_linked}
 use Rattle.checkout.proofs.RemoveLaws.{is_linked-removed, is_linked-removed_other}

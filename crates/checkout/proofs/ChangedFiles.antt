@@ -19,7 +19,8 @@ use Rattle.checkout.specs.BadChanges.{first_bad, is_bad_made, kind_with}
 use Rattle.checkout.specs.Changed.{changed, files_with}
 use Rattle.checkout.specs.Changes.{AreMade, IsMade, file_ids}
 use Rattle.manifest.specs.Manifest.{File, Line, Manifest, line_of}
-use Rattle.manifest.specs.Tree.{Tree, files_from, made_file}
+use Rattle.manifest.specs.Tree.{Tree, files_from}
+use Rattle.checkout.specs.ChangedTree.{made_file}
 use Rattle.checkout.proofs.FirstBadLaws.{IsGoodMade, ids_rise, made_good}
 use Rattle.manifest.proofs.ManifestTree.{file_from_line, no_file, no_later_file, root_of_files, same_id}
 use Rattle.manifest.proofs.MapLemmas.{get-insert_other, get-insert_same}

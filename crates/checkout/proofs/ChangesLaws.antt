@@ -11,7 +11,8 @@ use Rattle.manifest.specs.declared.links.LinkChange.{LinkChange}
 use Rattle.checkout.specs.declared.changes.Made.{Made}
 use Rattle.checkout.specs.Changes.{AreChanges, IsLinkChange, place_of}
 use Rattle.manifest.specs.Manifest.{File, Manifest}
-use Rattle.manifest.specs.Tree.{Tree, IsTree, child_of, file_of, links_from, made_file, tree_of}
+use Rattle.manifest.specs.Tree.{Tree, IsTree, child_of, file_of, links_from, tree_of}
+use Rattle.checkout.specs.ChangedTree.{made_file}
 use Rattle.checkout.proofs.ChangeLists.{all_of}
 use Rattle.manifest.proofs.FlatLemmas.{link_cmp_total, link_cmp-same}
 use Rattle.manifest.proofs.ManifestTree.{file_with, same_id}

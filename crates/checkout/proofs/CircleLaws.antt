@@ -2,7 +2,8 @@
 use Rattle.std.proofs.Common.{◌≡◌, ◌+◌, ◌⊎◌, ◌==◌, ℕ, zero, suc, false, true, List, [], ◌∷◌, length, Some, None, refl, sym, ap, ◌∙◌, inl, inr, arith, eq-eqb}
 use Rattle.std.specs.Option.{option_and_then}
 use Rattle.eden_base.specs.declared.number.FileId.{FileId}
-use Rattle.manifest.specs.Tree.{Tree, IsTree, child_of, file_at, is_linked, root}
+use Rattle.manifest.specs.Tree.{Tree, IsTree, child_of, file_at, root}
+use Rattle.checkout.specs.ChangedTree.{is_linked}
 use Rattle.checkout.proofs.LinkLaws.{linked_from_child}
 
 -- the last link of a path

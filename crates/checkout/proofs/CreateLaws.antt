@@ -12,7 +12,8 @@ use Rattle.eden_base.specs.declared.attr.Kind.TheVariants.{Dir}
 use Rattle.eden_base.specs.declared.attr.Perm.{Perm}
 use Rattle.eden_base.specs.declared.number.FileId.{FileId}
 use Rattle.manifest.specs.Manifest.{File, Line}
-use Rattle.manifest.specs.Tree.{Tree, root, file_of, kind_of, child_of, file_at, is_linked, is_unlinked, next_file, made_file, created, files_from, IsTree}
+use Rattle.manifest.specs.Tree.{Tree, root, file_of, kind_of, child_of, file_at, files_from, IsTree}
+use Rattle.checkout.specs.ChangedTree.{is_linked, is_unlinked, next_file, made_file, created}
 use Rattle.manifest.proofs.FlatLemmas.{link_cmp_total, link_cmp-same}
 use Rattle.checkout.proofs.LinkLaws.{child_from_linked}
 use Rattle.manifest.proofs.ManifestTree.{file_with, same_id, file_of_line, line_at}

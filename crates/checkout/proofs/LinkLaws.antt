@@ -4,7 +4,8 @@ use Rattle.std.proofs.lemmas.Bool.Decides.{nat_tests}
 use Rattle.std.specs.FinMap.{FinMap, get}
 use Rattle.eden_base.specs.declared.number.FileId.{FileId}
 use Rattle.checkout.specs.Added.{gives}
-use Rattle.manifest.specs.Tree.{Tree, link_cmp, child_of, is_linked}
+use Rattle.manifest.specs.Tree.{Tree, link_cmp, child_of}
+use Rattle.checkout.specs.ChangedTree.{is_linked}
 use Rattle.manifest.proofs.FlatLemmas.{link_cmp_total}
 use Rattle.manifest.proofs.ManifestTree.{same_id}
 use Rattle.manifest.proofs.MapLemmas.{list_any-entries, value_from_any}

@@ -15,7 +15,8 @@ use Rattle.checkout.specs.Changes.{AreMade, IsMade, file_ids}
 use Rattle.checkout.specs.Listing.{listed_file}
 use Rattle.manifest.specs.Manifest.{Manifest}
 use Rattle.checkout.specs.Overlay.{file_made, tree_over, AreParts}
-use Rattle.manifest.specs.Tree.{Tree, link_cmp, files_from, made_file}
+use Rattle.manifest.specs.Tree.{Tree, link_cmp, files_from}
+use Rattle.checkout.specs.ChangedTree.{made_file}
 use Rattle.checkout.proofs.ChangeLists.{all_entries, all-map, contains_found, keys_rise}
 use Rattle.manifest.proofs.ManifestTree.{no_later_file}
 use Rattle.checkout.proofs.UnionLaws.{get-files_over}

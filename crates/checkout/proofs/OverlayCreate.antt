@@ -13,7 +13,8 @@ use Rattle.eden_base.specs.declared.attr.Perm.{Perm}
 use Rattle.eden_base.specs.declared.number.FileId.{FileId}
 use Rattle.checkout.specs.declared.made.MadeFile.{MadeFile}
 use Rattle.manifest.specs.Manifest.{File, Manifest}
-use Rattle.manifest.specs.Tree.{Tree, link_cmp, kind_of, child_of, is_unlinked, created, files_from, links_from, IsTree}
+use Rattle.manifest.specs.Tree.{Tree, link_cmp, kind_of, child_of, files_from, links_from, IsTree}
+use Rattle.checkout.specs.ChangedTree.{is_unlinked, created}
 use Rattle.checkout.specs.Overlay.{file_made, still, files_over, links_over, tree_over, IsOverlay}
 use Rattle.checkout.proofs.CreateLaws.{created-IsTree, next_is_later}
 use Rattle.manifest.proofs.FlatLemmas.{link_cmp_total, link_cmp-same}

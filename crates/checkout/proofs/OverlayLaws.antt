@@ -11,7 +11,8 @@ use Rattle.eden_base.specs.declared.number.FileId.{FileId}
 use Rattle.checkout.specs.declared.made.MadeFile.{MadeFile}
 use Rattle.checkout.specs.Added.{gives}
 use Rattle.manifest.specs.Manifest.{Manifest, kids_in}
-use Rattle.manifest.specs.Tree.{Tree, link_cmp, child_of, has_links, is_linked, links_from}
+use Rattle.manifest.specs.Tree.{Tree, link_cmp, child_of, links_from}
+use Rattle.checkout.specs.ChangedTree.{has_links, is_linked}
 use Rattle.checkout.specs.Overlay.{still, tree_over, lost_in, is_line, AreParts}
 use Rattle.manifest.proofs.FlatLemmas.{link_cmp_total, has_link, has_no_link}
 use Rattle.checkout.proofs.LostCounts.{left_from_lost, lost_from_left}

@@ -10,7 +10,8 @@ use Rattle.eden_base.proofs.MemberLemmas.{some-IsSome, some-is}
 use Rattle.eden_base.specs.declared.number.FileId.{FileId}
 use Rattle.checkout.specs.declared.made.MadeFile.{MadeFile}
 use Rattle.manifest.specs.Manifest.{Manifest}
-use Rattle.manifest.specs.Tree.{Tree, link_cmp, is_full_dir, removed, files_from, links_from, IsTree}
+use Rattle.manifest.specs.Tree.{Tree, link_cmp, files_from, links_from, IsTree}
+use Rattle.checkout.specs.ChangedTree.{is_full_dir, removed}
 use Rattle.checkout.specs.Overlay.{still, files_over, links_over, tree_over, is_line, lost_in, IsOverlay}
 use Rattle.manifest.proofs.FlatLemmas.{link_cmp_total, link_cmp-same}
 use Rattle.checkout.proofs.LostCounts.{lost-one_more}

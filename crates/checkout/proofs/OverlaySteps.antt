@@ -14,7 +14,8 @@ use Rattle.checkout.specs.declared.made.MadeFile.{MadeFile}
 use Rattle.checkout.specs.Added.{gives}
 use Rattle.manifest.specs.Manifest.{Manifest, IsManifest}
 use Rattle.checkout.specs.Overlay.{tree_over, AreParts, IsOverlay}
-use Rattle.manifest.specs.Tree.{Tree, IsTree, link_cmp, kind_of, child_of, is_unlinked, is_full_dir, created, removed, tree_of, files_from, links_from}
+use Rattle.manifest.specs.Tree.{Tree, IsTree, link_cmp, kind_of, child_of, tree_of, files_from, links_from}
+use Rattle.checkout.specs.ChangedTree.{is_unlinked, is_full_dir, created, removed}
 use Rattle.manifest.proofs.FlatLemmas.{link_cmp_total, link_cmp-same}
 use Rattle.checkout.proofs.CreateLaws.{linked_is_below}
 use Rattle.checkout.proofs.LostCounts.{lost-le-kids, lost_in-none}

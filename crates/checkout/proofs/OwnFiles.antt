@@ -12,7 +12,8 @@ use Rattle.checkout.specs.BadChanges.{first_bad, is_bad_made, is_bad_next, kind_
 use Rattle.checkout.specs.Changed.{changed}
 use Rattle.checkout.specs.Changes.{AreChanges}
 use Rattle.manifest.specs.Manifest.{File, Manifest}
-use Rattle.manifest.specs.Tree.{IsTree, Tree, file_of, kind_of, made_file, root, tree_of}
+use Rattle.manifest.specs.Tree.{IsTree, Tree, file_of, kind_of, root, tree_of}
+use Rattle.checkout.specs.ChangedTree.{made_file}
 use Rattle.checkout.proofs.ChangeLists.{all_of}
 use Rattle.checkout.proofs.ChangedAround.{kind_there}
 use Rattle.checkout.proofs.ChangedFiles.{changed_files, changed_kind, file_of_made, found_listed, found_made, made_under}

@@ -2,7 +2,8 @@
 use Rattle.std.proofs.Common.{Bool, not, ◌≡◌, ℕ, ◌&&◌, true, false, List, Some, None, refl, sym, ap, ◌∙◌}
 use Rattle.eden_base.specs.declared.attr.Kind.TheVariants.{File as RegularFile}
 use Rattle.eden_base.specs.declared.number.FileId.{FileId}
-use Rattle.manifest.specs.Tree.{kind_of, Tree, root, child_of, has_links, is_empty_dir, is_full_dir, is_dir, is_linked, removed, IsTree}
+use Rattle.manifest.specs.Tree.{kind_of, Tree, root, child_of, is_dir, IsTree}
+use Rattle.checkout.specs.ChangedTree.{has_links, is_empty_dir, is_full_dir, is_linked, removed}
 use Rattle.manifest.proofs.FlatLemmas.{link_cmp_total, link_cmp-same, has_link}
 use Rattle.checkout.proofs.CreateLaws.{IsElsewhere}
 use Rattle.checkout.proofs.LinkLaws.{linked_from_child, child_from_linked}

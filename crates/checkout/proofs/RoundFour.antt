@@ -15,7 +15,8 @@ use Rattle.checkout.specs.Laying.{base_target}
 use Rattle.manifest.specs.Manifest.{Manifest, IsManifest}
 use Rattle.checkout.specs.Overlay.{tree_over, AreParts}
 use Rattle.checkout.specs.Rounds.{cuts, first_of, is_cut}
-use Rattle.manifest.specs.Tree.{Tree, has_links, is_linked, link_cmp}
+use Rattle.manifest.specs.Tree.{Tree, link_cmp}
+use Rattle.checkout.specs.ChangedTree.{has_links, is_linked}
 use Rattle.checkout.proofs.AmongLinks.{first_of-same, first_where-is, given-linked, names-links}
 use Rattle.checkout.proofs.ChangedLinks.{lines_links-get}
 use Rattle.checkout.proofs.OverlayLaws.{has_links-over, is_linked-over}

@@ -11,7 +11,8 @@ use Rattle.checkout.specs.declared.fault.ChangeFault.TheVariants.{BadChange, NoM
 use Rattle.checkout.specs.BadChanges.{bad_itself, IsBadChange}
 use Rattle.checkout.specs.Changes.{place_of}
 use Rattle.manifest.specs.Manifest.{File, Manifest}
-use Rattle.manifest.specs.Tree.{Tree, files_from, link_cmp, links_from, made_file}
+use Rattle.manifest.specs.Tree.{Tree, files_from, link_cmp, links_from}
+use Rattle.checkout.specs.ChangedTree.{made_file}
 
 -- files, and those that were made beside them
 abbrev pub files_with : FinMap nat_cmp File → List Made → FinMap nat_cmp File

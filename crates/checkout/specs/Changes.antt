@@ -7,7 +7,8 @@ use Rattle.std.specs.List.Sorted.{IsStrictlySortedBy}
 use Rattle.checkout.specs.declared.changes.Changes.{Changes}
 use Rattle.manifest.specs.declared.links.LinkChange.{LinkChange}
 use Rattle.checkout.specs.declared.changes.Made.{Made}
-use Rattle.manifest.specs.Tree.{Tree, link_cmp, child_of, file_of, made_file, next_file, tree_of}
+use Rattle.manifest.specs.Tree.{Tree, link_cmp, child_of, file_of, tree_of}
+use Rattle.checkout.specs.ChangedTree.{made_file, next_file}
 
 -- the tree has the file as it was made, after all of the manifest's
 pub record IsMade (tree : Tree) (made : Made) : Type 0 where

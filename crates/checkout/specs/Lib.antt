@@ -2,6 +2,7 @@ pub mod Added
 pub mod Around
 pub mod BadChanges
 pub mod Changed
+pub mod ChangedTree
 pub mod Changes
 pub mod Create
 pub mod Gone

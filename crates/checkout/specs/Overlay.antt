@@ -6,7 +6,8 @@ use Rattle.std.specs.FinMap.{FinMap, get, entries, from_entries, retain_keys}
 use Rattle.eden_base.specs.declared.number.FileId.{FileId}
 use Rattle.checkout.specs.declared.made.MadeFile.{MadeFile}
 use Rattle.manifest.specs.Manifest.{File, Line, Manifest, IsManifest}
-use Rattle.manifest.specs.Tree.{Tree, IsTree, link_cmp, made_file, files_from, links_from}
+use Rattle.manifest.specs.Tree.{Tree, IsTree, link_cmp, files_from, links_from}
+use Rattle.checkout.specs.ChangedTree.{made_file}
 
 -- a file of the manifest, below the root
 abbrev pub is_line : Manifest → FileId → Bool

@@ -1,5 +1,14 @@
-//! What tells a tree from the tree of its manifest, as data: it travels in an image.
+//! What tells a tree from the tree of its manifest, as data: it travels in an image. The modules below check it.
 ghost use Rattle.std.specs.Prelude.{◌≡◌};
+
+mod around;
+mod bad_around;
+pub(crate) mod bad_itself;
+mod by_other;
+mod colours;
+mod cut;
+pub(crate) mod laid;
+mod laying;
 
 use eden_base::{FileId, Kind, Perm};
 use manifest::LinkChange;

@@ -2,18 +2,10 @@
 #![tactic(auto)]
 
 mod added;
-mod around;
 mod backing;
-mod bad_around;
-mod bad_itself;
-mod by_other;
 mod changes;
-mod colours;
-mod cut;
 mod fault;
 mod gone;
-mod laid;
-mod laying;
 mod made;
 mod order;
 mod overlay;

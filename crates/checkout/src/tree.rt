@@ -9,12 +9,13 @@ ghost use Rattle.checkout.specs.Changed.{changed, IsChangeRefusal};
 ghost use Rattle.checkout.specs.Changes.{AreChanges};
 ghost use Rattle.checkout.specs.declared.changes.Changes.{Changes as ChangesState};
 ghost use Rattle.checkout.specs.Create.{IsCreateRefusal};
-ghost use Rattle.manifest.specs.Tree.{Tree as TreeState, IsTree, tree_of, child_of, kind_of, attr_of, file_of, perm_made, next_file, nlink_of, has_links, is_empty_dir, is_full_dir, is_linked, is_unlinked, created, removed};
+ghost use Rattle.manifest.specs.Tree.{Tree as TreeState, IsTree, tree_of, child_of, kind_of, file_of};
+ghost use Rattle.checkout.specs.ChangedTree.{attr_of, perm_made, next_file, nlink_of, has_links, is_empty_dir, is_full_dir, is_linked, is_unlinked, created, removed};
 
 use crate::added::Added;
-use crate::bad_itself::bad_itself;
+use crate::changes::bad_itself::bad_itself;
+use crate::changes::laid::Laid;
 use crate::gone::Gone;
-use crate::laid::Laid;
 use crate::made::{MadeFile, MadeFiles};
 use crate::order::sort;
 use crate::{ChangeFault, Changes, CreateFault, LinkList, MadeList, overlay};

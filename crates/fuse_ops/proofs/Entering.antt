@@ -4,7 +4,8 @@ use Rattle.std.specs.Option.{option_map_or}
 use Rattle.std.specs.Prelude.{IsSome}
 use Rattle.eden_base.specs.declared.attr.Attr.{Attr}
 use Rattle.eden_base.specs.declared.number.Number.{Number}
-use Rattle.manifest.specs.Tree.{IsTree, attr_of as file_attr}
+use Rattle.manifest.specs.Tree.{IsTree}
+use Rattle.checkout.specs.ChangedTree.{attr_of as file_attr}
 use Rattle.entry_table.specs.Entries.{entry_of, entry_at, number_of_kept, remembered, IsFileOf}
 use Rattle.inode_map.specs.InodeMap.{MapState, give_fault, given, number_given, attr_of, load}
 use Rattle.entry_table.specs.declared.kept.Kept.{Kept}

@@ -10,7 +10,8 @@ use Rattle.eden_base.specs.declared.errno.Errno.TheVariants.{EIO}
 use Rattle.eden_base.specs.declared.number.FileId.{FileId}
 use Rattle.eden_base.specs.declared.number.Number.{Number}
 use Rattle.eden_base.specs.declared.place.Place.TheVariants.{Linked}
-use Rattle.manifest.specs.Tree.{IsTree, child_of, attr_of as file_attr, file_of as tree_file, is_unlinked}
+use Rattle.manifest.specs.Tree.{IsTree, child_of, file_of as tree_file}
+use Rattle.checkout.specs.ChangedTree.{attr_of as file_attr, is_unlinked}
 use Rattle.fuse_wire.specs.declared.reply.Answer.{Answer}
 use Rattle.fuse_wire.specs.declared.reply.Answer.TheVariants.{Entry, Error}
 use Rattle.entry_table.proofs.EntryLemmas.{entry_of-first}

@@ -4,7 +4,8 @@ use Rattle.std.proofs.Math.Bool.{and-false}
 use Rattle.std.specs.Option.{option_map_or}
 use Rattle.eden_base.specs.declared.errno.Errno.TheVariants.{ENOENT}
 use Rattle.eden_base.specs.declared.number.FileId.{FileId}
-use Rattle.manifest.specs.Tree.{Tree, IsTree, child_of, is_unlinked}
+use Rattle.manifest.specs.Tree.{Tree, IsTree, child_of}
+use Rattle.checkout.specs.ChangedTree.{is_unlinked}
 use Rattle.checkout.proofs.LinkLaws.{linked_from_child}
 use Rattle.fuse_ops.specs.Answers.{found_in, found_in_dir}
 use Rattle.fuse_ops.proofs.Keeping.{found-child}

@@ -7,7 +7,8 @@ use Rattle.eden_base.specs.Limits.{greatest_count, end_of_numbers}
 use Rattle.eden_base.specs.declared.number.FileId.{FileId}
 use Rattle.eden_base.specs.declared.place.Place.TheVariants.{Linked, Unlinked}
 use Rattle.checkout.proofs.LinkLaws.{linked_from_child}
-use Rattle.manifest.specs.Tree.{Tree, IsTree, child_of, root, file_of as tree_file, is_unlinked, is_linked}
+use Rattle.manifest.specs.Tree.{Tree, IsTree, child_of, root, file_of as tree_file}
+use Rattle.checkout.specs.ChangedTree.{is_unlinked, is_linked}
 use Rattle.entry_table.proofs.EntryLemmas.{numbers-entry, entry_of-first}
 use Rattle.entry_table.proofs.FileLemmas.{IsFileOf-same, named-known}
 use Rattle.entry_table.proofs.Places.{place-stands, stands-place}

@@ -7,7 +7,8 @@ use Rattle.eden_base.specs.declared.number.FileId.{FileId}
 use Rattle.eden_base.specs.declared.number.Number.{Number}
 use Rattle.eden_base.specs.declared.place.Place.TheVariants.{Linked}
 use Rattle.checkout.proofs.LinkLaws.{linked_from_child}
-use Rattle.manifest.specs.Tree.{Tree, IsTree, child_of, root, is_unlinked, file_of as tree_file}
+use Rattle.manifest.specs.Tree.{Tree, IsTree, child_of, root, file_of as tree_file}
+use Rattle.checkout.specs.ChangedTree.{is_unlinked}
 use Rattle.entry_table.proofs.Changing.{new_or_old, append-extends}
 use Rattle.entry_table.proofs.EntryLemmas.{append-same, numbers-append, numbers-bound, next-none}
 use Rattle.entry_table.proofs.FileLemmas.{IsFileOf-extended, IsFileOf-same, named-known}

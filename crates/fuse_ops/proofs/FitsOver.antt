@@ -5,7 +5,8 @@ use Rattle.eden_base.proofs.MemberLemmas.{some-IsSome, some-is}
 use Rattle.eden_base.specs.Limits.{greatest_count}
 use Rattle.eden_base.specs.declared.number.FileId.{FileId}
 use Rattle.eden_base.specs.declared.place.Place.TheVariants.{Unlinked}
-use Rattle.manifest.specs.Tree.{Tree, root, is_unlinked, file_of as tree_file}
+use Rattle.manifest.specs.Tree.{Tree, root, file_of as tree_file}
+use Rattle.checkout.specs.ChangedTree.{is_unlinked}
 use Rattle.entry_table.proofs.FileLemmas.{IsFileOf-same, named-known}
 use Rattle.entry_table.specs.Entries.{entry_of, AreNumbers, IsFileOf, is_root, is_marked}
 use Rattle.entry_table.specs.declared.kept.Kept.{Kept}

@@ -12,7 +12,8 @@ use Rattle.eden_base.specs.declared.attr.Perm.{Perm}
 use Rattle.eden_base.specs.declared.number.FileId.{FileId}
 use Rattle.eden_base.specs.declared.number.Number.{Number}
 use Rattle.checkout.proofs.CreateLaws.{file_of-created_other}
-use Rattle.manifest.specs.Tree.{Tree, IsTree, file_of as tree_file, attr_of as file_attr, nlink_of, nlink_of_kind, is_unlinked, created, removed}
+use Rattle.manifest.specs.Tree.{Tree, IsTree, file_of as tree_file, nlink_of_kind}
+use Rattle.checkout.specs.ChangedTree.{attr_of as file_attr, nlink_of, is_unlinked, created, removed}
 use Rattle.manifest.specs.declared.content.Content.{Content}
 use Rattle.entry_table.proofs.FileLemmas.{IsFileOf-same, named-known}
 use Rattle.entry_table.specs.Entries.{entry_of, entry_at, is_kept, is_bad_item, lowered, has_number, marked, stands_at, once_more, new_entry}

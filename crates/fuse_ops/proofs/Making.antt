@@ -14,7 +14,8 @@ use Rattle.eden_base.specs.declared.errno.Errno.TheVariants.{ENOENT, EEXIST, ENO
 use Rattle.eden_base.specs.declared.number.FileId.{FileId}
 use Rattle.eden_base.specs.declared.number.Number.{Number}
 use Rattle.checkout.proofs.CreateLaws.{child_of-created}
-use Rattle.manifest.specs.Tree.{Tree, IsTree, child_of, kind_of, attr_of, is_unlinked, next_file, created}
+use Rattle.manifest.specs.Tree.{Tree, IsTree, child_of, kind_of}
+use Rattle.checkout.specs.ChangedTree.{attr_of, is_unlinked, next_file, created}
 use Rattle.entry_table.proofs.EntryLemmas.{entry_of-first}
 use Rattle.entry_table.proofs.FileLemmas.{IsFileOf-same, linked-child}
 use Rattle.entry_table.proofs.Places.{stands-place}

@@ -8,7 +8,8 @@ use Rattle.eden_base.specs.declared.number.FileId.{FileId}
 use Rattle.checkout.proofs.AttrLaws.{is_linked-created_other}
 use Rattle.checkout.proofs.CreateLaws.{child_of-created_elsewhere, file_of-created_other, dir_is_below}
 use Rattle.manifest.proofs.ManifestTree.{same_id}
-use Rattle.manifest.specs.Tree.{Tree, IsTree, child_of, root, is_unlinked, next_file, created, file_of as tree_file}
+use Rattle.manifest.specs.Tree.{Tree, IsTree, child_of, root, file_of as tree_file}
+use Rattle.checkout.specs.ChangedTree.{is_unlinked, next_file, created}
 use Rattle.entry_table.proofs.FileLemmas.{IsFileOf-same, named-known}
 use Rattle.entry_table.specs.Entries.{entry_of, IsFileOf, is_root, is_child, is_marked}
 use Rattle.entry_table.specs.declared.kept.Kept.{Kept}

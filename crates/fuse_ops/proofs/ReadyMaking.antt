@@ -9,7 +9,8 @@ use Rattle.eden_base.specs.declared.attr.Perm.{Perm}
 use Rattle.eden_base.specs.declared.number.FileId.{FileId}
 use Rattle.eden_base.specs.declared.number.Number.{Number}
 use Rattle.checkout.proofs.CreateLaws.{child_of-created}
-use Rattle.manifest.specs.Tree.{Tree, IsTree, attr_of as file_attr, next_file, created}
+use Rattle.manifest.specs.Tree.{Tree, IsTree}
+use Rattle.checkout.specs.ChangedTree.{attr_of as file_attr, next_file, created}
 use Rattle.entry_table.specs.Entries.{stands_at, once_more, new_entry, entry_of, entry_at, number_of_kept, remembered, IsFileOf}
 use Rattle.inode_map.specs.InodeMap.{MapState, give_fault, given, number_given, attr_of, load}
 use Rattle.entry_table.specs.declared.kept.Kept.{Kept}

@@ -12,7 +12,8 @@ use Rattle.eden_base.proofs.NumberTests.{eq-or, true-eq, false-ne}
 use Rattle.eden_base.specs.First.{changed_where}
 use Rattle.eden_base.specs.declared.number.FileId.{FileId}
 use Rattle.eden_base.specs.declared.number.Number.{Number}
-use Rattle.manifest.specs.Tree.{Tree, IsTree, root, removed}
+use Rattle.manifest.specs.Tree.{Tree, IsTree, root}
+use Rattle.checkout.specs.ChangedTree.{removed}
 use Rattle.entry_table.proofs.FileLemmas.{IsFileOf-same, named-known}
 use Rattle.entry_table.specs.Entries.{entry_of, entry_at, is_kept, is_bad_item, lowered, has_number, marked, stands_at, once_more, new_entry, file_remembered, remembered, IsFileOf, is_root}
 use Rattle.inode_map.specs.InodeMap.{MapState, left_with, left_of_use, given, forgotten, unlinked}

@@ -12,7 +12,8 @@ use Rattle.eden_base.specs.declared.errno.Errno.{Errno}
 use Rattle.eden_base.specs.declared.errno.Errno.TheVariants.{EISDIR, ENOTDIR, ENOTEMPTY, ESTALE}
 use Rattle.eden_base.specs.declared.number.FileId.{FileId}
 use Rattle.eden_base.specs.declared.number.Number.{Number}
-use Rattle.manifest.specs.Tree.{Tree, kind_of, is_dir, has_links, is_full_dir}
+use Rattle.manifest.specs.Tree.{Tree, kind_of, is_dir}
+use Rattle.checkout.specs.ChangedTree.{has_links, is_full_dir}
 use Rattle.fuse_wire.specs.Request.{is_ask, nodes, form_of}
 use Rattle.fuse_wire.specs.Given.{given_out}
 use Rattle.fuse_wire.specs.declared.request.Request.{Request}

@@ -11,7 +11,8 @@ use Rattle.eden_base.specs.declared.place.Place.TheVariants.{Linked, Unlinked}
 use Rattle.eden_base.specs.First.{first_where}
 use Rattle.eden_base.proofs.NumberTests.{true-eq}
 use Rattle.checkout.proofs.RemoveLaws.{no_links_below}
-use Rattle.manifest.specs.Tree.{Tree, IsTree, child_of, is_full_dir, removed}
+use Rattle.manifest.specs.Tree.{Tree, IsTree, child_of}
+use Rattle.checkout.specs.ChangedTree.{is_full_dir, removed}
 use Rattle.entry_table.proofs.EntryLemmas.{entry_of-first}
 use Rattle.entry_table.proofs.FileLemmas.{IsFileOf-same, linked-child}
 use Rattle.entry_table.proofs.Places.{stands-place}

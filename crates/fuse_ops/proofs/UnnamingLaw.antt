@@ -7,7 +7,8 @@ use Rattle.eden_base.specs.First.{changed_where}
 use Rattle.eden_base.specs.declared.number.FileId.{FileId}
 use Rattle.eden_base.specs.declared.number.Number.{Number}
 use Rattle.checkout.proofs.RemoveLaws.{child_of-removed_elsewhere, is_linked-removed, is_linked-removed_other}
-use Rattle.manifest.specs.Tree.{Tree, child_of, is_linked, is_unlinked, removed}
+use Rattle.manifest.specs.Tree.{Tree, child_of}
+use Rattle.checkout.specs.ChangedTree.{is_linked, is_unlinked, removed}
 use Rattle.entry_table.proofs.Changing.{count_of-entry, count_of-alike}
 use Rattle.entry_table.proofs.EntryLemmas.{changed-same, changed-other, entry_of-first, numbers-changed}
 use Rattle.entry_table.proofs.FileLemmas.{IsFileOf-same}

@@ -12,7 +12,8 @@ use Rattle.eden_base.specs.declared.errno.Errno.{Errno}
 use Rattle.eden_base.specs.declared.errno.Errno.TheVariants.{ESTALE, ENOTDIR, EISDIR, ENOENT, EEXIST, ENOTEMPTY, ENOSPC, EOVERFLOW, EIO, ENOMEM, ENOSYS}
 use Rattle.eden_base.specs.declared.number.FileId.{FileId}
 use Rattle.eden_base.specs.declared.number.Number.{Number}
-use Rattle.manifest.specs.Tree.{Tree, kind_of, child_of, attr_of, is_dir, has_links, is_unlinked, next_file, created, removed}
+use Rattle.manifest.specs.Tree.{Tree, kind_of, child_of, is_dir}
+use Rattle.checkout.specs.ChangedTree.{attr_of, has_links, is_unlinked, next_file, created, removed}
 use Rattle.fuse_wire.specs.Request.{nodes, form_of}
 use Rattle.fuse_wire.specs.declared.request.Request.{Request}
 use Rattle.fuse_wire.specs.declared.request.Request.TheVariants.{Lookup, Getattr, Create, Mkdir, Unlink, Rmdir}

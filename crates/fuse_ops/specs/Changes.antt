@@ -5,7 +5,8 @@ use Rattle.eden_base.specs.declared.attr.Kind.{Kind}
 use Rattle.eden_base.specs.declared.attr.Perm.{Perm}
 use Rattle.eden_base.specs.declared.number.FileId.{FileId}
 use Rattle.eden_base.specs.declared.number.Number.{Number}
-use Rattle.manifest.specs.Tree.{IsTree, child_of, is_full_dir, created, removed}
+use Rattle.manifest.specs.Tree.{IsTree, child_of}
+use Rattle.checkout.specs.ChangedTree.{is_full_dir, created, removed}
 use Rattle.entry_table.specs.Entries.{count_of, IsFileOf}
 use Rattle.fuse_ops.specs.Served.{ServedState, name_taken}
 use Rattle.fuse_ops.specs.Soundness.{IsSound}

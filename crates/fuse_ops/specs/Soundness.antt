@@ -6,7 +6,8 @@ use Rattle.eden_base.specs.declared.attr.Attr.{Attr}
 use Rattle.eden_base.specs.declared.number.FileId.{FileId}
 use Rattle.eden_base.specs.declared.place.Place.{Place}
 use Rattle.eden_base.specs.declared.place.Place.TheVariants.{Linked, Unlinked}
-use Rattle.manifest.specs.Tree.{file_of as tree_file, is_unlinked}
+use Rattle.manifest.specs.Tree.{file_of as tree_file}
+use Rattle.checkout.specs.ChangedTree.{is_unlinked}
 use Rattle.manifest.specs.declared.content.Content.{Content}
 use Rattle.entry_table.specs.Entries.{entry_of, file_remembered, is_of_use, AreNumbers, IsFileOf}
 use Rattle.inode_map.specs.InodeMap.{attr_of}

@@ -9,7 +9,8 @@ use Rattle.eden_base.specs.declared.errno.Errno.{Errno}
 use Rattle.eden_base.specs.declared.errno.Errno.TheVariants.{ESTALE, ENOSPC, EOVERFLOW, EIO, ENOMEM}
 use Rattle.eden_base.specs.declared.number.FileId.{FileId}
 use Rattle.eden_base.specs.declared.number.Number.{Number}
-use Rattle.manifest.specs.Tree.{Tree, child_of, attr_of, file_of, next_file, created, removed}
+use Rattle.manifest.specs.Tree.{Tree, child_of, file_of}
+use Rattle.checkout.specs.ChangedTree.{attr_of, next_file, created, removed}
 use Rattle.fuse_wire.specs.declared.reply.Answer.{Answer}
 use Rattle.fuse_wire.specs.declared.reply.Answer.TheVariants.{Entry, Attrs, Done, Error}
 use Rattle.inode_map.specs.InodeMap.{IsGiveRefusal, give_fault, given, number_given}

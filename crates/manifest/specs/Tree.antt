@@ -1,16 +1,14 @@
--- The tree of a checkout: its files, the names that lead to them, and the file that would be made next. Files are
--- never taken out of it while a mount lasts. (EdenFS's documents on inodes and the overlay; the next file is this
--- project's own.)
-use Rattle.std.specs.Prelude.{◌≡◌, ℕ, ◌+◌, ◌<◌, ◌≤◌, ◌⊎◌, Bool, true, false, ◌&&◌, ◌==◌, not, nat_lt, List, [], ◌∷◌, length, Option, Some, None, IsSome, if◌then◌else◌}
+-- The tree of a checkout: its files, the names that lead to them, and the file that would be made next; and which of
+-- them a manifest says, before anything is made or removed. Files are never taken out of it while a mount lasts.
+-- (EdenFS's documents on inodes and the overlay; the next file is this project's own.)
+use Rattle.std.specs.Prelude.{◌≡◌, ℕ, ◌+◌, ◌<◌, ◌≤◌, ◌⊎◌, Bool, true, false, List, [], ◌∷◌, length, Option, Some, None, IsSome}
 use Rattle.std.specs.Option.{option_map, option_and_then}
-use Rattle.std.specs.List.{list_any}
 use Rattle.std.specs.Ordering.{nat_cmp, ordering_then}
 use Rattle.std.specs.Cmp.Lexicographic.{slice_cmp}
 use Rattle.std.specs.declared.cmp.Ordering.{Ordering}
-use Rattle.std.specs.FinMap.{FinMap, get, insert, remove, empty, entries}
+use Rattle.std.specs.FinMap.{FinMap, get, insert, empty}
 use Rattle.eden_base.specs.Limits.{end_of_files}
 use Rattle.eden_base.specs.Name.{IsNameText}
-use Rattle.eden_base.specs.declared.attr.Attr.{Attr}
 use Rattle.eden_base.specs.declared.attr.Kind.{Kind}
 use Rattle.eden_base.specs.declared.attr.Kind.TheVariants.{Dir, File as RegularFile}
 use Rattle.eden_base.specs.declared.attr.Perm.{Perm}
@@ -41,79 +39,16 @@ kind_of tree file = option_map (λ (f : File). f.kind) (file_of tree file)
 abbrev pub child_of : Tree → FileId → List ℕ → Option FileId
 child_of tree dir name = get tree.links (dir.0, name)
 
--- some link gives the file
-abbrev pub is_linked : Tree → FileId → Bool
-is_linked tree file = list_any (λ (link : (ℕ × List ℕ) × FileId). link.1.0 == file.0) (entries tree.links)
-
--- the file is not the root, and no link gives it
-abbrev pub is_unlinked : Tree → FileId → Bool
-is_unlinked tree file = not (file.0 == 1) && not (is_linked tree file)
-
--- some link stands in the directory
-abbrev pub has_links : Tree → FileId → Bool
-has_links tree dir = list_any (λ (link : (ℕ × List ℕ) × FileId). link.0.0 == dir.0) (entries tree.links)
-
 -- it is a directory
 abbrev pub is_dir : Option Kind → Bool
 is_dir None = false
 is_dir (Some RegularFile) = false
 is_dir (Some Dir) = true
 
--- a directory of the tree in which no link stands
-abbrev pub is_empty_dir : Tree → FileId → Bool
-is_empty_dir tree dir = is_dir (kind_of tree dir) && not (has_links tree dir)
-
 -- how many names lead to a linked file, as stat(2) counts them: a directory names itself
 abbrev pub nlink_of_kind : Kind → ℕ
 nlink_of_kind RegularFile = 1
 nlink_of_kind Dir = 2
-
--- an unlinked file has none
-abbrev pub nlink_of : Tree → FileId → Kind → ℕ
-nlink_of tree file kind = if is_unlinked tree file then 0 else nlink_of_kind kind
-
--- what a daemon tells the kernel of a file of the tree
-abbrev pub attr_of : Tree → FileId → Option Attr
-attr_of tree file =
-    option_map
-    (λ (f : File). record { kind = f.kind; perm = f.perm; size = f.size; nlink = nlink_of tree file f.kind })
-    (file_of tree file)
-
--- the permissions of a file that was made after the manifest
-abbrev pub perm_made : Tree → FileId → Option Perm
-perm_made tree file =
-    if nat_lt file.0 (length tree.manifest.lines + 2) then None
-    else option_map (λ (f : File). f.perm) (file_of tree file)
-
--- a directory in which a link stands
-abbrev pub is_full_dir : Tree → FileId → Bool
-is_full_dir tree file = is_dir (kind_of tree file) && has_links tree file
-
--- the file that would be made next
-abbrev pub next_file : Tree → FileId
-next_file tree = record { 0 = tree.next_file }
-
--- a file as it is made: without content
-abbrev pub made_file : Kind → Perm → File
-made_file kind perm = record { kind = kind; perm = perm; size = 0 }
-
--- the tree with its next file made, under a name in a directory
-abbrev pub created : Tree → FileId → List ℕ → Kind → Perm → Tree
-created tree dir name kind perm = record {
-  manifest = tree.manifest;
-  files = insert tree.files tree.next_file (made_file kind perm);
-  links = insert tree.links (dir.0, name) (next_file tree);
-  next_file = tree.next_file + 1;
-}
-
--- the tree without the link under a name in a directory; the file stays
-abbrev pub removed : Tree → FileId → List ℕ → Tree
-removed tree dir name = record {
-  manifest = tree.manifest;
-  files = tree.files;
-  links = remove tree.links (dir.0, name);
-  next_file = tree.next_file;
-}
 
 -- the file at a path, from a directory down
 abbrev pub file_at : Tree → FileId → List (List ℕ) → Option FileId

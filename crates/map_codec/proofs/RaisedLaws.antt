@@ -11,7 +11,8 @@ use Rattle.eden_base.specs.declared.place.Place.{Place}
 use Rattle.eden_base.specs.declared.place.Place.TheVariants.{Linked, Unlinked}
 use Rattle.checkout.proofs.LinkLaws.{linked_from_child}
 use Rattle.manifest.specs.Manifest.{File}
-use Rattle.manifest.specs.Tree.{Tree, IsTree, child_of, file_of, is_linked, is_unlinked, kind_of}
+use Rattle.manifest.specs.Tree.{Tree, IsTree, child_of, file_of, kind_of}
+use Rattle.checkout.specs.ChangedTree.{is_linked, is_unlinked}
 use Rattle.entry_table.proofs.EntryLemmas.{entry_of-number, numbers-entry}
 use Rattle.entry_table.proofs.EntryRuns.{each-entry}
 use Rattle.entry_table.proofs.FileLemmas.{IsFileOf-same, linked-child, marked-same}

@@ -12,7 +12,8 @@ use Rattle.eden_base.specs.declared.number.FileId.{FileId}
 use Rattle.eden_base.specs.declared.place.Place.{Place}
 use Rattle.eden_base.specs.declared.place.Place.TheVariants.{Linked, Unlinked}
 use Rattle.manifest.specs.Manifest.{File}
-use Rattle.manifest.specs.Tree.{Tree, file_of, kind_of, is_unlinked}
+use Rattle.manifest.specs.Tree.{Tree, file_of, kind_of}
+use Rattle.checkout.specs.ChangedTree.{is_unlinked}
 use Rattle.entry_table.proofs.EntryLemmas.{entry_of-number, numbers-bound, numbers-entry, numbers-rise}
 use Rattle.entry_table.proofs.FileLemmas.{linked-child, marked-same, named-known}
 use Rattle.entry_table.specs.Entries.{IsFileOf, entry_of, is_kept, is_known}

@@ -9,7 +9,8 @@ use Rattle.eden_base.specs.declared.place.Place.TheVariants.{Linked, Unlinked}
 use Rattle.checkout.specs.BadChanges.{bad_itself, IsBadChange}
 use Rattle.checkout.specs.Changed.{changed}
 use Rattle.manifest.specs.Manifest.{Manifest}
-use Rattle.manifest.specs.Tree.{Tree, is_unlinked, kind_of}
+use Rattle.manifest.specs.Tree.{Tree, kind_of}
+use Rattle.checkout.specs.ChangedTree.{is_unlinked}
 use Rattle.entry_table.specs.Entries.{IsFileOf, is_known}
 use Rattle.entry_table.specs.declared.kept.Kept.{Kept}
 use Rattle.fuse_ops.specs.Served.{ServedState, served_of}

@@ -2,7 +2,8 @@
 //! so that the instructions of a call can be counted. `measure checkout LINES times` tells how many nanoseconds it
 //! takes to read the manifest, for each line, to make the tree, and to look a file up.
 ghost use Rattle.std.specs.Prelude.{◌≡◌, IfSome, IsSome, None, Some, false};
-ghost use Rattle.manifest.specs.Tree.{child_of, is_full_dir, is_unlinked, kind_of};
+ghost use Rattle.manifest.specs.Tree.{child_of, kind_of};
+ghost use Rattle.checkout.specs.ChangedTree.{is_full_dir, is_unlinked};
 ghost use Rattle.eden_base.specs.declared.attr.Kind.TheVariants.{Dir};
 
 use crate::clock::{each_since, moment};

@@ -8,7 +8,8 @@ use Rattle.eden_base.specs.declared.errno.Errno.{Errno}
 use Rattle.eden_base.specs.declared.errno.Errno.TheVariants.{ESTALE, EIO, ENOSYS}
 use Rattle.eden_base.specs.declared.number.FileId.{FileId}
 use Rattle.eden_base.specs.declared.number.Number.{Number}
-use Rattle.manifest.specs.Tree.{Tree, IsTree, is_full_dir, next_file, created, removed}
+use Rattle.manifest.specs.Tree.{Tree, IsTree}
+use Rattle.checkout.specs.ChangedTree.{is_full_dir, next_file, created, removed}
 use Rattle.fuse_wire.specs.Request.{nodes}
 use Rattle.fuse_wire.specs.declared.request.Request.{Request}
 use Rattle.fuse_wire.specs.declared.form.Form.{Form}

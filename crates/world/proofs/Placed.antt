@@ -7,7 +7,8 @@ use Rattle.eden_base.specs.declared.attr.Perm.{Perm}
 use Rattle.eden_base.specs.declared.number.FileId.{FileId}
 use Rattle.eden_base.specs.declared.number.Number.{Number}
 use Rattle.checkout.proofs.CreateLaws.{child_of-created}
-use Rattle.manifest.specs.Tree.{Tree, IsTree, child_of, root, next_file, created}
+use Rattle.manifest.specs.Tree.{Tree, IsTree, child_of, root}
+use Rattle.checkout.specs.ChangedTree.{next_file, created}
 use Rattle.fuse_wire.specs.declared.request.Request.{Request}
 use Rattle.entry_table.specs.Entries.{IsFileOf, is_root, entry_at, number_of_kept}
 use Rattle.inode_map.specs.InodeMap.{MapState, give_fault_at, given, number_given}

@@ -2,7 +2,8 @@
 ghost use Rattle.std.specs.Prelude.{◌≡◌, ◌<◌, None, Some, Ok, IsSome, IfOk, OnOk, OnErr};
 ghost use Rattle.eden_base.specs.declared.number.FileId.{FileId};
 ghost use Rattle.std.specs.Option.{option_map, IfNone, IfSome};
-ghost use Rattle.manifest.specs.Tree.{IsTree, attr_of, file_of as tree_file, is_unlinked};
+ghost use Rattle.manifest.specs.Tree.{IsTree, file_of as tree_file};
+ghost use Rattle.checkout.specs.ChangedTree.{attr_of, is_unlinked};
 ghost use Rattle.fuse_wire.specs.declared.request.Request.TheVariants.{Lookup, Getattr};
 ghost use Rattle.entry_table.specs.Entries.{entry_at, number_of_kept};
 ghost use Rattle.inode_map.specs.InodeMap.{attr_of as loaded_attr};

@@ -3,7 +3,8 @@ ghost use Rattle.std.specs.Prelude.{◌≡◌, ◌<◌, false, IsSome, IfOk, IfE
 ghost use Rattle.eden_base.specs.Limits.{end_of_numbers};
 ghost use Rattle.eden_base.specs.declared.number.FileId.{FileId};
 ghost use Rattle.std.specs.Option.{IfSome};
-ghost use Rattle.manifest.specs.Tree.{child_of, is_full_dir};
+ghost use Rattle.manifest.specs.Tree.{child_of};
+ghost use Rattle.checkout.specs.ChangedTree.{is_full_dir};
 ghost use Rattle.entry_table.specs.Entries.{IsFileOf};
 ghost use Rattle.fuse_ops.specs.Loading.{LoadsTold, LoadsNone};
 ghost use Rattle.fuse_ops.specs.Work.{IsFree, IsNextRefusal, Makes, NameIsTaken};

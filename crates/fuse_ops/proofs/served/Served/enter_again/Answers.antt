@@ -4,7 +4,7 @@ use Rattle.std.specs.Option.{option_map}
 use Rattle.eden_base.specs.declared.errno.Errno.{Errno}
 use Rattle.eden_base.specs.declared.errno.Errno.TheVariants.{EIO}
 use Rattle.eden_base.specs.declared.number.FileId.{FileId}
-use Rattle.manifest.specs.Tree.{attr_of}
+use Rattle.checkout.specs.ChangedTree.{attr_of}
 use Rattle.fuse_wire.specs.declared.reply.Answer.TheVariants.{Entry, Error}
 use Rattle.entry_table.proofs.FileLemmas.{IsFileOf-same}
 use Rattle.entry_table.specs.Entries.{entry_at, number_of_kept, IsFileOf}

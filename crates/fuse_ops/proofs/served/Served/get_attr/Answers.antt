@@ -1,6 +1,6 @@
 -- What is told is the file's.
 use Rattle.std.proofs.Common.{◌≡◌, Some, refl, subst, inl}
-use Rattle.manifest.specs.Tree.{attr_of}
+use Rattle.checkout.specs.ChangedTree.{attr_of}
 use Rattle.fuse_ops.specs.Served.{ServedState}
 use Rattle.fuse_ops.proofs.served.Served.get_attr.Goals as goal
 

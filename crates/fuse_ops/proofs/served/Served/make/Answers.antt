@@ -3,7 +3,8 @@ use Rattle.std.proofs.Common.{Err, refl, sym, ap, ◌∙◌, subst, inr}
 use Rattle.eden_base.specs.declared.errno.Errno.TheVariants.{ENOMEM}
 use Rattle.checkout.proofs.AttrLaws.{attr_of-created}
 use Rattle.eden_base.specs.declared.number.FileId.{FileId}
-use Rattle.manifest.specs.Tree.{Tree, attr_of, next_file}
+use Rattle.manifest.specs.Tree.{Tree}
+use Rattle.checkout.specs.ChangedTree.{attr_of, next_file}
 use Rattle.entry_table.specs.Entries.{entry_of, IsFileOf}
 use Rattle.inode_map.specs.InodeMap.{MapState, given, number_given}
 use Rattle.std.specs.Prelude.{IsSome}

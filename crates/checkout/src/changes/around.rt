@@ -1,0 +1,104 @@
+//! The links whose target is their directory or above it.
+ghost use Rattle.std.specs.Prelude.{◌≡◌, ◌↔◌, true, is_some, IfOk, OnOk};
+ghost use Rattle.std.specs.FinMap.{get};
+ghost use Rattle.std.specs.List.{AllByRecursion};
+ghost use Rattle.checkout.specs.Around.{links_now, AreApart, AreBeside, AreRight, GivesTarget, IsAbove, IsDirAbove, IsFirstAbove};
+ghost use Rattle.checkout.specs.Gone.{is_gone};
+ghost use Rattle.manifest.specs.Tree.{links_from};
+
+use super::colours::{Colours, from_file};
+use crate::added::Added;
+use crate::gone::Gone;
+use eden_base::{FileId, NoMemory};
+use manifest::{LinkChange, Manifest, line_of};
+use std::alloc::Global;
+
+/// Returns the directory in which a link gives the file.
+fn dir_above(manifest: &Manifest, added: &Added, gone: &Gone, file: FileId) -> Option<FileId>
+    requires beside { AreBeside added.now (is_gone gone.now) (links_from 2 manifest.now.lines) }
+    ensures dir { IsDirAbove (links_now manifest.now added.now gone.now) file result }
+{
+    if let Some(dir) = added.dir_of(file) {
+        return Some(dir);
+    }
+    if gone.has(file) {
+        return None;
+    }
+    let line = line_of(manifest.lines(), file)?;
+    Some(line.dir)
+}
+
+/// Colours the files on the way up from a file. It stops at one that has a colour, so that no file is looked at twice.
+/// Where that is a file of this way, those from it on are a circle.
+fn climb(
+    alloc: Global,
+    manifest: &Manifest,
+    added: &Added,
+    gone: &Gone,
+    colours: &mut Colours,
+    file: FileId,
+) -> Result<(), NoMemory>
+    requires beside { AreBeside added.now (is_gone gone.now) (links_from 2 manifest.now.lines) }
+    requires apart { AreApart (links_now manifest.now added.now gone.now) }
+    requires right { AreRight (links_now manifest.now added.now gone.now) colours.old }
+    ensures right { OnOk result (AreRight (links_now manifest.now added.now gone.now) colours.new) }
+    ensures coloured { OnOk result (is_some (get colours.new file.0) ≡ true) }
+{
+    let mut way = Vec::new(alloc);
+    let mut at = file;
+    while colours.get(at).is_none() {
+        colours.set(at, false)?;
+        way.push(at)?;
+        let Some(dir) = dir_above(manifest, added, gone, at) else {
+            return Ok(());
+        };
+        at = dir;
+    }
+    colours.mark_circle(from_file(at, &way))
+}
+
+/// Returns whether the target of a link is its directory or above it.
+fn is_above(
+    alloc: Global,
+    manifest: &Manifest,
+    added: &Added,
+    gone: &Gone,
+    colours: &mut Colours,
+    change: &LinkChange,
+) -> Result<bool, NoMemory>
+    requires beside { AreBeside added.now (is_gone gone.now) (links_from 2 manifest.now.lines) }
+    requires apart { AreApart (links_now manifest.now added.now gone.now) }
+    requires right { AreRight (links_now manifest.now added.now gone.now) colours.old }
+    requires target { GivesTarget (links_now manifest.now added.now gone.now) change.now }
+    ensures right { OnOk result (AreRight (links_now manifest.now added.now gone.now) colours.new) }
+    ensures above { IfOk result (λ above.
+        above ≡ true ↔ IsAbove (links_now manifest.now added.now gone.now) change.now) }
+{
+    let Some(file) = change.target else {
+        return Ok(false);
+    };
+    climb(alloc, manifest, added, gone, colours, file)?;
+    Ok(colours.get(file).unwrap())
+}
+
+/// Returns the place, from 0, of the first of some links whose target is its directory or above it.
+pub fn first_above(
+    alloc: Global,
+    manifest: &Manifest,
+    added: &Added,
+    gone: &Gone,
+    links: &[LinkChange],
+) -> Result<Option<usize>, NoMemory>
+    requires beside { AreBeside added.now (is_gone gone.now) (links_from 2 manifest.now.lines) }
+    requires apart { AreApart (links_now manifest.now added.now gone.now) }
+    requires targets { AllByRecursion (GivesTarget (links_now manifest.now added.now gone.now)) links.now }
+    ensures first { IfOk result (IsFirstAbove (links_now manifest.now added.now gone.now) links.now) }
+{
+    let mut colours = Colours::new(alloc);
+    for (place, change) in links.iter().enumerate() {
+        if is_above(alloc, manifest, added, gone, &mut colours, change)? {
+            return Ok(Some(place));
+        }
+    }
+    Ok(None)
+}

@@ -1,0 +1,34 @@
+//! The first changed link that makes a circle, or else the first that cuts off a directory.
+ghost use Rattle.std.specs.Prelude.{◌≡◌, ◌+◌, IfOk};
+ghost use Rattle.std.specs.Option.{option_map};
+ghost use Rattle.checkout.specs.BadChanges.{first_link, IsBadAround};
+ghost use Rattle.checkout.specs.Rounds.{AreLaid};
+
+use super::Changes;
+use super::around::first_above;
+use super::cut::first_cut;
+use crate::added::Added;
+use crate::gone::Gone;
+use eden_base::NoMemory;
+use manifest::{Manifest, Tally};
+use std::alloc::Global;
+
+/// Returns the index of the one or the other. Neither of the first two rounds found a bad change.
+pub fn first_bad_around(
+    alloc: Global,
+    manifest: &Manifest,
+    changes: &Changes,
+    added: &Added,
+    gone: &Gone,
+    lost: &Tally,
+) -> Result<Option<usize>, NoMemory>
+    requires laid { AreLaid manifest.now changes.now added.now gone.now lost.now }
+    ensures { IfOk result (λ found.
+        IsBadAround manifest.now changes.now (option_map (λ i. first_link changes.now + i) found)) }
+{
+    let links = changes.links.as_slice();
+    match first_above(alloc, manifest, added, gone, links)? {
+        Some(place) => Ok(Some(place)),
+        None => Ok(first_cut(manifest, added, gone, lost, links)),
+    }
+}

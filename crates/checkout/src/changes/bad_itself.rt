@@ -1,0 +1,181 @@
+//! What is bad of changes by itself, whatever the other links say.
+ghost use Rattle.std.specs.Prelude.{◌≡◌, ◌==◌, ◌+◌, None, length};
+ghost use Rattle.std.specs.List.{find};
+ghost use Rattle.std.specs.List.Sorted.{IsStrictlySortedBy};
+ghost use Rattle.std.specs.Option.{option_copied, option_map};
+ghost use Rattle.std.specs.Ordering.{nat_cmp};
+ghost use Rattle.checkout.specs.declared.changes.Made.{Made};
+ghost use Rattle.checkout.specs.BadChanges.{bad_itself, first_bad, gives_same, is_bad_link, is_bad_made, is_bad_next, is_behind, is_target, kind_with, last_file, manifest_target, rises};
+ghost use Rattle.checkout.specs.Changes.{file_ids};
+ghost use Rattle.manifest.specs.Tree.{is_dir};
+
+use super::{Changes, Made};
+use crate::order::compare;
+use eden_base::{END_OF_FILES, FileId, Kind};
+use manifest::{LinkChange, Manifest};
+use std::cmp::Ordering;
+
+/// Returns the last file of a manifest.
+fn last_file(manifest: &Manifest) -> u64
+    ensures { result ≡ last_file manifest.now }
+{
+    manifest.lines().len() as u64 + 1
+}
+
+/// Returns whether the next file is one of the manifest's, or above the last that may be.
+fn is_bad_next(manifest: &Manifest, next: FileId) -> bool
+    ensures { result ≡ is_bad_next manifest.now next }
+{
+    next.0 <= last_file(manifest) || END_OF_FILES < next.0
+}
+
+/// Returns whether a made file's id is above that of the one before it.
+fn rises(before: Option<Made>, made: Made) -> bool
+    ensures { result ≡ rises before made }
+{
+    match before {
+        Some(before) => before.file.0 < made.file.0,
+        None => true,
+    }
+}
+
+/// Returns whether a made file doesn't rise, is one of the manifest's, or isn't below the next file.
+fn is_bad_made(manifest: &Manifest, next: FileId, before: Option<Made>, made: Made) -> bool
+    ensures { result ≡ is_bad_made manifest.now next before made }
+{
+    !rises(before, made) || made.file.0 <= last_file(manifest) || next.0 <= made.file.0
+}
+
+/// Returns the place of the first made file that is bad behind the one before it.
+fn first_bad_made(manifest: &Manifest, next: FileId, files: &[Made]) -> Option<usize>
+    ensures { result ≡ first_bad (is_bad_made manifest.now next) 1 None files.now }
+{
+    let mut before = None;
+    for i in 0..files.len() {
+        let made = files[i];
+        if is_bad_made(manifest, next, before, made) {
+            return Some(i + 1);
+        }
+        before = Some(made);
+    }
+    None
+}
+
+/// Returns whether a place is behind that of the link before it.
+fn is_behind(before: Option<&LinkChange>, change: &LinkChange) -> bool
+    ensures { result ≡ is_behind (option_copied before.entry) change.now }
+{
+    match before {
+        Some(before) => compare(before, change).is_lt(),
+        None => true,
+    }
+}
+
+/// Returns the kind that a file was made with. It is found by halving.
+fn kind_made(files: &[Made], file: FileId) -> Option<Kind>
+    requires rising { IsStrictlySortedBy nat_cmp (file_ids files.now) }
+    ensures { result ≡ option_map (λ (x : Made). x.kind) (find (λ (x : Made). x.file.0 == file.0) files.now) }
+{
+    match files.binary_search_by_key(&file.0, |made| made.file.0) {
+        Ok(place) => Some(files[place].kind),
+        Err(_) => None,
+    }
+}
+
+/// Returns the kind of the root, of a file of the manifest, or of one that was made.
+fn kind_with(manifest: &Manifest, files: &[Made], file: FileId) -> Option<Kind>
+    requires rising { IsStrictlySortedBy nat_cmp (file_ids files.now) }
+    ensures { result ≡ kind_with manifest.now files.now file }
+{
+    match manifest.content(file) {
+        Some(content) => Some(content.kind),
+        None => kind_made(files, file),
+    }
+}
+
+/// Returns whether this is the kind of a directory.
+fn is_dir(kind: Option<Kind>) -> bool
+    ensures { result ≡ is_dir kind }
+{
+    match kind {
+        Some(Kind::Dir) => true,
+        Some(Kind::File) => false,
+        None => false,
+    }
+}
+
+/// Returns whether a name may give this: a file that isn't the root, or none.
+fn is_target(manifest: &Manifest, files: &[Made], target: Option<FileId>) -> bool
+    requires rising { IsStrictlySortedBy nat_cmp (file_ids files.now) }
+    ensures { result ≡ is_target manifest.now files.now target }
+{
+    match target {
+        Some(file) => kind_with(manifest, files, file).is_some() && file.0 != 1,
+        None => true,
+    }
+}
+
+/// Returns the file that the manifest has where a link was changed.
+fn manifest_target(manifest: &Manifest, change: &LinkChange) -> Option<FileId>
+    ensures { result ≡ manifest_target manifest.now change.now }
+{
+    manifest.child(change.dir, change.name.bytes())
+}
+
+/// Returns whether both give the same file, or neither gives one.
+fn gives_same(target: Option<FileId>, other: Option<FileId>) -> bool
+    ensures { result ≡ gives_same target other }
+{
+    match (target, other) {
+        (Some(file), Some(other)) => file.0 == other.0,
+        (None, None) => true,
+        _ => false,
+    }
+}
+
+/// Returns whether a link isn't behind the one before it, stands in no directory, gives no file, or what the manifest
+/// has there.
+fn is_bad_link(
+    manifest: &Manifest,
+    files: &[Made],
+    before: Option<&LinkChange>,
+    change: &LinkChange,
+) -> bool
+    requires rising { IsStrictlySortedBy nat_cmp (file_ids files.now) }
+    ensures { result ≡ is_bad_link manifest.now files.now (option_copied before.entry) change.now }
+{
+    !is_behind(before, change)
+        || !is_dir(kind_with(manifest, files, change.dir))
+        || !is_target(manifest, files, change.target)
+        || gives_same(change.target, manifest_target(manifest, change))
+}
+
+/// Returns the place of the first link that is bad behind the one before it.
+fn first_bad_link(manifest: &Manifest, files: &[Made], links: &[LinkChange]) -> Option<usize>
+    requires rising { IsStrictlySortedBy nat_cmp (file_ids files.now) }
+    ensures { result ≡ first_bad (is_bad_link manifest.now files.now) (length files.now + 1) None links.now }
+{
+    let mut before = None;
+    for i in 0..links.len() {
+        let change = &links[i];
+        if is_bad_link(manifest, files, before, change) {
+            return Some(files.len() + 1 + i);
+        }
+        before = Some(change);
+    }
+    None
+}
+
+/// Returns the place of the first change that is bad by itself. Takes no memory.
+pub fn bad_itself(manifest: &Manifest, changes: &Changes) -> Option<usize>
+    ensures { result ≡ bad_itself manifest.now changes.now }
+{
+    if is_bad_next(manifest, changes.next_file) {
+        return Some(0);
+    }
+    let files = changes.made.as_slice();
+    match first_bad_made(manifest, changes.next_file, files) {
+        Some(place) => Some(place),
+        None => first_bad_link(manifest, files, changes.links.as_slice()),
+    }
+}

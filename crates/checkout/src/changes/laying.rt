@@ -1,0 +1,78 @@
+//! How changes are laid over a manifest: what goes with them, and what comes.
+ghost use Rattle.std.specs.Prelude.{◌≡◌, ◌∷◌, ◌++◌, [], IfOk};
+ghost use Rattle.std.specs.FinMap.{empty};
+ghost use Rattle.std.specs.List.{AllByRecursion};
+ghost use Rattle.eden_base.specs.Name.{IsNameText};
+ghost use Rattle.checkout.specs.Laying.{taken, with_added, with_made, AreTaken, CanAdd, IsLeft, StandApart};
+
+use super::Made;
+use crate::added::Added;
+use crate::gone::Gone;
+use crate::made::{MadeFile, MadeFiles};
+use eden_base::NoMemory;
+use manifest::{LinkChange, Manifest, Tally};
+use std::alloc::Global;
+
+/// Returns the files of the manifest at the places of changed links, whose own links go, and how many go from each
+/// directory.
+pub fn taken(
+    alloc: Global,
+    manifest: &Manifest,
+    links: &[LinkChange],
+) -> Result<(Gone, Tally), NoMemory>
+    requires apart { StandApart links.now }
+    ensures files { IfOk result (λ p. p.0.files ≡ taken manifest.now links.now) }
+    ensures taken { IfOk result (λ p. AreTaken manifest.now p.0 p.1) }
+    ensures names { IfOk result (λ _. AllByRecursion (λ link. IsNameText link.name) links.now) }
+{
+    let room = manifest.lines().len() + 2;
+    let mut gone = Gone::with_room(alloc, room)?;
+    let mut lost = Tally::with_room(alloc, room)?;
+    for change in links {
+        take(manifest, change, &mut gone, &mut lost);
+    }
+    Ok((gone, lost))
+}
+
+/// Lets the manifest's link at the place of a changed one go, if there is one. Takes no memory.
+fn take(manifest: &Manifest, change: &LinkChange, gone: &mut Gone, lost: &mut Tally)
+    requires left { IsLeft manifest.now gone.old change.now }
+    requires so_far { AreTaken manifest.now gone.old lost.old }
+    ensures files { gone.new.files ≡ gone.old.files ++ taken manifest.now (change.now ∷ []) }
+    ensures now { AreTaken manifest.now gone.new lost.new }
+    ensures name { IsNameText change.now.name }
+{
+    if let Some(file) = manifest.child(change.dir, change.name.bytes()) {
+        gone.add(file);
+        lost.raise(change.dir.0);
+    }
+}
+
+/// Returns the links that changes give.
+pub fn added(alloc: Global, links: &[LinkChange]) -> Result<Added, NoMemory>
+    requires fit { CanAdd empty links.now }
+    ensures { IfOk result (λ added. added ≡ with_added empty links.now) }
+{
+    let mut added = Added::new(alloc);
+    for change in links {
+        if let Some(file) = change.target {
+            added.insert(alloc, change.dir, change.name.bytes(), file)?;
+        }
+    }
+    Ok(added)
+}
+
+/// Returns files that were made, by their ids.
+pub fn made(alloc: Global, list: &[Made]) -> Result<MadeFiles, NoMemory>
+    ensures { IfOk result (λ files. files ≡ with_made empty list.now) }
+{
+    let mut files = MadeFiles::new(alloc);
+    for made in list {
+        let kept = MadeFile {
+            kind: made.kind,
+            perm: made.perm,
+        };
+        files.insert(made.file, kept)?;
+    }
+    Ok(files)
+}
