@@ -1,5 +1,6 @@
 pub mod ByteLemmas
 pub mod FieldLaws
+pub mod PairLaws
 pub mod StepLemmas
 pub mod WriteLemmas
 pub mod YieldLemmas

@@ -6,6 +6,10 @@ pub bind_ok : {F A B : Type 0} (r : Result A F) (f : A → Result B F) (y : B) �
 bind_ok (Ok x) f y e = (x, refl, e)
 bind_ok (Err fault) f y e = absurd cc
 
+pub bind_assoc : {F A B C : Type 0} (r : Result A F) (f : A → Result B F) (g : B → Result C F) → (r >>= λ x. f x >>= g) ≡ ((r >>= f) >>= g)
+bind_assoc (Ok x) f g = refl
+bind_assoc (Err fault) f g = refl
+
 -- a test that must fail did
 pub guard_ok : {F A : Type 0} (b : Bool) (fault : F) (r : Result A F) (y : A) → cond b (Err fault) r ≡ Ok y → (b ≡ false) × (r ≡ Ok y)
 guard_ok true fault r y e = absurd cc

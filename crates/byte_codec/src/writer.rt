@@ -27,7 +27,8 @@ pub fn put_u16(out: &mut Vec<u8>, number: u16)
     requires room { HasRoom out.old 2 }
     ensures text { Puts out.old out.new (number_bytes w16 number) }
 {
-    put_slice(out, &number.to_be_bytes());
+    let field: [u8; 2] = number.to_be_bytes();
+    put_slice(out, &field);
 }
 
 /// Puts `number` at the end of `out`, in four bytes.
@@ -36,7 +37,8 @@ pub fn put_u32(out: &mut Vec<u8>, number: u32)
     requires room { HasRoom out.old 4 }
     ensures text { Puts out.old out.new (number_bytes w32 number) }
 {
-    put_slice(out, &number.to_be_bytes());
+    let field: [u8; 4] = number.to_be_bytes();
+    put_slice(out, &field);
 }
 
 /// Puts `number` at the end of `out`, in eight bytes.
@@ -45,5 +47,6 @@ pub fn put_u64(out: &mut Vec<u8>, number: u64)
     requires room { HasRoom out.old 8 }
     ensures text { Puts out.old out.new (number_bytes w64 number) }
 {
-    put_slice(out, &number.to_be_bytes());
+    let field: [u8; 8] = number.to_be_bytes();
+    put_slice(out, &field);
 }
