@@ -13,9 +13,9 @@ use Rattle.frames.specs.Reading.{alone, numbers_at, versions_of}
 use Rattle.frames.proofs.Written.{len_versions}
 
 -- a number that stands alone
-pub alone_again : (width : Width) (limit n : ℕ) → IsWidth width limit → n < limit → alone width (number_bytes width n) ≡ Ok n
+pub alone_again : {width : Width} {limit : ℕ} → IsWidth width limit → (n : ℕ) → n < limit → alone width (number_bytes width n) ≡ Ok n
 unfolding alone
-alone_again width limit n is lt = rw (is.len n, is.again n lt, eq-eqb (byte_len width) (byte_len width) refl) refl
+alone_again {width = width} is n lt = rw (is.len n, is.again n lt, eq-eqb (byte_len width) (byte_len width) refl) refl
 
 -- versions, one behind the other
 pub numbers_again : (versions : List ℕ) → All FitsVersion versions → numbers_at (length versions) (flat_map version_text versions) ≡ versions

@@ -61,33 +61,33 @@ pub message_again : (message : Message) → FitsMessage message → message_of (
 unfolding message_of nothing
 message_again (Offer versions) fit = rw (versions_again versions fit.0 fit.1) refl
 message_again (Choice session version) fit =
-    rw (number_again BadBody w32 (2 ^ 32) session (number_bytes w16 version) four fit.0, alone_again w16 (2 ^ 16) version two fit.1) refl
+    rw (number_again BadBody w32 (2 ^ 32) session (number_bytes w16 version) four fit.0, alone_again two version fit.1) refl
 message_again NoCommon fit = refl
 message_again Busy fit = refl
 message_again (Ready session generation) fit =
-    rw (number_again BadBody w32 (2 ^ 32) session (number_bytes w64 generation) four fit.0, alone_again w64 (2 ^ 64) generation eight fit.1) refl
-message_again (Pong session) fit = rw (alone_again w32 (2 ^ 32) session four fit) refl
+    rw (number_again BadBody w32 (2 ^ 32) session (number_bytes w64 generation) four fit.0, alone_again eight generation fit.1) refl
+message_again (Pong session) fit = rw (alone_again four session fit) refl
 message_again (Data session generation bytes) fit =
     rw (number_again BadBody w32 (2 ^ 32) session (number_bytes w64 generation ++ bytes) four fit.0, number_again BadBody w64 (2 ^ 64) generation bytes eight fit.1) refl
-message_again (Failed session) fit = rw (alone_again w32 (2 ^ 32) session four fit) refl
+message_again (Failed session) fit = rw (alone_again four session fit) refl
 
 pub body_again : (frame : Frame) → Fits frame → frame_of (kind_of frame) (body_of frame) ≡ Ok frame
 unfolding frame_of nothing
-body_again (Take generation) fit = rw (alone_again w64 (2 ^ 64) generation eight fit) refl
+body_again (Take generation) fit = rw (alone_again eight generation fit) refl
 body_again (Ask request) fit = refl
 body_again Empty fit = refl
 body_again (Post generation reply) fit = rw (number_again BadBody w64 (2 ^ 64) generation reply eight fit) refl
 body_again Posted fit = refl
 body_again Ended fit = refl
-body_again (Stale now) fit = rw (alone_again w64 (2 ^ 64) now eight fit) refl
+body_again (Stale now) fit = rw (alone_again eight now fit) refl
 body_again NotAsked fit = refl
-body_again (Claim generation) fit = rw (alone_again w64 (2 ^ 64) generation eight fit) refl
-body_again (Claimed generation) fit = rw (alone_again w64 (2 ^ 64) generation eight fit) refl
-body_again (Unanswered asks) fit = rw (alone_again w64 (2 ^ 64) asks eight fit) refl
+body_again (Claim generation) fit = rw (alone_again eight generation fit) refl
+body_again (Claimed generation) fit = rw (alone_again eight generation fit) refl
+body_again (Unanswered asks) fit = rw (alone_again eight asks fit) refl
 body_again LastGeneration fit = refl
 body_again Mount fit = refl
-body_again (Mounted generation) fit = rw (alone_again w64 (2 ^ 64) generation eight fit) refl
+body_again (Mounted generation) fit = rw (alone_again eight generation fit) refl
 body_again Seated fit = refl
-body_again (Attach daemon) fit = rw (alone_again w64 (2 ^ 64) daemon.0 eight fit) refl
-body_again (Attached daemon) fit = rw (alone_again w64 (2 ^ 64) daemon.0 eight fit) refl
+body_again (Attach daemon) fit = rw (alone_again eight daemon.0 fit) refl
+body_again (Attached daemon) fit = rw (alone_again eight daemon.0 fit) refl
 body_again (Takeover message) fit = rw (message_again message fit) refl
