@@ -9,8 +9,7 @@ use eden_base::{ClaimFault, LAST_GENERATION, LAST_SESSION};
 use std::marker::Model;
 use thiserror::Error;
 
-/// Why a daemon is not drained. The first that holds is told, in this order, in the words that a printed refusal has
-/// for it.
+/// Why a daemon is not drained: the first that holds, in this order, in the words of a printed refusal.
 #[derive(Clone, Copy, Debug, PartialEq, Eq, Error)]
 pub enum DrainFault {
     /// It is not draining.
