@@ -6,21 +6,25 @@ use Rattle.std.specs.Cmp.Lexicographic.{pointwise}
 use Rattle.std.proofs.lemmas.Bool.{ltb-false, eqb-true}
 use Rattle.std.proofs.lemmas.List.{append-nil, nil_from_length}
 use Rattle.std.proofs.lemmas.List.Elements.{recursion_from_All, All-from_recursion}
+use Rattle.byte_codec.specs.Field.{AreBytes, number_bytes}
+use Rattle.byte_codec.specs.Reading.{◌>>=◌, bytes_at, number_at}
+use Rattle.byte_codec.proofs.ByteLemmas.{both}
+use Rattle.byte_codec.proofs.FieldLaws.{Found, itself, HasLength, bytes_found, bytes_again, IsBelow}
+use Rattle.byte_codec.proofs.StepLemmas.{bind_ok, guard_ok, test_ok, ok_is}
 use Rattle.eden_base.specs.Name.{IsNameText}
 use Rattle.checkout.specs.declared.changes.Made.{Made}
 use Rattle.manifest.specs.declared.links.LinkChange.{LinkChange}
 use Rattle.checkout.specs.declared.changes.Changes.{Changes}
 use Rattle.entry_table.specs.declared.kept.Kept.{Kept}
 use Rattle.map_image.specs.declared.fault.ImageFault.{ImageFault}
-use Rattle.map_image.specs.declared.fault.ImageFault.TheVariants.{BadMagic, Rest, ZeroUse}
+use Rattle.map_image.specs.declared.fault.ImageFault.TheVariants.{Short, BadMagic, Rest, ZeroUse}
 use Rattle.map_image.specs.declared.header.Header.{Header}
 use Rattle.map_image.specs.declared.image.Image.{Image}
-use Rattle.map_image.specs.Field.{number_bytes}
 use Rattle.entry_table.specs.EntryPlaces.{HasName}
 use Rattle.map_image.specs.Fit.{entry_follows, made_follows, link_follows, IsFit}
 use Rattle.map_image.specs.ImageText.{Form, first_form, form_of, magic, entry_text, made_text, link_text, list_text, image_text, FitsEntry, FitsMade, FitsLink, FitsNumbers, FitsMembers, IsImageText}
-use Rattle.map_image.specs.ImageReading.{◌>>=◌, bytes_at, number_at, entry_at, made_at, link_at, list_at, magic_at, known, form_at, header_at, changes_at, image_with, fields_at, are_of_use, seen_whole, image_of_bytes}
-use Rattle.map_image.proofs.FieldLaws.{IsBytes, bind_ok, guard_ok, test_ok, ok_is, Found, found_as, both, itself, HasLength, bytes_found, bytes_again, wide16, wide64, IsBelow, number_found, number_again}
+use Rattle.map_image.specs.ImageReading.{entry_at, made_at, link_at, list_at, magic_at, known, form_at, header_at, changes_at, image_with, fields_at, are_of_use, seen_whole, image_of_bytes}
+use Rattle.map_image.proofs.FieldLaws.{found_as, wide16, wide64, number_found, number_again}
 use Rattle.map_image.proofs.Lengths.{length-magic}
 use Rattle.map_image.proofs.ListLaws.{IsGoodList, list_found, list_again}
 use Rattle.map_image.proofs.MemberLaws.{GoodEntry, GoodLink, entry_found, entry_again, made_found, made_again, link_found, link_again}
@@ -47,20 +51,20 @@ magic_same = refl
 
 pub record Front (text bytes rest : List ℕ) : Type 0 where
   pub parts : bytes ≡ text ++ rest
-  pub rest_are : IsBytes rest
+  pub rest_are : AreBytes rest
 
-pub magic_found : (bytes rest : List ℕ) → IsBytes bytes → magic_at bytes ≡ Ok rest → Front magic bytes rest
+pub magic_found : (bytes rest : List ℕ) → AreBytes bytes → magic_at bytes ≡ Ok rest → Front magic bytes rest
 unfolding magic_at
 magic_found bytes rest are e =
-    let b = bind_ok (bytes_at 4 bytes) (λ field. cond (pointwise nat_eq field.0 magic) (Ok field.1) (Err BadMagic)) rest e in
-    let field = bytes_found 4 bytes b.0 are b.1 in
+    let b = bind_ok (bytes_at Short 4 bytes) (λ field. cond (pointwise nat_eq field.0 magic) (Ok field.1) (Err BadMagic)) rest e in
+    let field = bytes_found Short 4 bytes b.0 are b.1 in
     let t = test_ok (pointwise nat_eq b.0.0 magic) BadMagic (Ok b.0.1) rest b.2 in
     let same : b.0.0 ≡ magic = same_bytes b.0.0 magic t.0 in
     subst (Front magic bytes) (ok_is b.0.1 rest t.1) (record { parts = field.parts ∙ ap (λ (t : List ℕ). t ++ b.0.1) same; rest_are = field.rest })
 
 pub magic_again : (rest : List ℕ) → magic_at (magic ++ rest) ≡ Ok rest
 unfolding magic_at
-magic_again rest = rw (bytes_again 4 magic rest length-magic, magic_same) refl
+magic_again rest = rw (bytes_again Short 4 magic rest length-magic, magic_same) refl
 
 known_ok : (b : Bool) (rest : List ℕ) (x : Form × List ℕ) → known (cond b (Some first_form) None) rest ≡ Ok x → (b ≡ true) × ((first_form, rest) ≡ x)
 known_ok true rest x e = (refl, ok_is (first_form, rest) x e)
@@ -71,10 +75,10 @@ pub record FirstForm (bytes : List ℕ) (x : Form × List ℕ) : Type 0 where
   pub form : x.0 ≡ first_form
   pub front : Front (number_bytes w16 1) bytes x.1
 
-pub form_found : (bytes : List ℕ) (x : Form × List ℕ) → IsBytes bytes → form_at bytes ≡ Ok x → FirstForm bytes x
+pub form_found : (bytes : List ℕ) (x : Form × List ℕ) → AreBytes bytes → form_at bytes ≡ Ok x → FirstForm bytes x
 unfolding form_at
 form_found bytes x are e =
-    let b = bind_ok (number_at w16 bytes) (λ version. known (form_of version.0) version.1) x e in
+    let b = bind_ok (number_at Short w16 bytes) (λ version. known (form_of version.0) version.1) x e in
     let n = number_found w16 (2 ^ 16) wide16 bytes b.0 are b.1 in
     let k = known_ok (eqb b.0.0 1) b.0.1 x b.2 in
     let one : b.0.0 ≡ 1 = eqb-true b.0.0 1 k.0 in
@@ -113,14 +117,14 @@ header_made bytes c g n f commit generation number file =
       rest = file.rest;
     }
 
-pub header_found : (bytes : List ℕ) (x : Header × List ℕ) → IsBytes bytes → header_at bytes ≡ Ok x → Found text_of_header GoodHeader bytes x
+pub header_found : (bytes : List ℕ) (x : Header × List ℕ) → AreBytes bytes → header_at bytes ≡ Ok x → Found text_of_header GoodHeader bytes x
 unfolding header_at
 header_found bytes x are e =
-    let a = bind_ok (bytes_at 20 bytes) (λ c. number_at w64 c.1 >>= λ g. number_at w64 g.1 >>= λ n. number_at w64 n.1 >>= λ f. Ok (header_of c.0 g.0 n.0 f)) x e in
-    let b = bind_ok (number_at w64 a.0.1) (λ g. number_at w64 g.1 >>= λ n. number_at w64 n.1 >>= λ f. Ok (header_of a.0.0 g.0 n.0 f)) x a.2 in
-    let c = bind_ok (number_at w64 b.0.1) (λ n. number_at w64 n.1 >>= λ f. Ok (header_of a.0.0 b.0.0 n.0 f)) x b.2 in
-    let d = bind_ok (number_at w64 c.0.1) (λ f. Ok (header_of a.0.0 b.0.0 c.0.0 f)) x c.2 in
-    let commit = bytes_found 20 bytes a.0 are a.1 in
+    let a = bind_ok (bytes_at Short 20 bytes) (λ c. number_at Short w64 c.1 >>= λ g. number_at Short w64 g.1 >>= λ n. number_at Short w64 n.1 >>= λ f. Ok (header_of c.0 g.0 n.0 f)) x e in
+    let b = bind_ok (number_at Short w64 a.0.1) (λ g. number_at Short w64 g.1 >>= λ n. number_at Short w64 n.1 >>= λ f. Ok (header_of a.0.0 g.0 n.0 f)) x a.2 in
+    let c = bind_ok (number_at Short w64 b.0.1) (λ n. number_at Short w64 n.1 >>= λ f. Ok (header_of a.0.0 b.0.0 n.0 f)) x b.2 in
+    let d = bind_ok (number_at Short w64 c.0.1) (λ f. Ok (header_of a.0.0 b.0.0 c.0.0 f)) x c.2 in
+    let commit = bytes_found Short 20 bytes a.0 are a.1 in
     let generation = number_found w64 (2 ^ 64) wide64 a.0.1 b.0 commit.rest b.1 in
     let number = number_found w64 (2 ^ 64) wide64 b.0.1 c.0 generation.rest c.1 in
     let file = number_found w64 (2 ^ 64) wide64 c.0.1 d.0 number.rest d.1 in
@@ -136,7 +140,7 @@ header_again h rest good =
     append_assoc h.commit (g ++ (n ++ f)) rest ∙ ap (λ (t : List ℕ). h.commit ++ t) (append_assoc g (n ++ f) rest ∙ ap (λ (t : List ℕ). g ++ t) (append_assoc n f rest)) in
     ap header_at regrouped
     ∙ rw (
-      bytes_again 20 h.commit (g ++ (n ++ (f ++ rest))) good.commit,
+      bytes_again Short 20 h.commit (g ++ (n ++ (f ++ rest))) good.commit,
       number_again w64 (2 ^ 64) wide64 h.generation (n ++ (f ++ rest)) good.generation,
       number_again w64 (2 ^ 64) wide64 h.next_number (f ++ rest) good.next_number,
       number_again w64 (2 ^ 64) wide64 h.next_file rest good.next_file,
@@ -156,7 +160,7 @@ pub record GoodChanges (file : ℕ) (c : Changes) : Type 0 where
 abbrev changes_of : ℕ → List Made → List LinkChange × List ℕ → Changes × List ℕ
 changes_of file made links = (record { made = made; links = links.0; next_file = record { 0 = file } }, links.1)
 
-pub changes_found : (file : ℕ) (bytes : List ℕ) (x : Changes × List ℕ) → IsBytes bytes → changes_at file bytes ≡ Ok x → Found changes_text (GoodChanges file) bytes x
+pub changes_found : (file : ℕ) (bytes : List ℕ) (x : Changes × List ℕ) → AreBytes bytes → changes_at file bytes ≡ Ok x → Found changes_text (GoodChanges file) bytes x
 unfolding changes_at
 changes_found file bytes x are e =
     let a = bind_ok (list_at made_at bytes) (λ made. list_at link_at made.1 >>= λ links. Ok (changes_of file made.0 links)) x e in
@@ -213,7 +217,7 @@ image_made bytes r s h en c first version header entries changes =
 abbrev behind_form : Form → List ℕ → Result (Image × List ℕ) ImageFault
 behind_form form bytes = header_at bytes >>= λ header. list_at (entry_at form.count) header.1 >>= λ entries. changes_at header.0.next_file entries.1 >>= λ changes. Ok (image_of header.0 entries.0 changes)
 
-pub fields_found : (bytes : List ℕ) (x : Image × List ℕ) → IsBytes bytes → fields_at bytes ≡ Ok x → Found (image_text w32 1) GoodImage bytes x
+pub fields_found : (bytes : List ℕ) (x : Image × List ℕ) → AreBytes bytes → fields_at bytes ≡ Ok x → Found (image_text w32 1) GoodImage bytes x
 unfolding fields_at
 fields_found bytes x are e =
     let a = bind_ok (magic_at bytes) (λ fields. form_at fields >>= λ form. behind_form form.0 form.1) x e in
@@ -307,7 +311,7 @@ good_image image fit commit numbers members = record {
   };
 }
 
-pub image_found : (bytes : List ℕ) (image : Image) → IsBytes bytes → image_of_bytes bytes ≡ Ok image → IsImageText image 1 bytes
+pub image_found : (bytes : List ℕ) (image : Image) → AreBytes bytes → image_of_bytes bytes ≡ Ok image → IsImageText image 1 bytes
 unfolding image_of_bytes
 image_found bytes image are e =
     let b = bind_ok (fields_at bytes) seen_whole image e in

@@ -3,18 +3,23 @@ use Rattle.std.proofs.Common.{◌≡◌, ℕ, zero, suc, ◌^◌, ◌<◌, Bool,
 use Rattle.std.specs.Int.{w32}
 use Rattle.std.specs.List.{flat_map, AllByRecursion}
 use Rattle.std.proofs.lemmas.List.Concat.{flat_map-cons}
-use Rattle.map_image.specs.Field.{number_bytes}
+use Rattle.byte_codec.specs.Field.{AreBytes, number_bytes}
+use Rattle.byte_codec.specs.Reading.{◌>>=◌, number_at}
+use Rattle.byte_codec.proofs.ByteLemmas.{both}
+use Rattle.byte_codec.proofs.FieldLaws.{Found}
+use Rattle.byte_codec.proofs.StepLemmas.{bind_ok, ok_is}
+use Rattle.map_image.specs.declared.fault.ImageFault.TheVariants.{Short}
 use Rattle.map_image.specs.Fit.{rises}
 use Rattle.map_image.specs.ImageText.{list_text}
-use Rattle.map_image.specs.ImageReading.{◌>>=◌, number_at, members_at, list_at}
-use Rattle.map_image.proofs.FieldLaws.{IsBytes, bind_ok, ok_is, Found, both, wide32, number_found, number_again}
+use Rattle.map_image.specs.ImageReading.{members_at, list_at}
+use Rattle.map_image.proofs.FieldLaws.{wide32, number_found, number_again}
 use Rattle.map_image.proofs.Loop.{Member}
 use Rattle.map_image.proofs.MemberLaws.{Next}
 
 -- what is read as a member is spelled so, behind the last one
 abbrev pub Finds : {X : Type 0} → Member X → (X → List ℕ) → (X → Type 0) → (Option X → X → Bool) → Type 0
 Finds {X} member text Good follows =
-    (last : Option X) (bytes : List ℕ) (x : X × List ℕ) → IsBytes bytes → member last bytes ≡ Ok x → Found text (Next Good follows last) bytes x
+    (last : Option X) (bytes : List ℕ) (x : X × List ℕ) → AreBytes bytes → member last bytes ≡ Ok x → Found text (Next Good follows last) bytes x
 
 -- what is spelled as a member is read, behind the last one
 abbrev pub Reads : {X : Type 0} → Member X → (X → List ℕ) → (X → Type 0) → (Option X → X → Bool) → Type 0
@@ -35,7 +40,7 @@ and_true : (a b : Bool) → (a && b) ≡ true → (a ≡ true) × (b ≡ true)
 and_true true b e = (refl, e)
 and_true false b e = absurd cc
 
-pub members_found : {X : Type 0} (member : Member X) (text : X → List ℕ) (Good : X → Type 0) (follows : Option X → X → Bool) → Finds member text Good follows → (n : ℕ) (last : Option X) (bytes : List ℕ) (x : List X × List ℕ) → IsBytes bytes → members_at member last n bytes ≡ Ok x
+pub members_found : {X : Type 0} (member : Member X) (text : X → List ℕ) (Good : X → Type 0) (follows : Option X → X → Bool) → Finds member text Good follows → (n : ℕ) (last : Option X) (bytes : List ℕ) (x : List X × List ℕ) → AreBytes bytes → members_at member last n bytes ≡ Ok x
     → Found (flat_map text) (AreMembers Good follows last n) bytes x
 unfolding members_at
 members_found {X = X} member text Good follows finds zero last bytes x are e =
@@ -73,11 +78,11 @@ pub record IsGoodList {X : Type 0} (Good : X → Type 0) (follows : Option X →
   pub good : AllByRecursion Good xs
   pub rise : rises follows None xs ≡ true
 
-pub list_found : {X : Type 0} (member : Member X) (text : X → List ℕ) (Good : X → Type 0) (follows : Option X → X → Bool) → Finds member text Good follows → (bytes : List ℕ) (x : List X × List ℕ) → IsBytes bytes → list_at member bytes ≡ Ok x
+pub list_found : {X : Type 0} (member : Member X) (text : X → List ℕ) (Good : X → Type 0) (follows : Option X → X → Bool) → Finds member text Good follows → (bytes : List ℕ) (x : List X × List ℕ) → AreBytes bytes → list_at member bytes ≡ Ok x
     → Found (list_text text) (IsGoodList Good follows) bytes x
 unfolding list_at
 list_found member text Good follows finds bytes x are e =
-    let a = bind_ok (number_at w32 bytes) (λ count. members_at member None count.0 count.1) x e in
+    let a = bind_ok (number_at Short w32 bytes) (λ count. members_at member None count.0 count.1) x e in
     let count = number_found w32 (2 ^ 32) wide32 bytes a.0 are a.1 in
     let members = members_found member text Good follows finds a.0.0 None a.0.1 x count.rest a.2 in
     let parts = both bytes (number_bytes w32 a.0.0) a.0.1 (flat_map text x.0) x.1 count.parts members.parts in

@@ -2,9 +2,10 @@
 use Rattle.std.proofs.Common.{◌≡◌, ℕ, suc, ◌+◌, ◌-◌, ◌<◌, ◌≤◌, List, [], ◌∷◌, ◌++◌, length, Option, Some, Result, Ok, Err, refl, sym, ap, ◌∙◌, append_assoc, length-append, arith}
 use Rattle.std.specs.Prelude.{slice_get}
 use Rattle.std.proofs.lemmas.List.{append-nil}
+use Rattle.byte_codec.specs.Reading.{◌>>=◌}
 use Rattle.map_image.specs.declared.fault.ImageFault.{ImageFault}
 use Rattle.map_image.specs.declared.fault.ImageFault.TheVariants as faults
-use Rattle.map_image.specs.ImageReading.{◌>>=◌, Fails, last_of, members_at}
+use Rattle.map_image.specs.ImageReading.{Fails, last_of, members_at}
 
 -- a member that is read behind the last one
 abbrev pub Member : Type 0 → Type 0

@@ -2,6 +2,11 @@
 use Rattle.std.proofs.Common.{◌≡◌, ℕ, ◌%◌, ◌^◌, ◌<◌, ◌≤◌, Bool, true, false, cond, ltb, List, [], ◌++◌, Option, Some, None, Ok, Err, refl, sym, ap, subst, ◌∙◌, append_assoc, arith}
 use Rattle.std.specs.Int.{w16, w32, w64}
 use Rattle.std.proofs.lemmas.Bool.{ltb-false}
+use Rattle.byte_codec.specs.Field.{AreBytes, byte_text, number_bytes}
+use Rattle.byte_codec.specs.Reading.{◌>>=◌, number_at}
+use Rattle.byte_codec.proofs.ByteLemmas.{both}
+use Rattle.byte_codec.proofs.FieldLaws.{Found, IsBelow}
+use Rattle.byte_codec.proofs.StepLemmas.{bind_ok, guard_ok, test_ok, ok_is}
 use Rattle.eden_base.specs.Name.{IsNameText}
 use Rattle.eden_base.specs.declared.attr.Kind.{Kind}
 use Rattle.eden_base.specs.declared.attr.Kind.TheVariants.{Dir, File as RegularFile}
@@ -12,13 +17,12 @@ use Rattle.eden_base.specs.declared.place.Place.TheVariants.{Linked, Unlinked}
 use Rattle.checkout.specs.declared.changes.Made.{Made}
 use Rattle.manifest.specs.declared.links.LinkChange.{LinkChange}
 use Rattle.entry_table.specs.declared.kept.Kept.{Kept}
-use Rattle.map_image.specs.declared.fault.ImageFault.TheVariants.{NotRising, BadMark}
-use Rattle.map_image.specs.Field.{byte_text, number_bytes}
+use Rattle.map_image.specs.declared.fault.ImageFault.TheVariants.{Short, NotRising, BadMark}
 use Rattle.entry_table.specs.EntryPlaces.{HasName}
 use Rattle.map_image.specs.Fit.{is_next_number, is_next_file, is_next_place, entry_follows, made_follows, link_follows}
 use Rattle.map_image.specs.ImageText.{name_text, place_mark, place_text, entry_text, kind_mark, made_text, target_text, link_text, FitsPlace, FitsEntry, FitsMade, FitsTarget, FitsLink}
-use Rattle.map_image.specs.ImageReading.{◌>>=◌, number_at, mark_at, counted_at, named, name_at, place_at, rising_at, entry_at, file_at, kind_of_mark, perm_of, perm_at, made_at, rising_place, target_at, link_at}
-use Rattle.map_image.proofs.FieldLaws.{IsBytes, bind_ok, guard_ok, test_ok, ok_is, Found, found_as, both, IsShort, wide16, wide32, wide64, IsBelow, number_found, number_again, bit, bit_text, Any, mark_found, mark_again, counted_found, counted_again, named_ok, named_again, name_found, name_again}
+use Rattle.map_image.specs.ImageReading.{mark_at, counted_at, named, name_at, place_at, rising_at, entry_at, file_at, kind_of_mark, perm_of, perm_at, made_at, rising_place, target_at, link_at}
+use Rattle.map_image.proofs.FieldLaws.{found_as, IsShort, wide16, wide32, wide64, number_found, number_again, bit, bit_text, Any, mark_found, mark_again, counted_found, counted_again, named_ok, named_again, name_found, name_again}
 use Rattle.map_image.proofs.Perms.{perm_read}
 
 -- ---- places
@@ -33,15 +37,15 @@ linked parent name = Linked (record { 0 = parent }) name
 abbrev unlinked : ℕ → Place
 unlinked file = Unlinked (record { 0 = file })
 
-pub place_found : (mark : Bool) (bytes : List ℕ) (x : Place × List ℕ) → IsBytes bytes → place_at mark bytes ≡ Ok x → Found place_text GoodPlace bytes x × (place_mark x.0 ≡ bit mark)
+pub place_found : (mark : Bool) (bytes : List ℕ) (x : Place × List ℕ) → AreBytes bytes → place_at mark bytes ≡ Ok x → Found place_text GoodPlace bytes x × (place_mark x.0 ≡ bit mark)
 unfolding place_at
 place_found true bytes x are e =
-    let b = bind_ok (number_at w64 bytes) (λ file. Ok (unlinked file.0, file.1)) x e in
+    let b = bind_ok (number_at Short w64 bytes) (λ file. Ok (unlinked file.0, file.1)) x e in
     let n = number_found w64 (2 ^ 64) wide64 bytes b.0 are b.1 in
     let made : Place × List ℕ = (unlinked b.0.0, b.0.1) in
     subst (λ (y : Place × List ℕ). Found place_text GoodPlace bytes y × (place_mark y.0 ≡ 1)) (ok_is made x b.2) (record { parts = n.parts; good = record { fits = n.good; named = tt }; rest = n.rest }, refl)
 place_found false bytes x are e =
-    let b = bind_ok (number_at w64 bytes) (λ parent. name_at parent.1 >>= λ name. Ok (linked parent.0 name.0, name.1)) x e in
+    let b = bind_ok (number_at Short w64 bytes) (λ parent. name_at parent.1 >>= λ name. Ok (linked parent.0 name.0, name.1)) x e in
     let c = bind_ok (name_at b.0.1) (λ name. Ok (linked b.0.0 name.0, name.1)) x b.2 in
     let n = number_found w64 (2 ^ 64) wide64 bytes b.0 are b.1 in
     let name = name_found b.0.1 c.0 n.rest c.1 in
@@ -76,10 +80,10 @@ pub record RisesAs (follows : ℕ → Bool) (n : ℕ) : Type 0 where
   pub below : n < 2 ^ 64
   pub rises : follows n ≡ true
 
-pub rising_found : (last : Option Kept) (bytes : List ℕ) (x : ℕ × List ℕ) → IsBytes bytes → rising_at last bytes ≡ Ok x → Found (number_bytes w64) (RisesAs (is_next_number last)) bytes x
+pub rising_found : (last : Option Kept) (bytes : List ℕ) (x : ℕ × List ℕ) → AreBytes bytes → rising_at last bytes ≡ Ok x → Found (number_bytes w64) (RisesAs (is_next_number last)) bytes x
 unfolding rising_at
 rising_found last bytes x are e =
-    let b = bind_ok (number_at w64 bytes) (λ n. cond (is_next_number last n.0) (Ok n) (Err NotRising)) x e in
+    let b = bind_ok (number_at Short w64 bytes) (λ n. cond (is_next_number last n.0) (Ok n) (Err NotRising)) x e in
     let n = number_found w64 (2 ^ 64) wide64 bytes b.0 are b.1 in
     let t = test_ok (is_next_number last b.0.0) NotRising (Ok b.0) x b.2 in
     subst (Found (number_bytes w64) (RisesAs (is_next_number last)) bytes) (ok_is b.0 x t.1) (record { parts = n.parts; good = record { below = n.good; rises = t.0 }; rest = n.rest })
@@ -119,12 +123,12 @@ entry_made last bytes n m k p number mark count place is =
       rest = place.rest;
     }
 
-pub entry_found : (last : Option Kept) (bytes : List ℕ) (x : Kept × List ℕ) → IsBytes bytes → entry_at w32 last bytes ≡ Ok x → Found (entry_text w32) (Next GoodEntry entry_follows last) bytes x
+pub entry_found : (last : Option Kept) (bytes : List ℕ) (x : Kept × List ℕ) → AreBytes bytes → entry_at w32 last bytes ≡ Ok x → Found (entry_text w32) (Next GoodEntry entry_follows last) bytes x
 unfolding entry_at
 entry_found last bytes x are e =
-    let a = bind_ok (rising_at last bytes) (λ number. mark_at number.1 >>= λ mark. number_at w32 mark.1 >>= λ count. place_at mark.0 count.1 >>= λ place. Ok (entry_of number.0 count.0 place)) x e in
-    let b = bind_ok (mark_at a.0.1) (λ mark. number_at w32 mark.1 >>= λ count. place_at mark.0 count.1 >>= λ place. Ok (entry_of a.0.0 count.0 place)) x a.2 in
-    let c = bind_ok (number_at w32 b.0.1) (λ count. place_at b.0.0 count.1 >>= λ place. Ok (entry_of a.0.0 count.0 place)) x b.2 in
+    let a = bind_ok (rising_at last bytes) (λ number. mark_at number.1 >>= λ mark. number_at Short w32 mark.1 >>= λ count. place_at mark.0 count.1 >>= λ place. Ok (entry_of number.0 count.0 place)) x e in
+    let b = bind_ok (mark_at a.0.1) (λ mark. number_at Short w32 mark.1 >>= λ count. place_at mark.0 count.1 >>= λ place. Ok (entry_of a.0.0 count.0 place)) x a.2 in
+    let c = bind_ok (number_at Short w32 b.0.1) (λ count. place_at b.0.0 count.1 >>= λ place. Ok (entry_of a.0.0 count.0 place)) x b.2 in
     let d = bind_ok (place_at b.0.0 c.0.1) (λ place. Ok (entry_of a.0.0 c.0.0 place)) x c.2 in
     let number = rising_found last bytes a.0 are a.1 in
     let mark = mark_found a.0.1 b.0 number.rest b.1 in
@@ -154,10 +158,10 @@ entry_again last kept rest good next =
 
 -- ---- made files
 
-pub file_found : (last : Option Made) (bytes : List ℕ) (x : ℕ × List ℕ) → IsBytes bytes → file_at last bytes ≡ Ok x → Found (number_bytes w64) (RisesAs (is_next_file last)) bytes x
+pub file_found : (last : Option Made) (bytes : List ℕ) (x : ℕ × List ℕ) → AreBytes bytes → file_at last bytes ≡ Ok x → Found (number_bytes w64) (RisesAs (is_next_file last)) bytes x
 unfolding file_at
 file_found last bytes x are e =
-    let b = bind_ok (number_at w64 bytes) (λ n. cond (is_next_file last n.0) (Ok n) (Err NotRising)) x e in
+    let b = bind_ok (number_at Short w64 bytes) (λ n. cond (is_next_file last n.0) (Ok n) (Err NotRising)) x e in
     let n = number_found w64 (2 ^ 64) wide64 bytes b.0 are b.1 in
     let t = test_ok (is_next_file last b.0.0) NotRising (Ok b.0) x b.2 in
     subst (Found (number_bytes w64) (RisesAs (is_next_file last)) bytes) (ok_is b.0 x t.1) (record { parts = n.parts; good = record { below = n.good; rises = t.0 }; rest = n.rest })
@@ -169,10 +173,10 @@ file_again last n rest lt next = rw (number_again w64 (2 ^ 64) wide64 n rest lt,
 abbrev pub perm_text : Perm → List ℕ
 perm_text perm = number_bytes w16 perm.bits
 
-pub perm_found : (bytes : List ℕ) (x : Perm × List ℕ) → IsBytes bytes → perm_at bytes ≡ Ok x → Found perm_text Any bytes x
+pub perm_found : (bytes : List ℕ) (x : Perm × List ℕ) → AreBytes bytes → perm_at bytes ≡ Ok x → Found perm_text Any bytes x
 unfolding perm_at
 perm_found bytes x are e =
-    let b = bind_ok (number_at w16 bytes) (λ bits. cond (ltb 4095 bits.0) (Err BadMark) (Ok (perm_of bits.0, bits.1))) x e in
+    let b = bind_ok (number_at Short w16 bytes) (λ bits. cond (ltb 4095 bits.0) (Err BadMark) (Ok (perm_of bits.0, bits.1))) x e in
     let n = number_found w16 (2 ^ 16) wide16 bytes b.0 are b.1 in
     let g = guard_ok (ltb 4095 b.0.0) BadMark (Ok (perm_of b.0.0, b.0.1)) x b.2 in
     let low : b.0.0 ≤ 4095 = ltb-false _ _ g.0 in
@@ -214,7 +218,7 @@ made_made last bytes n m p file mark perm =
       rest = perm.rest;
     }
 
-pub made_found : (last : Option Made) (bytes : List ℕ) (x : Made × List ℕ) → IsBytes bytes → made_at last bytes ≡ Ok x → Found made_text (Next FitsMade made_follows last) bytes x
+pub made_found : (last : Option Made) (bytes : List ℕ) (x : Made × List ℕ) → AreBytes bytes → made_at last bytes ≡ Ok x → Found made_text (Next FitsMade made_follows last) bytes x
 unfolding made_at
 made_found last bytes x are e =
     let a = bind_ok (file_at last bytes) (λ file. mark_at file.1 >>= λ dir. perm_at dir.1 >>= λ perm. Ok (made_of file.0 (kind_of_mark dir.0) perm)) x e in
@@ -246,13 +250,13 @@ made_again last made rest fits next =
 -- ---- changed names
 
 -- a mark that was read, and the file behind it
-pub target_found : (b : Bool) (bytes r : List ℕ) (x : Option FileId × List ℕ) → bytes ≡ bit_text b ++ r → IsBytes r → target_at b r ≡ Ok x → Found target_text FitsTarget bytes x
+pub target_found : (b : Bool) (bytes r : List ℕ) (x : Option FileId × List ℕ) → bytes ≡ bit_text b ++ r → AreBytes r → target_at b r ≡ Ok x → Found target_text FitsTarget bytes x
 unfolding target_at
 target_found false bytes r x parts are e =
     let made : Option FileId × List ℕ = (None, r) in
     subst (Found target_text FitsTarget bytes) (ok_is made x e) (record { parts = parts; good = tt; rest = are })
 target_found true bytes r x parts are e =
-    let b = bind_ok (number_at w64 r) (λ file. Ok (Some (record { 0 = file.0 }), file.1)) x e in
+    let b = bind_ok (number_at Short w64 r) (λ file. Ok (Some (record { 0 = file.0 }), file.1)) x e in
     let n = number_found w64 (2 ^ 64) wide64 r b.0 are b.1 in
     let file : FileId = record { 0 = b.0.0 } in
     let made : Option FileId × List ℕ = (Some file, b.0.1) in
@@ -304,7 +308,7 @@ placed_as : (last : Option LinkChange) (dir : ℕ) (bytes : List ℕ) (field x :
 placed_as last dir bytes field x found rises named is = record {
   parts = subst (λ (y : List ℕ × List ℕ). bytes ≡ name_text y.0 ++ y.1) is found.parts;
   good = record { rises = rises; named = named };
-  rest = subst (λ (y : List ℕ × List ℕ). IsBytes y.1) is found.rest;
+  rest = subst (λ (y : List ℕ × List ℕ). AreBytes y.1) is found.rest;
 }
 
 -- a changed name of fields that were read in turn
@@ -321,10 +325,10 @@ link_made last bytes n c t dir name target =
       rest = target.rest;
     }
 
-pub link_found : (last : Option LinkChange) (bytes : List ℕ) (x : LinkChange × List ℕ) → IsBytes bytes → link_at last bytes ≡ Ok x → Found link_text (Next GoodLink link_follows last) bytes x
+pub link_found : (last : Option LinkChange) (bytes : List ℕ) (x : LinkChange × List ℕ) → AreBytes bytes → link_at last bytes ≡ Ok x → Found link_text (Next GoodLink link_follows last) bytes x
 unfolding link_at
 link_found last bytes x are e =
-    let a = bind_ok (number_at w64 bytes) (λ dir. counted_at dir.1 >>= λ field. rising_place last dir.0 field >>= λ name. mark_at name.1 >>= λ there. target_at there.0 there.1 >>= λ target. Ok (link_of dir.0 name.0 target)) x e in
+    let a = bind_ok (number_at Short w64 bytes) (λ dir. counted_at dir.1 >>= λ field. rising_place last dir.0 field >>= λ name. mark_at name.1 >>= λ there. target_at there.0 there.1 >>= λ target. Ok (link_of dir.0 name.0 target)) x e in
     let b = bind_ok (counted_at a.0.1) (λ field. rising_place last a.0.0 field >>= λ name. mark_at name.1 >>= λ there. target_at there.0 there.1 >>= λ target. Ok (link_of a.0.0 name.0 target)) x a.2 in
     let c = bind_ok (rising_place last a.0.0 b.0) (λ name. mark_at name.1 >>= λ there. target_at there.0 there.1 >>= λ target. Ok (link_of a.0.0 name.0 target)) x b.2 in
     let d = bind_ok (mark_at c.0.1) (λ there. target_at there.0 there.1 >>= λ target. Ok (link_of a.0.0 c.0.0 target)) x c.2 in

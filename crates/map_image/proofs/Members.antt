@@ -6,8 +6,8 @@ use Rattle.std.proofs.lemmas.List.Concat.{flat_map-cons, flat_map-append}
 use Rattle.std.proofs.lemmas.List.Elements.{All-push}
 use Rattle.std.specs.Global.{Vec}
 use Rattle.std.specs.List.{flat_map}
-use Rattle.map_image.specs.Writing.{Puts}
-use Rattle.map_image.proofs.Written.{puts_nothing, Puts-then}
+use Rattle.byte_codec.specs.Writing.{Puts}
+use Rattle.byte_codec.proofs.WriteLemmas.{none_put as nothing_put, both_put}
 
 -- the text of one member more
 pub one_more : {X : Type 0} (text : X → List ℕ) (xs : List X) (i : ℕ) (d : X) → i < length xs → flat_map text (take (i + 1) xs) ≡ flat_map text (take i xs) ++ text (get_or xs i d)
@@ -35,7 +35,7 @@ pub record ArePut {X : Type 0} (text : X → List ℕ) (Fits : X → Type 0) (be
   pub fit : All Fits xs
 
 pub none_put : {X : Type 0} (text : X → List ℕ) (Fits : X → Type 0) (out : Vec ℕ) → ArePut text Fits out out []
-none_put text Fits out = record { lines = puts_nothing out; fit = λ k d lt. absurd (omega arith) }
+none_put text Fits out = record { lines = nothing_put out; fit = λ k d lt. absurd (omega arith) }
 
 -- one more
 pub one_put : {X : Type 0} (text : X → List ℕ) (Fits : X → Type 0) (before mid new : Vec ℕ) (xs : List X) (i : ℕ) (d : X) → i < length xs → ArePut text Fits before mid (take i xs)
@@ -44,7 +44,7 @@ one_put text Fits before mid new xs i d lt were put fits =
     let x = get_or xs i d in
     let more : take (i + 1) xs ≡ take i xs ++ x ∷ [] = grind (arith, common_steps) in
     record {
-      lines = rw (one_more text xs i d lt) (Puts-then before mid new (flat_map text (take i xs)) (text x) put were.lines);
+      lines = rw (one_more text xs i d lt) (both_put before mid new (flat_map text (take i xs)) (text x) put were.lines);
       fit = rw more (All-push Fits (take i xs) x were.fit fits);
     }
 

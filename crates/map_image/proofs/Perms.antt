@@ -2,15 +2,17 @@
 use Rattle.std.proofs.Common.{◌≡◌, ℕ, ◌≤◌, false, ltb, List, Result, Ok, ap, subst, arith}
 use Rattle.std.proofs.lemmas.Bool.{le-ltb}
 use Rattle.std.specs.Int.{w16}
+use Rattle.byte_codec.specs.Reading.{number_at}
 use Rattle.eden_base.proofs.PermLemmas.{same_perm}
 use Rattle.eden_base.specs.declared.attr.Perm.{Perm}
 use Rattle.map_image.specs.declared.fault.ImageFault.{ImageFault}
-use Rattle.map_image.specs.ImageReading.{number_at, perm_of, perm_at}
+use Rattle.map_image.specs.declared.fault.ImageFault.TheVariants.{Short}
+use Rattle.map_image.specs.ImageReading.{perm_of, perm_at}
 
 abbrev read : Perm → List ℕ → Result (Perm × List ℕ) ImageFault
 read perm rest = Ok (perm, rest)
 
-pub perm_read : (bytes : List ℕ) (bits : ℕ) (rest : List ℕ) (perm : Perm) → number_at w16 bytes ≡ Ok (bits, rest) → perm.bits ≡ bits → perm_at bytes ≡ Ok (perm, rest)
+pub perm_read : (bytes : List ℕ) (bits : ℕ) (rest : List ℕ) (perm : Perm) → number_at Short w16 bytes ≡ Ok (bits, rest) → perm.bits ≡ bits → perm_at bytes ≡ Ok (perm, rest)
 unfolding perm_at
 perm_read bytes bits rest perm e is =
     let low : bits ≤ 4095 = subst (λ (n : ℕ). n ≤ 4095) is perm.in_range in

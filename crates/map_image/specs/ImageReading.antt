@@ -1,10 +1,11 @@
 -- Which image the bytes are, and which fault is the first: fields from front to back, each whole before it is looked
 -- at, and after the last field what can be seen of the whole alone.
-use Rattle.std.specs.Prelude.{◌≡◌, ◌≤◌, ℕ, zero, suc, ◌-◌, ◌%◌, Bool, true, false, ◌==◌, nat_lt, List, [], ◌∷◌, length, take, drop, slice_get, nat_eq, Option, Some, None, is_some, Result, Ok, Err, if◌then◌else◌}
+use Rattle.std.specs.Prelude.{◌≡◌, ◌≤◌, ℕ, zero, suc, ◌-◌, ◌%◌, Bool, true, false, ◌==◌, nat_lt, List, [], ◌∷◌, length, slice_get, nat_eq, Option, Some, None, is_some, Result, Ok, Err, if◌then◌else◌}
 use Rattle.std.proofs.Common.{arith}
 use Rattle.std.specs.Cmp.Lexicographic.{pointwise}
-use Rattle.std.specs.Int.{Width, w16, w32, w64, byte_len}
+use Rattle.std.specs.Int.{Width, w16, w32, w64}
 use Rattle.std.specs.List.{list_all}
+use Rattle.byte_codec.specs.Reading.{◌>>=◌, byte_at, bytes_at, number_at}
 use Rattle.eden_base.specs.declared.attr.Kind.{Kind}
 use Rattle.eden_base.specs.declared.attr.Kind.TheVariants.{Dir, File as RegularFile}
 use Rattle.eden_base.specs.declared.attr.Perm.{Perm}
@@ -21,15 +22,8 @@ use Rattle.map_image.specs.declared.fault.ImageFault.{ImageFault}
 use Rattle.map_image.specs.declared.fault.ImageFault.TheVariants.{BadMagic, BadVersion, Short, Rest, NotRising, BadName, BadMark, ZeroUse, NoMemory}
 use Rattle.map_image.specs.declared.image.Image.{Image}
 use Rattle.map_image.specs.declared.header.Header.{Header}
-use Rattle.map_image.specs.Field.{number_in}
 use Rattle.map_image.specs.Fit.{is_next_number, is_next_file, is_next_place}
 use Rattle.map_image.specs.ImageText.{Form, form_of, magic}
-
--- what follows from a value that was read, unless there was a fault
-infixl 10 ◌>>=◌
-abbrev pub ◌>>=◌ : {A B : Type 0} → Result A ImageFault → (A → Result B ImageFault) → Result B ImageFault
-(Ok x) >>= f = f x
-(Err fault) >>= f = Err fault
 
 -- the fault that reading gives; memory may run out in its place
 abbrev pub Fails : {Y : Type 0} → ImageFault → Result Y ImageFault → Type 0
@@ -45,34 +39,19 @@ Gives view (Err fault) read = Fails fault read
 abbrev pub last_of : {X : Type 0} → List X → Option X
 last_of xs = slice_get xs (length xs - 1)
 
--- ---- fields: a value, and the bytes behind it
-
--- so many bytes
-unfoldable pub bytes_at : ℕ → List ℕ → Result (List ℕ × List ℕ) ImageFault
-bytes_at n bytes = if nat_lt (length bytes) n then Err Short else Ok (take n bytes, drop n bytes)
-
--- one byte
-unfoldable pub byte_at : List ℕ → Result (ℕ × List ℕ) ImageFault
-byte_at [] = Err Short
-byte_at (byte ∷ rest) = Ok (byte, rest)
-
--- a number
-unfoldable pub number_at : Width → List ℕ → Result (ℕ × List ℕ) ImageFault
-number_at width bytes = do
-  field ← bytes_at (byte_len width) bytes
-  Ok (number_in width field.0, field.1)
+-- ---- marks and names
 
 -- a mark of two meanings: whether it is 1
 unfoldable pub mark_at : List ℕ → Result (Bool × List ℕ) ImageFault
 mark_at bytes = do
-  mark ← byte_at bytes
+  mark ← byte_at Short bytes
   if nat_lt 1 mark.0 then Err BadMark else Ok (mark.0 == 1, mark.1)
 
 -- bytes behind their length
 unfoldable pub counted_at : List ℕ → Result (List ℕ × List ℕ) ImageFault
 counted_at bytes = do
-  len ← byte_at bytes
-  bytes_at len.0 len.1
+  len ← byte_at Short bytes
+  bytes_at Short len.0 len.1
 
 -- the bytes are a name
 abbrev pub named : List ℕ × List ℕ → Result (List ℕ × List ℕ) ImageFault
@@ -87,17 +66,17 @@ name_at bytes = do
 -- where an entry stands, by its mark
 unfoldable pub place_at : Bool → List ℕ → Result (Place × List ℕ) ImageFault
 place_at true bytes = do
-  file ← number_at w64 bytes
+  file ← number_at Short w64 bytes
   Ok (Unlinked (record { 0 = file.0 }), file.1)
 place_at false bytes = do
-  parent ← number_at w64 bytes
+  parent ← number_at Short w64 bytes
   name ← name_at parent.1
   Ok (Linked (record { 0 = parent.0 }) name.0, name.1)
 
 -- a number that rises above the last entry's
 unfoldable pub rising_at : Option Kept → List ℕ → Result (ℕ × List ℕ) ImageFault
 rising_at last bytes = do
-  n ← number_at w64 bytes
+  n ← number_at Short w64 bytes
   if is_next_number last n.0 then Ok n else Err NotRising
 
 -- ---- members of the three lists, each behind the last one
@@ -106,14 +85,14 @@ unfoldable pub entry_at : Width → Option Kept → List ℕ → Result (Kept ×
 entry_at count_width last bytes = do
   number ← rising_at last bytes
   unlinked ← mark_at number.1
-  count ← number_at count_width unlinked.1
+  count ← number_at Short count_width unlinked.1
   place ← place_at unlinked.0 count.1
   Ok (record { number = record { 0 = number.0 }; place = place.0; count = count.0 }, place.1)
 
 -- a file that rises above the last made one
 unfoldable pub file_at : Option Made → List ℕ → Result (ℕ × List ℕ) ImageFault
 file_at last bytes = do
-  n ← number_at w64 bytes
+  n ← number_at Short w64 bytes
   if is_next_file last n.0 then Ok n else Err NotRising
 
 -- the kind of a mark
@@ -132,7 +111,7 @@ perm_of bits = record { bits = bits % 4096; in_range = low_bits bits }
 -- permissions, with no bit above the twelfth
 unfoldable pub perm_at : List ℕ → Result (Perm × List ℕ) ImageFault
 perm_at bytes = do
-  bits ← number_at w16 bytes
+  bits ← number_at Short w16 bytes
   if nat_lt 4095 bits.0 then Err BadMark else Ok (perm_of bits.0, bits.1)
 
 unfoldable pub made_at : Option Made → List ℕ → Result (Made × List ℕ) ImageFault
@@ -150,12 +129,12 @@ rising_place last dir field = if is_next_place last dir field.0 then named field
 unfoldable pub target_at : Bool → List ℕ → Result (Option FileId × List ℕ) ImageFault
 target_at false bytes = Ok (None, bytes)
 target_at true bytes = do
-  file ← number_at w64 bytes
+  file ← number_at Short w64 bytes
   Ok (Some (record { 0 = file.0 }), file.1)
 
 unfoldable pub link_at : Option LinkChange → List ℕ → Result (LinkChange × List ℕ) ImageFault
 link_at last bytes = do
-  dir ← number_at w64 bytes
+  dir ← number_at Short w64 bytes
   field ← counted_at dir.1
   name ← rising_place last dir.0 field
   there ← mark_at name.1
@@ -177,7 +156,7 @@ members_at member last (suc n) bytes = do
 unfoldable pub list_at : {X : Type 0} → (Option X → List ℕ → Result (X × List ℕ) ImageFault) → List ℕ
     → Result (List X × List ℕ) ImageFault
 list_at member bytes = do
-  count ← number_at w32 bytes
+  count ← number_at Short w32 bytes
   members_at member None count.0 count.1
 
 -- ---- the whole
@@ -185,7 +164,7 @@ list_at member bytes = do
 -- what follows `EDTK`
 unfoldable pub magic_at : List ℕ → Result (List ℕ) ImageFault
 magic_at bytes = do
-  field ← bytes_at 4 bytes
+  field ← bytes_at Short 4 bytes
   if pointwise nat_eq field.0 magic then Ok field.1 else Err BadMagic
 
 -- the form of a known version
@@ -196,16 +175,16 @@ known (Some form) bytes = Ok (form, bytes)
 -- the form of the version that comes next
 unfoldable pub form_at : List ℕ → Result (Form × List ℕ) ImageFault
 form_at bytes = do
-  version ← number_at w16 bytes
+  version ← number_at Short w16 bytes
   known (form_of version.0) version.1
 
 -- commit, generation, next number, next file
 unfoldable pub header_at : List ℕ → Result (Header × List ℕ) ImageFault
 header_at bytes = do
-  commit ← bytes_at 20 bytes
-  generation ← number_at w64 commit.1
-  number ← number_at w64 generation.1
-  file ← number_at w64 number.1
+  commit ← bytes_at Short 20 bytes
+  generation ← number_at Short w64 commit.1
+  number ← number_at Short w64 generation.1
+  file ← number_at Short w64 number.1
   Ok (
     record {
       commit = commit.0;

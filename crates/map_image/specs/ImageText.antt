@@ -3,6 +3,7 @@
 use Rattle.std.specs.Prelude.{All, ◌≡◌, ℕ, ◌<◌, ◌^◌, ◌==◌, List, [], ◌∷◌, ◌++◌, length, Option, Some, None, if◌then◌else◌}
 use Rattle.std.specs.Int.{Width, w16, w32, w64}
 use Rattle.std.specs.List.{flat_map}
+use Rattle.byte_codec.specs.Field.{byte_text, number_bytes}
 use Rattle.eden_base.specs.declared.attr.Kind.{Kind}
 use Rattle.eden_base.specs.declared.attr.Kind.TheVariants.{Dir, File as RegularFile}
 use Rattle.eden_base.specs.declared.number.FileId.{FileId}
@@ -12,7 +13,6 @@ use Rattle.checkout.specs.declared.changes.Made.{Made}
 use Rattle.manifest.specs.declared.links.LinkChange.{LinkChange}
 use Rattle.entry_table.specs.declared.kept.Kept.{Kept}
 use Rattle.map_image.specs.declared.image.Image.{Image}
-use Rattle.map_image.specs.Field.{byte_text, number_bytes}
 use Rattle.map_image.specs.Fit.{IsFit}
 
 -- ---- versions: how wide a count is, and how long a text may be that is written

@@ -1,4 +1,3 @@
-pub mod Field
 pub mod Fit
 pub mod ImageReading
 pub mod ImageText

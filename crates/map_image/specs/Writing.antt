@@ -1,24 +1,11 @@
--- How a text is put together, and which image has none that may be written.
-use Rattle.std.specs.Prelude.{◌≡◌, ◌<◌, ◌≤◌, ◌^◌, ℕ, ◌+◌, nat_lt, nat_le, Bool, List, ◌++◌, length, Option, Some, None, vec_len, vec_capacity, if◌then◌else◌}
-use Rattle.std.specs.Global.{Vec}
+-- Which image has no text that may be written, and the room that a text takes.
+use Rattle.std.specs.Prelude.{◌≡◌, ◌<◌, ◌≤◌, ◌^◌, ℕ, ◌+◌, nat_lt, nat_le, Bool, List, length, Option, Some, None, if◌then◌else◌}
 use Rattle.std.specs.List.{list_any}
 use Rattle.entry_table.specs.declared.kept.Kept.{Kept}
 use Rattle.map_image.specs.declared.fault.WriteFault.{WriteFault}
 use Rattle.map_image.specs.declared.fault.WriteFault.TheVariants.{NoSuchVersion, CountTooLarge, TooLong, NoMemory}
 use Rattle.map_image.specs.declared.image.Image.{Image}
 use Rattle.map_image.specs.ImageText.{Form, form_of, image_text}
-
--- ---- the buffer
-
--- so many bytes can be put without memory
-abbrev pub HasRoom : Vec ℕ → ℕ → Type 0
-HasRoom out count = vec_len out + count ≤ vec_capacity out
-
--- these bytes were put at the end, without memory
-pub record Puts (old new : Vec ℕ) (bytes : List ℕ) : Type 0 where
-  pub items : new.items ≡ old.items ++ bytes
-  pub len : vec_len new ≡ vec_len old + length bytes
-  pub capacity : vec_capacity old ≤ vec_capacity new
 
 -- ---- refusals
 

@@ -1,10 +1,12 @@
 //! What stands before the lists of an image.
 ghost use Rattle.std.specs.Prelude.{◌≡◌};
-ghost use Rattle.map_image.specs.ImageReading.{Gives, bytes_at, magic_at, form_at, header_at};
+ghost use Rattle.byte_codec.specs.Reading.{bytes_at};
+ghost use Rattle.map_image.specs.declared.fault.ImageFault.TheVariants.{Short};
+ghost use Rattle.map_image.specs.ImageReading.{Gives, magic_at, form_at, header_at};
 ghost use Rattle.map_image.specs.ImageText.{first_form};
 
 use crate::ImageFault;
-use crate::reader::{u16_at, u64_at};
+use byte_codec::{u16_at, u64_at};
 
 /// The commit, and what is next.
 #[derive(Clone, Copy)]
@@ -16,7 +18,7 @@ pub(crate) struct Header {
 }
 
 /// Takes `EDTK`.
-#[tactic(auto, unfolding(crate::specs::ImageReading::magic_at, crate::specs::ImageReading::bytes_at, crate::specs::ImageText::magic))]
+#[tactic(auto, unfolding(crate::specs::ImageReading::magic_at, byte_codec::specs::Reading::bytes_at, crate::specs::ImageText::magic))]
 pub(crate) fn magic_at(bytes: &[u8]) -> Result<&[u8], ImageFault>
     ensures { Gives (λ rest. rest.now) result (magic_at bytes.now) }
 {
@@ -35,7 +37,7 @@ pub(crate) fn magic_at(bytes: &[u8]) -> Result<&[u8], ImageFault>
 pub(crate) fn form_at(bytes: &[u8]) -> Result<&[u8], ImageFault>
     ensures { Gives (λ rest. (first_form, rest.now)) result (form_at bytes.now) }
 {
-    let (version, rest) = u16_at(bytes)?;
+    let (version, rest) = u16_at(bytes, ImageFault::Short)?;
     if version != 1 {
         return Err(ImageFault::BadVersion);
     }
@@ -43,9 +45,9 @@ pub(crate) fn form_at(bytes: &[u8]) -> Result<&[u8], ImageFault>
 }
 
 /// Takes a commit.
-#[tactic(auto, unfolding(crate::specs::ImageReading::bytes_at))]
+#[tactic(auto, unfolding(byte_codec::specs::Reading::bytes_at))]
 fn commit_at(bytes: &[u8]) -> Result<([u8; 20], &[u8]), ImageFault>
-    ensures { Gives (λ x. (x.0, x.1.now)) result (bytes_at 20 bytes.now) }
+    ensures { Gives (λ x. (x.0, x.1.now)) result (bytes_at Short 20 bytes.now) }
 {
     if bytes.len() < 20 {
         return Err(ImageFault::Short);
@@ -62,9 +64,9 @@ pub(crate) fn header_at(bytes: &[u8]) -> Result<(Header, &[u8]), ImageFault>
     ensures { Gives (λ x. (x.0, x.1.now)) result (header_at bytes.now) }
 {
     let (commit, rest) = commit_at(bytes)?;
-    let (generation, rest) = u64_at(rest)?;
-    let (next_number, rest) = u64_at(rest)?;
-    let (next_file, rest) = u64_at(rest)?;
+    let (generation, rest) = u64_at(rest, ImageFault::Short)?;
+    let (next_number, rest) = u64_at(rest, ImageFault::Short)?;
+    let (next_file, rest) = u64_at(rest, ImageFault::Short)?;
     let header = Header {
         commit,
         generation,

@@ -2,15 +2,16 @@
 ghost use Rattle.std.specs.Prelude.{All, ◌≡◌, ◌<◌, ◌^◌, false, length, IfOk, IfErr, None, Ok, OnOk};
 ghost use Rattle.std.specs.Int.{w32};
 ghost use Rattle.std.specs.List.{list_any};
+ghost use Rattle.byte_codec.specs.Writing.{HasRoom, Puts};
 ghost use Rattle.map_image.specs.Fit.{IsFit};
 ghost use Rattle.map_image.specs.ImageText.{magic, numbers_text, header_text, lists_text, image_text, FitsNumbers, FitsMembers, IsImageText};
 ghost use Rattle.map_image.specs.ImageReading.{image_of_bytes};
-ghost use Rattle.map_image.specs.Writing.{AreFew, HasRoom, IsWriteRefusal, Puts, is_too_large, refusal};
+ghost use Rattle.map_image.specs.Writing.{AreFew, IsWriteRefusal, is_too_large, refusal};
 
 use crate::measure::text_len;
 use crate::member_writer::{put_entries, put_links, put_made_files};
-use crate::writer::{put_slice, put_u16, put_u64};
 use crate::{Image, WriteFault};
+use byte_codec::{put_slice, put_u16, put_u64};
 use entry_table::Kept;
 use std::alloc::Global;
 

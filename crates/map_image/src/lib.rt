@@ -13,7 +13,6 @@ mod member_reader;
 mod member_writer;
 mod reader;
 mod usage;
-mod writer;
 
 pub use fault::{ImageFault, WriteFault};
 pub use image::{Entries, Image};

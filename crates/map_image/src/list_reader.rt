@@ -5,7 +5,7 @@ ghost use Rattle.map_image.specs.ImageReading.{Gives, entry_at, made_at, link_at
 
 use crate::ImageFault;
 use crate::member_reader::{entry_at, link_at, made_at};
-use crate::reader::u32_at;
+use byte_codec::u32_at;
 use checkout::Made;
 use entry_table::Kept;
 use manifest::LinkChange;
@@ -68,7 +68,7 @@ fn each_link(
 pub(crate) fn entries_at(alloc: Global, bytes: &[u8]) -> Result<(Vec<Kept>, &[u8]), ImageFault>
     ensures { Gives (λ x. (x.0.items, x.1.now)) result (list_at (entry_at w32) bytes.now) }
 {
-    let (count, rest) = u32_at(bytes)?;
+    let (count, rest) = u32_at(bytes, ImageFault::Short)?;
     each_entry(alloc, count, rest)
 }
 
@@ -77,7 +77,7 @@ pub(crate) fn entries_at(alloc: Global, bytes: &[u8]) -> Result<(Vec<Kept>, &[u8
 pub(crate) fn made_files_at(alloc: Global, bytes: &[u8]) -> Result<(Vec<Made>, &[u8]), ImageFault>
     ensures { Gives (λ x. (x.0.items, x.1.now)) result (list_at made_at bytes.now) }
 {
-    let (count, rest) = u32_at(bytes)?;
+    let (count, rest) = u32_at(bytes, ImageFault::Short)?;
     each_made(alloc, count, rest)
 }
 
@@ -86,6 +86,6 @@ pub(crate) fn made_files_at(alloc: Global, bytes: &[u8]) -> Result<(Vec<Made>, &
 pub(crate) fn links_at(alloc: Global, bytes: &[u8]) -> Result<(Vec<LinkChange>, &[u8]), ImageFault>
     ensures { Gives (λ x. (x.0.items, x.1.now)) result (list_at link_at bytes.now) }
 {
-    let (count, rest) = u32_at(bytes)?;
+    let (count, rest) = u32_at(bytes, ImageFault::Short)?;
     each_link(alloc, count, rest)
 }

@@ -5,7 +5,8 @@ ghost use Rattle.map_image.specs.Fit.{is_next_number, is_next_file, is_next_plac
 ghost use Rattle.map_image.specs.ImageReading.{Gives, last_of, name_at, place_at, rising_at, entry_at, file_at, kind_of_mark, perm_at, made_at, rising_place, target_at, link_at};
 
 use crate::ImageFault;
-use crate::reader::{counted_at, mark_at, named, u16_at, u32_at, u64_at};
+use crate::reader::{counted_at, mark_at, named};
+use byte_codec::{u16_at, u32_at, u64_at};
 use checkout::Made;
 use eden_base::{FileId, Kind, Name, Number, Perm, Place};
 use entry_table::Kept;
@@ -26,7 +27,7 @@ fn name_at(alloc: Global, bytes: &[u8]) -> Result<(Name, &[u8]), ImageFault>
 fn place_at(alloc: Global, unlinked: bool, bytes: &[u8]) -> Result<(Place, &[u8]), ImageFault>
     ensures { Gives (λ x. (x.0, x.1.now)) result (place_at unlinked bytes.now) }
 {
-    let (number, rest) = u64_at(bytes)?;
+    let (number, rest) = u64_at(bytes, ImageFault::Short)?;
     if unlinked {
         let file = FileId(number);
         return Ok((Place::Unlinked { file }, rest));
@@ -51,7 +52,7 @@ pub(crate) fn is_next_number(done: &[Kept], number: u64) -> bool
 fn rising_at<'a>(done: &[Kept], bytes: &'a [u8]) -> Result<(u64, &'a [u8]), ImageFault>
     ensures { Gives (λ x. (x.0, x.1.now)) result (rising_at (last_of done.now) bytes.now) }
 {
-    let (number, rest) = u64_at(bytes)?;
+    let (number, rest) = u64_at(bytes, ImageFault::Short)?;
     if !is_next_number(done, number) {
         return Err(ImageFault::NotRising);
     }
@@ -69,7 +70,7 @@ pub(crate) fn entry_at<'a>(
 {
     let (number, rest) = rising_at(done, bytes)?;
     let (unlinked, rest) = mark_at(rest)?;
-    let (count, rest) = u32_at(rest)?;
+    let (count, rest) = u32_at(rest, ImageFault::Short)?;
     let (place, rest) = place_at(alloc, unlinked, rest)?;
     let kept = Kept {
         number: Number(number),
@@ -94,7 +95,7 @@ pub(crate) fn is_next_file(done: &[Made], file: u64) -> bool
 fn file_at<'a>(done: &[Made], bytes: &'a [u8]) -> Result<(u64, &'a [u8]), ImageFault>
     ensures { Gives (λ x. (x.0, x.1.now)) result (file_at (last_of done.now) bytes.now) }
 {
-    let (file, rest) = u64_at(bytes)?;
+    let (file, rest) = u64_at(bytes, ImageFault::Short)?;
     if !is_next_file(done, file) {
         return Err(ImageFault::NotRising);
     }
@@ -106,7 +107,7 @@ fn file_at<'a>(done: &[Made], bytes: &'a [u8]) -> Result<(u64, &'a [u8]), ImageF
 fn perm_at(bytes: &[u8]) -> Result<(Perm, &[u8]), ImageFault>
     ensures { Gives (λ x. (x.0, x.1.now)) result (perm_at bytes.now) }
 {
-    let (bits, rest) = u16_at(bytes)?;
+    let (bits, rest) = u16_at(bytes, ImageFault::Short)?;
     match Perm::of(bits) {
         Some(perm) => Ok((perm, rest)),
         None => Err(ImageFault::BadMark),
@@ -173,7 +174,7 @@ fn target_at(there: bool, bytes: &[u8]) -> Result<(Option<FileId>, &[u8]), Image
     if !there {
         return Ok((None, bytes));
     }
-    let (file, rest) = u64_at(bytes)?;
+    let (file, rest) = u64_at(bytes, ImageFault::Short)?;
     Ok((Some(FileId(file)), rest))
 }
 
@@ -186,7 +187,7 @@ pub(crate) fn link_at<'a>(
 ) -> Result<(LinkChange, &'a [u8]), ImageFault>
     ensures { Gives (λ x. (x.0, x.1.now)) result (link_at (last_of done.now) bytes.now) }
 {
-    let (dir, rest) = u64_at(bytes)?;
+    let (dir, rest) = u64_at(bytes, ImageFault::Short)?;
     let (field, rest) = counted_at(rest)?;
     let (name, rest) = rising_place(alloc, done, dir, field, rest)?;
     let (there, rest) = mark_at(rest)?;

@@ -2,10 +2,11 @@
 ghost use Rattle.std.specs.Prelude.{All, ◌≡◌, ◌<◌, ◌^◌, false, length};
 ghost use Rattle.std.specs.Int.{w32};
 ghost use Rattle.std.specs.List.{flat_map, list_any};
+ghost use Rattle.byte_codec.specs.Writing.{HasRoom, Puts};
 ghost use Rattle.map_image.specs.ImageText.{name_text, place_mark, place_text, entry_text, kind_mark, made_text, target_text, link_text, list_text, FitsPlace, FitsEntry, FitsMade, FitsTarget, FitsLink};
-ghost use Rattle.map_image.specs.Writing.{HasRoom, Puts, is_too_large};
+ghost use Rattle.map_image.specs.Writing.{is_too_large};
 
-use crate::writer::{put_byte, put_slice, put_u16, put_u32, put_u64};
+use byte_codec::{put_byte, put_slice, put_u16, put_u32, put_u64};
 use checkout::Made;
 use eden_base::{FileId, Kind, Name, Place};
 use entry_table::Kept;

@@ -34,12 +34,14 @@ fn has_fields(bytes: &[u8]) -> Result<bool, Cut> {
     let (four, rest) = u32_at(rest, Cut::Short)?;
     let (eight, rest) = u64_at(rest, Cut::Short)?;
     let (letters, rest) = bytes_at(rest, 3, Cut::Short)?;
-    Ok(byte == 127
-        && two == 258
-        && four == 4_275_878_552
-        && eight == 81_985_529_216_486_895
-        && letters == b"abc".as_slice()
-        && rest.is_empty())
+    Ok(
+        byte == 127
+            && two == 258
+            && four == 4_275_878_552
+            && eight == 81_985_529_216_486_895
+            && letters == b"abc".as_slice()
+            && rest.is_empty(),
+    )
 }
 
 #[test]
