@@ -9,7 +9,8 @@ use Rattle.std.proofs.lemmas.List.Elements.{recursion_from_All, All-from_recursi
 use Rattle.byte_codec.specs.Field.{AreBytes, number_bytes}
 use Rattle.byte_codec.specs.Reading.{◌>>=◌, bytes_at, number_at}
 use Rattle.byte_codec.proofs.ByteLemmas.{both}
-use Rattle.byte_codec.proofs.FieldLaws.{Found, itself, HasLength, bytes_found, bytes_again, IsBelow}
+use Rattle.byte_codec.proofs.FieldLaws.{Found, bytes_found, bytes_again}
+use Rattle.byte_codec.proofs.PairLaws.{IsCodec, codec_as, made, of_bytes, pair}
 use Rattle.byte_codec.proofs.StepLemmas.{bind_ok, guard_ok, test_ok, ok_is}
 use Rattle.eden_base.specs.Name.{IsNameText}
 use Rattle.checkout.specs.declared.changes.Made.{Made}
@@ -24,10 +25,10 @@ use Rattle.entry_table.specs.EntryPlaces.{HasName}
 use Rattle.map_image.specs.Fit.{entry_follows, made_follows, link_follows, IsFit}
 use Rattle.map_image.specs.ImageText.{Form, first_form, form_of, magic, entry_text, made_text, link_text, list_text, image_text, FitsEntry, FitsMade, FitsLink, FitsNumbers, FitsMembers, IsImageText}
 use Rattle.map_image.specs.ImageReading.{entry_at, made_at, link_at, list_at, magic_at, known, form_at, header_at, changes_at, image_with, fields_at, are_of_use, seen_whole, image_of_bytes}
-use Rattle.map_image.proofs.FieldLaws.{found_as, wide16, wide64, number_found, number_again}
+use Rattle.map_image.proofs.FieldLaws.{of_eight, of_two}
 use Rattle.map_image.proofs.Lengths.{length-magic}
-use Rattle.map_image.proofs.ListLaws.{IsGoodList, list_found, list_again}
-use Rattle.map_image.proofs.MemberLaws.{GoodEntry, GoodLink, entry_found, entry_again, made_found, made_again, link_found, link_again}
+use Rattle.map_image.proofs.ListLaws.{IsGoodList, of_list}
+use Rattle.map_image.proofs.MemberLaws.{GoodEntry, GoodLink, of_entry, of_link, of_made}
 
 -- ---- magic and version
 
@@ -53,7 +54,7 @@ pub record Front (text bytes rest : List ℕ) : Type 0 where
   pub parts : bytes ≡ text ++ rest
   pub rest_are : AreBytes rest
 
-pub magic_found : (bytes rest : List ℕ) → AreBytes bytes → magic_at bytes ≡ Ok rest → Front magic bytes rest
+magic_found : (bytes rest : List ℕ) → AreBytes bytes → magic_at bytes ≡ Ok rest → Front magic bytes rest
 unfolding magic_at
 magic_found bytes rest are e =
     let b = bind_ok (bytes_at Short 4 bytes) (λ field. cond (pointwise nat_eq field.0 magic) (Ok field.1) (Err BadMagic)) rest e in
@@ -62,7 +63,7 @@ magic_found bytes rest are e =
     let same : b.0.0 ≡ magic = same_bytes b.0.0 magic t.0 in
     subst (Front magic bytes) (ok_is b.0.1 rest t.1) (record { parts = field.parts ∙ ap (λ (t : List ℕ). t ++ b.0.1) same; rest_are = field.rest })
 
-pub magic_again : (rest : List ℕ) → magic_at (magic ++ rest) ≡ Ok rest
+magic_again : (rest : List ℕ) → magic_at (magic ++ rest) ≡ Ok rest
 unfolding magic_at
 magic_again rest = rw (bytes_again Short 4 magic rest length-magic, magic_same) refl
 
@@ -75,26 +76,23 @@ pub record FirstForm (bytes : List ℕ) (x : Form × List ℕ) : Type 0 where
   pub form : x.0 ≡ first_form
   pub front : Front (number_bytes w16 1) bytes x.1
 
-pub form_found : (bytes : List ℕ) (x : Form × List ℕ) → AreBytes bytes → form_at bytes ≡ Ok x → FirstForm bytes x
+form_found : (bytes : List ℕ) (x : Form × List ℕ) → AreBytes bytes → form_at bytes ≡ Ok x → FirstForm bytes x
 unfolding form_at
 form_found bytes x are e =
     let b = bind_ok (number_at Short w16 bytes) (λ version. known (form_of version.0) version.1) x e in
-    let n = number_found w16 (2 ^ 16) wide16 bytes b.0 are b.1 in
+    let n = of_two.found bytes b.0 are b.1 in
     let k = known_ok (eqb b.0.0 1) b.0.1 x b.2 in
     let one : b.0.0 ≡ 1 = eqb-true b.0.0 1 k.0 in
     subst (FirstForm bytes) k.1 (record { form = refl; front = record { parts = n.parts ∙ ap (λ (v : ℕ). number_bytes w16 v ++ b.0.1) one; rest_are = n.rest } })
 
-pub form_again : (rest : List ℕ) → form_at (number_bytes w16 1 ++ rest) ≡ Ok (first_form, rest)
+form_again : (rest : List ℕ) → form_at (number_bytes w16 1 ++ rest) ≡ Ok (first_form, rest)
 unfolding form_at
-form_again rest = rw (number_again w16 (2 ^ 16) wide16 1 rest (omega arith)) refl
+form_again rest = rw (of_two.again 1 rest (omega arith)) refl
 
 -- ---- commit and numbers
 
-abbrev pub fields_text : List ℕ → ℕ → ℕ → ℕ → List ℕ
-fields_text commit generation number file = commit ++ (number_bytes w64 generation ++ (number_bytes w64 number ++ number_bytes w64 file))
-
 abbrev pub text_of_header : Header → List ℕ
-text_of_header h = fields_text h.commit h.generation h.next_number h.next_file
+text_of_header h = h.commit ++ (number_bytes w64 h.generation ++ (number_bytes w64 h.next_number ++ number_bytes w64 h.next_file))
 
 pub record GoodHeader (h : Header) : Type 0 where
   pub commit : length h.commit ≡ 20
@@ -102,50 +100,26 @@ pub record GoodHeader (h : Header) : Type 0 where
   pub next_number : h.next_number < 2 ^ 64
   pub next_file : h.next_file < 2 ^ 64
 
-abbrev header_of : List ℕ → ℕ → ℕ → ℕ × List ℕ → Header × List ℕ
-header_of commit generation number file =
-    (record { commit = commit; generation = generation; next_number = number; next_file = file.0 }, file.1)
+-- the fields of a header that were read
+record IsHeader (commit : List ℕ) (generation number : ℕ) (h : Header) : Type 0 where
+  commit_is : h.commit ≡ commit
+  generation_is : h.generation ≡ generation
+  number_is : h.next_number ≡ number
+  file : h.next_file < 2 ^ 64
 
-header_made : (bytes : List ℕ) (c : List ℕ × List ℕ) (g n f : ℕ × List ℕ) → Found itself (HasLength 20) bytes c → Found (number_bytes w64) (IsBelow (2 ^ 64)) c.1 g → Found (number_bytes w64) (IsBelow (2 ^ 64)) g.1 n
-    → Found (number_bytes w64) (IsBelow (2 ^ 64)) n.1 f → Found text_of_header GoodHeader bytes (header_of c.0 g.0 n.0 f)
-header_made bytes c g n f commit generation number file =
-    let two = both g.1 (number_bytes w64 n.0) n.1 (number_bytes w64 f.0) f.1 number.parts file.parts in
-    let three = both c.1 (number_bytes w64 g.0) g.1 (number_bytes w64 n.0 ++ number_bytes w64 f.0) f.1 generation.parts two in
-    record {
-      parts = both bytes c.0 c.1 (number_bytes w64 g.0 ++ (number_bytes w64 n.0 ++ number_bytes w64 f.0)) f.1 commit.parts three;
-      good = record { commit = commit.good.len; generation = generation.good; next_number = number.good; next_file = file.good };
-      rest = file.rest;
-    }
-
-pub header_found : (bytes : List ℕ) (x : Header × List ℕ) → AreBytes bytes → header_at bytes ≡ Ok x → Found text_of_header GoodHeader bytes x
+of_header : IsCodec text_of_header GoodHeader header_at
 unfolding header_at
-header_found bytes x are e =
-    let a = bind_ok (bytes_at Short 20 bytes) (λ c. number_at Short w64 c.1 >>= λ g. number_at Short w64 g.1 >>= λ n. number_at Short w64 n.1 >>= λ f. Ok (header_of c.0 g.0 n.0 f)) x e in
-    let b = bind_ok (number_at Short w64 a.0.1) (λ g. number_at Short w64 g.1 >>= λ n. number_at Short w64 n.1 >>= λ f. Ok (header_of a.0.0 g.0 n.0 f)) x a.2 in
-    let c = bind_ok (number_at Short w64 b.0.1) (λ n. number_at Short w64 n.1 >>= λ f. Ok (header_of a.0.0 b.0.0 n.0 f)) x b.2 in
-    let d = bind_ok (number_at Short w64 c.0.1) (λ f. Ok (header_of a.0.0 b.0.0 c.0.0 f)) x c.2 in
-    let commit = bytes_found Short 20 bytes a.0 are a.1 in
-    let generation = number_found w64 (2 ^ 64) wide64 a.0.1 b.0 commit.rest b.1 in
-    let number = number_found w64 (2 ^ 64) wide64 b.0.1 c.0 generation.rest c.1 in
-    let file = number_found w64 (2 ^ 64) wide64 c.0.1 d.0 number.rest d.1 in
-    found_as text_of_header GoodHeader bytes (header_of a.0.0 b.0.0 c.0.0 d.0) x d.2 (header_made bytes a.0 b.0 c.0 d.0 commit generation number file)
-
-pub header_again : (h : Header) (rest : List ℕ) → GoodHeader h → header_at (text_of_header h ++ rest) ≡ Ok (h, rest)
-unfolding header_at
-header_again h rest good =
-    let g = number_bytes w64 h.generation in
-    let n = number_bytes w64 h.next_number in
-    let f = number_bytes w64 h.next_file in
-    let regrouped : text_of_header h ++ rest ≡ h.commit ++ (g ++ (n ++ (f ++ rest))) =
-    append_assoc h.commit (g ++ (n ++ f)) rest ∙ ap (λ (t : List ℕ). h.commit ++ t) (append_assoc g (n ++ f) rest ∙ ap (λ (t : List ℕ). g ++ t) (append_assoc n f rest)) in
-    ap header_at regrouped
-    ∙ rw (
-      bytes_again Short 20 h.commit (g ++ (n ++ (f ++ rest))) good.commit,
-      number_again w64 (2 ^ 64) wide64 h.generation (n ++ (f ++ rest)) good.generation,
-      number_again w64 (2 ^ 64) wide64 h.next_number (f ++ rest) good.next_number,
-      number_again w64 (2 ^ 64) wide64 h.next_file rest good.next_file,
-    )
-    refl
+of_header =
+    codec_as text_of_header GoodHeader (
+    pair (λ (h : Header). h.commit) _ _ _ (of_bytes Short 20) (λ c h is. is.1.1.commit_is) (λ commit.
+    pair (λ (h : Header). h.generation) _ _ _ of_eight (λ g h is. is.1.generation_is) (λ generation.
+    pair (λ (h : Header). h.next_number) _ (IsHeader commit generation) _ of_eight (λ n h is. is.number_is) (λ number.
+    made (IsHeader commit generation number) (λ (h : Header). h.next_file) (λ file. record { commit = commit; generation = generation; next_number = number; next_file = file }) of_eight
+    (λ file low. (refl, record { commit_is = refl; generation_is = refl; number_is = refl; file = low }))
+    (λ h is. (is.file, rw (sym is.commit_is, sym is.generation_is, sym is.number_is) refl))))))
+    (λ h is. refl)
+    (λ h is. record { commit = is.0; generation = is.1.0; next_number = is.1.1.0; next_file = is.1.1.1.file })
+    (λ h is. (is.commit, (is.generation, (is.next_number, record { commit_is = refl; generation_is = refl; number_is = refl; file = is.next_file }))))
 
 -- ---- changes
 
@@ -157,29 +131,23 @@ pub record GoodChanges (file : ℕ) (c : Changes) : Type 0 where
   pub made : IsGoodList FitsMade made_follows c.made
   pub links : IsGoodList GoodLink link_follows c.links
 
-abbrev changes_of : ℕ → List Made → List LinkChange × List ℕ → Changes × List ℕ
-changes_of file made links = (record { made = made; links = links.0; next_file = record { 0 = file } }, links.1)
+-- the fields of changes that were read
+record IsChanges (file : ℕ) (made : List Made) (c : Changes) : Type 0 where
+  file_is : c.next_file.0 ≡ file
+  made_is : c.made ≡ made
+  links : IsGoodList GoodLink link_follows c.links
 
-pub changes_found : (file : ℕ) (bytes : List ℕ) (x : Changes × List ℕ) → AreBytes bytes → changes_at file bytes ≡ Ok x → Found changes_text (GoodChanges file) bytes x
+of_changes : (file : ℕ) → IsCodec changes_text (GoodChanges file) (changes_at file)
 unfolding changes_at
-changes_found file bytes x are e =
-    let a = bind_ok (list_at made_at bytes) (λ made. list_at link_at made.1 >>= λ links. Ok (changes_of file made.0 links)) x e in
-    let b = bind_ok (list_at link_at a.0.1) (λ links. Ok (changes_of file a.0.0 links)) x a.2 in
-    let made = list_found made_at made_text FitsMade made_follows made_found bytes a.0 are a.1 in
-    let links = list_found link_at link_text GoodLink link_follows link_found a.0.1 b.0 made.rest b.1 in
-    found_as changes_text (GoodChanges file) bytes (changes_of file a.0.0 b.0) x b.2 (record {
-      parts = both bytes (list_text made_text a.0.0) a.0.1 (list_text link_text b.0.0) b.0.1 made.parts links.parts;
-      good = record { next_file = refl; made = made.good; links = links.good };
-      rest = links.rest;
-    })
-
-pub changes_again : (c : Changes) → GoodChanges c.next_file.0 c → changes_at c.next_file.0 (changes_text c) ≡ Ok (c, [])
-unfolding changes_at
-changes_again c good =
-    let made = list_again made_at made_text FitsMade made_follows made_again c.made (list_text link_text c.links) good.made in
-    let links : list_at link_at (list_text link_text c.links) ≡ Ok (c.links, []) =
-    ap (list_at link_at) (sym (append-nil (list_text link_text c.links))) ∙ list_again link_at link_text GoodLink link_follows link_again c.links [] good.links in
-    rw (made, links) refl
+of_changes file =
+    codec_as changes_text (GoodChanges file) (
+    pair (λ (c : Changes). c.made) _ (IsChanges file) _ (of_list made_at made_text FitsMade made_follows of_made) (λ files c is. is.made_is) (λ files.
+    made (IsChanges file files) (λ (c : Changes). c.links) (λ links. record { made = files; links = links; next_file = record { 0 = file } }) (of_list link_at link_text GoodLink link_follows of_link)
+    (λ links good. (refl, record { file_is = refl; made_is = refl; links = good }))
+    (λ c is. (is.links, rw (sym is.file_is, sym is.made_is) refl))))
+    (λ c is. refl)
+    (λ c is. record { next_file = is.1.file_is; made = is.0; links = is.1.links })
+    (λ c is. (is.made, record { file_is = is.next_file; made_is = refl; links = is.links }))
 
 -- ---- all fields
 
@@ -190,68 +158,86 @@ pub record GoodImage (image : Image) : Type 0 where
   pub made : IsGoodList FitsMade made_follows image.changes.made
   pub links : IsGoodList GoodLink link_follows image.changes.links
 
-abbrev image_of : Header → List Kept → Changes × List ℕ → Image × List ℕ
-image_of h entries c = (image_with h entries c.0, c.1)
+abbrev header_of : Image → Header
+header_of image = record { commit = image.commit; generation = image.generation; next_number = image.next_number; next_file = image.changes.next_file.0 }
 
-image_made : (bytes r s : List ℕ) (h : Header × List ℕ) (en : List Kept × List ℕ) (c : Changes × List ℕ) → Front magic bytes r → Front (number_bytes w16 1) r s → Found text_of_header GoodHeader s h
-    → Found (list_text (entry_text w32)) (IsGoodList GoodEntry entry_follows) h.1 en → Found changes_text (GoodChanges h.0.next_file) en.1 c → Found (image_text w32 1) GoodImage bytes (image_of h.0 en.0 c)
-image_made bytes r s h en c first version header entries changes =
-    let file = changes.good.next_file in
-    let text = fields_text h.0.commit h.0.generation h.0.next_number c.0.next_file.0 in
-    let fields : s ≡ text ++ h.1 = header.parts ∙ ap (λ (f : ℕ). fields_text h.0.commit h.0.generation h.0.next_number f ++ h.1) (sym file) in
-    let front = both bytes magic r (number_bytes w16 1 ++ text) h.1 first.parts (both r (number_bytes w16 1) s text h.1 version.parts fields) in
-    let lists = both h.1 (list_text (entry_text w32) en.0) en.1 (changes_text c.0) c.1 entries.parts changes.parts in
-    record {
-      parts = both bytes (magic ++ (number_bytes w16 1 ++ text)) h.1 (list_text (entry_text w32) en.0 ++ changes_text c.0) c.1 front lists;
-      good = record {
-        commit = header.good.commit;
-        numbers = record { generation = header.good.generation; next_number = header.good.next_number; next_file = subst (λ (f : ℕ). f < 2 ^ 64) (sym file) header.good.next_file };
-        entries = entries.good;
-        made = changes.good.made;
-        links = changes.good.links;
-      };
-      rest = changes.rest;
-    }
+-- the fields of an image that were read
+record IsBody (h : Header) (entries : List Kept) (image : Image) : Type 0 where
+  header_is : header_of image ≡ h
+  entries_are : image.entries ≡ entries
+  changes : GoodChanges image.changes.next_file.0 image.changes
 
 -- what stands behind the version, in a form
 abbrev behind_form : Form → List ℕ → Result (Image × List ℕ) ImageFault
-behind_form form bytes = header_at bytes >>= λ header. list_at (entry_at form.count) header.1 >>= λ entries. changes_at header.0.next_file entries.1 >>= λ changes. Ok (image_of header.0 entries.0 changes)
+behind_form form bytes = header_at bytes >>= λ header. list_at (entry_at form.count) header.1 >>= λ entries. changes_at header.0.next_file entries.1 >>= λ changes. Ok (image_with header.0 entries.0 changes.0, changes.1)
 
-pub fields_found : (bytes : List ℕ) (x : Image × List ℕ) → AreBytes bytes → fields_at bytes ≡ Ok x → Found (image_text w32 1) GoodImage bytes x
+abbrev body_text : Image → List ℕ
+body_text image = text_of_header (header_of image) ++ (list_text (entry_text w32) image.entries ++ changes_text image.changes)
+
+body_made : (h : Header) (entries : List Kept) (c : Changes) → GoodChanges h.next_file c → IsBody h entries (image_with h entries c)
+body_made h entries c good = record {
+  header_is = ap (λ (file : ℕ). header_with h file) good.next_file;
+  entries_are = refl;
+  changes = record { next_file = refl; made = good.made; links = good.links };
+} where
+  header_with : Header → ℕ → Header
+  header_with h file = record { commit = h.commit; generation = h.generation; next_number = h.next_number; next_file = file }
+
+body_back : (h : Header) (entries : List Kept) (image : Image) → IsBody h entries image → GoodChanges h.next_file image.changes × (image_with h entries image.changes ≡ image)
+body_back h entries image is = (
+  subst (λ (h : Header). GoodChanges h.next_file image.changes) is.header_is is.changes,
+  ap (λ (h : Header). image_with h entries image.changes) (sym is.header_is) ∙ ap (λ (es : List Kept). image_with (header_of image) es image.changes) (sym is.entries_are),
+)
+
+of_body : IsCodec body_text GoodImage (behind_form first_form)
+of_body =
+    codec_as body_text GoodImage (
+    pair header_of _ _ _ of_header (λ h image is. is.1.header_is) (λ h.
+    pair (λ (image : Image). image.entries) _ (IsBody h) _ (of_list (entry_at w32) (entry_text w32) GoodEntry entry_follows of_entry) (λ entries image is. is.entries_are) (λ entries.
+    made (IsBody h entries) (λ (image : Image). image.changes) (image_with h entries) (of_changes h.next_file)
+    (λ c good. (refl, body_made h entries c good)) (body_back h entries))))
+    (λ image is. refl)
+    (λ image is. record {
+      commit = is.0.commit;
+      numbers = record { generation = is.0.generation; next_number = is.0.next_number; next_file = is.0.next_file };
+      entries = is.1.0;
+      made = is.1.1.changes.made;
+      links = is.1.1.changes.links;
+    })
+    (λ image is.
+    let header : GoodHeader (header_of image) = record { commit = is.commit; generation = is.numbers.generation; next_number = is.numbers.next_number; next_file = is.numbers.next_file } in
+    (header, (is.entries, record { header_is = refl; entries_are = refl; changes = record { next_file = refl; made = is.made; links = is.links } })))
+
+-- the text in front of the body
+parts_of : (image : Image) → image_text w32 1 image ≡ magic ++ (number_bytes w16 1 ++ body_text image)
+parts_of image =
+    let v = number_bytes w16 1 in
+    let fields = text_of_header (header_of image) in
+    let lists = list_text (entry_text w32) image.entries ++ changes_text image.changes in
+    append_assoc magic (v ++ fields) lists ∙ ap (λ (t : List ℕ). magic ++ t) (append_assoc v fields lists)
+
+fields_found : (bytes : List ℕ) (x : Image × List ℕ) → AreBytes bytes → fields_at bytes ≡ Ok x → Found (image_text w32 1) GoodImage bytes x
 unfolding fields_at
 fields_found bytes x are e =
     let a = bind_ok (magic_at bytes) (λ fields. form_at fields >>= λ form. behind_form form.0 form.1) x e in
     let b = bind_ok (form_at a.0) (λ form. behind_form form.0 form.1) x a.2 in
     let first = magic_found bytes a.0 are a.1 in
     let version = form_found a.0 b.0 first.rest_are b.1 in
-    let in_first : behind_form first_form b.0.1 ≡ Ok x = subst (λ (form : Form). behind_form form b.0.1 ≡ Ok x) version.form b.2 in
-    let c = bind_ok (header_at b.0.1) (λ header. list_at (entry_at w32) header.1 >>= λ entries. changes_at header.0.next_file entries.1 >>= λ changes. Ok (image_of header.0 entries.0 changes)) x in_first in
-    let d = bind_ok (list_at (entry_at w32) c.0.1) (λ entries. changes_at c.0.0.next_file entries.1 >>= λ changes. Ok (image_of c.0.0 entries.0 changes)) x c.2 in
-    let f = bind_ok (changes_at c.0.0.next_file d.0.1) (λ changes. Ok (image_of c.0.0 d.0.0 changes)) x d.2 in
-    let header = header_found b.0.1 c.0 version.front.rest_are c.1 in
-    let entries = list_found (entry_at w32) (entry_text w32) GoodEntry entry_follows entry_found c.0.1 d.0 header.rest d.1 in
-    let changes = changes_found c.0.0.next_file d.0.1 f.0 entries.rest f.1 in
-    found_as (image_text w32 1) GoodImage bytes (image_of c.0.0 d.0.0 f.0) x f.2 (image_made bytes a.0 b.0.1 c.0 d.0 f.0 first version.front header entries changes)
+    let body = of_body.found b.0.1 x version.front.rest_are (subst (λ (form : Form). behind_form form b.0.1 ≡ Ok x) version.form b.2) in
+    let v = number_bytes w16 1 in
+    let behind = both a.0 v b.0.1 (body_text x.0) x.1 version.front.parts body.parts in
+    record {
+      parts = both bytes magic a.0 (v ++ body_text x.0) x.1 first.parts behind ∙ ap (λ (t : List ℕ). t ++ x.1) (sym (parts_of x.0));
+      good = body.good;
+      rest = body.rest;
+    }
 
-pub fields_again : (image : Image) → GoodImage image → fields_at (image_text w32 1 image) ≡ Ok (image, [])
+fields_again : (image : Image) → GoodImage image → fields_at (image_text w32 1 image) ≡ Ok (image, [])
 unfolding fields_at
 fields_again image good =
-    let h : Header = record { commit = image.commit; generation = image.generation; next_number = image.next_number; next_file = image.changes.next_file.0 } in
-    let v = number_bytes w16 1 in
-    let fields = text_of_header h in
-    let entries = list_text (entry_text w32) image.entries in
-    let changes = changes_text image.changes in
-    let regrouped : image_text w32 1 image ≡ magic ++ (v ++ (fields ++ (entries ++ changes))) =
-    append_assoc magic (v ++ fields) (entries ++ changes) ∙ ap (λ (t : List ℕ). magic ++ t) (append_assoc v fields (entries ++ changes)) in
-    ap fields_at regrouped
-    ∙ rw (
-      magic_again (v ++ (fields ++ (entries ++ changes))),
-      form_again (fields ++ (entries ++ changes)),
-      header_again h (entries ++ changes) (record { commit = good.commit; generation = good.numbers.generation; next_number = good.numbers.next_number; next_file = good.numbers.next_file }),
-      list_again (entry_at w32) (entry_text w32) GoodEntry entry_follows entry_again image.entries changes good.entries,
-      changes_again image.changes (record { next_file = refl; made = good.made; links = good.links }),
-    )
-    refl
+    let body = body_text image in
+    let ended : behind_form first_form body ≡ Ok (image, []) = ap (behind_form first_form) (sym (append-nil body)) ∙ of_body.again image [] good in
+    ap fields_at (parts_of image) ∙ rw (magic_again (number_bytes w16 1 ++ body), form_again body) ended
 
 -- ---- the relation
 
@@ -269,7 +255,7 @@ Named kept = HasName kept.place
 abbrev NamedLink : LinkChange → Type 0
 NamedLink link = IsNameText link.name
 
-pub is_text : (image : Image) (bytes : List ℕ) → GoodImage image → are_of_use image.entries ≡ true → bytes ≡ image_text w32 1 image → IsImageText image 1 bytes
+is_text : (image : Image) (bytes : List ℕ) → GoodImage image → are_of_use image.entries ≡ true → bytes ≡ image_text w32 1 image → IsImageText image 1 bytes
 is_text image bytes good of_use is = record {
   form = first_form;
   known = refl;
