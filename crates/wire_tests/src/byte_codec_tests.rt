@@ -1,5 +1,8 @@
 //! Fields with their highest byte first, both ways, and the fault at each cut. Where an allocation is refused a test
 //! makes it once more, so every test here passes under `rt try --test --fail-alloc N`, for each N.
+ghost use Rattle.std.specs.Prelude.{IfOk};
+ghost use Rattle.byte_codec.specs.Writing.{HasRoom};
+
 use byte_codec::{
     Bytes, byte_at, bytes_at, put_byte, put_slice, put_u16, put_u32, put_u64, u16_at, u16_in,
     u32_at, u32_in, u64_at, u64_in,
@@ -20,7 +23,9 @@ enum Cut {
 }
 
 /// Takes a buffer with room for `TEXT`, once more where memory was refused.
-fn buffer(alloc: Global) -> Result<Vec<u8>, Fail> {
+fn buffer(alloc: Global) -> Result<Vec<u8>, Fail>
+    ensures room { IfOk result (λ out. HasRoom out 18) }
+{
     match Vec::with_capacity(alloc, 18) {
         Ok(out) => Ok(out),
         Err(_refused) => Ok(Vec::with_capacity(alloc, 18)?),
@@ -44,14 +49,22 @@ fn has_fields(bytes: &[u8]) -> Result<bool, Cut> {
     )
 }
 
+/// Puts the fields of `TEXT` at the end of `out`.
+#[tactic(auto, using(byte_codec::proofs::WriteLemmas::fields_written))]
+fn put_fields(out: &mut Vec<u8>)
+    requires room { HasRoom out.old 18 }
+{
+    put_byte(out, 127);
+    put_u16(out, 258);
+    put_u32(out, 4_275_878_552);
+    put_u64(out, 81_985_529_216_486_895);
+    put_slice(out, b"abc");
+}
+
 #[test]
 fn puts_the_highest_byte_first(rt: HostRuntime) -> Result<(), Fail> {
     let mut out = buffer(rt.alloc())?;
-    put_byte(&mut out, 127);
-    put_u16(&mut out, 258);
-    put_u32(&mut out, 4_275_878_552);
-    put_u64(&mut out, 81_985_529_216_486_895);
-    put_slice(&mut out, b"abc");
+    put_fields(&mut out);
     let is_text = out.as_slice() == TEXT.as_slice();
     assert!(rt; is_text);
     Ok(())
