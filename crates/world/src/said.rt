@@ -1,10 +1,34 @@
-//! What daemons said to one another.
-ghost use Rattle.std.specs.Prelude.{◌≡◌, ◌<◌, ◌≤◌, ◌+◌, ◌++◌, IfSome, length, position, vec_len, vec_capacity};
-ghost use Rattle.world.specs.State.{is_data_of};
+//! What daemons say to one another, and hear.
+ghost use Rattle.std.specs.Prelude.{◌≡◌, ◌<◌, ◌≤◌, ◌+◌, ◌++◌, IfOk, IfSome, OnErr, length, position, vec_len, vec_capacity};
+ghost use Rattle.daemon.specs.Talking.{HearsSo};
+ghost use Rattle.world.specs.State.{ChangesAt, is_data_of};
 ghost use Rattle.world.specs.Step.{told_reaction, what_is_said};
 
-use daemon::{Happened, Reaction};
+use daemon::{Daemon, Happened, Reaction};
+use eden_base::NoMemory;
+use manifest::Manifest;
+use std::alloc::Global;
 use takeover_core::Message;
+
+/// Lets the daemon at `index` hear `said`. Where memory runs out nothing changes. It is a function of its own since the
+/// proof's search gives up at its limit where the caller's two ends stand beside the daemon that was changed or was not.
+pub(crate) fn let_hear(
+    daemons: &mut Vec<Daemon>,
+    index: usize,
+    alloc: Global,
+    manifest: &Manifest,
+    limit: usize,
+    said: &Message,
+) -> Result<Reaction, NoMemory>
+    requires within { index < vec_len daemons.old }
+    ensures hears { IfOk result (λ reaction.
+        ChangesAt (λ was. HearsSo manifest.now limit was said.now reaction)
+        daemons.old.items index daemons.new.items) }
+    ensures unchanged { OnErr result (daemons.new.items ≡ daemons.old.items) }
+{
+    let hearer = &mut daemons[index];
+    hearer.hear(alloc, manifest, limit, said)
+}
 
 /// Says what a daemon has to say, behind what was said before, and returns what is told of it.
 pub(crate) fn say(messages: &mut Vec<Message>, reaction: Reaction) -> Happened

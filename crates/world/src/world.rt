@@ -8,7 +8,7 @@ ghost use Rattle.world.specs.Agreement.{Matches, MovesOn};
 
 use crate::event::Event;
 use crate::outcome::Outcome;
-use crate::said::{index_of_data, say};
+use crate::said::{index_of_data, let_hear, say};
 use broker_core::{Broker, DeliverFault};
 use daemon::{Daemon, Happened, Refusal, Server, index_of, opening};
 use eden_base::{DaemonId, NoMemory};
@@ -285,8 +285,14 @@ impl World {
             return Happened::Refused(Refusal::NoMemory);
         }
         let said = &self.messages[at];
-        let hearer = &mut self.daemons[index];
-        let Ok(reaction) = hearer.hear(self.alloc, &self.manifest, self.limit, said) else {
+        let Ok(reaction) = let_hear(
+            &mut self.daemons,
+            index,
+            self.alloc,
+            &self.manifest,
+            self.limit,
+            said,
+        ) else {
             return Happened::Refused(Refusal::NoMemory);
         };
         say(&mut self.messages, reaction)
