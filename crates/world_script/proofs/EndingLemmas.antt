@@ -1,6 +1,5 @@
 -- Lemmas on how the program ends.
-use Rattle.std.proofs.Common.{◌≡◌, ◌⊎◌, ℕ, true, List, [], ◌∷◌, Option, Some, None, refl, subst, sym, inl, inr}
-use Rattle.std.specs.Prelude.{IfSome}
+use Rattle.std.proofs.Common.{◌≡◌, ◌⊎◌, ℕ, true, List, [], ◌∷◌, Option, refl, subst, sym, inl, inr}
 use Rattle.std.specs.Io.KnownBytes.{Appends, Keeps}
 use Rattle.std.proofs.KnownBytes.{Appends-kept}
 use Rattle.clap.specs.Words.{IsAmong, Kinds}
@@ -8,8 +7,10 @@ use Rattle.clap.specs.declared.error.kind.ErrorKind.{ErrorKind}
 use Rattle.clap.specs.declared.error.kind.ErrorKind.TheVariants as kind
 use Rattle.world_script.specs.Ending.{Answers, AskToShow, Ends, Finishes, IsFault, IsMistake, Shows, Tells, unwritten}
 use Rattle.world_script.specs.FaultText.{fault_line}
-use Rattle.world_script.specs.Refusal.{comes_first}
+use Rattle.world_script.specs.Refusal.{IsRunRefusal, comes_first}
 use Rattle.world_script.specs.Script.{Runs}
+use Rattle.world_script.specs.Source.{OfRead}
+use Rattle.world_script.proofs.ReadLemmas.{of_read-any, of_read-map}
 use Rattle.world_script.proofs.RunLemmas.{Runs-kept}
 use Rattle.world_script.specs.declared.ending.Ending.{Ending}
 use Rattle.world_script.specs.declared.ending.Ending.TheVariants.{Ran, Told, Untold, Shown, Refused}
@@ -18,8 +19,7 @@ use Rattle.world_script.specs.declared.fault.Fault.TheVariants.{CannotWrite, NoM
 
 -- memory may run out whatever the words say
 is_fault-memory : (wrong : Kinds) (script : Option (List ℕ)) → IsFault wrong script NoMemory
-is_fault-memory [] None = tt
-is_fault-memory [] (Some bytes) = tt
+is_fault-memory [] script = of_read-any script (λ bytes. IsRunRefusal bytes NoMemory) (λ bytes. tt)
 is_fault-memory (kind ∷ more) script = inl refl
 
 -- help and the version may stay unwritten
@@ -59,8 +59,8 @@ ends-answered wrong script limit before after k ending (inr among) refused = end
 
 -- a script that was run may stay unwritten
 is_fault-ran : (wrong : Kinds) (script : Option (List ℕ)) (limit : ℕ) (before after : Option (List ℕ)) → Ends wrong script limit before after Ran → IsFault wrong script CannotWrite
-is_fault-ran [] None limit before after ran = tt
-is_fault-ran [] (Some bytes) limit before after ran = let (none, runs) = ran in runs.good
+is_fault-ran [] script limit before after ran =
+    of_read-map script (λ bytes. Runs bytes limit before after) (λ bytes. IsRunRefusal bytes CannotWrite) (λ bytes runs. runs.good) ran.1
 is_fault-ran (kind ∷ more) script limit before after ran = let none : ⊥ = cc in absurd none
 
 ends-unwritten : (wrong : Kinds) (script : Option (List ℕ)) (limit : ℕ) (before between after : Option (List ℕ)) (ending : Ending) → Ends wrong script limit before between ending → Ends wrong script limit before after (unwritten ending)
@@ -70,9 +70,9 @@ ends-unwritten wrong script limit before between after (Untold fault) ends = end
 ends-unwritten wrong script limit before between after Shown ends = is_fault-shown wrong script ends
 ends-unwritten wrong script limit before between after Refused ends = ends
 
-runs-kept : (script : Option (List ℕ)) (limit : ℕ) (before between after : Option (List ℕ)) → IfSome script (λ bytes. Runs bytes limit before between) → Keeps between after → IfSome script (λ bytes. Runs bytes limit before after)
-runs-kept None limit before between after runs kept = tt
-runs-kept (Some bytes) limit before between after runs kept = Runs-kept bytes limit before between after runs kept
+runs-kept : (script : Option (List ℕ)) (limit : ℕ) (before between after : Option (List ℕ)) → OfRead script (λ bytes. Runs bytes limit before between) → Keeps between after → OfRead script (λ bytes. Runs bytes limit before after)
+runs-kept script limit before between after runs kept =
+    of_read-map script (λ bytes. Runs bytes limit before between) (λ bytes. Runs bytes limit before after) (λ bytes ran. Runs-kept bytes limit before between after ran kept) runs
 
 ends-kept : (wrong : Kinds) (script : Option (List ℕ)) (limit : ℕ) (before between after : Option (List ℕ)) (ending : Ending) → Ends wrong script limit before between ending → Keeps between after → Ends wrong script limit before after ending
 ends-kept wrong script limit before between after Ran (none, runs) kept = (none, runs-kept script limit before between after runs kept)

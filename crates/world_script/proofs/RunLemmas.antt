@@ -1,5 +1,5 @@
 -- Lemmas on a script that was read and run.
-use Rattle.std.proofs.Common.{◌≡◌, ℕ, ◌≤◌, List, [], ◌∷◌, length, Option, Some, None, Ok, subst}
+use Rattle.std.proofs.Common.{◌≡◌, ℕ, ◌≤◌, List, [], ◌∷◌, length, Option, Ok, subst}
 use Rattle.std.specs.Prelude.{IfSome}
 use Rattle.std.specs.Io.KnownBytes.{Keeps}
 use Rattle.std.proofs.KnownBytes.{Appends-kept}
@@ -16,6 +16,7 @@ use Rattle.world_script.specs.declared.fault.Fault.TheVariants.{CannotWrite}
 use Rattle.world_script.specs.Parts.{SaysEvents}
 use Rattle.world_script.specs.Refusal.{IsRunRefusal}
 use Rattle.world_script.specs.Script.{SaysManifest, IsGood, Prints, IsPromised, RunsEvents, Runs}
+use Rattle.world_script.specs.Source.{OfRead}
 
 -- what was printed was printed on the way
 steps-of : (old : State) (events : List Event) (outcomes : List (List Happened)) (text : List ℕ) (new : State) → Prints old events outcomes text new → Steps old events outcomes new
@@ -59,10 +60,12 @@ good_as_said script text manifest events len same said says = record {
 
 -- and may be refused since its lines cannot be written
 pub refused_late : (known : Option (List ℕ)) (script text : List ℕ) (manifest : Manifest) (events : List Event) (fault : Fault) →
-    IfSome known (λ all. script ≡ all) → length script ≤ 1048576 → text ≡ script → SaysManifest text (Ok manifest) → SaysEvents text events → fault ≡ CannotWrite → IfSome known (λ all. IsRunRefusal all fault)
-refused_late None script text manifest events fault is len same said says late = tt
-refused_late (Some all) script text manifest events fault is len same said says late =
-    rw late (subst (λ (s : List ℕ). IsGood s) is (good_as_said script text manifest events len same said says))
+    IfSome known (λ all. script ≡ all) → length script ≤ 1048576 → text ≡ script → SaysManifest text (Ok manifest) → SaysEvents text events → fault ≡ CannotWrite → OfRead known (λ all. IsRunRefusal all fault)
+refused_late known script text manifest events fault is len same said says late = record {
+  script = script;
+  is = is;
+  holds = rw late (good_as_said script text manifest events len same said says);
+}
 
 -- what a script said, and what it ran
 pub runs_as_said : (script text : List ℕ) (manifest : Manifest) (events listed : List Event) (limit : ℕ) (start : State) (before after : Option (List ℕ)) →
@@ -73,11 +76,10 @@ runs_as_said script text manifest events listed limit start before after len sam
     runs-good script good limit before after (subst (λ (s : State). Matches (first_world manifest) s) is matches)
     (subst (λ (s : State). RunsEvents s events before after) is (subst (λ (es : List Event). RunsEvents start es before after) all ran))
 
--- the same of a reader's bytes, where they are known
+-- the same of what was read of a reader
 pub runs_whole : (known : Option (List ℕ)) (script : List ℕ) (limit : ℕ) (before after : Option (List ℕ)) →
-    IfSome known (λ all. script ≡ all) → Runs script limit before after → IfSome known (λ all. Runs all limit before after)
-runs_whole None script limit before after is runs = tt
-runs_whole (Some all) script limit before after is runs = subst (λ (s : List ℕ). Runs s limit before after) is runs
+    IfSome known (λ all. script ≡ all) → Runs script limit before after → OfRead known (λ all. Runs all limit before after)
+runs_whole known script limit before after is runs = record { script = script; is = is; holds = runs }
 
 -- what was written stays written
 pub Runs-kept : (script : List ℕ) (limit : ℕ) (before between after : Option (List ℕ)) → Runs script limit before between → Keeps between after → Runs script limit before after

@@ -1,6 +1,6 @@
 -- How the program ends, by the words that it is started with and by the script that they name. (This project's own; 2
 -- for words that are refused, as `clap` has it.)
-use Rattle.std.specs.Prelude.{◌≡◌, ◌⊎◌, ℕ, Bool, true, false, List, [], ◌∷◌, Option, ⊤, IfSome}
+use Rattle.std.specs.Prelude.{◌≡◌, ◌⊎◌, ℕ, Bool, true, false, List, [], ◌∷◌, Option, ⊤}
 use Rattle.std.specs.Io.KnownBytes.{Appends, Keeps}
 use Rattle.std.specs.declared.io.ErrorKind.{ErrorKind as IoErrorKind}
 use Rattle.std.specs.declared.io.ErrorKind.TheVariants as io_kind
@@ -10,6 +10,7 @@ use Rattle.clap.specs.declared.error.kind.ErrorKind.TheVariants as kind
 use Rattle.world_script.specs.FaultText.{fault_line}
 use Rattle.world_script.specs.Refusal.{IsRunRefusal, comes_first}
 use Rattle.world_script.specs.Script.{Runs}
+use Rattle.world_script.specs.Source.{OfRead}
 use Rattle.world_script.specs.declared.ending.Ending.{Ending}
 use Rattle.world_script.specs.declared.ending.Ending.TheVariants.{Ran, Told, Untold, Shown, Refused}
 use Rattle.world_script.specs.declared.fault.Fault.{Fault}
@@ -69,20 +70,22 @@ AskToShow wrong = IsAmong kind.DisplayHelp wrong ⊎ IsAmong kind.DisplayVersion
 
 -- a fault where words name a script is the script's; where they don't, memory ran out or output can't be written
 abbrev pub IsFault : Kinds → Option (List ℕ) → Fault → Type 0
-IsFault [] script fault = IfSome script (λ bytes. IsRunRefusal bytes fault)
-IsFault (wrong ∷ more) script fault = (fault ≡ NoMemory) ⊎ (fault ≡ CannotWrite)
+IsFault [] known fault = OfRead known (λ script. IsRunRefusal script fault)
+IsFault (wrong ∷ more) known fault = (fault ≡ NoMemory) ⊎ (fault ≡ CannotWrite)
 
--- How words end, by the kinds of what is wrong with them, by the script that they name and by their limit.
+-- How words end, by the kinds of what is wrong with them, by what is known of the script that they name, and by their
+-- limit.
 abbrev pub Ends : Kinds → Option (List ℕ) → ℕ → Option (List ℕ) → Option (List ℕ) → Ending → Type 0
 -- nothing is wrong with the words, and the script was run with all of its lines written
-Ends wrong script limit before after Ran = (wrong ≡ []) × IfSome script (λ bytes. Runs bytes limit before after)
+Ends wrong known limit before after Ran =
+    (wrong ≡ []) × OfRead known (λ script. Runs script limit before after)
 -- the fault's line is all that was written, unless lines could not be
-Ends wrong script limit before after (Told fault) =
-    IsFault wrong script fault × (comes_first fault ≡ true → Appends before after (fault_line fault))
-Ends wrong script limit before after (Untold fault) = IsFault wrong script fault
-Ends wrong script limit before after Shown = AskToShow wrong
+Ends wrong known limit before after (Told fault) =
+    IsFault wrong known fault × (comes_first fault ≡ true → Appends before after (fault_line fault))
+Ends wrong known limit before after (Untold fault) = IsFault wrong known fault
+Ends wrong known limit before after Shown = AskToShow wrong
 -- something is wrong with the words, and it is no wish for help or the version
-Ends wrong script limit before after Refused = (mistake : ErrorKind) × IsAmong mistake wrong × IsMistake mistake
+Ends wrong known limit before after Refused = (mistake : ErrorKind) × IsAmong mistake wrong × IsMistake mistake
 
 -- how words end that could not be had
 abbrev pub EndsUnread : IoErrorKind → Option (List ℕ) → Option (List ℕ) → Ending → Type 0

@@ -1,8 +1,9 @@
 //! A script, run.
-ghost use Rattle.std.specs.Prelude.{◌≡◌, true, IfErr, IfSome, OnOk};
+ghost use Rattle.std.specs.Prelude.{◌≡◌, true, IfErr, OnOk};
 ghost use Rattle.std.specs.Io.KnownBytes.{Keeps};
 ghost use Rattle.world_script.specs.Refusal.{IsRunRefusal, comes_first};
 ghost use Rattle.world_script.specs.Script.{Runs, RunsEvents};
+ghost use Rattle.world_script.specs.Source.{OfRead};
 
 use crate::input::read_whole;
 use crate::script::Script;
@@ -26,10 +27,10 @@ pub fn run_world<R: Read, W: Write>(
     limit: usize,
     writer: &mut W,
 ) -> Result<(), Fault>
-    ensures runs { OnOk result (IfSome (R.remaining reader.old) (λ script.
+    ensures runs { OnOk result (OfRead (R.remaining reader.old) (λ script.
         Runs script limit (W.contents writer.old) (W.contents writer.new))) }
     ensures refused { IfErr result (λ fault.
-        IfSome (R.remaining reader.old) (λ script. IsRunRefusal script fault)) }
+        OfRead (R.remaining reader.old) (λ script. IsRunRefusal script fault)) }
     ensures unwritten { IfErr result (λ fault. comes_first fault ≡ true
         → Keeps (W.contents writer.old) (W.contents writer.new)) }
 {
@@ -46,10 +47,10 @@ pub fn run_script<R: Read, W: Write>(
     limit: usize,
     writer: &mut W,
 ) -> Result<(), RunError>
-    ensures runs { OnOk result (IfSome (R.remaining reader.old) (λ script.
+    ensures runs { OnOk result (OfRead (R.remaining reader.old) (λ script.
         Runs script limit (W.contents writer.old) (W.contents writer.new))) }
     ensures refused { IfErr result (λ error.
-        IfSome (R.remaining reader.old) (λ script. IsRunRefusal script error.fault)) }
+        OfRead (R.remaining reader.old) (λ script. IsRunRefusal script error.fault)) }
     ensures unwritten { IfErr result (λ error. comes_first error.fault ≡ true
         → Keeps (W.contents writer.old) (W.contents writer.new)) }
 {

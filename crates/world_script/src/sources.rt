@@ -1,9 +1,9 @@
 //! Where scripts come from.
-ghost use Rattle.std.specs.Prelude.{None, IfErr, IfOk, IfSome, List, Option, ℕ, OnOk, true, ◌≡◌};
+ghost use Rattle.std.specs.Prelude.{None, IfErr, IfOk, List, Option, ℕ, OnOk, true, ◌≡◌};
 ghost use Rattle.std.specs.Io.KnownBytes.{Keeps};
 ghost use Rattle.world_script.specs.Refusal.{IsRunRefusal, comes_first};
 ghost use Rattle.world_script.specs.Script.{Runs};
-ghost use Rattle.world_script.specs.Source.{script_at};
+ghost use Rattle.world_script.specs.Source.{OfRead, script_at};
 
 use crate::{Fault, RunError, run_script};
 use std::alloc::Global;
@@ -63,10 +63,10 @@ pub fn run_path<S: Sources, W: Write>(
     limit: usize,
     out: &mut W,
 ) -> Result<(), RunError>
-    ensures runs { OnOk result (IfSome
+    ensures runs { OnOk result (OfRead
         (script_at (S.input_bytes sources.now) (S.file_bytes sources.now) path.now)
         (λ script. Runs script limit (W.contents out.old) (W.contents out.new))) }
-    ensures refused { IfErr result (λ error. IfSome
+    ensures refused { IfErr result (λ error. OfRead
         (script_at (S.input_bytes sources.now) (S.file_bytes sources.now) path.now)
         (λ script. IsRunRefusal script error.fault)) }
     ensures unwritten { IfErr result (λ error. comes_first error.fault ≡ true
