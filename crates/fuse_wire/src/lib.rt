@@ -36,4 +36,4 @@ pub use reply_to_fault::fault_reply;
 pub use reply_writer::{MAX_REPLY_LEN, write_reply};
 pub use request::{Ask, Request};
 pub use request_reader::{read_items, read_request, read_request_to};
-pub use request_writer::write_request;
+pub use request_writer::{MAX_REQUEST_LEN, RequestRoom, write_request, write_request_to};

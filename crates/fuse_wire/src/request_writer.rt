@@ -1,5 +1,5 @@
 //! Requests as bytes, on the broker's side.
-ghost use Rattle.std.specs.Prelude.{◌<◌, ◌^◌, ◌≡◌, ◌+◌, ◌++◌, IfOk, Ok, length};
+ghost use Rattle.std.specs.Prelude.{◌<◌, ◌≤◌, ◌^◌, ◌≡◌, ◌+◌, ◌++◌, IfOk, Ok, length};
 ghost use Rattle.fuse_wire.specs.Field.{zeros};
 ghost use Rattle.fuse_wire.specs.Request.{code, opcode, nodeid, IsSendable};
 ghost use Rattle.fuse_wire.specs.RequestBody.{body};
@@ -14,6 +14,39 @@ use crate::request_body::{body_len, put_body};
 use crate::writer::Writer;
 use eden_base::NoMemory;
 use std::alloc::Global;
+use std::marker::Model;
+
+/// The length of the longest request: a batch of 256 items.
+pub const MAX_REQUEST_LEN: usize = 4144;
+
+/// Room for the text of any one request, seen as how many bytes it takes. `write_request_to` uses it up, and so never
+/// runs out of memory.
+#[derive(Drop)]
+pub struct RequestRoom {
+    bytes: Vec<u8>,
+}
+
+impl Model for RequestRoom {
+    ghost use Rattle.std.specs.Prelude.{◌≡◌, ℕ, ◌≤◌, vec_len, vec_capacity};
+
+    ghost Value = { ℕ };
+
+    ghost view = { λ room. vec_capacity room.bytes };
+
+    ghost invariant = { λ room. (vec_len room.bytes ≡ 0) × (4144 ≤ vec_capacity room.bytes) };
+}
+
+impl RequestRoom {
+    /// Takes memory for the longest request.
+    pub fn new(alloc: Global) -> Result<RequestRoom, NoMemory>
+        ensures for_any_request { IfOk result (λ room. 4144 ≤ room) }
+    {
+        match Vec::with_capacity(alloc, MAX_REQUEST_LEN) {
+            Ok(bytes) => Ok(RequestRoom { bytes }),
+            Err(_refused) => Err(NoMemory),
+        }
+    }
+}
 
 /// Writes a request. What no reader looks at is 0. The bytes are all the memory that it takes.
 pub fn write_request(alloc: Global, ask: &Ask) -> Result<Vec<u8>, NoMemory>
@@ -26,6 +59,20 @@ pub fn write_request(alloc: Global, ask: &Ask) -> Result<Vec<u8>, NoMemory>
     let mut bytes = vec![in alloc; 0; len]?;
     put_request(bytes.as_mut_slice(), ask);
     Ok(bytes)
+}
+
+/// Writes a request as `write_request` does, into memory that was taken before.
+pub fn write_request_to(room: RequestRoom, ask: &Ask) -> Vec<u8>
+    requires { IsSendable ask.now.what }
+    ensures text { result.items ≡ request_text ask.now }
+    ensures is_text { IsRequestText ask.now result.items }
+    ensures read_again { request_of result.items ≡ Ok ask.now }
+{
+    let RequestRoom { mut bytes } = room;
+    let len = Header::LEN + body_len(&ask.what);
+    bytes.resize(len, 0).unwrap();
+    put_request(bytes.as_mut_slice(), ask);
+    bytes
 }
 
 /// Writes a request into a buffer of its length.

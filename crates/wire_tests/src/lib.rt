@@ -1,10 +1,12 @@
-//! Tests of `byte_codec`, `eden_base`, `node_arena`, `fuse_wire`, `broker_core` and `frames` by their public calls.
+//! Tests of `byte_codec`, `eden_base`, `node_arena`, `fuse_wire`, `broker_core`, `broker_desk` and `frames` by their public calls.
 #![tactic(auto)]
 
 #[cfg(test)]
 mod again;
 #[cfg(test)]
 mod broker_core_tests;
+#[cfg(test)]
+mod broker_desk_tests;
 #[cfg(test)]
 mod byte_codec_tests;
 #[cfg(test)]

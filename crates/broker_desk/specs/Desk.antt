@@ -1,0 +1,260 @@
+-- Who is attached to the broker, and what each frame of a daemon is answered: one row a kind of frame. Which calls of
+-- the broker answer, and by which rules daemons get their numbers, is this project's own.
+use Rattle.std.specs.Prelude.{◌≡◌, ℕ, ◌+◌, ◌-◌, Bool, true, false, ◌||◌, ◌⊎◌, ◌==◌, not, nat_le, List, [], ◌∷◌, ◌++◌, length, slice_get, slice_set, Option, Some, None, Result, Ok, Err, if◌then◌else◌}
+use Rattle.std.specs.Option.{option_map_or}
+use Rattle.std.specs.List.{AllByRecursion}
+use Rattle.eden_base.specs.declared.number.DaemonId.{DaemonId}
+use Rattle.eden_base.specs.declared.claim.ClaimFault.{ClaimFault}
+use Rattle.eden_base.specs.declared.claim.ClaimFault.TheVariants as claim
+use Rattle.fuse_wire.specs.Request.{IsSendable}
+use Rattle.fuse_wire.specs.RequestText.{request_text}
+use Rattle.fuse_wire.specs.ReplyReading.{reply_of}
+use Rattle.fuse_wire.specs.declared.fault.WireFault.{WireFault}
+use Rattle.fuse_wire.specs.declared.request.Ask.{Ask as FuseAsk}
+use Rattle.fuse_wire.specs.declared.reply.Reply.{Reply}
+use Rattle.broker_core.specs.Broker.{BrokerState, new_broker, mount_fault, mounted, take_fault, taken, post_fault, posted, claim_fault, claimed, without_daemon}
+use Rattle.broker_core.specs.Traffic.{next_taken}
+use Rattle.broker_core.specs.declared.broker.MountFault.{MountFault}
+use Rattle.broker_core.specs.declared.broker.MountFault.TheVariants as mount
+use Rattle.broker_core.specs.declared.fault.TakeFault.{TakeFault}
+use Rattle.broker_core.specs.declared.fault.TakeFault.TheVariants as take
+use Rattle.broker_core.specs.declared.fault.PostFault.{PostFault}
+use Rattle.broker_core.specs.declared.fault.PostFault.TheVariants as post
+use Rattle.frames.specs.declared.frame.Frame.{Frame}
+use Rattle.frames.specs.declared.frame.Frame.TheVariants.{Take, Ask, Empty, Post, Posted, Ended, Stale, NotAsked, Claim, Claimed, Unanswered, LastGeneration, Mount, Mounted, Seated, Attach, Attached}
+use Rattle.broker_desk.specs.declared.peer.Peer.{Peer}
+use Rattle.broker_desk.specs.declared.peer.Peer.TheVariants.{Stranger, Daemon, Worker}
+use Rattle.broker_desk.specs.declared.peer.Response.{Response}
+use Rattle.broker_desk.specs.declared.peer.Response.TheVariants.{Tells, Closes}
+use Rattle.broker_desk.specs.declared.peer.Standing.{Standing}
+use Rattle.broker_desk.specs.declared.peer.Standing.TheVariants.{Runs, Gone}
+
+-- The kernel's side; whether each daemon that got a number still runs, number 1 first; and whether the desk is closed,
+-- so that every daemon is told that the mount is over.
+pub record DeskState : Type 0 where
+  pub broker : BrokerState
+  pub daemons : List Standing
+  pub is_closed : Bool
+
+-- how many daemons get a number
+abbrev pub most_daemons : ℕ
+most_daemons = 1024
+
+-- nothing is mounted, and no daemon came
+abbrev pub new_desk : DeskState
+new_desk = record { broker = new_broker; daemons = []; is_closed = false }
+
+-- what a frame tells that hands an ask out
+abbrev pub frame_taken : Option FuseAsk → Frame
+frame_taken (Some ask) = Ask (request_text ask)
+frame_taken None = Empty
+
+-- ---- daemons
+
+-- the daemon still runs
+abbrev pub is_running : Standing → Bool
+is_running Runs = true
+is_running Gone = false
+
+-- how a daemon stands that got this number
+abbrev pub standing_of : DeskState → ℕ → Option Standing
+standing_of desk number = if number == 0 then None else slice_get desk.daemons (number - 1)
+
+-- a daemon got the number, and still runs
+abbrev pub is_present : DeskState → DaemonId → Bool
+is_present desk daemon = option_map_or is_running (standing_of desk daemon.0) false
+
+-- the mount is over for the daemon: for each one where the desk is closed
+abbrev pub is_over_for : DeskState → DaemonId → Bool
+is_over_for desk daemon = desk.is_closed || not (is_present desk daemon)
+
+-- no more daemon gets a number
+abbrev pub is_full : DeskState → Bool
+is_full desk = desk.is_closed || nat_le most_daemons (length desk.daemons)
+
+-- the number that the next daemon gets
+abbrev pub next_daemon : DeskState → DaemonId
+next_daemon desk = record { 0 = length desk.daemons + 1 }
+
+-- ---- what a frame comes to
+
+-- what the peer is told, or nothing where its connection is closed; and the desk after it
+pub record Turn : Type 0 where
+  pub told : Option Frame
+  pub desk : DeskState
+
+-- the peer is told something, and nothing changes
+abbrev pub tells : DeskState → Frame → Turn
+tells desk frame = record { told = Some frame; desk = desk }
+
+-- the peer is told something, and the broker is another
+abbrev pub tells_with : DeskState → Frame → BrokerState → Turn
+tells_with desk frame broker = record { told = Some frame; desk = record desk { broker = broker } }
+
+-- the connection is closed
+abbrev pub closes : DeskState → Turn
+closes desk = record { told = None; desk = desk }
+
+-- a Take, by what stands against it
+abbrev pub takes : DeskState → Option TakeFault → Turn
+takes desk (Some take.Ended) = tells desk Ended
+takes desk (Some (take.Stale now)) = tells desk (Stale now)
+takes desk (Some take.Empty) = tells desk Empty
+takes desk None = tells_with desk (frame_taken (next_taken desk.broker.traffic)) (taken desk.broker)
+
+-- the Post of a reply, by what stands against it
+abbrev pub posts_reply : DeskState → Reply → Option PostFault → Turn
+posts_reply desk reply (Some post.Ended) = tells desk Ended
+posts_reply desk reply (Some (post.Stale now)) = tells desk (Stale now)
+posts_reply desk reply (Some post.NotAsked) = tells desk NotAsked
+posts_reply desk reply None = tells_with desk Posted (posted desk.broker reply)
+
+-- the Post of bytes: those that are no reply answer nothing that was asked
+abbrev pub posts : DeskState → DaemonId → ℕ → Result Reply WireFault → Turn
+posts desk daemon generation (Ok reply) = posts_reply desk reply (post_fault desk.broker daemon generation reply)
+posts desk daemon generation (Err fault) = tells desk NotAsked
+
+-- a Claim, by what stands against it
+abbrev pub claims : DeskState → DaemonId → ℕ → Option ClaimFault → Turn
+claims desk daemon generation (Some claim.Ended) = tells desk Ended
+claims desk daemon generation (Some (claim.Stale now)) = tells desk (Stale now)
+claims desk daemon generation (Some (claim.Unanswered asks)) = tells desk (Unanswered asks)
+claims desk daemon generation (Some claim.LastGeneration) = tells desk LastGeneration
+claims desk daemon generation None =
+    tells_with desk (Claimed (generation + 1)) (claimed desk.broker daemon generation)
+
+-- a Mount, by what stands against it
+abbrev pub mounts : DeskState → DaemonId → Option MountFault → Turn
+mounts desk daemon (Some mount.Seated) = tells desk Seated
+mounts desk daemon (Some mount.LastGeneration) = tells desk LastGeneration
+mounts desk daemon None = tells_with desk (Mounted (desk.broker.last + 1)) (mounted desk.broker daemon)
+
+-- what a daemon's frame comes to while the mount is not over for it: no daemon sends others than these
+abbrev pub serves : DeskState → DaemonId → Frame → Turn
+serves desk daemon (Take generation) = takes desk (take_fault desk.broker daemon generation)
+serves desk daemon (Post generation reply) = posts desk daemon generation (reply_of reply)
+serves desk daemon (Claim generation) = claims desk daemon generation (claim_fault desk.broker generation)
+serves desk daemon Mount = mounts desk daemon (mount_fault desk.broker)
+serves desk daemon frame = closes desk
+
+-- an attached daemon sends such frames
+abbrev pub is_sent_by_daemons : Frame → Bool
+is_sent_by_daemons (Take generation) = true
+is_sent_by_daemons (Post generation reply) = true
+is_sent_by_daemons (Claim generation) = true
+is_sent_by_daemons Mount = true
+is_sent_by_daemons frame = false
+
+-- what a frame of an attached daemon comes to
+abbrev pub hears : DeskState → DaemonId → Frame → Turn
+hears desk daemon frame =
+    if not (is_sent_by_daemons frame) then closes desk
+    else if is_over_for desk daemon then tells desk Ended
+    else serves desk daemon frame
+
+-- a new daemon gets the next number
+abbrev pub enrolls : DeskState → Turn
+enrolls desk =
+    if is_full desk then tells desk Ended
+    else record {
+      told = Some (Attached (next_daemon desk));
+      desk = record desk { daemons = desk.daemons ++ Runs ∷ [] };
+    }
+
+-- a stranger's Attach: 0 is a new daemon's, any other is a daemon's that has its number
+abbrev pub attaches : DeskState → DaemonId → Turn
+attaches desk daemon =
+    if daemon.0 == 0 then enrolls desk
+    else if is_over_for desk daemon then tells desk Ended
+    else tells desk (Attached daemon)
+
+-- what a stranger's frame comes to: an Attach has to be first
+abbrev pub meets : DeskState → Frame → Turn
+meets desk (Attach daemon) = attaches desk daemon
+meets desk frame = closes desk
+
+-- what each frame comes to
+abbrev pub turn : DeskState → Peer → Frame → Turn
+turn desk Stranger frame = meets desk frame
+turn desk (Daemon daemon) frame = hears desk daemon frame
+turn desk (Worker daemon) frame = hears desk daemon frame
+
+-- ---- who is at the other end
+
+-- the daemon at the other end, if it attached
+abbrev pub daemon_at : Peer → Option DaemonId
+daemon_at Stranger = None
+daemon_at (Daemon daemon) = Some daemon
+daemon_at (Worker daemon) = Some daemon
+
+-- who a stranger is after an Attach: a new daemon, a worker of one that has its number, or a stranger still
+abbrev pub attached_as : DeskState → DaemonId → Peer
+attached_as desk daemon =
+    if daemon.0 == 0 then (if is_full desk then Stranger else Daemon (next_daemon desk))
+    else if is_over_for desk daemon then Stranger
+    else Worker daemon
+
+-- who a peer is after a frame
+abbrev pub peer_after : DeskState → Peer → Frame → Peer
+peer_after desk Stranger (Attach daemon) = attached_as desk daemon
+peer_after desk peer frame = peer
+
+-- ---- how a frame is answered
+
+-- the frame that is told, if any
+abbrev pub told_by : Response → Option Frame
+told_by (Tells frame) = Some frame
+told_by Closes = None
+
+-- the response and the new desk are those of a turn
+pub record Makes (made : Turn) (response : Response) (new : DeskState) : Type 0 where
+  pub told : told_by response ≡ made.told
+  pub desk : new ≡ made.desk
+
+-- Memory for the text of what is to be taken was refused: the peer is told that nothing waits, and it waits on.
+pub record TakesLater (old : DeskState) (daemon : Option DaemonId) (frame : Frame) (response : Response)
+    (new : DeskState) : Type 0 where
+  pub taker : DaemonId
+  pub generation : ℕ
+  pub attached : daemon ≡ Some taker
+  pub is_take : frame ≡ Take generation
+  pub not_over : is_over_for old taker ≡ false
+  pub accepted : take_fault old.broker taker generation ≡ None
+  pub told : response ≡ Tells Empty
+  pub unchanged : new ≡ old
+
+-- a frame is answered by its row, or later
+abbrev pub Answers : DeskState → Peer → Frame → Response → DeskState → Type 0
+Answers old peer frame response new =
+    Makes (turn old peer frame) response new ⊎ TakesLater old (daemon_at peer) frame response new
+
+-- ---- the end of a connection
+
+-- the daemon of this number is gone
+abbrev pub struck : List Standing → ℕ → List Standing
+struck daemons number = if number == 0 then daemons else slice_set daemons (number - 1) Gone
+
+-- the daemon is gone, and the mount is over where it had the seat
+abbrev pub without : DeskState → DaemonId → DeskState
+without desk daemon =
+    record desk { broker = without_daemon desk.broker daemon; daemons = struck desk.daemons daemon.0 }
+
+-- a connection ended: with its first one a daemon is gone
+abbrev pub left_by : DeskState → Peer → DeskState
+left_by desk Stranger = desk
+left_by desk (Daemon daemon) = without desk daemon
+left_by desk (Worker daemon) = desk
+
+-- the mount is over for all
+abbrev pub closed : DeskState → DeskState
+closed desk = record {
+  broker = option_map_or (λ seat. without_daemon desk.broker seat.daemon) desk.broker.seat desk.broker;
+  daemons = desk.daemons;
+  is_closed = true;
+}
+
+-- ---- what is kept
+
+-- each ask that waits has a text of its own
+abbrev pub AreSendable : List FuseAsk → Type 0
+AreSendable asks = AllByRecursion (λ (ask : FuseAsk). IsSendable ask.what) asks

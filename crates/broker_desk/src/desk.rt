@@ -1,0 +1,310 @@
+//! The broker behind its desk.
+ghost use Rattle.std.specs.Prelude.{◌≡◌, ◌+◌, ◌<◌, ◌⊎◌, Some, None, false, length, count_by, IfOk, IfErr, OnOk, OnErr, if◌then◌else◌};
+ghost use Rattle.std.specs.Option.{IfSome};
+ghost use Rattle.frames.specs.declared.frame.Frame.TheVariants.{Take as ATake};
+ghost use Rattle.fuse_wire.specs.ReplyReading.{reply_of};
+ghost use Rattle.fuse_wire.specs.Request.{IsSendable};
+ghost use Rattle.broker_core.specs.Broker.{claim_fault, delivered, issued, issue_fault, mount_fault, take_fault, unique_of, IsDeliverRefusal, IsIssueRefusal};
+ghost use Rattle.broker_core.specs.Traffic.{front};
+ghost use Rattle.broker_desk.specs.Desk.{new_desk, closed, left_by, is_present, is_running, is_over_for, is_full, next_daemon, struck, peer_after, enrolls, meets, hears, takes, posts, claims, mounts, is_sent_by_daemons, Answers, Makes, TakesLater};
+ghost use Rattle.broker_desk.specs.declared.peer.Peer.TheVariants.{Stranger, Daemon as ADaemon};
+
+use crate::peer::{Peer, Response, Standing};
+use broker_core::{Broker, DeliverFault, IssueFault, MountFault, PostFault, TakeFault};
+use byte_codec::Bytes;
+use eden_base::{ClaimFault, DaemonId, NoMemory};
+use frames::Frame;
+use fuse_wire::{Reply, Request, RequestRoom, read_reply, write_request_to};
+use std::alloc::Global;
+use std::marker::Model;
+
+/// How many daemons get a number, those that are gone among them.
+pub const MAX_DAEMONS: usize = 1024;
+
+/// The broker, the daemons that attached to it, and whether it is closed to all. Contracts see it as a `DeskState`.
+#[derive(Drop)]
+pub struct Desk {
+    alloc: Global,
+    broker: Broker,
+    daemons: Vec<Standing>,
+    is_closed: bool,
+}
+
+impl Model for Desk {
+    ghost use Rattle.std.specs.Coded.{codes};
+    ghost use Rattle.broker_core.specs.Held.{held_map_code};
+    ghost use Rattle.broker_desk.specs.Desk.{DeskState};
+
+    ghost Value = { DeskState };
+
+    ghost coded = { Prim.hlevel (codes, held_map_code) };
+
+    ghost view = { λ desk. record {
+      broker = desk.broker;
+      daemons = desk.daemons.items;
+      is_closed = desk.is_closed;
+    } };
+
+    ghost use Rattle.broker_desk.specs.Inside.{IsOrderly};
+
+    ghost invariant = { IsOrderly };
+}
+
+impl Desk {
+    /// Opens a desk to which no daemon came, with room for all of them.
+    pub fn new(alloc: Global) -> Result<Desk, NoMemory>
+        ensures new { IfOk result (λ desk. desk ≡ new_desk) }
+    {
+        let daemons = Vec::with_capacity(alloc, MAX_DAEMONS)?;
+        let broker = Broker::new(alloc)?;
+        Ok(Desk {
+            alloc,
+            broker,
+            daemons,
+            is_closed: false,
+        })
+    }
+
+    /// Returns the kernel's side.
+    pub fn broker(&self) -> &Broker
+        ensures broker { result.now ≡ self.now.broker }
+    {
+        &self.broker
+    }
+
+    /// Returns how many daemons got a number and still run. Each has its first connection open.
+    pub fn running(&self) -> usize
+        ensures count { result ≡ count_by is_running self.now.daemons }
+    {
+        self.daemons
+            .iter()
+            .filter(|standing| **standing == Standing::Runs)
+            .count()
+    }
+
+    /// Takes a request of the kernel, as `Broker::issue` does. One of another opcode than the listed ones has a text of
+    /// its own.
+    pub fn issue(&mut self, request: &Request) -> Result<Option<u64>, IssueFault>
+        requires sendable { IsSendable request.now }
+        ensures unique { IfOk result (λ unique. unique ≡ unique_of self.old.broker request.now) }
+        ensures issued { OnOk result (self.new ≡ record self.old { broker = issued self.old.broker request.now }) }
+        ensures accepted { OnOk result (issue_fault self.old.broker request.now ≡ None) }
+        ensures refused { IfErr result (IsIssueRefusal self.old.broker request.now) }
+        ensures unchanged { OnErr result (self.new ≡ self.old) }
+    {
+        self.broker.issue(request)
+    }
+
+    /// Hands the first posted reply to the kernel, as `Broker::deliver` does.
+    pub fn deliver(&mut self) -> Result<Reply, DeliverFault>
+        ensures first { IfOk result (λ reply. front self.old.broker.traffic.posted ≡ Some reply) }
+        ensures delivered { OnOk result (self.new ≡ record self.old { broker = delivered self.old.broker }) }
+        ensures refused { IfErr result (IsDeliverRefusal self.old.broker) }
+        ensures unchanged { OnErr result (self.new ≡ self.old) }
+    {
+        self.broker.deliver()
+    }
+
+    /// Answers a frame of `peer`, who is from then on who the frame says. Only a Take of an ask wants memory. Where that
+    /// is refused, the peer is told that nothing waits, and the ask waits on.
+    pub fn answer(&mut self, peer: &mut Peer, frame: &Frame) -> Response
+        ensures answers { Answers self.old peer.old frame.now result self.new }
+        ensures peer { peer.new ≡ peer_after self.old peer.old frame.now }
+    {
+        match *peer {
+            Peer::Stranger => self.meet(peer, frame),
+            Peer::Daemon(daemon) | Peer::Worker(daemon) => self.hear(daemon, frame),
+        }
+    }
+
+    /// Notes that the connection of `peer` ended. With its first connection a daemon is gone, and the mount is over
+    /// where it has the seat.
+    pub fn leave(&mut self, peer: Peer)
+        ensures left { self.new ≡ left_by self.old peer }
+    {
+        if let Peer::Daemon(daemon) = peer {
+            self.strike(daemon);
+            self.broker.gone(daemon);
+        }
+    }
+
+    /// Ends the mount for all: whatever a daemon sends from then on is answered Ended.
+    pub fn close(&mut self)
+        ensures closed { self.new ≡ closed self.old }
+    {
+        if let Some(seat) = self.broker.seat() {
+            self.broker.gone(seat.daemon);
+        }
+        self.is_closed = true;
+    }
+
+    /// Answers a frame of a stranger, which has to be an Attach.
+    fn meet(&mut self, peer: &mut Peer, frame: &Frame) -> Response
+        requires stranger { peer.old ≡ Stranger }
+        ensures meets { Makes (meets self.old frame.now) result self.new }
+        ensures peer { peer.new ≡ peer_after self.old Stranger frame.now }
+    {
+        let Frame::Attach(daemon) = frame else {
+            return Response::Closes;
+        };
+        if daemon.0 == 0 {
+            return self.enroll(peer);
+        }
+        if self.is_over_for(*daemon) {
+            return Response::Tells(Frame::Ended);
+        }
+        *peer = Peer::Worker(*daemon);
+        Response::Tells(Frame::Attached(*daemon))
+    }
+
+    /// Gives a new daemon its number, unless the desk is closed or no number is left.
+    fn enroll(&mut self, peer: &mut Peer) -> Response
+        requires stranger { peer.old ≡ Stranger }
+        ensures enrolls { Makes (enrolls self.old) result self.new }
+        ensures peer { peer.new ≡ (if is_full self.old then Stranger else ADaemon (next_daemon self.old)) }
+    {
+        if self.is_closed || self.daemons.len() >= MAX_DAEMONS {
+            return Response::Tells(Frame::Ended);
+        }
+        let daemon = DaemonId(self.daemons.len() as u64 + 1);
+        self.daemons.push_reserved(Standing::Runs);
+        *peer = Peer::Daemon(daemon);
+        Response::Tells(Frame::Attached(daemon))
+    }
+
+    /// Returns whether the mount is over for a daemon: where it is for all, and where the daemon is gone or never was.
+    fn is_over_for(&self, daemon: DaemonId) -> bool
+        ensures { result ≡ is_over_for self.now daemon }
+    {
+        self.is_closed || !self.is_present(daemon)
+    }
+
+    /// Returns whether a daemon got this number, and still runs.
+    fn is_present(&self, daemon: DaemonId) -> bool
+        ensures { result ≡ is_present self.now daemon }
+    {
+        match self.index_of(daemon) {
+            Some(index) => self.daemons[index] == Standing::Runs,
+            None => false,
+        }
+    }
+
+    /// Answers a frame of an attached daemon.
+    fn hear(&mut self, daemon: DaemonId, frame: &Frame) -> Response
+        ensures hears { Makes (hears self.old daemon frame.now) result self.new
+            ⊎ TakesLater self.old (Some daemon) frame.now result self.new }
+    {
+        if !is_sent_by_daemons(frame) {
+            return Response::Closes;
+        }
+        if self.is_over_for(daemon) {
+            return Response::Tells(Frame::Ended);
+        }
+        match frame {
+            Frame::Take { generation } => self.take(daemon, *generation),
+            Frame::Post { generation, reply } => self.post(daemon, *generation, reply.as_slice()),
+            Frame::Claim { generation } => self.claim(daemon, *generation),
+            Frame::Mount => self.mount(daemon),
+            _ => unreachable!(),
+        }
+    }
+
+    /// Hands out what waits first. The room for its text comes before it is taken.
+    fn take(&mut self, daemon: DaemonId, generation: u64) -> Response
+        requires here { is_over_for self.old daemon ≡ false }
+        ensures takes { Makes (takes self.old (take_fault self.old.broker daemon generation)) result self.new
+            ⊎ TakesLater self.old (Some daemon) (ATake generation) result self.new }
+    {
+        match self.broker.take_refusal(daemon, generation) {
+            Some(TakeFault::Ended) => return Response::Tells(Frame::Ended),
+            Some(TakeFault::Stale(now)) => return Response::Tells(Frame::Stale { now }),
+            Some(TakeFault::Empty) => return Response::Tells(Frame::Empty),
+            None => {}
+        }
+        let Ok(room) = RequestRoom::new(self.alloc) else {
+            return Response::Tells(Frame::Empty);
+        };
+        self.hand_out(room, daemon, generation)
+    }
+
+    /// Hands out what waits first, in room that was made for its text.
+    fn hand_out(&mut self, room: RequestRoom, daemon: DaemonId, generation: u64) -> Response
+        requires accepted { take_fault self.old.broker daemon generation ≡ None }
+        ensures takes { Makes (takes self.old None) result self.new }
+    {
+        match self.broker.take(daemon, generation) {
+            Ok(ask) => Response::Tells(Frame::Ask(Bytes::of(write_request_to(room, &ask)))),
+            Err(_refused) => unreachable!(),
+        }
+    }
+
+    /// Takes a reply for the kernel, if the bytes are one.
+    fn post(&mut self, daemon: DaemonId, generation: u64, reply: &[u8]) -> Response
+        ensures posts { Makes (posts self.old daemon generation (reply_of reply.now)) result self.new }
+    {
+        let Ok(reply) = read_reply(reply) else {
+            return Response::Tells(Frame::NotAsked);
+        };
+        Response::Tells(match self.broker.post(daemon, generation, reply) {
+            Ok(()) => Frame::Posted,
+            Err(PostFault::Ended) => Frame::Ended,
+            Err(PostFault::Stale(now)) => Frame::Stale { now },
+            Err(PostFault::NotAsked) => Frame::NotAsked,
+        })
+    }
+
+    /// Hands the seat to a daemon that claims it, or tells why not.
+    fn claim(&mut self, daemon: DaemonId, generation: u64) -> Response
+        ensures claims { Makes (claims self.old daemon generation (claim_fault self.old.broker generation)) result self.new }
+    {
+        Response::Tells(match self.broker.claim(daemon, generation) {
+            Ok(generation) => Frame::Claimed { generation },
+            Err(ClaimFault::Ended) => Frame::Ended,
+            Err(ClaimFault::Stale { now }) => Frame::Stale { now },
+            Err(ClaimFault::Unanswered { asks }) => Frame::Unanswered { asks },
+            Err(ClaimFault::LastGeneration) => Frame::LastGeneration,
+        })
+    }
+
+    /// Gives a daemon the free seat, or tells why not.
+    fn mount(&mut self, daemon: DaemonId) -> Response
+        ensures mounts { Makes (mounts self.old daemon (mount_fault self.old.broker)) result self.new }
+    {
+        Response::Tells(match self.broker.try_mount(daemon) {
+            Ok(generation) => Frame::Mounted { generation },
+            Err(MountFault::Seated) => Frame::Seated,
+            Err(MountFault::LastGeneration) => Frame::LastGeneration,
+        })
+    }
+
+    /// Strikes a daemon that is gone.
+    fn strike(&mut self, daemon: DaemonId)
+        ensures { self.new ≡ record self.old { daemons = struck self.old.daemons daemon.0 } }
+    {
+        if let Some(index) = self.index_of(daemon) {
+            self.daemons[index] = Standing::Gone;
+        }
+    }
+
+    /// Returns where a daemon that got a number stands in the list.
+    fn index_of(&self, daemon: DaemonId) -> Option<usize>
+        ensures index { IfSome result (λ index. daemon.0 ≡ index + 1) }
+        ensures below { IfSome result (λ index. index < length self.now.daemons) }
+        ensures none { result ≡ None → (daemon.0 ≡ 0) ⊎ (length self.now.daemons < daemon.0) }
+    {
+        if daemon.0 == 0 || daemon.0 > self.daemons.len() as u64 {
+            return None;
+        }
+        Some(daemon.0 as usize - 1)
+    }
+}
+
+/// Returns whether an attached daemon sends such a frame.
+fn is_sent_by_daemons(frame: &Frame) -> bool
+    ensures { result ≡ is_sent_by_daemons frame.now }
+{
+    matches!(
+        frame,
+        Frame::Take { .. } | Frame::Post { .. } | Frame::Claim { .. } | Frame::Mount
+    )
+}
