@@ -1,4 +1,5 @@
 -- The definitions that the contracts of this crate cite.
+pub mod BrokerLine
 pub mod EventLine
 pub mod Lines
 pub mod Number

@@ -121,7 +121,7 @@ fn read_tried(words: &[u8]) -> Option<(u64, bool)>
 }
 
 /// Reads two numbers.
-fn read_pair(words: &[u8]) -> Option<(u64, u64)>
+pub(crate) fn read_pair(words: &[u8]) -> Option<(u64, u64)>
     ensures { result ≡ pair_of words.now }
 {
     let (first, second) = cut(words, b' ')?;
@@ -199,7 +199,7 @@ fn read_do(alloc: Global, words: &[u8]) -> Result<Option<Event>, NoMemory>
 }
 
 /// Reads the request that words say.
-fn read_request(alloc: Global, words: &[u8]) -> Result<Option<Request>, NoMemory>
+pub(crate) fn read_request(alloc: Global, words: &[u8]) -> Result<Option<Request>, NoMemory>
     ensures { IfOk result (λ request. request ≡ request_of words.now) }
 {
     match cut(words, b' ') {

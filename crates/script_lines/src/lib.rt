@@ -1,12 +1,14 @@
-//! The lines of a script: the event that one says, and what the event prints.
+//! The lines of scripts: what one says, and what comes of it as a line.
 #![tactic(auto)]
 
+mod broker_line;
 mod decimal;
 mod event_line;
 mod lines;
 mod print;
 
+pub use broker_line::{BrokerLine, read_broker_line};
 pub use decimal::number;
 pub use event_line::read_event;
 pub use lines::first_line;
-pub use print::print_event;
+pub use print::{print_asked, print_event, print_numbered, print_refusal, print_reply};

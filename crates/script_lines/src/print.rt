@@ -68,7 +68,7 @@ fn print_happened<W: Write>(
 }
 
 /// Prints a word and a number.
-fn print_numbered<W: Write>(out: &mut W, word: &str, number: u64) -> io::Result<()>
+pub fn print_numbered<W: Write>(out: &mut W, word: &str, number: u64) -> io::Result<()>
     ensures { OnOk result (Appends (W.contents out.old) (W.contents out.new)
         (line (word.now ∷ decimal number ∷ []))) }
 {
@@ -125,7 +125,7 @@ fn print_message<W: Write>(out: &mut W, message: &Message) -> io::Result<()>
 }
 
 /// Prints that a request waits, with the unique of an ask.
-fn print_asked<W: Write>(out: &mut W, unique: Option<u64>) -> io::Result<()>
+pub fn print_asked<W: Write>(out: &mut W, unique: Option<u64>) -> io::Result<()>
     ensures { OnOk result (Appends (W.contents out.old) (W.contents out.new)
         (line (asked_words unique))) }
 {
@@ -136,7 +136,7 @@ fn print_asked<W: Write>(out: &mut W, unique: Option<u64>) -> io::Result<()>
 }
 
 /// Prints a refusal, with its values.
-fn print_refusal<W: Write>(out: &mut W, refusal: Refusal) -> io::Result<()>
+pub fn print_refusal<W: Write>(out: &mut W, refusal: Refusal) -> io::Result<()>
     ensures { OnOk result (Appends (W.contents out.old) (W.contents out.new)
         (refusal_line refusal)) }
 {
@@ -152,7 +152,7 @@ fn print_refusal<W: Write>(out: &mut W, refusal: Refusal) -> io::Result<()>
 }
 
 /// Prints a word, the unique that an answer goes by, and the answer.
-fn print_reply<W: Write>(out: &mut W, word: &str, reply: &Reply) -> io::Result<()>
+pub fn print_reply<W: Write>(out: &mut W, word: &str, reply: &Reply) -> io::Result<()>
     ensures { OnOk result (Appends (W.contents out.old) (W.contents out.new)
         (reply_line word.now reply.now)) }
 {
