@@ -24,6 +24,8 @@ impl Backing for FailingBacking<'_> {
 
     ghost failed = { λ backing. if backing.has_failed then 1 else 0 };
 
+    ghost will_answer = { λ backing. Some backing.has_failed };
+
     fn attr(&mut self, file: FileId) -> Result<Content, BackingFault> {
         if !self.has_failed {
             self.has_failed = true;
