@@ -156,7 +156,7 @@ show_in w m request node answer later s does file at e is came l =
       by_answer made comes (inr (told, backs)) = subst (λ (a : Answer). Worked w request a later) (sym told)
           (error-worked w m request (Ok (shown w.tree file)) EIO later s.is_tree s.knows
           (made.makes ∙ ap (λ (a : Answer). plain (served_after (served_over w.tree m) request (Ok (shown w.tree file)) a)) told)
-          (inr (subst (λ (r : Result Effect Errno). Answers (numbers_of w) request r (Error EIO)) (sym comes) (inr (refl, backed w file s.of_manifest backs)))))
+          (inr (subst (λ (r : Result Effect Errno). Answers (numbers_of w) request r (Error EIO)) (sym comes) (inr (refl, backed w file s.of_manifest backs.0)))))
       by_answer made comes (inl t) = subst (λ (a : Answer). Worked w request a later) (sym (t.is ∙ form))
           (worked-from w request told later (Ok (shown w.tree file)) None comes refl
           (inr (subst (λ (r : Result Effect Errno). Answers (numbers_of w) request r told) (sym comes)
