@@ -1,5 +1,5 @@
 //! What a checkout stands on: the store that knows the files' attributes.
-ghost use Rattle.std.specs.Prelude.{◌≡◌, ◌<◌, ◌≤◌, ℕ, IfOk, IsOk, IsSome, OnErr, OnOk, Option, Some};
+ghost use Rattle.std.specs.Prelude.{◌≡◌, ◌<◌, ◌≤◌, ℕ, Bool, true, is_ok, IfOk, IfSome, IsOk, IsSome, OnErr, OnOk, Option, Some};
 ghost use Rattle.eden_base.specs.declared.number.FileId.{FileId};
 ghost use Rattle.manifest.specs.Tree.{file_of, tree_of};
 ghost use Rattle.manifest.specs.declared.content.Content.{Content};
@@ -22,6 +22,9 @@ pub trait Backing {
     /// How often it failed.
     ghost failed: { Self → ℕ };
 
+    /// Whether it answers when it is asked next, as far as that is known beforehand.
+    ghost will_answer: { Self → Option Bool };
+
     /// Returns the attributes of a file that the store holds, the count of its names apart.
     fn attr(&mut self, file: FileId) -> Result<Content, BackingFault>
         requires held { IsSome (content self.old file) }
@@ -29,7 +32,9 @@ pub trait Backing {
         ensures same_content { (other : FileId) → content self.new other ≡ content self.old other }
         // an answer doesn't count, and a fault does
         ensures answered { OnOk result (failed self.new ≡ failed self.old) }
-        ensures failed { OnErr result (failed self.old < failed self.new) };
+        ensures failed { OnErr result (failed self.old < failed self.new) }
+        // what is known beforehand comes true
+        ensures as_known { IfSome (will_answer self.old) (λ will. is_ok result ≡ will) };
 
     /// Returns how often it failed.
     fn failures(&self) -> u64
@@ -67,6 +72,8 @@ impl Backing for ManifestBacking<'_> {
 
     ghost failed = { λ _. 0 };
 
+    ghost will_answer = { λ _. Some true };
+
     fn attr(&mut self, file: FileId) -> Result<Content, BackingFault>
         requires held { IsSome (file_of (tree_of self.old) file) }
         ensures attr { IfOk result (λ attr. file_of (tree_of self.old) file ≡ Some attr) }
@@ -74,6 +81,7 @@ impl Backing for ManifestBacking<'_> {
             → file_of (tree_of self.new) other ≡ file_of (tree_of self.old) other }
         ensures answered { OnOk result (◌≡◌ {A = ℕ} 0 0) }
         ensures failed { OnErr result (0 < 0) }
+        ensures as_known { IfSome (Some true) (λ will. is_ok result ≡ will) }
         ensures never_fails { IsOk result }
     {
         let manifest = self.manifest;

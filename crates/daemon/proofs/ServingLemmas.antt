@@ -2,20 +2,20 @@
 use Rattle.std.proofs.Common.{◌≡◌, ℕ, suc, zero, ◌+◌, ◌<◌, Bool, List, [], ◌∷◌, ◌++◌, length, Option, Some, None, get_or, refl, sym, ap, ◌∙◌, subst, inl, inr, arith}
 use Rattle.std.proofs.lemmas.List.{append-nil, map-append, take_more}
 use Rattle.std.proofs.lemmas.Option.{slice_get_read}
-use Rattle.std.specs.Prelude.{slice_get, remove, map, take, ◌≢◌, true, false, ◌||◌, is_some, if◌then◌else◌}
+use Rattle.std.specs.Prelude.{slice_get, remove, map, take, true, false, ◌||◌, is_some, if◌then◌else◌}
 use Rattle.std.specs.List.{AllByRecursion}
 use Rattle.eden_base.specs.declared.number.DaemonId.{DaemonId}
-use Rattle.eden_base.specs.declared.errno.Errno.TheVariants.{EIO}
 use Rattle.fuse_wire.specs.Request.{is_ask, item_of, items_of}
 use Rattle.fuse_wire.specs.declared.request.Ask.{Ask}
 use Rattle.fuse_wire.specs.declared.item.Item.{Item}
 use Rattle.fuse_wire.specs.declared.reply.Answer.{Answer}
-use Rattle.fuse_wire.specs.declared.reply.Answer.TheVariants.{Error}
+use Rattle.fuse_wire.specs.declared.request.Request.{Request}
+use Rattle.fuse_ops.proofs.Asking.{asks-ask}
 use Rattle.fuse_ops.specs.Served.{ServedState, Replay}
 use Rattle.fuse_wire.specs.declared.reply.Reply.{Reply}
 use Rattle.broker_core.specs.Broker.{BrokerState, post_fault}
 use Rattle.daemon.specs.Server.{ServerState, at_place, without_place, single, is_single, handed, told_item}
-use Rattle.daemon.specs.Serving.{IsIndex, HasNone, WorksBy, WorksOff, PostsBy, PostsReply}
+use Rattle.daemon.specs.Serving.{IsIndex, HasNone, FailsSo, WorksBy, WorksOff, PostsBy, PostsReply}
 use Rattle.daemon.specs.declared.happened.Happened.{Happened}
 use Rattle.daemon.specs.declared.happened.Happened.TheVariants.{Refused, Made}
 use Rattle.daemon.specs.declared.happened.Refusal.TheVariants.{NoSuch, NoMemory}
@@ -74,6 +74,13 @@ worked-fields : (old : ServerState) (later : ServedState) (hand now : List Ask) 
 worked-fields old later hand now unposted last e f =
     ap (λ (h : List Ask). record old { served = later; hand = h; unposted = unposted }) e ∙ ap (λ (u : List Reply). record old { served = later; hand = now; unposted = u }) f
 
+-- a forget has no answer, and asks no backing
+forget_fails : (served : ServedState) (fails : Bool) (request : Request) (answer : Option Answer) (later : ServedState) → answer ≡ None → Replay served request answer later → FailsSo fails served request None
+forget_fails served fails request answer later none replay = (
+  λ e. absurd (let no : ⊥ = cc in no),
+  λ so. absurd (let ask : is_ask request ≡ true = asks-ask served request so.1 in let forget : is_ask request ≡ false = (subst (λ (o : Option Answer). Replay served request o later) none replay).0 in let no : ⊥ = cc in no),
+)
+
 -- a request without an answer
 pub WorksOff-forgets : (old : ServerState) (count place index : ℕ) (fails : Bool) (task : Ask) (item : Option Item) (told : Happened) (answer : Option Answer) (later : ServedState) (hand : List Ask) (unposted : List Reply) →
     IsIndex count place index → answer ≡ None → Replay old.served task.what answer later → told ≡ told_item old.served item → item ≡ item_of task.what →
@@ -82,21 +89,21 @@ WorksOff-forgets old count place index fails task item told answer later hand un
   later = later;
   answer = None;
   replay = subst (λ (o : Option Answer). Replay old.served task.what o later) none replay;
-  fails_so = λ _ e. (let no : ⊥ = cc in no);
+  fails_so = forget_fails old.served fails task.what answer later none replay;
   tells = tells ∙ ap (told_item old.served) is;
   makes = worked-fields old later hand _ unposted _ (left ∙ without-index old.hand count place index at) (same ∙ sym (append-nil old.unposted));
 }
 
 -- a request with one
 pub WorksOff-answers : (old : ServerState) (count place index : ℕ) (fails : Bool) (task : Ask) (answer : Answer) (given : Option Answer) (later : ServedState) (hand : List Ask) (before unposted : List Reply) →
-    IsIndex count place index → given ≡ Some answer → Replay old.served task.what given later → (fails ≡ false → given ≢ Some (Error EIO)) →
+    IsIndex count place index → given ≡ Some answer → Replay old.served task.what given later → FailsSo fails old.served task.what given →
     hand ≡ remove old.hand index → before ≡ old.unposted → unposted ≡ before ++ record { unique = task.unique; answer = answer } ∷ [] →
     WorksOff old place fails task (Made (record { unique = task.unique; answer = answer })) (record old { served = later; hand = hand; unposted = unposted })
 WorksOff-answers old count place index fails task answer given later hand before unposted at is replay fails_so left same pushed = record {
   later = later;
   answer = Some answer;
   replay = subst (λ (o : Option Answer). Replay old.served task.what o later) is replay;
-  fails_so = subst (λ (o : Option Answer). fails ≡ false → o ≢ Some (Error EIO)) is fails_so;
+  fails_so = subst (FailsSo fails old.served task.what) is fails_so;
   tells = refl;
   makes = worked-fields old later hand _ unposted _ (left ∙ without-index old.hand count place index at) (pushed ∙ ap (λ (rs : List Reply). rs ++ record { unique = task.unique; answer = answer } ∷ []) same);
 }

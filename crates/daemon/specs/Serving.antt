@@ -1,5 +1,5 @@
 -- What a daemon's calls do to it and to the kernel's side, by the first fault. (This project's own.)
-use Rattle.std.specs.Prelude.{◌≡◌, ◌≢◌, ℕ, ◌-◌, ◌==◌, ◌<◌, ◌≤◌, ◌⊎◌, Bool, true, false, [], Option, Some, None}
+use Rattle.std.specs.Prelude.{◌≡◌, ℕ, ◌-◌, ◌==◌, ◌<◌, ◌≤◌, ◌⊎◌, ◌↔◌, Bool, true, false, [], Option, Some, None}
 use Rattle.eden_base.specs.declared.errno.Errno.TheVariants.{EIO}
 use Rattle.eden_base.specs.declared.number.DaemonId.{DaemonId}
 use Rattle.broker_core.specs.Broker.{BrokerState, take_fault, taken, post_fault, posted}
@@ -7,9 +7,11 @@ use Rattle.broker_core.specs.Traffic.{next_taken}
 use Rattle.broker_core.specs.declared.fault.TakeFault.{TakeFault}
 use Rattle.broker_core.specs.declared.fault.PostFault.{PostFault}
 use Rattle.fuse_wire.specs.declared.request.Ask.{Ask}
+use Rattle.fuse_wire.specs.declared.request.Request.{Request}
 use Rattle.fuse_wire.specs.declared.reply.Answer.{Answer}
 use Rattle.fuse_wire.specs.declared.reply.Answer.TheVariants.{Error}
 use Rattle.fuse_wire.specs.declared.reply.Reply.{Reply}
+use Rattle.fuse_ops.specs.Loading.{AsksBacking}
 use Rattle.fuse_ops.specs.Served.{ServedState, Replay}
 use Rattle.daemon.specs.Server.{ServerState, at_place, told_taken, with_taken, told_worked, with_worked, with_posted}
 use Rattle.takeover_core.specs.Phases.{may_take}
@@ -59,13 +61,17 @@ abbrev pub TakesBy : Option TakeFault → ServerState → BrokerState → Happen
 TakesBy (Some fault) old broker told new left = Stays old broker (refusal_of_take fault) told new left
 TakesBy None old broker told new left = TakesFirst old broker told new left ⊎ Stays old broker NoMemory told new left
 
+-- EIO is answered exactly where the backing is asked, if it fails
+abbrev pub FailsSo : Bool → ServedState → Request → Option Answer → Type 0
+FailsSo fails served request answer = (answer ≡ Some (Error EIO)) ↔ ((fails ≡ true) × AsksBacking served request)
+
 -- a request was worked
 pub record WorksOff (old : ServerState) (place : ℕ) (fails : Bool) (task : Ask) (told : Happened)
     (new : ServerState) : Type 0 where
   pub later : ServedState
   pub answer : Option Answer
   pub replay : Replay old.served task.what answer later
-  pub fails_so : fails ≡ false → answer ≢ Some (Error EIO)
+  pub fails_so : FailsSo fails old.served task.what answer
   pub tells : told ≡ told_worked old.served task answer
   pub makes : new ≡ with_worked old place task answer later
 

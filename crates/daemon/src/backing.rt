@@ -1,8 +1,7 @@
 //! The backing of a daemon: the manifest, which fails where an event says so.
-ghost use Rattle.std.specs.Prelude.{◌≡◌, ◌≢◌, false, Some, if◌then◌else◌};
-ghost use Rattle.eden_base.specs.declared.errno.Errno.TheVariants.{EIO};
+ghost use Rattle.std.specs.Prelude.{◌≡◌, Some, if◌then◌else◌};
 ghost use Rattle.manifest.specs.Tree.{file_of, tree_of};
-ghost use Rattle.fuse_wire.specs.declared.reply.Answer.TheVariants.{Error};
+ghost use Rattle.daemon.specs.Serving.{FailsSo};
 ghost use Rattle.fuse_ops.specs.Served.{Replay};
 
 use checkout::{Backing, BackingFault, ManifestBacking};
@@ -23,6 +22,8 @@ impl Backing for FailingBacking<'_> {
     ghost content = { λ backing file. file_of (tree_of backing.manifest) file };
 
     ghost failed = { λ backing. if backing.has_failed then 1 else 0 };
+
+    ghost will_answer = { λ backing. Some backing.has_failed };
 
     fn attr(&mut self, file: FileId) -> Result<Content, BackingFault> {
         if !self.has_failed {
@@ -47,7 +48,7 @@ pub(crate) fn apply(
 ) -> Option<Answer>
     requires over { served.old.tree.manifest ≡ manifest.now }
     ensures replay { Replay served.old request.now result served.new }
-    ensures fails_so { fails ≡ false → result ≢ Some (Error EIO) }
+    ensures fails_so { FailsSo fails served.old request.now result }
     ensures same_manifest { served.new.tree.manifest ≡ served.old.tree.manifest }
 {
     if fails {

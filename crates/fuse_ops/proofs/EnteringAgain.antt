@@ -1,6 +1,6 @@
 -- A name that has a number is entered once more: what it gives is there, and its count can be taken back.
 use Rattle.std.proofs.Common.{◌≡◌, ℕ, ◌≤◌, Bool, true, false, List, Option, None, Some, Result, Ok, refl, sym, ap, ◌∙◌, subst, inl, inr, arith}
-use Rattle.std.specs.Option.{option_map}
+use Rattle.std.specs.Option.{option_map, option_map_or}
 use Rattle.std.specs.Prelude.{IsSome, nat_le, if◌then◌else◌}
 use Rattle.eden_base.proofs.MemberLemmas.{first-passes, some-IsSome, some-same}
 use Rattle.eden_base.specs.Limits.{greatest_count, end_of_numbers}
@@ -18,21 +18,26 @@ use Rattle.entry_table.proofs.EntryLemmas.{entry_of-first}
 use Rattle.entry_table.proofs.FileLemmas.{linked-marked, linked-dir, linked-name}
 use Rattle.entry_table.proofs.Places.{stands-place}
 use Rattle.entry_table.specs.Entries.{entry_of, entry_at, stands_at, number_of_kept, IsFileOf, is_root, is_child, is_marked}
-use Rattle.inode_map.specs.InodeMap.{MapState, number_given, give_fault, give_fault_at, given, IsGiveRefusal}
+use Rattle.inode_map.specs.InodeMap.{MapState, attr_of, number_given, give_fault, give_fault_at, given, IsGiveRefusal}
 use Rattle.inode_map.specs.declared.inode_map.GiveFault.{GiveFault}
 use Rattle.inode_map.specs.declared.inode_map.GiveFault.TheVariants.{NoNumber, TooMany, NoMemory}
 use Rattle.entry_table.specs.declared.kept.Kept.{Kept}
+use Rattle.inode_map.specs.declared.loaded.LoadedAttr.{LoadedAttr}
 use Rattle.fuse_ops.specs.Answers.{IsBacked, found_in}
 use Rattle.fuse_ops.specs.Gifts.{served_over, Gave}
-use Rattle.fuse_ops.specs.Loading.{loaded_told}
-use Rattle.fuse_ops.specs.Served.{ServedState, plain}
+use Rattle.fuse_ops.specs.Loading.{FindsUnloaded, loaded_told}
+use Rattle.fuse_ops.specs.Served.{ServedState, IsLocated, IsUnloaded, plain}
 use Rattle.fuse_ops.specs.Soundness.{IsSound, Names}
-use Rattle.fuse_ops.specs.Work.{errno_of, Finds, GivesEntry, GivesFound, LooksUp}
+use Rattle.fuse_ops.specs.Work.{errno_of, Finds, GivesEntry, GivesFound, IsAsKnown, LooksUp}
 use Rattle.fuse_ops.specs.declared.served.Found.{Found}
+use Rattle.fuse_ops.proofs.Asking.{finds-one, told-known, unasked-known}
 use Rattle.fuse_ops.proofs.Entering.{Knows, MayEnter}
 use Rattle.fuse_ops.proofs.Finding.{child-found, found-linked}
-use Rattle.fuse_ops.proofs.Fits.{not-one}
-use Rattle.fuse_ops.proofs.Keeping.{found-gave}
+use Rattle.fuse_ops.proofs.Fits.{not-one, place-file, sound-fits}
+use Rattle.fuse_ops.proofs.Keeping.{found-child, found-gave}
+use Rattle.fuse_ops.proofs.Known.{same-number}
+use Rattle.fuse_ops.proofs.Loaded.{given-loaded}
+use Rattle.fuse_ops.proofs.Remembering.{gave-keeps}
 
 -- the file of an entry under a name is found there
 entry-found : (served : ServedState) (dir : Number) (name : List ℕ) (n : ℕ) (kept : Kept) (file : FileId) → IsTree served.tree → IsSound served → entry_of served.map.entries n ≡ Some kept → kept.place ≡ Linked dir name →
@@ -121,9 +126,49 @@ module _ (old : ServedState) (dir : Number) (name : List ℕ) (found : Found) (m
     },
   )
 
+  loaded-same : map.loaded ≡ old.map.loaded
+  loaded-same = ap (λ (m : MapState). m.loaded) made ∙ (given-loaded old.map dir name).0
+
+  -- the file is not loaded where its number is not
+  entered-unloaded : attr_of map.loaded number.0 ≡ None → IsBacked old.tree found.file → IsUnloaded old found.file
+  entered-unloaded none backed = (
+    backed,
+    λ n names.
+        let same : n ≡ number.0 = same-number (served_over old.tree map) may.is_tree gave.sound n number.0 found.file (gave-keeps old.tree old.map map number.0 found.file may.sound gave n found.file names) gave.names in
+        subst (λ (m : ℕ). attr_of old.map.loaded m ≡ None) (sym same) (ap (λ (xs : List LoadedAttr). attr_of xs number.0) (sym loaded-same) ∙ none),
+  )
+
   -- or the backing failed, and the count was taken back
-  pub failed-looks_up : (new : ServedState) → new ≡ old → IsBacked old.tree found.file → LooksUp old dir name (Error EIO) new
-  failed-looks_up new same backed = found-looks_up old dir name found (Error EIO) new may.finds (inr (refl, may.clear, backed), same)
+  pub failed-looks_up : (new : ServedState) → new ≡ old → attr_of map.loaded number.0 ≡ None → IsBacked old.tree found.file → LooksUp old dir name (Error EIO) new
+  failed-looks_up new same none backed = found-looks_up old dir name found (Error EIO) new may.finds (inr (refl, may.clear, entered-unloaded none backed), same)
+
+  -- a number whose place has an entry named the file before
+  named-before : (was : Number) → Some was ≡ option_map number_of_kept (entry_at old.map.entries dir.0 name) → Names old number.0 found.file
+  named-before was has = in_ (entry_at old.map.entries dir.0 name) refl has where
+    at : IsFileOf old.tree old.map.entries dir.0 found.dir
+    at = subst (IsLocated old dir.0) (may.finds).found.0 (may.finds).located
+
+    child : child_of old.tree found.dir name ≡ Some found.file
+    child = found-child old.tree found.dir found.file name (ap (λ (o : Option FileId). found_in old.tree o name) (sym (may.finds).found.0) ∙ (may.finds).found.1)
+
+    in_ : (o : Option Kept) → entry_at old.map.entries dir.0 name ≡ o → Some was ≡ option_map number_of_kept o → Names old number.0 found.file
+    in_ None e h = absurd (let none : ⊥ = cc in none)
+    in_ (Some kept) e h =
+        let same : number.0 ≡ kept.number.0 = ap (λ (n : Number). n.0) is ∙ ap (λ (o : Option Kept). (option_map_or number_of_kept o (record { 0 = old.map.next })).0) e in
+        subst (λ (n : ℕ). Names old n found.file) (sym same) (place-file old.tree old.map.next old.map.entries (sound-fits old may.sound) dir.0 kept found.dir found.file name at child e)
+
+  -- for a number that is loaded the backing is not asked
+  pub loaded-known : (was : Number) (attr : Attr) (will : Option Bool) → Some was ≡ option_map number_of_kept (entry_at old.map.entries dir.0 name) → IsSome (attr_of map.loaded number.0) → IsAsKnown (FindsUnloaded old dir name) (Entry number attr) will
+  loaded-known was attr will has loaded = unasked-known (FindsUnloaded old dir name) (Entry number attr) will
+      (λ f.
+      let none = (f.unloaded).1 number.0 (subst (λ (x : FileId). Names old number.0 x) (sym (finds-one old dir name found may.finds f)) (named-before was has)) in
+      let some : IsSome {T = Attr} None = subst (λ (o : Option Attr). IsSome o) (ap (λ (xs : List LoadedAttr). attr_of xs number.0) loaded-same ∙ none) loaded in
+      let no : ⊥ = cc in no)
+      (λ e. let none : ⊥ = cc in none)
+
+  -- and for one that isn't it is
+  pub asked-known : (file : FileId) (attr : Attr) (will : Option Bool) → file ≡ found.file → (will ≡ Some false → IsBacked old.tree file → ⊥) → IsAsKnown (FindsUnloaded old dir name) (Entry number attr) will
+  asked-known file attr will same told = told-known old dir name found (Entry number attr) will may.finds (λ k b. told k (subst (λ (x : FileId). IsBacked old.tree x) (sym same) b)) (λ e. let none : ⊥ = cc in none)
 
 -- the number may not be held more often
 pub fault-looks_up : (old : ServedState) (dir : Number) (name : List ℕ) (number : Number) (fault : GiveFault) (new : ServedState) → Knows old → Some number ≡ option_map number_of_kept (entry_at old.map.entries dir.0 name) →

@@ -1,3 +1,4 @@
+pub mod Asking
 pub mod Entering
 pub mod EnteringAgain
 pub mod Finding
@@ -23,4 +24,5 @@ pub mod SameManifest
 pub mod Shapes
 pub mod Steps
 pub mod Taking
+pub mod Unloaded
 pub mod UnnamingLaw

@@ -19,12 +19,12 @@ use Rattle.fuse_wire.specs.declared.reply.Answer.TheVariants.{Entry, Opened, Att
 use Rattle.inode_map.specs.InodeMap.{IsGiveRefusal, give_fault, given, number_given}
 use Rattle.inode_map.specs.declared.inode_map.GiveFault.{GiveFault}
 use Rattle.inode_map.specs.declared.inode_map.GiveFault.TheVariants.{NoNumber, TooMany, NoMemory}
-use Rattle.fuse_ops.specs.Answers.{none_left, at_greatest, Effect, IsBacked, find_name, make_file, take_name, show_file, unserved, deed_of, looked_at, done_to, comes_to, found_in, free_in, enters, shows, makes, takes, takes_from, unless, against_taking, told_as, telling, Answers, AnswersFile}
+use Rattle.fuse_ops.specs.Answers.{none_left, at_greatest, Effect, find_name, make_file, take_name, show_file, unserved, deed_of, looked_at, done_to, comes_to, found_in, free_in, enters, shows, makes, takes, takes_from, unless, against_taking, told_as, telling, Answers, AnswersFile}
 use Rattle.checkout.proofs.CreateLaws.{created-IsTree}
 use Rattle.checkout.proofs.RemoveLaws.{removed-IsTree}
 use Rattle.fuse_ops.proofs.Keeping.{found-child}
 use Rattle.fuse_ops.proofs.Making.{free-place}
-use Rattle.fuse_ops.specs.Served.{ServedState, PlainState, plain, IsLocated, numbers_at, number_fault, place_entered, place_left, place_told, served_after, Replay}
+use Rattle.fuse_ops.specs.Served.{ServedState, PlainState, plain, IsLocated, IsUnloaded, numbers_at, number_fault, place_entered, place_left, place_told, served_after, Replay}
 use Rattle.fuse_ops.specs.Work.{errno_of, GivesEntry, GivesFound, LooksUp, Shows, ShowsFile, IsSamePlainly, MakesIn, Makes, TakesName, Takes}
 use Rattle.fuse_ops.proofs.Shapes.{GoesTo, TellsEntry, TakesPlace, find-form, show-form, find-goes, make-goes, take-goes, show-goes, entered, shown, find-tells, make-tells, take-takes, take-frees, unless-found, error-after, entry-after, shown-after, done-after, given-bad_items, taken-bad_items}
 
@@ -84,7 +84,7 @@ refused_in old request dir name tree file errno TooMany refusal e = (Some at_gre
 refused_in old request dir name tree file errno NoMemory refusal e = (None, sym (ap number_fault refusal.1), inr (inr (ap Error e, refusal.0)))
 
 -- nothing stands against its number, and the backing failed
-backed_in : (old : ServedState) (request : Request) (dir : Number) (name : List ℕ) (tree : Tree) (file : FileId) (errno : Errno) → errno ≡ EIO → give_fault old.map dir.0 name ≡ None → IsBacked old.tree file →
+backed_in : (old : ServedState) (request : Request) (dir : Number) (name : List ℕ) (tree : Tree) (file : FileId) (errno : Errno) → errno ≡ EIO → give_fault old.map dir.0 name ≡ None → IsUnloaded old file →
     AnswersFile (numbers_at old (Some (dir, name))) request tree (Some file) true (Error errno)
 backed_in old request dir name tree file errno e clear is = (None, sym (ap number_fault clear), inr (inl (ap Error e, is)))
 

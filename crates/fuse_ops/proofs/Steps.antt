@@ -11,6 +11,7 @@ use Rattle.fuse_wire.specs.declared.reply.Answer.TheVariants.{Error}
 use Rattle.fuse_ops.specs.Answers.{Deed, find_name, make_file, take_name, show_file, unserved, deed_of, against_taking}
 use Rattle.fuse_ops.specs.Served.{ServedState, IsLegal}
 use Rattle.fuse_ops.specs.Work.{LooksUp, Makes, Shows, IsSamePlainly, Takes}
+use Rattle.fuse_ops.proofs.Asking.{finds-asks, shows-asks}
 use Rattle.fuse_ops.proofs.Replays.{made_answer, find-replay, make-replay, show-replay, take-replay, unserved-replay}
 use Rattle.fuse_ops.proofs.SameManifest.{replay-manifest}
 
@@ -32,4 +33,4 @@ does-legal old request answer new ask does = in_ (deed_of request) refl does whe
   in_ (show_file node) is (d, same) = (show-replay old request node answer new is d same).1
   in_ unserved is (e, same) = subst (λ (a : Answer). IsLegal old request a new) (sym e) (subst (λ (s : ServedState). IsLegal old request (Error ENOSYS) s) (sym same) (unserved-replay old request ask is).1)
 
-pub ruleset steps = (does-legal, replay-manifest)
+pub ruleset steps = (does-legal, replay-manifest, finds-asks, shows-asks)

@@ -1,6 +1,6 @@
 -- Where the attributes of a file come from, and which of them stay loaded. (EdenFS's inodes and backing stores; which
 -- number a request loads is this project's own.)
-use Rattle.std.specs.Prelude.{◌≡◌, ℕ, ◌<◌, ◌==◌, List, Option, Some, None, is_some, if◌then◌else◌}
+use Rattle.std.specs.Prelude.{◌≡◌, ◌≢◌, ℕ, ◌<◌, ◌==◌, Bool, true, false, List, Option, Some, None, is_some, Ok, if◌then◌else◌}
 use Rattle.eden_base.specs.declared.attr.Attr.{Attr}
 use Rattle.eden_base.specs.declared.attr.Kind.TheVariants.{File}
 use Rattle.eden_base.specs.declared.errno.Errno.TheVariants.{EIO}
@@ -12,9 +12,11 @@ use Rattle.fuse_wire.specs.Request.{items_of}
 use Rattle.fuse_wire.specs.declared.request.Request.{Request}
 use Rattle.fuse_wire.specs.declared.reply.Answer.{Answer}
 use Rattle.fuse_wire.specs.declared.reply.Answer.TheVariants.{Entry, Opened, Attrs, Done, Error}
-use Rattle.inode_map.specs.InodeMap.{MapState, attr_of, load, used}
+use Rattle.entry_table.specs.Entries.{IsFileOf}
+use Rattle.inode_map.specs.InodeMap.{MapState, attr_of, give_fault, load, used}
 use Rattle.inode_map.specs.declared.loaded.LoadedAttr.{LoadedAttr}
-use Rattle.fuse_ops.specs.Served.{place_taken, map_without, forgotten_all}
+use Rattle.fuse_ops.specs.Answers.{Deed, find_name, show_file, deed_of, found_in}
+use Rattle.fuse_ops.specs.Served.{ServedState, IsUnloaded, place_taken, map_without, forgotten_all}
 
 -- ---- the backing
 
@@ -27,6 +29,41 @@ Backs content tree = (file : FileId) (f : Content) →
 pub record FailsAs (answer : Option Answer) (before after : ℕ) : Type 0 where
   pub eio : answer ≡ Some (Error EIO) → before < after
   pub answered : (answer ≡ Some (Error EIO) → ⊥) → after ≡ before
+
+-- ---- which requests ask it
+
+-- a name gives a file that isn't loaded, and nothing stands against its number
+pub record FindsUnloaded (served : ServedState) (dir : Number) (name : List ℕ) : Type 0 where
+  pub above : FileId
+  pub file : FileId
+  pub located : IsFileOf served.tree served.map.entries dir.0 above
+  pub found : found_in served.tree (Some above) name ≡ Ok file
+  pub clear : give_fault served.map dir.0 name ≡ None
+  pub unloaded : IsUnloaded served file
+
+-- a number names a file that isn't loaded
+pub record ShowsUnloaded (served : ServedState) (node : Number) : Type 0 where
+  pub file : FileId
+  pub located : IsFileOf served.tree served.map.entries node.0 file
+  pub unloaded : IsUnloaded served file
+
+-- the backing is asked to find a name and to show a file, where that isn't loaded; one row a deed
+abbrev pub AsksFor : ServedState → Deed → Type 0
+AsksFor served (find_name dir name) = FindsUnloaded served dir name
+AsksFor served (show_file node) = ShowsUnloaded served node
+AsksFor served deed = ⊥
+
+-- it is asked for a request
+abbrev pub AsksBacking : ServedState → Request → Type 0
+AsksBacking served request = AsksFor served (deed_of request)
+
+-- EIO is answered only where the backing is asked, and there always by one that is known to fail. One that is known to
+-- answer has none.
+pub record AsksAs (served : ServedState) (request : Request) (answer : Option Answer)
+    (will_answer : Option Bool) : Type 0 where
+  pub eio : answer ≡ Some (Error EIO) → AsksBacking served request
+  pub failing : will_answer ≡ Some false → AsksBacking served request → answer ≡ Some (Error EIO)
+  pub answering : will_answer ≡ Some true → answer ≢ Some (Error EIO)
 
 -- ---- what is loaded
 

@@ -14,7 +14,7 @@ use Rattle.fuse_wire.specs.declared.item.Item.{Item}
 use Rattle.fuse_wire.specs.declared.reply.Answer.{Answer}
 use Rattle.eden_base.specs.declared.errno.Errno.{Errno}
 use Rattle.entry_table.specs.Entries.{IsFileOf, entry_at}
-use Rattle.inode_map.specs.InodeMap.{MapState, map_of, new_map, give_fault, given, number_given, forgotten, unlinked}
+use Rattle.inode_map.specs.InodeMap.{MapState, map_of, new_map, attr_of, give_fault, given, number_given, forgotten, unlinked}
 use Rattle.entry_table.specs.declared.kept.Kept.{Kept}
 use Rattle.inode_map.specs.declared.inode_map.GiveFault.{GiveFault}
 use Rattle.inode_map.specs.declared.inode_map.GiveFault.TheVariants.{NoNumber, TooMany, NoMemory}
@@ -81,19 +81,25 @@ number_fault (Some TooMany) = Some at_greatest
 number_fault (Some NoMemory) = None
 number_fault None = None
 
--- what a daemon reads the table by: its map says which number a place has; its backing may fail to tell a regular file
--- of the manifest; memory is wanted for a new number alone
+-- a regular file of the manifest of which nothing is loaded, so that the backing alone can tell it
+abbrev pub IsUnloaded : ServedState → FileId → Type 0
+IsUnloaded served file =
+    IsBacked served.tree file
+    × ((n : ℕ) → IsFileOf served.tree served.map.entries n file → attr_of served.map.loaded n ≡ None)
+
+-- what a daemon reads the table by: its map says which number a place has; its backing may fail to tell a file that
+-- isn't loaded; memory is wanted for a new number alone
 abbrev pub numbers_at : ServedState → Option (Number × List ℕ) → Numbers
 numbers_at served (Some (dir, name)) = record {
   IsAgainst = λ file fault. fault ≡ number_fault (give_fault served.map dir.0 name);
   IsNumber = λ file n. n ≡ (number_given served.map dir.0 name).0;
-  MayFail = IsBacked served.tree;
+  MayFail = IsUnloaded served;
   MayWant = λ file. entry_at served.map.entries dir.0 name ≡ None;
 }
 numbers_at served None = record {
   IsAgainst = λ file fault. ⊥;
   IsNumber = λ file n. ⊥;
-  MayFail = IsBacked served.tree;
+  MayFail = IsUnloaded served;
   MayWant = λ file. ⊥;
 }
 

@@ -1,5 +1,5 @@
 -- What the code of a served state says of its answers.
-use Rattle.std.specs.Prelude.{◌≡◌, ℕ, ◌<◌, ◌≤◌, ◌⊎◌, Bool, true, false, IsSome, List, Option, Some, None, Result, Ok, Err}
+use Rattle.std.specs.Prelude.{◌≡◌, ◌≢◌, ℕ, ◌<◌, ◌≤◌, ◌⊎◌, Bool, true, false, IsSome, List, Option, Some, None, Result, Ok, Err}
 use Rattle.eden_base.specs.Limits.{end_of_numbers}
 use Rattle.eden_base.specs.Name.{IsNameText}
 use Rattle.eden_base.specs.declared.attr.Kind.{Kind}
@@ -16,8 +16,8 @@ use Rattle.fuse_wire.specs.declared.reply.Answer.TheVariants.{Entry, Attrs, Done
 use Rattle.inode_map.specs.InodeMap.{IsGiveRefusal, give_fault, given, number_given}
 use Rattle.inode_map.specs.declared.inode_map.GiveFault.{GiveFault}
 use Rattle.inode_map.specs.declared.inode_map.GiveFault.TheVariants.{NoNumber, TooMany, NoMemory}
-use Rattle.fuse_ops.specs.Answers.{IsBacked, found_in, free_in, unless}
-use Rattle.fuse_ops.specs.Served.{ServedState, IsLocated, plain, name_taken}
+use Rattle.fuse_ops.specs.Answers.{found_in, free_in, unless}
+use Rattle.fuse_ops.specs.Served.{ServedState, IsLocated, IsUnloaded, plain, name_taken}
 use Rattle.fuse_ops.specs.declared.served.Found.{Found}
 use Rattle.fuse_ops.specs.declared.served.Linkage.{Linkage}
 use Rattle.fuse_ops.specs.declared.served.Linkage.TheVariants.{Linked, Unlinked}
@@ -54,7 +54,12 @@ pub record IsSamePlainly (old new : ServedState) : Type 0 where
 abbrev pub IsEntryRefusal : ServedState → Number → List ℕ → FileId → Errno → Type 0
 IsEntryRefusal old dir name file errno =
     ((fault : GiveFault) × IsGiveRefusal old.map dir.0 name fault × (errno ≡ errno_of fault))
-    ⊎ ((errno ≡ EIO) × (give_fault old.map dir.0 name ≡ None) × IsBacked old.tree file)
+    ⊎ ((errno ≡ EIO) × (give_fault old.map dir.0 name ≡ None) × IsUnloaded old file)
+
+-- what is known of the backing beforehand shows in the answer, where it is asked
+pub record IsAsKnown (Asks : Type 0) (answer : Answer) (will_answer : Option Bool) : Type 0 where
+  pub failing : will_answer ≡ Some false → Asks → answer ≡ Error EIO
+  pub answering : will_answer ≡ Some true → answer ≢ Error EIO
 
 -- the answer for a file that was found, and what the daemon knows after it
 abbrev pub GivesEntry : ServedState → Number → List ℕ → FileId → Answer → ServedState → Type 0
@@ -77,11 +82,11 @@ pub record LooksUp (old : ServedState) (dir : Number) (name : List ℕ) (answer 
   pub located : IsLocated old dir.0 dir_file
   pub gives : GivesFound old dir name (found_in old.tree dir_file name) answer new
 
--- the answer with the attributes of a number's file, which the backing may fail to tell
+-- the answer with the attributes of a number's file, which the backing may fail to tell where it isn't loaded
 abbrev pub ShowsFile : ServedState → Number → Option FileId → Answer → Type 0
 ShowsFile served node (Some file) answer =
     ((attr : Attr) × (attr_of served.tree file ≡ Some attr) × (answer ≡ Attrs node attr))
-    ⊎ ((answer ≡ Error EIO) × IsBacked served.tree file)
+    ⊎ ((answer ≡ Error EIO) × IsUnloaded served file)
 ShowsFile served node None answer = answer ≡ Error ESTALE
 
 -- a GETATTR's answer

@@ -9,7 +9,7 @@ ghost use Rattle.manifest.specs.Tree.{IsTree, nlink_of_kind};
 ghost use Rattle.checkout.specs.ChangedTree.{is_unlinked};
 ghost use Rattle.inode_map.specs.InodeMap.{forgotten};
 ghost use Rattle.fuse_ops.specs.Answers.{against_unlink, against_rmdir};
-ghost use Rattle.fuse_ops.specs.Loading.{Backs, FailsAs, Loads};
+ghost use Rattle.fuse_ops.specs.Loading.{AsksAs, Backs, FailsAs, Loads};
 ghost use Rattle.fuse_ops.specs.Served.{new_served, served_of, forgotten_all, IsLocated, Replay};
 ghost use Rattle.fuse_ops.specs.Soundness.{IsSound, AreRemembered, AreLoaded};
 ghost use Rattle.fuse_ops.specs.Work.{Finds, Takes, lacks_name};
@@ -144,8 +144,8 @@ impl Served {
     }
 
     /// Answers an ask, or applies the items of a forget, which has no answer. A file that isn't loaded is asked of the
-    /// backing, once nothing else stands against the answer. An error changes no number, no count, no place and no
-    /// tree, and loads nothing.
+    /// backing, once nothing but memory stands against the answer; no other is. An error changes no number, no count,
+    /// no place and no tree, and loads nothing.
     #[tactic(auto, using(crate::proofs::Steps::steps))]
     pub fn apply<B: Backing>(
         &mut self,
@@ -157,6 +157,7 @@ impl Served {
         ensures replay { Replay self.old request.now result self.new }
         ensures loads { Loads self.old.map request.now result self.new.map }
         ensures fails { FailsAs result (B.failed backing.old) (B.failed backing.new) }
+        ensures asks { AsksAs self.old request.now result (B.will_answer backing.old) }
         ensures same_content { (file : FileId) → B.content backing.new file ≡ B.content backing.old file }
         ensures same_manifest { self.new.tree.manifest ≡ self.old.tree.manifest }
     {

@@ -10,14 +10,13 @@ use Rattle.eden_base.specs.declared.number.FileId.{FileId}
 use Rattle.eden_base.specs.declared.number.Number.{Number}
 use Rattle.manifest.specs.Tree.{Tree, IsTree}
 use Rattle.checkout.specs.ChangedTree.{is_full_dir, next_file, created, removed}
-use Rattle.fuse_wire.specs.Request.{nodes}
 use Rattle.fuse_wire.specs.declared.request.Request.{Request}
 use Rattle.fuse_wire.specs.declared.form.Form.{Form}
 use Rattle.fuse_wire.specs.declared.reply.Answer.{Answer}
 use Rattle.fuse_wire.specs.declared.reply.Answer.TheVariants.{Attrs, Done, Error}
 use Rattle.entry_table.specs.Entries.{IsFileOf}
 use Rattle.inode_map.specs.InodeMap.{MapState}
-use Rattle.fuse_ops.specs.Answers.{Effect, found_in, free_in, enters, makes, takes, takes_from, unless, against_taking, Deed, find_name, make_file, take_name, show_file, unserved, deed_of, done_to, comes_to, shows, told_as, telling, Answers, AnswersShown}
+use Rattle.fuse_ops.specs.Answers.{Effect, found_in, free_in, enters, makes, takes, takes_from, unless, against_taking, Deed, find_name, make_file, take_name, show_file, unserved, deed_of, looks_at, done_to, comes_to, shows, told_as, telling, Answers, AnswersShown}
 use Rattle.fuse_ops.specs.Changes.{MayLose}
 use Rattle.fuse_ops.specs.Gifts.{served_over}
 use Rattle.fuse_ops.specs.Served.{ServedState, PlainState, plain, IsLocated, place_entered, place_left, place_told, name_taken, numbers_at, served_after, IsLegal}
@@ -50,13 +49,13 @@ error_in : (w : World) (m : MapState) (request : Request) (errno : Errno) (answe
 error_in w m request errno answer later s l may = subst (λ (a : Answer). Worked w request a later) (sym l.answers)
     (error-worked w m request (Err errno) errno later s.is_tree s.knows ((l.answered).makes ∙ ap (λ (a : Answer). plain (served_after (served_over w.tree m) request (Err errno) a)) l.answers) may)
 
--- no number of it names a file for the daemon, so that it is not live
-stale_in : (w : World) (m : MapState) (request : Request) (node : Number) → Serves w m → nodes request ≡ node ∷ [] → ((file : FileId) → IsFileOf w.tree m.entries node.0 file → ⊥) → MayAnswer w request (Error ESTALE)
-stale_in w m request node s goes nobody = inl (
+-- the number that it looks at names no file for the daemon, so that it is not live
+stale_in : (w : World) (m : MapState) (request : Request) (node : Number) → Serves w m → looks_at request ≡ node ∷ [] → ((file : FileId) → IsFileOf w.tree m.entries node.0 file → ⊥) → MayAnswer w request (Error ESTALE)
+stale_in w m request node s looks nobody = inl (
   refl,
   record {
     node = node;
-    goes_to = subst (λ (numbers : List Number). Contains numbers node) (sym goes) (0, (let low : 0 < 1 = omega arith in low), refl);
+    looked_at = subst (λ (numbers : List Number). Contains numbers node) (sym looks) (0, (let low : 0 < 1 = omega arith in low), refl);
     not_live = λ live. let f = live-named w w.tree m s.knows node.0 live in nobody f.0 f.1;
   },
 )
@@ -71,7 +70,7 @@ Succeeds w m request dir effect answer later =
 goes_in : (w : World) (m : MapState) (request : Request) (dir : Number) (effect : Tree → Option FileId → Result Effect Errno) (answer : Answer) (later : ServedState) → Serves w m → GoesTo request dir effect → Succeeds w m request dir effect answer later →
     (o : Option FileId) → IsLocated (served_over w.tree m) dir.0 o → Legal w m request (effect w.tree o) answer later → Worked w request answer later
 goes_in w m request dir effect answer later s goes success None nobody l =
-    error_in w m request ESTALE answer later s (subst (λ (r : Result Effect Errno). Legal w m request r answer later) (goes.stale w.tree) l) (stale_in w m request dir s goes.nodes nobody)
+    error_in w m request ESTALE answer later s (subst (λ (r : Result Effect Errno). Legal w m request r answer later) (goes.stale w.tree) l) (stale_in w m request dir s goes.looks nobody)
 goes_in w m request dir effect answer later s goes success (Some above) at l = in_ (effect w.tree (Some above)) refl l where
   came : effect_in w request ≡ effect w.tree (Some above)
   came = goes.comes w.tree (file_named w.names) ∙ ap (effect w.tree) ((s.knows).files dir.0 above at)
@@ -156,7 +155,7 @@ show_in w m request node answer later s does file at e is came l =
       by_answer made comes (inr (told, backs)) = subst (λ (a : Answer). Worked w request a later) (sym told)
           (error-worked w m request (Ok (shown w.tree file)) EIO later s.is_tree s.knows
           (made.makes ∙ ap (λ (a : Answer). plain (served_after (served_over w.tree m) request (Ok (shown w.tree file)) a)) told)
-          (inr (subst (λ (r : Result Effect Errno). Answers (numbers_of w) request r (Error EIO)) (sym comes) (inr (refl, backed w file s.of_manifest backs)))))
+          (inr (subst (λ (r : Result Effect Errno). Answers (numbers_of w) request r (Error EIO)) (sym comes) (inr (refl, backed w file s.of_manifest backs.0)))))
       by_answer made comes (inl t) = subst (λ (a : Answer). Worked w request a later) (sym (t.is ∙ form))
           (worked-from w request told later (Ok (shown w.tree file)) None comes refl
           (inr (subst (λ (r : Result Effect Errno). Answers (numbers_of w) request r told) (sym comes)

@@ -130,7 +130,7 @@ module _ (w : World) (m : MapState) (request : Request) (dir : Number) (name : L
     in_ (Some TooMany) f' ag nu re a = error_in (number_errno at_greatest) a (may_in (Error (number_errno at_greatest)) (Some at_greatest, ag, refl))
     in_ (Some NoMemory) f' ag nu re a = absurd (re refl)
     in_ None f' ag nu re (inl t) = told_in f' ag (nu refl) t
-    in_ None f' ag nu re (inr (inl (is', of))) = error_in EIO is' (may_in (Error EIO) (None, ag, inr (inl (refl, backed w file e.of_manifest of))))
+    in_ None f' ag nu re (inr (inl (is', of))) = error_in EIO is' (may_in (Error EIO) (None, ag, inr (inl (refl, backed w file e.of_manifest of.0))))
     in_ None f' ag nu re (inr (inr (is', absent))) = error_in ENOMEM is' (may_in (Error ENOMEM) (None, ag, inr (inr (refl, tt))))
 
   -- what an entry is answered, by what stands against its number

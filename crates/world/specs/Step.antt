@@ -1,9 +1,8 @@
 -- One event: it is refused for the first cause that holds, or made; a `do` as the list of its events, until one is
 -- refused; and a list of events.
-use Rattle.std.specs.Prelude.{◌≡◌, ◌≢◌, ℕ, ◌+◌, ◌⊎◌, Bool, true, false, List, [], ◌∷◌, ◌++◌, length, Option, Some, None, Ok, Err, if◌then◌else◌}
+use Rattle.std.specs.Prelude.{◌≡◌, ℕ, ◌+◌, ◌⊎◌, Bool, true, false, List, [], ◌∷◌, ◌++◌, length, Option, Some, None, Ok, Err, if◌then◌else◌}
 use Rattle.std.specs.Option.{option_map_or}
 use Rattle.eden_base.specs.declared.claim.ClaimFault.{ClaimFault}
-use Rattle.eden_base.specs.declared.errno.Errno.TheVariants.{EIO}
 use Rattle.eden_base.specs.declared.number.DaemonId.{DaemonId}
 use Rattle.broker_core.specs.Broker.{mounted, issued, unique_of, taken, posted, delivered, claim_fault, claimed, without_daemon}
 use Rattle.broker_core.specs.Traffic.{front, next_taken}
@@ -12,7 +11,6 @@ use Rattle.fuse_wire.specs.Request.{is_ask}
 use Rattle.fuse_wire.specs.declared.request.Ask.{Ask}
 use Rattle.fuse_wire.specs.declared.request.Request.{Request}
 use Rattle.fuse_wire.specs.declared.reply.Answer.{Answer}
-use Rattle.fuse_wire.specs.declared.reply.Answer.TheVariants.{Error}
 use Rattle.fuse_wire.specs.declared.reply.Reply.{Reply}
 use Rattle.fuse_ops.specs.Served.{ServedState, Replay}
 use Rattle.daemon.specs.Refusals.{is_made}
@@ -21,6 +19,7 @@ use Rattle.takeover_core.specs.Phases.{claim_wanted}
 use Rattle.takeover_core.specs.declared.message.Message.{Message}
 use Rattle.takeover_core.specs.declared.message.Message.TheVariants.{Offer}
 use Rattle.daemon.specs.Daemon.{DaemonState, versions, new_daemon, with_server}
+use Rattle.daemon.specs.Serving.{FailsSo}
 use Rattle.world.specs.State.{State, daemon_of, with_daemon, fault}
 use Rattle.daemon.specs.Talking.{HearsSo, IsReady, GivesUpSo, MountsSo, EndsSo, ClaimsSo, after_claim}
 use Rattle.daemon.specs.declared.daemon.Reaction.{Reaction}
@@ -90,8 +89,8 @@ pub record Takes (old : State) (daemon : DaemonId) (told : Happened) (new : Stat
   pub makes : new ≡ with_daemon (record old { broker = taken old.broker }) daemon
       (with_server was (with_taken server ask))
 
--- A daemon answers the ask, or applies the item, at a place of its hand. An error of its backing comes only where the
--- event says that it fails.
+-- A daemon answers the ask, or applies the item, at a place of its hand. EIO comes exactly where the event says that
+-- the backing fails, and the daemon asks it.
 pub record Works (old : State) (daemon : DaemonId) (place : ℕ) (fails : Bool) (told : Happened)
     (new : State) : Type 0 where
   pub was : DaemonState
@@ -103,7 +102,7 @@ pub record Works (old : State) (daemon : DaemonId) (place : ℕ) (fails : Bool) 
   pub serves : was.server ≡ Some server
   pub at : at_place server.hand place ≡ Some task
   pub replay : Replay server.served task.what answer later
-  pub fails_so : fails ≡ false → answer ≢ Some (Error EIO)
+  pub fails_so : FailsSo fails server.served task.what answer
   pub tells : told ≡ told_worked server.served task answer
   pub makes : new ≡ with_daemon old daemon (with_server was (with_worked server place task answer later))
 

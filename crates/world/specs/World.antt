@@ -22,7 +22,7 @@ use Rattle.fuse_wire.specs.declared.item.Item.{Item}
 use Rattle.fuse_wire.specs.declared.reply.Answer.{Answer}
 use Rattle.fuse_wire.specs.declared.reply.Answer.TheVariants.{Error}
 use Rattle.fuse_wire.specs.declared.reply.Reply.{Reply}
-use Rattle.fuse_ops.specs.Answers.{NumberFault, none_left, at_greatest, Numbers, Effect, comes_to, Answers, tree_after, file_told}
+use Rattle.fuse_ops.specs.Answers.{NumberFault, none_left, at_greatest, Numbers, Effect, looks_at, comes_to, Answers, tree_after, file_told}
 use Rattle.broker_core.specs.declared.seat.Seat.{Seat}
 
 -- Who serves and at which generation; the last generation; the tree; the file that each number was given out for; and
@@ -154,13 +154,13 @@ numbers_of world = record {
 abbrev pub effect_in : World → Request → Result Effect Errno
 effect_in world request = comes_to world.tree (file_named world.names) request
 
--- a number of the request is not live
+-- a number that the request's row looks at is not live
 pub record IsStale (world : World) (request : Request) : Type 0 where
   pub node : Number
-  pub goes_to : Contains (nodes request) node
+  pub looked_at : Contains (looks_at request) node
   pub not_live : IsLive world node.0 → ⊥
 
--- the answers to a request: those of the table, or that a number of it names nothing, where it is not live
+-- the answers to a request: those of the table, or that a number that it looks at names nothing, where it is not live
 abbrev pub MayAnswer : World → Request → Answer → Type 0
 MayAnswer world request answer =
     ((answer ≡ Error ESTALE) × IsStale world request)

@@ -302,6 +302,42 @@ fn answers_eio_where_its_backing_fails(rt: HostRuntime) {
     assert!(rt; all_go_so(rt.alloc(), &BACKING_FAILS, &[Found::Alone(3, 4)]));
 }
 
+/// Over a backing that fails a file is asked for that is not loaded, at whatever place of the hand. A directory is not,
+/// nor the file once it is loaded.
+static NOT_LOADED: [(Deed, Told); 17] = [
+    (Deed::Start, Told::One(Fact::Started(1))),
+    (Deed::Mount(1), Told::One(Fact::Mounted(1))),
+    (Deed::Issue(LOOK_UP_SRC), Told::One(Fact::Asked(Some(1)))),
+    (Deed::Issue(LOOK_UP_README), Told::One(Fact::Asked(Some(2)))),
+    (Deed::Take(1), Told::One(Fact::Took(1))),
+    (Deed::Take(1), Told::One(Fact::Took(2))),
+    (Deed::WorkFails(1, 2), Told::One(Fact::Made(2, FAILED))),
+    (Deed::WorkFails(1, 1), Told::One(Fact::Made(1, SRC))),
+    (Deed::Work(1, 1), Told::One(Fact::Refused(Refusal::NoSuch))),
+    (Deed::Issue(LOOK_UP_README), Told::One(Fact::Asked(Some(3)))),
+    (Deed::Issue(LOOK_UP_README), Told::One(Fact::Asked(Some(4)))),
+    (Deed::Take(1), Told::One(Fact::Took(3))),
+    (Deed::Take(1), Told::One(Fact::Took(4))),
+    (
+        Deed::Work(1, 1),
+        Told::One(Fact::Made(3, Said::Entry(3, README))),
+    ),
+    (
+        Deed::WorkFails(1, 1),
+        Told::One(Fact::Made(4, Said::Entry(3, README))),
+    ),
+    (Deed::Post(1, 3), Told::One(Fact::Posted(3))),
+    (
+        Deed::Deliver,
+        Told::One(Fact::Delivered(3, Said::Entry(3, README))),
+    ),
+];
+
+#[test]
+fn answers_eio_for_what_is_not_loaded_alone(rt: HostRuntime) {
+    assert!(rt; all_go_so(rt.alloc(), &NOT_LOADED, &[Found::UnderWay(1, 0, 3)]));
+}
+
 const MISSING: Said = Said::Error(Errno::ENOENT);
 
 /// Tells of a `do` whose ask waits, while an older one is answered.

@@ -1,5 +1,5 @@
 //! LOOKUP and GETATTR: the numbers that are given to names, and the attributes that are told of files.
-ghost use Rattle.std.specs.Prelude.{◌≡◌, ◌<◌, None, Some, Ok, IsSome, IfOk, OnOk, OnErr};
+ghost use Rattle.std.specs.Prelude.{◌≡◌, ◌<◌, false, true, None, Some, Ok, IsErr, IsOk, IsSome, IfOk, OnOk, OnErr, OnSome};
 ghost use Rattle.eden_base.specs.declared.number.FileId.{FileId};
 ghost use Rattle.std.specs.Option.{option_map, IfNone, IfSome};
 ghost use Rattle.manifest.specs.Tree.{IsTree, file_of as tree_file};
@@ -8,9 +8,10 @@ ghost use Rattle.fuse_wire.specs.declared.request.Request.TheVariants.{Lookup, G
 ghost use Rattle.entry_table.specs.Entries.{entry_at, number_of_kept};
 ghost use Rattle.inode_map.specs.InodeMap.{attr_of as loaded_attr};
 ghost use Rattle.fuse_ops.specs.Answers.{IsBacked};
-ghost use Rattle.fuse_ops.specs.Loading.{Backs, FailsAs, Loads, loaded_told};
+ghost use Rattle.fuse_ops.specs.Loading.{Backs, FailsAs, FindsUnloaded, Loads, ShowsUnloaded, loaded_told};
+ghost use Rattle.fuse_ops.specs.Served.{IsUnloaded};
 ghost use Rattle.fuse_ops.specs.Soundness.{Names};
-ghost use Rattle.fuse_ops.specs.Work.{errno_of, Finds, GivesEntry, IsSamePlainly, lacks_name, LooksUp, Shows};
+ghost use Rattle.fuse_ops.specs.Work.{errno_of, Finds, GivesEntry, IsAsKnown, IsSamePlainly, lacks_name, LooksUp, Shows};
 
 use super::{Found, Linkage, Located, Served};
 use checkout::{Backing, BackingFault, Tree};
@@ -32,6 +33,7 @@ impl Served {
         ensures answer { LooksUp self.old dir name.now result self.new }
         ensures loads { Loads self.old.map (Lookup dir name.now) (Some result) self.new.map }
         ensures fails { FailsAs (Some result) (B.failed backing.old) (B.failed backing.new) }
+        ensures as_known { IsAsKnown (FindsUnloaded self.old dir name.now) result (B.will_answer backing.old) }
         ensures same_content { (file : FileId) → B.content backing.new file ≡ B.content backing.old file }
     {
         if let Some(number) = self.map.number_for(dir, name) {
@@ -57,6 +59,7 @@ impl Served {
         ensures answer { LooksUp self.old dir name.now result self.new }
         ensures loads { Loads self.old.map (Lookup dir name.now) (Some result) self.new.map }
         ensures fails { FailsAs (Some result) (B.failed backing.old) (B.failed backing.new) }
+        ensures as_known { IsAsKnown (FindsUnloaded self.old dir name.now) result (B.will_answer backing.old) }
         ensures same_content { (file : FileId) → B.content backing.new file ≡ B.content backing.old file }
     {
         let number = match self.map.give_again(dir, name, number) {
@@ -94,6 +97,7 @@ impl Served {
         ensures entry { GivesEntry self.old dir name.now found.file result self.new }
         ensures loads { Loads self.old.map (Lookup dir name.now) (Some result) self.new.map }
         ensures fails { FailsAs (Some result) (B.failed backing.old) (B.failed backing.new) }
+        ensures as_known { IsAsKnown (FindsUnloaded self.old dir name.now) result (B.will_answer backing.old) }
         ensures same_content { (file : FileId) → B.content backing.new file ≡ B.content backing.old file }
     {
         if self.map.next() >= END_OF_NUMBERS {
@@ -119,6 +123,7 @@ impl Served {
         ensures plainly { IsSamePlainly self.old self.new }
         ensures loads { Loads self.old.map (Getattr node) (Some result) self.new.map }
         ensures fails { FailsAs (Some result) (B.failed backing.old) (B.failed backing.new) }
+        ensures as_known { IsAsKnown (ShowsUnloaded self.old node) result (B.will_answer backing.old) }
         ensures same_content { (file : FileId) → B.content backing.new file ≡ B.content backing.old file }
     {
         let Some(located) = self.linked_file_of(node) else {
@@ -144,9 +149,11 @@ impl Served {
         ensures loaded { IfOk result (λ told. self.new
             ≡ record self.old { map = record self.old.map { loaded = loaded_told self.old.map number told } }) }
         ensures unchanged { OnErr result (self.new ≡ self.old) }
-        ensures backed { OnErr result (IsBacked self.old.tree located.file) }
+        ensures not_loaded { OnErr result (IsUnloaded self.old located.file) }
         ensures answered { OnOk result (B.failed backing.new ≡ B.failed backing.old) }
         ensures failed { OnErr result (B.failed backing.old < B.failed backing.new) }
+        ensures failing { B.will_answer backing.old ≡ Some false → IsUnloaded self.old located.file → IsErr result }
+        ensures answering { B.will_answer backing.old ≡ Some true → IsOk result }
         ensures same_content { (file : FileId) → B.content backing.new file ≡ B.content backing.old file }
     {
         if number == Number::ROOT {
@@ -166,6 +173,7 @@ impl Served {
             → is_unlinked self.old.tree file ≡ lacks_name linkage → attr_of self.old.tree file ≡ Some told) }
         ensures loaded { IfSome result (λ told. self.new
             ≡ record self.old { map = record self.old.map { loaded = loaded_told self.old.map number told } }) }
+        ensures was_loaded { OnSome result (IsSome (loaded_attr self.old.map.loaded number.0)) }
         ensures unloaded { IfNone result (loaded_attr self.old.map.loaded number.0 ≡ None) }
         ensures unchanged { IfNone result (self.new ≡ self.old) }
     {
@@ -196,6 +204,8 @@ impl Served {
         ensures backed { OnErr result (IsBacked self.old.tree file) }
         ensures answered { OnOk result (B.failed backing.new ≡ B.failed backing.old) }
         ensures failed { OnErr result (B.failed backing.old < B.failed backing.new) }
+        ensures failing { B.will_answer backing.old ≡ Some false → IsBacked self.old.tree file → IsErr result }
+        ensures answering { B.will_answer backing.old ≡ Some true → IsOk result }
         ensures same_content { (file : FileId) → B.content backing.new file ≡ B.content backing.old file }
     {
         let told = ask(&self.tree, backing, file)?;
@@ -214,6 +224,8 @@ fn ask<B: Backing>(tree: &Tree, backing: &mut B, file: FileId) -> Result<Attr, B
     ensures backed { OnErr result (IsBacked tree.now file) }
     ensures answered { OnOk result (B.failed backing.new ≡ B.failed backing.old) }
     ensures failed { OnErr result (B.failed backing.old < B.failed backing.new) }
+    ensures failing { B.will_answer backing.old ≡ Some false → IsBacked tree.now file → IsErr result }
+    ensures answering { B.will_answer backing.old ≡ Some true → IsOk result }
     ensures same_content { (other : FileId) → B.content backing.new other ≡ B.content backing.old other }
 {
     let Some(attr) = tree.attr(file) else {

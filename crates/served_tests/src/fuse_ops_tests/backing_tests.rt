@@ -123,6 +123,36 @@ fn answers_eio_where_the_backing_fails_and_changes_nothing(rt: HostRuntime) {
     }
 }
 
+/// Returns the number that is told of the request at a place, though the backing fails.
+fn told_without(alloc: Global, served: &mut Hosted, place: usize) -> Option<u64> {
+    let request = asked_in_turn(alloc, place)?;
+    let answer = served.apply_failing(alloc, 0, &request);
+    drop(request);
+    Some(number_told(answer))
+}
+
+/// Returns that where each file was looked up, and stays loaded.
+fn told_loaded(alloc: Global, place: usize) -> Option<u64> {
+    let mut served = Hosted::of(alloc, FOUR_FILES, 3)?;
+    let told = if ask_before(alloc, &mut served, 4) {
+        told_without(alloc, &mut served, place)
+    } else {
+        None
+    };
+    drop(served);
+    told
+}
+
+/// The place of a request, and the number that it has.
+static LOADED_BEFORE: [(usize, u64); 5] = [(0, 2), (1, 3), (2, 4), (3, 5), (4, 3)];
+
+#[test]
+fn tells_what_is_loaded_though_the_backing_fails(rt: HostRuntime) {
+    for (place, number) in &LOADED_BEFORE {
+        assert!(rt; told_loaded(rt.alloc(), *place) == Some(*number));
+    }
+}
+
 /// Returns whether the attributes of a number are told though the backing fails.
 fn is_loaded(alloc: Global, served: &mut Hosted, node: u64) -> bool {
     let request = Request::Getattr { node: Number(node) };

@@ -1,5 +1,5 @@
 //! What a daemon serves, and a backing that fails.
-ghost use Rattle.std.specs.Prelude.{if◌then◌else◌};
+ghost use Rattle.std.specs.Prelude.{None, if◌then◌else◌};
 ghost use Rattle.manifest.specs.Tree.{file_of, tree_of};
 
 use crate::again::{manifest_of, served_of};
@@ -80,6 +80,8 @@ impl Backing for FailingBacking<'_> {
     ghost content = { λ backing file. file_of (tree_of backing.manifest) file };
 
     ghost failed = { λ backing. if backing.has_failed then 1 else 0 };
+
+    ghost will_answer = { λ _. None };
 
     fn attr(&mut self, file: FileId) -> Result<Content, BackingFault> {
         if self.answers == 0 && !self.has_failed {

@@ -11,11 +11,12 @@ use Rattle.entry_table.specs.Entries.{entry_at, number_of_kept, IsFileOf}
 use Rattle.inode_map.specs.InodeMap.{forgotten}
 use Rattle.fuse_ops.specs.Answers.{IsBacked}
 use Rattle.fuse_ops.specs.Gifts.{served_over}
-use Rattle.fuse_ops.specs.Loading.{Backs, loaded_told}
+use Rattle.fuse_ops.specs.Loading.{Backs, FindsUnloaded, loaded_told}
 use Rattle.fuse_ops.specs.Served.{ServedState}
-use Rattle.fuse_ops.specs.Work.{LooksUp}
+use Rattle.fuse_ops.specs.Work.{IsAsKnown, LooksUp}
+use Rattle.fuse_ops.proofs.Asking.{fault-known, failed-known, not-both}
 use Rattle.fuse_ops.proofs.Entering.{entered-knows}
-use Rattle.fuse_ops.proofs.EnteringAgain.{again-may, entered-other, entered-names, entered-linked, told-looks_up, failed-looks_up, fault-looks_up}
+use Rattle.fuse_ops.proofs.EnteringAgain.{again-may, entered-other, entered-names, entered-linked, told-looks_up, failed-looks_up, loaded-known, asked-known, fault-looks_up}
 use Rattle.fuse_ops.proofs.served.Served.enter_again.Goals as goal
 
 pub returns-in-Err-clause-answer : goal.returns-in-Err-clause-answer
@@ -92,4 +93,37 @@ returns-in-Err-load_asked-clause-answer g c =
     ∙ ap (served_over c.self.inside.tree) c.in-Ok.ensures.taken_back in
     subst (λ (s : ServedState). LooksUp s c.args.dir c.args.name.now (Error EIO) new) c.self.view_is
     (failed-looks_up _ _ _ _ may.1 c.give_again.new.self c.in-Ok.number c.in-Ok.ensures.number c.in-Ok.ensures.given new back
+    c.in_default.ensures.unloaded
     (subst (λ (f : FileId). IsBacked c.self.inside.tree f) same backed))
+
+pub returns-in-Err-clause-as_known : goal.returns-in-Err-clause-as_known
+returns-in-Err-clause-as_known g c =
+    let old = served_over c.self.inside.tree c.self.inside.map in
+    let will = g.B.Backing.will_answer c.args.backing.now in
+    subst (λ (s : ServedState). IsAsKnown (FindsUnloaded s c.args.dir c.args.name.now) (Error c.errno_of.result) will) c.self.view_is
+    (subst (λ (e : Errno). IsAsKnown (FindsUnloaded old c.args.dir c.args.name.now) (Error e) will) (sym c.errno_of.ensures)
+    (fault-known old c.args.dir c.args.name.now c.in-Err.fault will c.in-Err.ensures.refused))
+
+pub returns-in-Some-clause-as_known : goal.returns-in-Some-clause-as_known
+returns-in-Some-clause-as_known g c =
+    let may = again-may (served_over c.self.inside.tree c.self.inside.map) c.args.self.now c.args.dir c.args.name.now c.args.number c.self.view_is c.self.invariant c.requires.has c.in-Ok.ensures.accepted in
+    let has = subst (λ (s : ServedState). Some c.args.number ≡ option_map number_of_kept (entry_at s.map.entries c.args.dir.0 c.args.name.now)) (sym c.self.view_is) c.requires.has in
+    let will = g.B.Backing.will_answer c.args.backing.now in
+    subst (λ (s : ServedState). IsAsKnown (FindsUnloaded s c.args.dir c.args.name.now) (Entry c.in-Ok.number c.in-Some.attr) will) c.self.view_is
+    (loaded-known _ _ _ _ may.1 c.give_again.new.self c.in-Ok.number c.in-Ok.ensures.number c.in-Ok.ensures.given c.args.number c.in-Some.attr will has c.in-Some.ensures.was_loaded)
+
+pub returns-in-Ok-load_asked-clause-as_known : goal.returns-in-Ok-load_asked-clause-as_known
+returns-in-Ok-load_asked-clause-as_known g c =
+    let may = again-may (served_over c.self.inside.tree c.self.inside.map) c.args.self.now c.args.dir c.args.name.now c.args.number c.self.view_is c.self.invariant c.requires.has c.in-Ok.ensures.accepted in
+    let names = entered-names _ _ _ _ may.1 c.give_again.new.self c.in-Ok.number c.in-Ok.ensures.number c.in-Ok.ensures.given in
+    let file = c.in-Some-file_of.file in
+    let at = subst (λ (s : ServedState). IsFileOf s.tree s.map.entries c.in-Ok.number.0 file) c.in_default.ensures.unchanged c.in-Some-file_of.ensures.located in
+    let same : file ≡ may.0.file = IsFileOf-same _ _ _ file may.0.file at names in
+    let before = c.file_of.ensures.unchanged ∙ c.in_default.ensures.unchanged in
+    let will = g.B.Backing.will_answer c.args.backing.now in
+    subst (λ (s : ServedState). IsAsKnown (FindsUnloaded s c.args.dir c.args.name.now) (Entry c.in-Ok.number c.in-Ok-load_asked.attr) will) c.self.view_is
+    (asked-known _ _ _ _ may.1 c.give_again.new.self c.in-Ok.number c.in-Ok.ensures.number c.in-Ok.ensures.given file c.in-Ok-load_asked.attr will same
+    (λ k b. not-both (c.in-Ok-load_asked.ensures.failing k (subst (λ (s : ServedState). IsBacked s.tree file) (sym before) b))))
+
+pub returns-in-Err-load_asked-clause-as_known : goal.returns-in-Err-load_asked-clause-as_known
+returns-in-Err-load_asked-clause-as_known g c = failed-known _ (g.B.Backing.will_answer c.args.backing.now) (λ k. not-both (c.in-Err-load_asked.ensures.answering k))
