@@ -1,4 +1,6 @@
 pub mod Growing
 pub mod Replaying
+pub mod Rounds
 pub mod Serving
 pub mod Taking
+pub mod Turning

@@ -1,11 +1,21 @@
--- What a round gives back that gave nothing. (This project's own.)
-use Rattle.std.specs.Prelude.{◌≡◌, List, ⊤}
+-- Why a round gives nothing, and what it gives back. (This project's own.)
+use Rattle.std.specs.Prelude.{◌≡◌, ℕ, List, codes, ⊤}
 use Rattle.fuse_ops.specs.Served.{ServedState}
+use Rattle.fuse_wire.specs.declared.reply.Reply.{Reply}
 use Rattle.journal.specs.Receipts.{ReceiptsState}
 use Rattle.journal.specs.Settled.{IsSettled}
 use Rattle.journal.specs.declared.journal.Record.{Record}
+use Rattle.workers.specs.Round.{OneBreaks}
+use Rattle.workers.specs.declared.channel.Taken.{Taken}
+use Rattle.workers.specs.declared.channel.Posted.{Posted}
 use Rattle.workers.specs.declared.fault.RoundFault.{RoundFault}
 use Rattle.workers.specs.declared.fault.RoundFault.TheVariants.{Broken, Unsettled, NoMemory}
+
+-- the words that a fault is told by
+abbrev pub fault_text : {B C : Type 0} → RoundFault B C → List ℕ
+fault_text Broken = codes "the mount is over"
+fault_text Unsettled = codes "the receipts of the workers are not those of the journal"
+fault_text (NoMemory back) = codes "out of memory"
 
 -- all that the round was handed, where memory was refused
 abbrev pub GivesBack : {B C : Type 0} → ServedState → B → List C → RoundFault B C → Type 0
@@ -14,11 +24,13 @@ GivesBack served backing channels (NoMemory back) =
 GivesBack served backing channels Broken = ⊤
 GivesBack served backing channels Unsettled = ⊤
 
--- nothing is given back
-abbrev pub IsForGood : {B C : Type 0} → RoundFault B C → Type 0
-IsForGood (NoMemory back) = ⊥
-IsForGood Broken = ⊤
-IsForGood Unsettled = ⊤
+-- why a round is not served: one of its workers found its channel broken, or memory was refused; never Unsettled
+abbrev pub IsUnserved :
+    {B C : Type 0} → (C → Taken → C → Type 0) → (C → Reply → Posted → C → Type 0) → ℕ → List C
+    → RoundFault B C → Type 0
+IsUnserved takes posts turns channels Broken = OneBreaks takes posts turns channels
+IsUnserved takes posts turns channels Unsettled = ⊥
+IsUnserved takes posts turns channels (NoMemory back) = ⊤
 
 -- why a round is not drained: its receipts are not its journal, or memory was refused
 abbrev pub IsUndrained : {B C : Type 0} → List Record → List ReceiptsState → RoundFault B C → Type 0

@@ -1,22 +1,35 @@
 -- What a round leaves of its channels. (This project's own.)
-use Rattle.std.specs.Prelude.{◌≡◌, ℕ, Bool, true, List, [], ◌∷◌, length, ⊤}
-use Rattle.std.specs.List.{sum_by}
-use Rattle.workers.specs.Channel.{Told, grown}
+use Rattle.std.specs.Prelude.{◌≡◌, ◌≤◌, ℕ, Bool, true, List, [], ◌∷◌, length, ⊤}
+use Rattle.std.specs.List.{Any, sum_by}
+use Rattle.fuse_wire.specs.declared.reply.Reply.{Reply}
 use Rattle.journal.specs.Receipts.{ReceiptsState}
 use Rattle.journal.specs.declared.receipt.Receipt.{Receipt}
-use Rattle.workers.specs.declared.worker.Ending.{Ending}
-use Rattle.workers.specs.declared.worker.Ending.TheVariants.{Done}
+use Rattle.workers.specs.Channel.{Told, grown}
+use Rattle.workers.specs.Shift.{Ends, IsShift}
+use Rattle.workers.specs.declared.channel.Taken.{Taken}
+use Rattle.workers.specs.declared.channel.Posted.{Posted}
+use Rattle.workers.specs.declared.worker.Ending.TheVariants.{Done, Broken}
 
--- where a channel tells its lists and its worker ended well, they grew by the worker's receipts
-abbrev pub Tells : Bool → Ending → Told → Told → List Receipt → Type 0
-Tells tells ending before after receipts = tells ≡ true → ending ≡ Done → after ≡ grown before receipts
+-- channels before and after a round, each with its worker's receipts: each worker ended well
+abbrev pub AreServed :
+    {C : Type 0} → (C → Taken → C → Type 0) → (C → Reply → Posted → C → Type 0) → Bool → (C → Told) → ℕ
+    → List C → List C → List ReceiptsState → Type 0
+AreServed takes posts tells told turns [] [] [] = ⊤
+AreServed takes posts tells told turns (before ∷ befores) (after ∷ afters) (kept ∷ rest) =
+    IsShift takes posts tells told turns before kept.list Done after
+    × AreServed takes posts tells told turns befores afters rest
+AreServed takes posts tells told turns befores afters kept = ⊥
 
--- channels before and after a round, each with its worker's receipts: where they tell their lists, these grew by them
-abbrev pub AreServed : {C : Type 0} → Bool → (C → Told) → List C → List C → List ReceiptsState → Type 0
-AreServed tells told [] [] [] = ⊤
-AreServed tells told (before ∷ befores) (after ∷ afters) (kept ∷ rest) =
-    (tells ≡ true → told after ≡ grown (told before) kept.list) × AreServed tells told befores afters rest
-AreServed tells told befores afters kept = ⊥
+-- the worker of this channel found it broken
+abbrev pub Breaks :
+    {C : Type 0} → (C → Taken → C → Type 0) → (C → Reply → Posted → C → Type 0) → ℕ → C → Type 0
+Breaks {C} takes posts turns before =
+    (receipts : List Receipt) × (after : C) × Ends takes posts before receipts Broken after × (length receipts ≤ turns)
+
+-- the worker of one of these channels found it broken
+abbrev pub OneBreaks :
+    {C : Type 0} → (C → Taken → C → Type 0) → (C → Reply → Posted → C → Type 0) → ℕ → List C → Type 0
+OneBreaks takes posts turns channels = Any (Breaks takes posts turns) channels
 
 -- how many receipts these workers have
 abbrev pub receipts_in : List ReceiptsState → ℕ

@@ -1,11 +1,86 @@
--- How a worker ends. (This project's own.)
-use Rattle.std.specs.Prelude.{Bool, true, false, Option, Some, None}
+-- What a worker makes of its channel, and how it ends. (This project's own.)
+use Rattle.std.specs.Prelude.{◌≡◌, ◌≤◌, ◌⊎◌, ℕ, Bool, true, false, List, [], ◌∷◌, ◌++◌, length, Option, Some, None}
+use Rattle.fuse_wire.specs.declared.reply.Answer.{Answer}
+use Rattle.fuse_wire.specs.declared.reply.Reply.{Reply}
+use Rattle.journal.specs.Receipts.{ReceiptsState}
+use Rattle.journal.specs.declared.receipt.Receipt.{Receipt}
+use Rattle.workers.specs.Channel.{Told, grown}
+use Rattle.workers.specs.declared.channel.Taken.{Taken}
+use Rattle.workers.specs.declared.channel.Taken.TheVariants as took
+use Rattle.workers.specs.declared.channel.Posted.{Posted}
+use Rattle.workers.specs.declared.channel.Posted.TheVariants as post
 use Rattle.workers.specs.declared.worker.Ending.{Ending}
-use Rattle.workers.specs.declared.worker.Ending.TheVariants.{Done, Broken, NoRoom}
+use Rattle.workers.specs.declared.worker.Ending.TheVariants.{Done, Broken}
+
+-- Below, `takes` is what a look for an ask makes of a channel, and `posts` what a reply makes of it.
+
+-- what comes of the reply to an ask, where it has one: without an answer there is nothing to post
+abbrev pub Replies : {C : Type 0} → (C → Reply → Posted → C → Type 0) → C → ℕ → Option Answer → Posted → C → Type 0
+Replies posts before unique (Some answer) posted after =
+    posts before (record { unique = unique; answer = answer }) posted after
+Replies posts before unique None post.Done after = after ≡ before
+Replies posts before unique None post.Broken after = ⊥
+
+-- one turn: the receipt's ask was taken, and this came of its reply
+abbrev pub Turns :
+    {C : Type 0} → (C → Taken → C → Type 0) → (C → Reply → Posted → C → Type 0) → C → Receipt → Posted → C → Type 0
+Turns {C} takes posts before receipt posted after =
+    (held : C) × takes before (took.Ask receipt.ask) held
+    × Replies posts held receipt.ask.unique receipt.answer posted after
+
+-- turns one after another, each with its reply posted
+abbrev pub Goes :
+    {C : Type 0} → (C → Taken → C → Type 0) → (C → Reply → Posted → C → Type 0) → C → List Receipt → C → Type 0
+Goes takes posts before [] after = after ≡ before
+Goes {C} takes posts before (first ∷ rest) after =
+    (next : C) × Turns takes posts before first post.Done next × Goes takes posts next rest after
+
+-- such turns, and then a look that finds this
+abbrev pub Finds :
+    {C : Type 0} → (C → Taken → C → Type 0) → (C → Reply → Posted → C → Type 0) → C → List Receipt → Taken → C → Type 0
+Finds {C} takes posts before receipts taken after =
+    (last : C) × Goes takes posts before receipts last × takes last taken after
+
+-- such turns, and then one whose reply found the channel broken
+abbrev pub Fails :
+    {C : Type 0} → (C → Taken → C → Type 0) → (C → Reply → Posted → C → Type 0) → C → List Receipt → C → Type 0
+Fails {C} takes posts before receipts after =
+    (front : List Receipt) × (final : Receipt) × (last : C) × (receipts ≡ front ++ final ∷ [])
+    × Goes takes posts before front last × Turns takes posts last final post.Broken after
+
+-- How a worker ends. Done: each reply was posted, and then it looked no more, or found that there is no ask now, or
+-- that there will be none. Broken: its channel was, where it looked for an ask or where it posted a reply.
+abbrev pub Ends :
+    {C : Type 0} → (C → Taken → C → Type 0) → (C → Reply → Posted → C → Type 0)
+    → C → List Receipt → Ending → C → Type 0
+Ends takes posts before receipts Done after =
+    Goes takes posts before receipts after
+    ⊎ (Finds takes posts before receipts took.Empty after ⊎ Finds takes posts before receipts took.Stopped after)
+Ends takes posts before receipts Broken after =
+    Finds takes posts before receipts took.Broken after ⊎ Fails takes posts before receipts after
+
+-- a worker goes on, or ends so
+abbrev pub GoesOrEnds :
+    {C : Type 0} → (C → Taken → C → Type 0) → (C → Reply → Posted → C → Type 0)
+    → C → List Receipt → Option Ending → C → Type 0
+GoesOrEnds takes posts before receipts None after = Goes takes posts before receipts after
+GoesOrEnds takes posts before receipts (Some ending) after = Ends takes posts before receipts ending after
 
 -- the worker goes on, or has taken and posted all that it has receipts of
 abbrev pub is_well : Option Ending → Bool
 is_well None = true
 is_well (Some Done) = true
 is_well (Some Broken) = false
-is_well (Some NoRoom) = false
+
+-- where a channel tells its lists and its worker ended well, they grew by the worker's receipts
+abbrev pub Tells : Bool → Ending → Told → Told → List Receipt → Type 0
+Tells tells ending before after receipts = tells ≡ true → ending ≡ Done → after ≡ grown before receipts
+
+-- what a worker makes of its channel: how it ended, what the channel tells, and how many turns it made at most
+pub record IsShift
+    {C : Type 0} (takes : C → Taken → C → Type 0) (posts : C → Reply → Posted → C → Type 0)
+    (tells : Bool) (told : C → Told) (turns : ℕ)
+    (before : C) (receipts : List Receipt) (ending : Ending) (after : C) : Type 0 where
+  pub ends : Ends takes posts before receipts ending after
+  pub lists : Tells tells ending (told before) (told after) receipts
+  pub most : length receipts ≤ turns

@@ -1,8 +1,11 @@
 //! What a worker takes asks from, and posts replies to.
 ghost use Rattle.std.specs.Prelude.{◌≡◌, ◌∷◌, [], Bool, true};
 ghost use Rattle.fuse_wire.specs.declared.request.Ask.{Ask as AskValue};
+ghost use Rattle.fuse_wire.specs.declared.reply.Reply.{Reply as ReplyValue};
 ghost use Rattle.workers.specs.Channel.{Told, with_ask, with_replies};
+ghost use Rattle.workers.specs.declared.channel.Taken.{Taken as TakenValue};
 ghost use Rattle.workers.specs.declared.channel.Taken.TheVariants as took;
+ghost use Rattle.workers.specs.declared.channel.Posted.{Posted as PostedValue};
 ghost use Rattle.workers.specs.declared.channel.Posted.TheVariants as post;
 
 use fuse_wire::{Ask, Reply};
@@ -27,9 +30,15 @@ pub enum Posted {
     Broken,
 }
 
-/// The kernel's side of one worker. One that tells its lists says what was taken from it and posted to it; of one that
-/// doesn't, as a socket, no clause speaks.
+/// The kernel's side of one worker. Each says what a look for an ask and a reply make of it, and so what it was where
+/// it is Broken. One that tells its lists also says what was taken from it and posted to it.
 pub trait Channel {
+    /// What a look for an ask makes of it, by what comes of the look.
+    ghost takes: { Self → TakenValue → Self → Type 0 };
+
+    /// What a reply makes of it, by what comes of the reply.
+    ghost posts: { Self → ReplyValue → PostedValue → Self → Type 0 };
+
     /// Whether it tells its lists.
     ghost tells: { Bool };
 
@@ -38,6 +47,7 @@ pub trait Channel {
 
     /// Takes the next ask.
     fn take(&mut self) -> Taken
+        ensures takes { takes self.old result self.new }
         ensures taken { tells ≡ true → (ask : AskValue) → result ≡ took.Ask ask
             → told self.new ≡ with_ask (told self.old) ask }
         ensures empty { tells ≡ true → result ≡ took.Empty → told self.new ≡ told self.old }
@@ -45,6 +55,7 @@ pub trait Channel {
 
     /// Posts the reply to an ask that was taken.
     fn post(&mut self, reply: Reply) -> Posted
+        ensures posts { posts self.old reply result self.new }
         ensures posted { tells ≡ true → result ≡ post.Done
             → told self.new ≡ with_replies (told self.old) (reply ∷ []) };
 }

@@ -1,5 +1,9 @@
 //! Why a round gives nothing.
+ghost use Rattle.std.specs.Prelude.{Some};
+ghost use Rattle.workers.specs.Faults.{fault_text};
+
 use fuse_ops::Served;
+use std::fmt;
 
 /// What a round gives back for which memory was refused: all that it was handed. No request was taken.
 #[derive(Drop)]
@@ -12,10 +16,21 @@ pub struct Returned<B: Drop, C: Drop> {
 /// Why a round gives nothing that may be served on.
 #[derive(Drop)]
 pub enum RoundFault<B: Drop, C: Drop> {
-    /// The mount is over.
+    /// A channel was broken.
     Broken,
-    /// The receipts of the workers aren't known to be those of the journal.
+    /// The receipts of the workers are not those of the journal.
     Unsettled,
-    /// Out of memory.
     NoMemory(Returned<B, C>),
+}
+
+impl<B: Drop, C: Drop> fmt::Display for RoundFault<B, C> {
+    ghost output = { λ fault. Some (fault_text fault) };
+
+    fn fmt<W: fmt::Write>(&self, f: &mut fmt::Formatter<W>) -> fmt::Result {
+        f.write_str(match self {
+            RoundFault::Broken => "the mount is over",
+            RoundFault::Unsettled => "the receipts of the workers are not those of the journal",
+            RoundFault::NoMemory(_back) => "out of memory",
+        })
+    }
 }

@@ -18,7 +18,7 @@ pub use channel::{Channel, Posted, Taken};
 pub use fault::{Returned, RoundFault};
 pub use gate::{Gate, OpenGate};
 pub use journal::{Journal, Receipt, Receipts, Record};
-pub use locked::{LockedMap, Opening, Shared};
+pub use locked::{LockedMap, Opened, Opening, Parts, Shared};
 pub use memory_channel::MemoryChannel;
 pub use round::{MAX_CHANNELS, MAX_TURNS, Round, serve_round};
 pub use settled::{Settled, drain};

@@ -1,5 +1,5 @@
 //! What stands under the map's lock.
-ghost use Rattle.std.specs.Prelude.{◌≡◌, ◌+◌, ◌<◌, ◌++◌, ◌∷◌, [], length, IfSome, IfNone};
+ghost use Rattle.std.specs.Prelude.{◌≡◌, ◌+◌, ◌<◌, ◌≤◌, ◌++◌, ◌∷◌, [], length};
 ghost use Rattle.fuse_ops.specs.Loading.{Backs};
 ghost use Rattle.journal.specs.Journal.{applied};
 ghost use Rattle.workers.specs.Replays.{Replays};
@@ -12,14 +12,18 @@ use journal::Journal;
 use std::alloc::Global;
 use std::marker::{Brand, Model};
 use std::sync::Mutex;
-use std::sync::ledger::{Book, Ledger, Share};
+use std::sync::ledger::{Blank, Book, Ledger, Share};
 
-/// Names a round: the ledger of its records, and the state in which it opened.
+/// Names a round: the ledger of its records, the state in which it opened, and how many turns a worker has.
 pub trait Opening: Ledger {
+    ghost use Rattle.std.specs.Prelude.{ℕ};
     ghost use Rattle.fuse_ops.specs.Served.{ServedState};
 
     /// What was served when the round opened.
     ghost opening: { ServedState };
+
+    /// The most turns of each worker.
+    ghost turns: { ℕ };
 }
 
 impl Opening for Brand {
@@ -27,13 +31,16 @@ impl Opening for Brand {
     ghost use Rattle.fuse_ops.specs.Served.{new_served};
 
     ghost opening = { new_served (record { commit = []; lines = [] }) 1 };
+
+    ghost turns = { 0 };
 }
 
 /// The map's lock, which the workers of a round share.
 pub type Shared<N, B> = Mutex<LockedMap<N, B>>;
 
 /// What is served, its backing, the journal, and the total of the round's ledger. It keeps that what is served is the
-/// replay of the journal from the opening state. Contracts see it as the journal's records.
+/// replay of the journal from the opening state. Each turn leaves one part of the ledger here, and the journal has room
+/// for the others: so no turn finds it full. Contracts see it as the journal's records.
 #[derive(Drop)]
 pub struct LockedMap<N: Opening, B: Backing + Drop> {
     alloc: Global,
@@ -41,10 +48,11 @@ pub struct LockedMap<N: Opening, B: Backing + Drop> {
     backing: B,
     journal: Journal,
     total: Book<N>,
+    spent: Share<N>,
 }
 
 impl<N: Opening, B: Backing + Drop> Model for LockedMap<N, B> {
-    ghost use Rattle.std.specs.Prelude.{◌≡◌, List, length};
+    ghost use Rattle.std.specs.Prelude.{◌≡◌, ◌+◌, ◌≤◌, List, length};
     ghost use Rattle.fuse_ops.specs.Loading.{Backs};
     ghost use Rattle.workers.specs.Replays.{Replays};
     ghost use Rattle.journal.specs.declared.journal.Record.{Record};
@@ -56,56 +64,70 @@ impl<N: Opening, B: Backing + Drop> Model for LockedMap<N, B> {
     ghost invariant = { λ locked. Replays N.opening locked.journal.records locked.served
         × (locked.served.tree.manifest ≡ N.opening.tree.manifest)
         × Backs (B.content locked.backing) locked.served.tree
-        × (locked.total.total ≡ length locked.journal.records) };
+        × (locked.total.total ≡ length locked.journal.records)
+        × (locked.spent.parts ≡ length locked.journal.records)
+        × (locked.spent.amount ≡ 0)
+        × (N.parts ≤ length locked.journal.records + locked.journal.room + 1) };
 }
 
-/// What a round leaves behind its lock.
+/// The lock of a round that opens, and the share of its ledger with every part, to be split among its workers.
 #[derive(Drop)]
-pub(crate) struct Parts<N: Opening, B: Backing + Drop> {
+pub struct Opened<N: Opening, B: Backing + Drop> {
+    pub shared: Shared<N, B>,
+    pub share: Share<N>,
+}
+
+/// What a round leaves behind its lock: also the total of its ledger, and the parts that its turns left there.
+#[derive(Drop)]
+pub struct Parts<N: Opening, B: Backing + Drop> {
     pub served: Served,
     pub backing: B,
     pub journal: Journal,
     pub total: Book<N>,
+    pub spent: Share<N>,
 }
 
 impl<N: Opening, B: Backing + Drop> LockedMap<N, B> {
-    /// Returns what stands under the lock of a round that opens.
-    pub(crate) fn new(
+    /// Opens a round over what is served, under a ledger that nobody used. The journal has room for a record for each
+    /// part but one.
+    pub fn open(
         alloc: Global,
+        blank: Blank,
         served: Served,
         backing: B,
         journal: Journal,
-        total: Book<N>,
-    ) -> LockedMap<N, B>
+    ) -> Opened<N, B>
+        requires name { blank.name ≡ N.name }
+        requires parts { blank.parts ≡ N.parts }
         requires opening { served ≡ N.opening }
         requires backs { Backs (B.content backing) served.tree }
         requires no_record { journal.records ≡ [] }
-        requires no_total { total.total ≡ 0 }
-        ensures no_record { result ≡ [] }
+        requires room { N.parts ≤ journal.room + 1 }
+        ensures parts { result.share.parts ≡ N.parts }
+        ensures no_amount { result.share.amount ≡ 0 }
     {
-        LockedMap {
+        let (total, mut share) = blank.open::<N>();
+        let spent = share.empty();
+        let shared = Mutex::new(LockedMap {
             alloc,
             served,
             backing,
             journal,
             total,
-        }
+            spent,
+        });
+        Opened { shared, share }
     }
 
-    /// Serves one ask, and counts it in a worker's share. Nothing is done where the journal has no room.
-    pub(crate) fn turn(&mut self, ask: Ask, share: &mut Share<N>) -> Option<Turn>
-        requires part { 0 < share.old.parts }
-        ensures parts { share.new.parts ≡ share.old.parts }
-        ensures place { IfSome result (λ turn. turn.place ≡ length self.old) }
-        ensures pushes { IfSome result (λ turn. self.new ≡ self.old ++ applied ask.what turn.answer ∷ []) }
-        ensures counted { IfSome result (λ turn. share.new.amount ≡ share.old.amount + 1) }
-        ensures no_room { IfNone result (self.new ≡ self.old) }
-        ensures uncounted { IfNone result (share.new.amount ≡ share.old.amount) }
+    /// Serves one ask, and counts it in a worker's share, of which one part stays here.
+    pub(crate) fn turn(&mut self, ask: Ask, share: &mut Share<N>) -> Turn
+        requires parts { 1 < share.old.parts }
+        ensures parts { share.new.parts + 1 ≡ share.old.parts }
+        ensures place { result.place ≡ length self.old }
+        ensures pushes { self.new ≡ self.old ++ applied ask.what result.answer ∷ [] }
+        ensures counted { share.new.amount ≡ share.old.amount + 1 }
     {
-        if self.journal.room() == 0 {
-            drop(ask);
-            return None;
-        }
+        share.give(&mut self.spent, 1, 0);
         let turn = serve_one(
             self.alloc,
             &mut self.served,
@@ -114,15 +136,17 @@ impl<N: Opening, B: Backing + Drop> LockedMap<N, B> {
             ask,
         );
         self.total.add(share, 1);
-        Some(turn)
+        turn
     }
 
     /// Returns what the round leaves.
-    pub(crate) fn into_parts(self) -> Parts<N, B>
+    pub fn into_parts(self) -> Parts<N, B>
+        ensures records { result.journal.records ≡ self }
         ensures replays { Replays N.opening result.journal.records result.served }
         ensures same_manifest { result.served.tree.manifest ≡ N.opening.tree.manifest }
         ensures backs { Backs (B.content result.backing) result.served.tree }
         ensures total { result.total.total ≡ length result.journal.records }
+        ensures spent { result.spent.parts ≡ length result.journal.records }
     {
         let LockedMap {
             alloc: _,
@@ -130,12 +154,14 @@ impl<N: Opening, B: Backing + Drop> LockedMap<N, B> {
             backing,
             journal,
             total,
+            spent,
         } = self;
         Parts {
             served,
             backing,
             journal,
             total,
+            spent,
         }
     }
 }

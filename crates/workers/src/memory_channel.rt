@@ -104,6 +104,10 @@ impl MemoryChannel {
 }
 
 impl Channel for MemoryChannel {
+    ghost takes = { λ before taken after. Takes before taken after };
+
+    ghost posts = { λ before reply posted after. Posts before reply posted after };
+
     ghost tells = { true };
 
     ghost told = { λ channel. told_of channel };

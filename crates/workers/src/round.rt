@@ -1,17 +1,19 @@
 //! One round of workers.
-ghost use Rattle.std.specs.Prelude.{◌≡◌, ◌+◌, ◌*◌, ◌<◌, ◌≤◌, [], length, vec_len, vec_capacity, IfOk, IfErr, OnOk};
+ghost use Rattle.std.specs.Prelude.{◌≡◌, ◌+◌, ◌*◌, ◌<◌, ◌≤◌, [], length, vec_len, vec_capacity};
+ghost use Rattle.std.specs.Prelude.{IfOk, IfErr, OnOk, OnErr};
 ghost use Rattle.std.specs.List.{All};
 ghost use Rattle.fuse_ops.specs.Loading.{Backs};
 ghost use Rattle.workers.specs.Replays.{Replays};
-ghost use Rattle.workers.specs.Round.{AreServed, receipts_in};
+ghost use Rattle.workers.specs.Round.{AreServed, OneBreaks, receipts_in};
 ghost use Rattle.journal.specs.Receipts.{IsFresh};
-ghost use Rattle.workers.specs.Faults.{GivesBack, IsForGood};
-ghost use Rattle.workers.specs.declared.worker.Ending.TheVariants.{Done};
+ghost use Rattle.workers.specs.Faults.{GivesBack, IsUnserved};
+ghost use Rattle.workers.specs.declared.fault.RoundFault.TheVariants as fault;
+ghost use Rattle.workers.specs.declared.worker.Ending.TheVariants.{Done, Broken};
 
 use crate::channel::Channel;
 use crate::fault::{Returned, RoundFault};
 use crate::gate::Gate;
-use crate::locked::{LockedMap, Opening, Parts, Shared};
+use crate::locked::{LockedMap, Opened, Opening, Parts, Shared};
 use crate::running::{Joined, Running, finish_all, start_all};
 use crate::stop::Stop;
 use crate::worker::Ending;
@@ -21,8 +23,8 @@ use fuse_ops::Served;
 use journal::{Journal, Receipts};
 use std::alloc::Global;
 use std::marker::Brand;
+use std::sync::Wait;
 use std::sync::ledger::{Blank, Share};
-use std::sync::{Mutex, Wait};
 use std::thread;
 use std::thread::{Scope, Threads};
 
@@ -59,18 +61,25 @@ struct Rooms<N: Opening, C: Channel + Drop> {
     ghost kept_room: { vec_len receipts ≤ vec_capacity kept },
 }
 
-/// What the workers of a round begin with: their channels, how much each may take, the memory, and their shares of the
-/// ledger with one more.
+/// The channels of a round's workers, how much each may take, and the share of the ledger that theirs are split off.
 #[derive(Drop)]
-struct Plan<N: Opening, C: Channel + Drop> {
+struct Crew<N: Opening, C: Channel + Drop> {
     channels: Vec<C>,
     turns: usize,
-    rooms: Rooms<N, C>,
     share: Share<N>,
-    ghost len: { vec_len rooms.receipts ≡ vec_len channels },
-    ghost fresh: { All (IsFresh turns) rooms.receipts.items },
-    ghost parts: { share.parts ≡ vec_len channels + 1 },
+    ghost named: { turns ≡ N.turns },
+    ghost most: { turns ≤ 4096 },
+    ghost parts: { share.parts ≡ vec_len channels * (N.turns + 1) },
     ghost no_amount: { share.amount ≡ 0 },
+}
+
+/// What the workers of a round begin with, and the memory for it.
+#[derive(Drop)]
+struct Plan<N: Opening, C: Channel + Drop> {
+    crew: Crew<N, C>,
+    rooms: Rooms<N, C>,
+    ghost len: { vec_len rooms.receipts ≡ vec_len crew.channels },
+    ghost fresh: { All (IsFresh crew.turns) rooms.receipts.items },
 }
 
 /// Takes memory for the receipts of so many turns on each of so many channels.
@@ -122,17 +131,19 @@ fn run_all<
     gate: &'e G,
     stop: &'e Stop,
 ) -> Joined<N, C>
-    ensures parts { result.share.parts ≡ vec_len plan.channels + 1 }
+    ensures parts { result.share.parts + receipts_in result.receipts.items
+        ≡ vec_len plan.crew.channels * (N.turns + 1) }
     ensures counted { result.share.amount ≡ receipts_in result.receipts.items }
-    ensures served { result.ending ≡ Done
-        → AreServed C.tells C.told plan.channels.items result.channels.items result.receipts.items }
+    ensures served { result.ending ≡ Done → AreServed C.takes C.posts C.tells C.told N.turns
+        plan.crew.channels.items result.channels.items result.receipts.items }
+    ensures broken { result.ending ≡ Broken → OneBreaks C.takes C.posts N.turns plan.crew.channels.items }
 {
-    let Plan {
+    let Plan { crew, rooms } = plan;
+    let Crew {
         channels,
         turns,
-        rooms,
         share,
-    } = plan;
+    } = crew;
     let Rooms {
         receipts,
         running,
@@ -153,31 +164,37 @@ fn serve_all<
     G: Gate + Sync,
     R: Threads + Wait + Sync,
 >(rt: &R, shared: &Shared<N, B>, plan: Plan<N, C>, gate: &G, stop: &Stop) -> Joined<N, C>
-    ensures parts { result.share.parts ≡ vec_len plan.channels + 1 }
+    ensures parts { result.share.parts + receipts_in result.receipts.items
+        ≡ vec_len plan.crew.channels * (N.turns + 1) }
     ensures counted { result.share.amount ≡ receipts_in result.receipts.items }
-    ensures served { result.ending ≡ Done
-        → AreServed C.tells C.told plan.channels.items result.channels.items result.receipts.items }
+    ensures served { result.ending ≡ Done → AreServed C.takes C.posts C.tells C.told N.turns
+        plan.crew.channels.items result.channels.items result.receipts.items }
+    ensures broken { result.ending ≡ Broken → OneBreaks C.takes C.posts N.turns plan.crew.channels.items }
 {
     thread::scope(
         thread::scope_env(),
         rt,
         move |scope| -> Joined<N, C>
-            ensures parts { result.share.parts ≡ vec_len plan.channels + 1 }
+            ensures parts { result.share.parts + receipts_in result.receipts.items
+                ≡ vec_len plan.crew.channels * (N.turns + 1) }
             ensures counted { result.share.amount ≡ receipts_in result.receipts.items }
-            ensures served { result.ending ≡ Done
-                → AreServed C.tells C.told plan.channels.items result.channels.items result.receipts.items }
+            ensures served { result.ending ≡ Done → AreServed C.takes C.posts C.tells C.told N.turns
+                plan.crew.channels.items result.channels.items result.receipts.items }
+            ensures broken { result.ending ≡ Broken → OneBreaks C.takes C.posts N.turns plan.crew.channels.items }
         { run_all(scope, rt, shared, plan, gate, stop) },
     )
 }
 
-/// Returns what a round leaves whose workers are done, and compares the journal with their shares of the ledger.
+/// Returns what a round leaves whose workers are done, and compares the journal with their shares of the ledger. Their
+/// amount is at most the total, and with the parts under the lock they are at most the ledger.
 fn closed<N: Opening, B: Backing + Drop, C: Channel + Drop>(
     parts: Parts<N, B>,
     joined: Joined<N, C>,
 ) -> Round<B, C>
     requires backs { Backs (B.content parts.backing) parts.served.tree }
     requires total { parts.total.total ≡ length parts.journal.records }
-    requires all_parts { joined.share.parts ≡ N.parts }
+    requires spent { parts.spent.parts ≡ length parts.journal.records }
+    requires all_parts { joined.share.parts + receipts_in joined.receipts.items ≡ N.parts }
     requires counted { joined.share.amount ≡ receipts_in joined.receipts.items }
     ensures served { result.served ≡ parts.served }
     ensures backs { Backs (B.content result.backing) result.served.tree }
@@ -191,6 +208,7 @@ fn closed<N: Opening, B: Backing + Drop, C: Channel + Drop>(
         backing,
         journal,
         mut total,
+        spent,
     } = parts;
     let Joined {
         channels,
@@ -199,6 +217,7 @@ fn closed<N: Opening, B: Backing + Drop, C: Channel + Drop>(
         ending: _,
     } = joined;
     total.audit(&mut share);
+    share.merge(spent);
     Round {
         served,
         backing,
@@ -208,17 +227,7 @@ fn closed<N: Opening, B: Backing + Drop, C: Channel + Drop>(
     }
 }
 
-/// Returns why a round gives nothing whose workers did not all end well.
-fn fault_of<B: Drop, C: Drop>(ending: Ending) -> RoundFault<B, C>
-    ensures for_good { IsForGood result }
-{
-    match ending {
-        Ending::Broken => RoundFault::Broken,
-        _ => RoundFault::Unsettled,
-    }
-}
-
-/// Returns what a round leaves, where each of its workers ended well.
+/// Returns what a round leaves, where each of its workers ended well. Else it is Broken.
 fn left_by<N: Opening, B: Backing + Drop, C: Channel + Drop>(
     parts: Parts<N, B>,
     joined: Joined<N, C>,
@@ -227,7 +236,8 @@ fn left_by<N: Opening, B: Backing + Drop, C: Channel + Drop>(
     requires same_manifest { parts.served.tree.manifest ≡ N.opening.tree.manifest }
     requires backs { Backs (B.content parts.backing) parts.served.tree }
     requires total { parts.total.total ≡ length parts.journal.records }
-    requires all_parts { joined.share.parts ≡ N.parts }
+    requires spent { parts.spent.parts ≡ length parts.journal.records }
+    requires all_parts { joined.share.parts + receipts_in joined.receipts.items ≡ N.parts }
     requires counted { joined.share.amount ≡ receipts_in joined.receipts.items }
     ensures replays { IfOk result (λ round. Replays N.opening round.journal.records round.served) }
     ensures same_manifest { IfOk result (λ round. round.served.tree.manifest ≡ N.opening.tree.manifest) }
@@ -236,14 +246,15 @@ fn left_by<N: Opening, B: Backing + Drop, C: Channel + Drop>(
     ensures receipts { IfOk result (λ round. round.receipts.items ≡ joined.receipts.items) }
     ensures done { OnOk result (joined.ending ≡ Done) }
     ensures counted { IfOk result (λ round. length round.journal.records ≡ receipts_in round.receipts.items) }
-    ensures for_good { IfErr result IsForGood }
+    ensures broken { OnErr result (joined.ending ≡ Broken) }
+    ensures for_good { IfErr result (λ why. why ≡ fault.Broken) }
 {
     match joined.ending {
         Ending::Done => Ok(closed(parts, joined)),
-        ending => {
+        Ending::Broken => {
             drop(joined);
             drop(parts);
-            Err(fault_of(ending))
+            Err(RoundFault::Broken)
         }
     }
 }
@@ -269,19 +280,20 @@ fn round_of<
     requires name { blank.name ≡ N.name }
     requires parts { blank.parts ≡ N.parts }
     requires opening { served ≡ N.opening }
-    requires a_part_each { blank.parts ≡ vec_len channels + 1 }
+    requires a_part_each { blank.parts ≡ vec_len channels * (N.turns + 1) }
     requires backs { Backs (B.content backing) served.tree }
     requires channels { vec_len channels ≤ 16 }
-    requires turns { turns ≤ 4096 }
+    requires turns { (turns ≡ N.turns) × (turns ≤ 4096) }
     ensures replays { IfOk result (λ round. Replays N.opening round.journal.records round.served) }
     ensures same_manifest { IfOk result (λ round. round.served.tree.manifest ≡ N.opening.tree.manifest) }
     ensures backs { IfOk result (λ round. Backs (B.content round.backing) round.served.tree) }
     ensures counted { IfOk result (λ round. length round.journal.records ≡ receipts_in round.receipts.items) }
-    ensures told { IfOk result (λ round.
-        AreServed C.tells C.told channels.items round.channels.items round.receipts.items) }
+    ensures each { IfOk result (λ round. AreServed C.takes C.posts C.tells C.told N.turns
+        channels.items round.channels.items round.receipts.items) }
+    ensures broken { IfErr result (IsUnserved C.takes C.posts N.turns channels.items) }
     ensures given_back { IfErr result (GivesBack served backing channels.items) }
 {
-    let Ok(journal) = Journal::new(alloc, channels.len() * turns) else {
+    let Ok(journal) = Journal::new(alloc, channels.len() * (turns + 1)) else {
         return Err(RoundFault::NoMemory(Returned {
             served,
             backing,
@@ -295,19 +307,18 @@ fn round_of<
             channels,
         }));
     };
-    let (total, share) = blank.open::<N>();
-    let locked = Mutex::new(LockedMap::new(alloc, served, backing, journal, total));
-    let plan = Plan {
+    let Opened { shared, share } = LockedMap::open(alloc, blank, served, backing, journal);
+    let crew = Crew {
         channels,
         turns,
-        rooms,
         share,
     };
-    let joined = serve_all(rt, &locked, plan, gate, stop);
-    left_by(locked.into_inner().into_parts(), joined)
+    let plan = Plan { crew, rooms };
+    let joined = serve_all(rt, &shared, plan, gate, stop);
+    left_by(shared.into_inner().into_parts(), joined)
 }
 
-/// Serves the channels, each by a worker of its own that takes at most so many requests, until none of them has an ask
+/// Serves the channels, each by a worker of its own that takes at most `turns` requests, until none of them has an ask
 /// or a stop is asked for. Where memory is refused, nothing was taken and all is given back.
 pub fn serve_round<
     B: Backing + Drop + Send,
@@ -333,11 +344,14 @@ pub fn serve_round<
     ensures same_manifest { IfOk result (λ round. round.served.tree.manifest ≡ served.tree.manifest) }
     ensures backs { IfOk result (λ round. Backs (B.content round.backing) round.served.tree) }
     ensures counted { IfOk result (λ round. length round.journal.records ≡ receipts_in round.receipts.items) }
-    ensures told { IfOk result (λ round.
-        AreServed C.tells C.told channels.items round.channels.items round.receipts.items) }
+    // Each worker ended well, after at most `turns` turns. What its channel tells grew by its receipts.
+    ensures each { IfOk result (λ round. AreServed C.takes C.posts C.tells C.told turns
+        channels.items round.channels.items round.receipts.items) }
+    // It is Broken exactly where a worker found its channel broken, and never Unsettled.
+    ensures broken { IfErr result (IsUnserved C.takes C.posts turns channels.items) }
     ensures given_back { IfErr result (GivesBack served backing channels.items) }
 {
-    let parts = channels.len() as u64 + 1;
+    let parts = channels.len() as u64 * (turns as u64 + 1);
     round_of::<Brand, B, C, G, R>(
         rt,
         alloc,

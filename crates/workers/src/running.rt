@@ -1,9 +1,10 @@
 //! The workers of a round while they run, each in a thread of its own where one can be made.
-ghost use Rattle.std.specs.Prelude.{◌≡◌, ◌+◌, ◌<◌, ◌≤◌, ◌++◌, [], length, vec_len, vec_capacity, true};
+ghost use Rattle.std.specs.Prelude.{◌≡◌, ◌↔◌, ◌⊎◌, ◌+◌, ◌*◌, ◌<◌, ◌≤◌, [], length, vec_len, vec_capacity};
 ghost use Rattle.std.specs.List.{All};
 ghost use Rattle.journal.specs.Receipts.{IsFresh};
-ghost use Rattle.workers.specs.Round.{AreServed, Tells, receipts_in};
-ghost use Rattle.workers.specs.declared.worker.Ending.TheVariants.{Done};
+ghost use Rattle.workers.specs.Round.{AreServed, OneBreaks, receipts_in};
+ghost use Rattle.workers.specs.Shift.{IsShift};
+ghost use Rattle.workers.specs.declared.worker.Ending.TheVariants.{Done, Broken};
 
 use crate::channel::Channel;
 use crate::gate::Gate;
@@ -27,12 +28,13 @@ pub(crate) struct Serves<N: Opening, C: Channel + Drop> {
 }
 
 impl<N: Opening, C: Channel + Drop> Promise<Shift<N, C>> for Serves<N, C> {
-    ghost use Rattle.std.specs.Prelude.{◌≡◌, length};
-    ghost use Rattle.workers.specs.Round.{Tells};
+    ghost use Rattle.std.specs.Prelude.{◌≡◌, ◌+◌, length};
+    ghost use Rattle.workers.specs.Shift.{IsShift};
 
-    ghost kept_by = { λ promise shift. (shift.share.parts ≡ 1)
+    ghost kept_by = { λ promise shift. (shift.share.parts + length shift.receipts.list ≡ N.turns + 1)
         × (shift.share.amount ≡ length shift.receipts.list)
-        × Tells C.tells shift.ending (C.told promise.channel.value) (C.told shift.channel) shift.receipts.list };
+        × IsShift C.takes C.posts C.tells C.told N.turns
+        promise.channel.value shift.receipts.list shift.ending shift.channel };
 }
 
 /// A worker in a thread, or what it left, where no thread could be made. Contracts see it as the channel that it was
@@ -44,8 +46,8 @@ pub(crate) struct Running<N: Opening, C: Channel + Drop> {
 }
 
 impl<N: Opening, C: Channel + Drop> Model for Running<N, C> {
-    ghost use Rattle.std.specs.Prelude.{◌≡◌, length, IfOk, IfErr};
-    ghost use Rattle.workers.specs.Round.{Tells};
+    ghost use Rattle.std.specs.Prelude.{◌≡◌, ◌+◌, length, IfOk, IfErr};
+    ghost use Rattle.workers.specs.Shift.{IsShift};
 
     ghost Value = { C };
 
@@ -53,9 +55,10 @@ impl<N: Opening, C: Channel + Drop> Model for Running<N, C> {
 
     ghost invariant = { λ running.
         IfOk running.worker (λ handle. handle.promise.channel.value ≡ running.channel.value)
-        × IfErr running.worker (λ shift. (shift.share.parts ≡ 1)
+        × IfErr running.worker (λ shift. (shift.share.parts + length shift.receipts.list ≡ N.turns + 1)
         × (shift.share.amount ≡ length shift.receipts.list)
-        × Tells C.tells shift.ending (C.told running.channel.value) (C.told shift.channel) shift.receipts.list) };
+        × IsShift C.takes C.posts C.tells C.told N.turns
+        running.channel.value shift.receipts.list shift.ending shift.channel) };
 }
 
 /// What the workers of a round left, in the order of their channels.
@@ -87,7 +90,8 @@ fn start<
     gate: &'e G,
     stop: &'e Stop,
 ) -> Running<N, C>
-    requires part { share.parts ≡ 1 }
+    requires turns { turns ≡ N.turns }
+    requires parts { share.parts ≡ N.turns + 1 }
     requires no_amount { share.amount ≡ 0 }
     requires no_receipt { room.list ≡ [] }
     requires places { turns ≤ room.places }
@@ -100,13 +104,15 @@ fn start<
         of: PhantomData,
     };
     let work = move || -> Shift<N, C>
-        requires part { share.parts ≡ 1 }
+        requires turns { turns ≡ N.turns }
+        requires parts { share.parts ≡ N.turns + 1 }
         requires no_receipt { room.list ≡ [] }
         requires places { turns ≤ room.places }
         requires copies { turns ≤ room.copies }
-        ensures parts { result.share.parts ≡ share.parts }
+        ensures parts { result.share.parts + length result.receipts.list ≡ share.parts }
         ensures counted { result.share.amount ≡ share.amount + length result.receipts.list }
-        ensures told { Tells C.tells result.ending (C.told channel) (C.told result.channel) result.receipts.list }
+        ensures shift { IsShift C.takes C.posts C.tells C.told N.turns
+            channel result.receipts.list result.ending result.channel }
     { serve_channel(rt, shared, channel, turns, room, share, gate, stop) };
     match scope.spawn_with(promise, work) {
         Ok(handle) => Running {
@@ -123,9 +129,10 @@ fn start<
 impl<N: Opening, C: Channel + Drop> Running<N, C> {
     /// Waits until the worker is done, and returns what it left.
     fn join<R: Threads>(self, rt: &R) -> Shift<N, C>
-        ensures parts { result.share.parts ≡ 1 }
+        ensures parts { result.share.parts + length result.receipts.list ≡ N.turns + 1 }
         ensures counted { result.share.amount ≡ length result.receipts.list }
-        ensures told { Tells C.tells result.ending (C.told self) (C.told result.channel) result.receipts.list }
+        ensures shift { IsShift C.takes C.posts C.tells C.told N.turns
+            self result.receipts.list result.ending result.channel }
     {
         let Running { channel: _, worker } = self;
         match worker {
@@ -135,7 +142,7 @@ impl<N: Opening, C: Channel + Drop> Running<N, C> {
     }
 }
 
-/// The workers of a round, and the share of its ledger that none of them has.
+/// The workers of a round, and what is left of the share of its ledger that theirs were split off: no part.
 #[derive(Drop)]
 pub(crate) struct Started<N: Opening, C: Channel + Drop> {
     pub running: Vec<Running<N, C>>,
@@ -163,7 +170,8 @@ pub(crate) fn start_all<
     stop: &'e Stop,
     room: Vec<Running<N, C>>,
 ) -> Started<N, C>
-    requires parts { share.parts ≡ vec_len channels + 1 }
+    requires turns { (turns ≡ N.turns) × (turns ≤ 4096) }
+    requires parts { share.parts ≡ vec_len channels * (N.turns + 1) }
     requires no_amount { share.amount ≡ 0 }
     requires rooms { vec_len rooms ≡ vec_len channels }
     requires fresh { All (IsFresh turns) rooms.items }
@@ -172,7 +180,7 @@ pub(crate) fn start_all<
     requires room { vec_len channels ≤ vec_capacity room }
     ensures channels { result.running.items ≡ channels.items }
     ensures len { vec_len result.running ≡ vec_len channels }
-    ensures parts { result.rest.parts ≡ 1 }
+    ensures no_part { result.rest.parts ≡ 0 }
     ensures no_amount { result.rest.amount ≡ 0 }
 {
     let mut rooms = rooms;
@@ -182,7 +190,7 @@ pub(crate) fn start_all<
         let Some(receipts) = rooms.pop() else {
             unreachable!()
         };
-        let part = rest.split_off(1, 0);
+        let part = rest.split_off(turns as u64 + 1, 0);
         running.push_reserved(start(
             scope, rt, shared, channel, turns, receipts, part, gate, stop,
         ));
@@ -190,18 +198,14 @@ pub(crate) fn start_all<
     Started { running, rest }
 }
 
-/// Returns the ending of two workers: Done where both are.
+/// Returns the ending of two workers: Done where both are, and else Broken.
 fn of_both(first: Ending, second: Ending) -> Ending
-    ensures first { result ≡ Done → first ≡ Done }
-    ensures second { result ≡ Done → second ≡ Done }
+    ensures done { (result ≡ Done) ↔ (first ≡ Done) × (second ≡ Done) }
+    ensures broken { (result ≡ Broken) ↔ (first ≡ Broken) ⊎ (second ≡ Broken) }
 {
     match first {
         Ending::Done => second,
         Ending::Broken => Ending::Broken,
-        Ending::NoRoom => match second {
-            Ending::Broken => Ending::Broken,
-            _ => Ending::NoRoom,
-        },
     }
 }
 
@@ -212,7 +216,7 @@ pub(crate) fn finish_all<N: Opening, C: Channel + Drop, R: Threads>(
     channels: Vec<C>,
     receipts: Vec<Receipts>,
 ) -> Joined<N, C>
-    requires parts { started.rest.parts ≡ 1 }
+    requires no_part { started.rest.parts ≡ 0 }
     requires no_amount { started.rest.amount ≡ 0 }
     requires no_channel { channels.items ≡ [] }
     requires no_receipts { receipts.items ≡ [] }
@@ -220,10 +224,12 @@ pub(crate) fn finish_all<N: Opening, C: Channel + Drop, R: Threads>(
     requires receipts_len { vec_len receipts ≡ 0 }
     requires channels_room { vec_len started.running ≤ vec_capacity channels }
     requires receipts_room { vec_len started.running ≤ vec_capacity receipts }
-    ensures parts { result.share.parts ≡ vec_len started.running + 1 }
+    ensures parts { result.share.parts + receipts_in result.receipts.items
+        ≡ vec_len started.running * (N.turns + 1) }
     ensures counted { result.share.amount ≡ receipts_in result.receipts.items }
-    ensures served { result.ending ≡ Done → AreServed C.tells C.told
+    ensures served { result.ending ≡ Done → AreServed C.takes C.posts C.tells C.told N.turns
         started.running.items result.channels.items result.receipts.items }
+    ensures broken { result.ending ≡ Broken → OneBreaks C.takes C.posts N.turns started.running.items }
 {
     let Started {
         running: all,

@@ -1,7 +1,6 @@
 //! The turns of a worker, one after another: public for what their contract says.
-ghost use Rattle.std.specs.Prelude.{◌≡◌, ◌+◌, ◌<◌, ◌≤◌, [], length, true};
-ghost use Rattle.workers.specs.Channel.{grown};
-ghost use Rattle.workers.specs.declared.worker.Ending.TheVariants.{Done};
+ghost use Rattle.std.specs.Prelude.{◌≡◌, ◌+◌, ◌<◌, ◌≤◌, [], length};
+ghost use Rattle.workers.specs.Shift.{Ends, Tells};
 
 use crate::channel::Channel;
 use crate::gate::Gate;
@@ -23,7 +22,8 @@ pub struct Shift<N: Opening, C: Channel + Drop> {
 }
 
 /// Takes asks from a channel, at most `turns`, serves each under the map's lock and posts its reply, until there is
-/// none or a stop is asked for. It says nothing of what stands under the lock.
+/// none or a stop is asked for. Each turn leaves one part of `share` under the lock, and needs another one beside it.
+/// It says nothing of what stands under the lock.
 pub fn serve_channel<N: Opening, B: Backing + Drop, C: Channel + Drop, G: Gate, R: Wait>(
     rt: &R,
     shared: &Shared<N, B>,
@@ -34,16 +34,18 @@ pub fn serve_channel<N: Opening, B: Backing + Drop, C: Channel + Drop, G: Gate, 
     gate: &G,
     stop: &Stop,
 ) -> Shift<N, C>
-    requires part { 0 < share.parts }
+    requires parts { turns < share.parts }
     requires no_receipt { room.list ≡ [] }
     requires places { turns ≤ room.places }
     requires copies { turns ≤ room.copies }
-    ensures parts { result.share.parts ≡ share.parts }
+    ensures parts { result.share.parts + length result.receipts.list ≡ share.parts }
+    ensures most { length result.receipts.list ≤ turns }
     ensures counted { result.share.amount ≡ share.amount + length result.receipts.list }
+    // It ends Broken exactly where its channel was.
+    ensures ends { Ends C.takes C.posts channel result.receipts.list result.ending result.channel }
     // Where it ends well, the asks that it took are those of its receipts in order, and what it posted are their
     // answers.
-    ensures told { C.tells ≡ true → result.ending ≡ Done
-        → C.told result.channel ≡ grown (C.told channel) result.receipts.list }
+    ensures told { Tells C.tells result.ending (C.told channel) (C.told result.channel) result.receipts.list }
 {
     let mut worker: Worker<N, C> = Worker {
         channel,

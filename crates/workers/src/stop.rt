@@ -1,7 +1,8 @@
 //! The wish that a round ends.
 use std::sync::atomic::{AtomicBool, Ordering};
 
-/// Whether the workers of a round are asked to take nothing more. Nothing is claimed of when they see it.
+/// Whether the workers of a round are asked to take nothing more. Its calls promise nothing but that they return: not
+/// what `asked` answers, nor when a worker sees it.
 #[derive(Drop)]
 pub struct Stop {
     asked: AtomicBool,

@@ -1,8 +1,10 @@
 //! One worker of a round.
-ghost use Rattle.std.specs.Prelude.{◌≡◌, ◌+◌, ◌<◌, ◌≤◌, length, true, IfSome, IfNone};
+ghost use Rattle.std.specs.Prelude.{◌≡◌, ◌+◌, ◌<◌, ◌≤◌, length, true};
 ghost use Rattle.workers.specs.Channel.{Told, grown, with_ask, with_replies};
 ghost use Rattle.journal.specs.Receipts.{replies_to};
-ghost use Rattle.workers.specs.Shift.{is_well};
+ghost use Rattle.workers.specs.Shift.{Goes, GoesOrEnds, Replies, is_well};
+ghost use Rattle.workers.specs.declared.channel.Taken.TheVariants as took;
+ghost use Rattle.workers.specs.declared.channel.Posted.TheVariants as post;
 
 use crate::channel::{Channel, Posted, Taken};
 use crate::gate::Gate;
@@ -20,10 +22,8 @@ use std::sync::ledger::Share;
 pub enum Ending {
     /// It took as much as it may, or there is nothing to take, or it was asked to stop.
     Done,
-    /// The mount is over.
+    /// Its channel was broken: the mount is over.
     Broken,
-    /// A turn found no room in the journal.
-    NoRoom,
 }
 
 /// A worker's channel, its receipts with room for more, and its share of the round's ledger.
@@ -34,32 +34,28 @@ pub(crate) struct Worker<N: Opening, C: Channel + Drop> {
     pub share: Share<N>,
 }
 
-/// Posts the reply to an ask of a unique, where it has an answer. Returns why nothing more is to be taken.
-fn post<C: Channel>(channel: &mut C, unique: u64, answer: Option<Answer>) -> Option<Ending>
-    ensures posted { C.tells ≡ true → is_well result ≡ true
+/// Posts the reply to an ask of a unique, where it has an answer. Without one there is nothing to post.
+fn post<C: Channel>(channel: &mut C, unique: u64, answer: Option<Answer>) -> Posted
+    ensures replies { Replies C.posts channel.old unique answer result channel.new }
+    ensures told { C.tells ≡ true → result ≡ post.Done
         → C.told channel.new ≡ with_replies (C.told channel.old) (replies_to unique answer) }
 {
-    let Some(answer) = answer else {
-        return None;
-    };
-    match channel.post(Reply { unique, answer }) {
-        Posted::Done => None,
-        Posted::Broken => Some(Ending::Broken),
+    match answer {
+        Some(answer) => channel.post(Reply { unique, answer }),
+        None => Posted::Done,
     }
 }
 
-/// Serves an ask under the map's lock, and counts it in a worker's share. Nothing is done where the journal has no
-/// room.
+/// Serves an ask under the map's lock, and counts it in a worker's share, of which one part goes to the lock.
 fn turn_alone<N: Opening, B: Backing + Drop, R: Wait>(
     rt: &R,
     shared: &Shared<N, B>,
     ask: Ask,
     share: &mut Share<N>,
-) -> Option<Turn>
-    requires part { 0 < share.old.parts }
-    ensures parts { share.new.parts ≡ share.old.parts }
-    ensures counted { IfSome result (λ _. share.new.amount ≡ share.old.amount + 1) }
-    ensures uncounted { IfNone result (share.new.amount ≡ share.old.amount) }
+) -> Turn
+    requires parts { 1 < share.old.parts }
+    ensures parts { share.new.parts + 1 ≡ share.old.parts }
+    ensures counted { share.new.amount ≡ share.old.amount + 1 }
 {
     shared.lock(rt).turn(ask, share)
 }
@@ -72,14 +68,19 @@ impl<N: Opening, C: Channel + Drop> Worker<N, C> {
         shared: &Shared<N, B>,
         gate: &G,
     ) -> Option<Ending>
-        requires part { 0 < self.old.share.parts }
+        requires parts { 1 < self.old.share.parts }
         requires places { 0 < self.old.receipts.places }
         requires copies { 0 < self.old.receipts.copies }
-        ensures parts { self.new.share.parts ≡ self.old.share.parts }
+        ensures most { length self.new.receipts.list ≤ length self.old.receipts.list + 1 }
+        ensures parts { self.new.share.parts + length self.new.receipts.list
+            ≡ self.old.share.parts + length self.old.receipts.list }
         ensures places { self.old.receipts.places ≤ self.new.receipts.places + 1 }
         ensures copies { self.old.receipts.copies ≤ self.new.receipts.copies + 1 }
         ensures counted { self.new.share.amount + length self.old.receipts.list
             ≡ self.old.share.amount + length self.new.receipts.list }
+        // From wherever it began.
+        ensures ends { (start : C) → Goes C.takes C.posts start self.old.receipts.list self.old.channel
+            → GoesOrEnds C.takes C.posts start self.new.receipts.list result self.new.channel }
         // Whatever was told before.
         ensures told { C.tells ≡ true → is_well result ≡ true → (start : Told)
             → C.told self.old.channel ≡ grown start self.old.receipts.list
@@ -94,7 +95,7 @@ impl<N: Opening, C: Channel + Drop> Worker<N, C> {
     }
 
     /// Serves an ask that was taken, and posts its reply.
-    #[tactic(auto, using(crate::proofs::Growing::grown_more))]
+    #[tactic(auto, using(crate::proofs::Growing::grown_more, crate::proofs::Turning::turned_broken))]
     fn serve<B: Backing + Drop, G: Gate, R: Wait>(
         &mut self,
         rt: &R,
@@ -102,14 +103,17 @@ impl<N: Opening, C: Channel + Drop> Worker<N, C> {
         gate: &G,
         ask: Ask,
     ) -> Option<Ending>
-        requires part { 0 < self.old.share.parts }
+        requires parts { 1 < self.old.share.parts }
         requires places { 0 < self.old.receipts.places }
         requires copies { 0 < self.old.receipts.copies }
-        ensures parts { self.new.share.parts ≡ self.old.share.parts }
-        ensures places { self.old.receipts.places ≤ self.new.receipts.places + 1 }
-        ensures copies { self.old.receipts.copies ≤ self.new.receipts.copies + 1 }
-        ensures counted { self.new.share.amount + length self.old.receipts.list
-            ≡ self.old.share.amount + length self.new.receipts.list }
+        ensures parts { self.new.share.parts + 1 ≡ self.old.share.parts }
+        ensures places { self.new.receipts.places + 1 ≡ self.old.receipts.places }
+        ensures copies { self.new.receipts.copies + 1 ≡ self.old.receipts.copies }
+        ensures one_more { length self.new.receipts.list ≡ length self.old.receipts.list + 1 }
+        ensures counted { self.new.share.amount ≡ self.old.share.amount + 1 }
+        ensures ends { (start before : C) → Goes C.takes C.posts start self.old.receipts.list before
+            → C.takes before (took.Ask ask) self.old.channel
+            → GoesOrEnds C.takes C.posts start self.new.receipts.list result self.new.channel }
         ensures told { C.tells ≡ true → is_well result ≡ true → (start : Told)
             → C.told self.old.channel ≡ with_ask (grown start self.old.receipts.list) ask
             → C.told self.new.channel ≡ grown start self.new.receipts.list }
@@ -117,18 +121,18 @@ impl<N: Opening, C: Channel + Drop> Worker<N, C> {
         let unique = ask.unique;
         gate.before(unique);
         let what = self.receipts.copy(&ask.what);
-        let Some(turn) = turn_alone(rt, shared, ask, &mut self.share) else {
-            drop(what);
-            return Some(Ending::NoRoom);
-        };
+        let turn = turn_alone(rt, shared, ask, &mut self.share);
         self.receipts.push(Receipt {
             place: turn.place,
             ask: Ask { unique, what },
             answer: turn.answer,
         });
-        let ending = post(&mut self.channel, unique, turn.answer);
+        let posted = post(&mut self.channel, unique, turn.answer);
         gate.after(unique);
-        ending
+        match posted {
+            Posted::Done => None,
+            Posted::Broken => Some(Ending::Broken),
+        }
     }
 
     /// Returns what the worker leaves.

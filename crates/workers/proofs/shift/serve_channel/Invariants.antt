@@ -1,11 +1,14 @@
 use Rattle.std.specs.Prelude.{◌≡◌, ◌+◌, ◌≤◌, length, true}
 use Rattle.workers.specs.Channel.{grown}
+use Rattle.workers.specs.Shift.{Goes}
 use Rattle.workers.proofs.shift.serve_channel.Given as goal
 
 abbrev pub invariant-loop-turn : goal.invariant-loop-turn
 invariant-loop-turn g l =
-    (l.worker.share.parts ≡ l.fn.share.parts)
+    (l.worker.share.parts + length l.worker.receipts.list ≡ l.fn.share.parts)
     × (l.turns ≤ l.worker.receipts.places + l._turn)
     × (l.turns ≤ l.worker.receipts.copies + l._turn)
+    × (length l.worker.receipts.list ≤ l._turn)
     × (l.worker.share.amount ≡ l.fn.share.amount + length l.worker.receipts.list)
+    × Goes g.C.Channel.takes g.C.Channel.posts l.fn.channel l.worker.receipts.list l.worker.channel
     × (g.C.Channel.tells ≡ true → g.C.Channel.told l.worker.channel ≡ grown (g.C.Channel.told l.fn.channel) l.worker.receipts.list)

@@ -1,0 +1,45 @@
+-- What a worker makes of its channel grows by a turn.
+use Rattle.std.proofs.Common.{◌≡◌, ◌⊎◌, ℕ, List, [], ◌∷◌, ◌++◌, Option, Some, None, refl, sym, subst, inl, inr}
+use Rattle.fuse_wire.specs.declared.request.Ask.{Ask}
+use Rattle.fuse_wire.specs.declared.reply.Answer.{Answer}
+use Rattle.fuse_wire.specs.declared.reply.Reply.{Reply}
+use Rattle.journal.specs.declared.receipt.Receipt.{Receipt}
+use Rattle.workers.specs.Shift.{Ends, Fails, Finds, Goes, GoesOrEnds, Replies, Turns}
+use Rattle.workers.specs.declared.channel.Taken.{Taken}
+use Rattle.workers.specs.declared.channel.Taken.TheVariants as took
+use Rattle.workers.specs.declared.channel.Posted.{Posted}
+use Rattle.workers.specs.declared.channel.Posted.TheVariants as post
+use Rattle.workers.specs.declared.worker.Ending.{Ending}
+use Rattle.workers.specs.declared.worker.Ending.TheVariants.{Done, Broken}
+
+-- one more turn, with its reply posted
+goes_more :
+    {C : Type 0} (takes : C → Taken → C → Type 0) (posts : C → Reply → Posted → C → Type 0)
+    (start : C) (receipts : List Receipt) (final : Receipt) (before after : C) →
+    Goes takes posts start receipts before → Turns takes posts before final post.Done after →
+    Goes takes posts start (receipts ++ final ∷ []) after
+goes_more {C} takes posts start [] final before after went turn =
+    (after, subst (λ (c : C). Turns takes posts c final post.Done after) went turn, refl)
+goes_more {C} takes posts start (first ∷ rest) final before after went turn =
+    (went.0, went.1, goes_more takes posts went.0 rest final before after went.2 turn)
+
+-- a turn whose reply was posted, of an ask that was taken before
+pub turned_well :
+    {C : Type 0} (takes : C → Taken → C → Type 0) (posts : C → Reply → Posted → C → Type 0)
+    (start : C) (receipts later : List Receipt) (final : Receipt) (before held after : C) →
+    later ≡ receipts ++ final ∷ [] → Goes takes posts start receipts before →
+    takes before (took.Ask final.ask) held → Replies posts held final.ask.unique final.answer post.Done after →
+    Goes takes posts start later after
+turned_well {C} takes posts start receipts later final before held after is went taken replied =
+    subst (λ (rs : List Receipt). Goes takes posts start rs after) (sym is)
+    (goes_more takes posts start receipts final before after went (held, taken, replied))
+
+-- a turn whose reply found the channel broken
+pub turned_broken :
+    {C : Type 0} (takes : C → Taken → C → Type 0) (posts : C → Reply → Posted → C → Type 0)
+    (start : C) (receipts later : List Receipt) (final : Receipt) (before held after : C) →
+    later ≡ receipts ++ final ∷ [] → Goes takes posts start receipts before →
+    takes before (took.Ask final.ask) held → Replies posts held final.ask.unique final.answer post.Broken after →
+    Ends takes posts start later Broken after
+turned_broken takes posts start receipts later final before held after is went taken replied =
+    inr (receipts, final, before, is, went, (held, taken, replied))
