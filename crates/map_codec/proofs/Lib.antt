@@ -8,6 +8,8 @@ pub mod OneImage
 pub mod PlaceLaws
 pub mod RaisedLaws
 pub mod RaisingLaws
+pub mod RightHeader
 pub mod SoundRaises
+pub mod Told
 pub mod TwiceLaws
 pub mod WayLaws

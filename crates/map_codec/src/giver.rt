@@ -3,26 +3,34 @@ ghost use Rattle.std.specs.Prelude.{◌≡◌, IfErr, IfOk, None, OnOk};
 ghost use Rattle.map_image.specs.Fit.{IsFit};
 ghost use Rattle.map_image.specs.ImageText.{IsImageText};
 ghost use Rattle.map_image.specs.Writing.{refusal};
-ghost use Rattle.map_codec.specs.Handover.{CannotBeHandedOver, IsHandedOver};
-ghost use Rattle.map_codec.specs.declared.fault.HandoverFault.TheVariants.{Refused};
+ghost use Rattle.map_codec.specs.Handover.{told_of_write, CannotBeHandedOver, IsHandedOver, IsHandingRefusal, IsTextRefusal};
 
 use crate::{HandoverFault, image_of};
 use eden_base::NoMemory;
 use fuse_ops::Served;
-use map_image::{Image, WriteFault, write};
+use map_image::{Image, WriteFault, is_version, write};
 use std::alloc::Global;
+
+/// Returns what is told where writing has this fault.
+fn write_told(fault: WriteFault) -> HandoverFault
+    ensures { result ≡ told_of_write fault }
+{
+    match fault {
+        WriteFault::NoMemory => HandoverFault::NoMemory,
+        _ => HandoverFault::Refused,
+    }
+}
 
 /// Writes an image in a version.
 fn text_of(alloc: Global, image: &Image, version: u16) -> Result<Vec<u8>, HandoverFault>
     requires fit { IsFit image.now }
     ensures text { IfOk result (λ bytes. IsImageText image.now version bytes.items) }
     ensures accepted { OnOk result (refusal image.now version ≡ None) }
-    ensures refused { IfErr result (λ fault. fault ≡ Refused → refusal image.now version ≡ None → ⊥) }
+    ensures refused { IfErr result (IsTextRefusal image.now version) }
 {
     match write(alloc, image, version) {
         Ok(bytes) => Ok(bytes),
-        Err(WriteFault::NoMemory) => Err(HandoverFault::NoMemory),
-        Err(_) => Err(HandoverFault::Refused),
+        Err(fault) => Err(write_told(fault)),
     }
 }
 
@@ -36,10 +44,11 @@ pub fn hand_over(
 ) -> Result<Vec<u8>, HandoverFault>
     ensures handed { IfOk result (λ bytes. IsHandedOver served.now generation version bytes.items) }
     ensures accepted { OnOk result (CannotBeHandedOver served.now generation version → ⊥) }
-    // Out of memory may be told in the place of any answer.
-    ensures refused { IfErr result (λ fault. fault ≡ Refused
-        → CannotBeHandedOver served.now generation version) }
+    ensures refused { IfErr result (IsHandingRefusal served.now generation version) }
 {
+    if !is_version(version) {
+        return Err(HandoverFault::Refused);
+    }
     match image_of(alloc, served, generation) {
         Ok(image) => {
             let text = text_of(alloc, &image, version);

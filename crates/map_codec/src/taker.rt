@@ -1,23 +1,30 @@
 //! The daemon that takes over what another one served.
-ghost use Rattle.std.specs.Prelude.{◌≡◌, ◌≢◌, ℕ, IfErr, IfOk};
+ghost use Rattle.std.specs.Prelude.{◌≡◌, ◌↔◌, ℕ, IfErr, IfOk, IsTrue};
 ghost use Rattle.fuse_ops.specs.Soundness.{IsSound};
 ghost use Rattle.map_image.specs.Fit.{CountsFit, IsFit};
 ghost use Rattle.map_image.specs.ImageText.{IsImageText};
 ghost use Rattle.map_codec.specs.Raising.{raised, IsRaisable};
-ghost use Rattle.map_image.specs.declared.fault.ImageFault.TheVariants.{NoMemory as OutOfMemory};
-ghost use Rattle.map_image.specs.declared.image.Image.{Image};
-ghost use Rattle.map_codec.specs.Handover.{CannotBeTakenOver, IsTakenOver};
-ghost use Rattle.map_codec.specs.declared.fault.HandoverFault.TheVariants.{Refused};
+ghost use Rattle.map_codec.specs.Handover.{told_of_raise, told_of_read, HasRightHeader, IsReadRefusal, IsServingRefusal, IsTakenOver, IsTakingRefusal};
 
 use crate::{HandoverFault, RaiseFault, raise};
 use fuse_ops::Served;
 use manifest::Manifest;
-use map_image::{Image, ImageFault, read};
+use map_image::{Image, ImageFault, read, read_header};
 use std::alloc::Global;
 
+/// Returns whether the header of bytes is whole and right, of this generation and of the manifest's commit.
+fn has_right_header(bytes: &[u8], manifest: &Manifest, generation: u64) -> bool
+    ensures { IsTrue result ↔ HasRightHeader manifest.now generation bytes.now }
+{
+    match read_header(bytes) {
+        Ok(header) => header.generation == generation && header.commit == manifest.commit(),
+        Err(_) => false,
+    }
+}
+
 /// Returns what is told where reading has this fault.
-fn told_of(fault: ImageFault) -> HandoverFault
-    ensures { result ≡ Refused → fault ≢ OutOfMemory }
+fn read_told(fault: ImageFault) -> HandoverFault
+    ensures { result ≡ told_of_read fault }
 {
     match fault {
         ImageFault::NoMemory => HandoverFault::NoMemory,
@@ -30,12 +37,21 @@ fn image_told(alloc: Global, bytes: &[u8]) -> Result<Image, HandoverFault>
     ensures text { IfOk result (λ image. (version : ℕ) × IsImageText image version bytes.now) }
     ensures fit { IfOk result IsFit }
     ensures counts { IfOk result (λ image. CountsFit image.entries) }
-    ensures refused { IfErr result (λ fault. fault ≡ Refused
-        → (image : Image) (version : ℕ) → IsImageText image version bytes.now → ⊥) }
+    ensures refused { IfErr result (IsReadRefusal bytes.now) }
 {
     match read(alloc, bytes) {
         Ok(image) => Ok(image),
-        Err(fault) => Err(told_of(fault)),
+        Err(fault) => Err(read_told(fault)),
+    }
+}
+
+/// Returns what is told where raising has this fault.
+fn raise_told(fault: RaiseFault) -> HandoverFault
+    ensures { result ≡ told_of_raise fault }
+{
+    match fault {
+        RaiseFault::NoMemory => HandoverFault::NoMemory,
+        _ => HandoverFault::Refused,
     }
 }
 
@@ -51,17 +67,16 @@ fn served_again(
     ensures raised { IfOk result (λ served. served ≡ raised manifest.now image limit) }
     ensures sound { IfOk result IsSound }
     ensures accepted { IfOk result (λ served. IsRaisable manifest.now image) }
-    ensures refused { IfErr result (λ fault. fault ≡ Refused → IsRaisable manifest.now image → ⊥) }
+    ensures refused { IfErr result (IsServingRefusal manifest.now image) }
 {
     match raise(alloc, image, manifest, limit) {
         Ok(served) => Ok(served),
-        Err(RaiseFault::NoMemory) => Err(HandoverFault::NoMemory),
-        Err(_) => Err(HandoverFault::Refused),
+        Err(fault) => Err(raise_told(fault)),
     }
 }
 
 /// Takes over what `bytes` tell, over a manifest, where they are an image of this generation. At most `limit`
-/// attributes are loaded at once, or one if that is 0; none is at first.
+/// attributes are loaded at once, or one if that is 0; none is at first. The header is looked at before memory is taken.
 pub fn take_over(
     alloc: Global,
     bytes: &[u8],
@@ -70,14 +85,11 @@ pub fn take_over(
     generation: u64,
 ) -> Result<Served, HandoverFault>
     ensures taken { IfOk result (IsTakenOver manifest.now limit generation bytes.now) }
-    // Out of memory may be told in the place of any answer.
-    ensures refused { IfErr result (λ fault. fault ≡ Refused
-        → CannotBeTakenOver manifest.now generation bytes.now) }
+    ensures refused { IfErr result (IsTakingRefusal manifest.now generation bytes.now) }
 {
-    let image = image_told(alloc, bytes)?;
-    if image.generation != generation {
-        drop(image);
+    if !has_right_header(bytes, manifest, generation) {
         return Err(HandoverFault::Refused);
     }
+    let image = image_told(alloc, bytes)?;
     served_again(alloc, image, manifest, limit)
 }

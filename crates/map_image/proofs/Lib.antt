@@ -1,5 +1,6 @@
 pub mod CountLaws
 pub mod FieldLaws
+pub mod HeaderLaws
 pub mod ImageLaws
 pub mod Lengths
 pub mod ListLaws

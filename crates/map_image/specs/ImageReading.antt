@@ -1,6 +1,6 @@
 -- Which image the bytes are, and which fault is the first: fields from front to back, each whole before it is looked
 -- at, and after the last field what can be seen of the whole alone.
-use Rattle.std.specs.Prelude.{◌≡◌, ◌≤◌, ℕ, zero, suc, ◌-◌, ◌%◌, Bool, true, false, ◌==◌, nat_lt, List, [], ◌∷◌, length, slice_get, nat_eq, Option, Some, None, is_some, Result, Ok, Err, if◌then◌else◌}
+use Rattle.std.specs.Prelude.{◌≡◌, ◌≢◌, ◌≤◌, ℕ, zero, suc, ◌-◌, ◌%◌, Bool, true, false, ◌==◌, nat_lt, List, [], ◌∷◌, length, slice_get, nat_eq, Option, Some, None, is_some, Result, Ok, Err, if◌then◌else◌}
 use Rattle.std.proofs.Common.{arith}
 use Rattle.std.specs.Cmp.Lexicographic.{pointwise}
 use Rattle.std.specs.Int.{Width, w16, w32, w64}
@@ -34,6 +34,11 @@ Fails fault read = read ≡ Err fault
 abbrev pub Gives : {X Y : Type 0} → (X → Y) → Result X ImageFault → Result Y ImageFault → Type 0
 Gives view (Ok x) read = read ≡ Ok (view x)
 Gives view (Err fault) read = Fails fault read
+
+-- what a call that takes no memory gave, seen by a view, is what reading gives
+abbrev pub Tells : {X Y : Type 0} → (X → Y) → Result X ImageFault → Result Y ImageFault → Type 0
+Tells view (Ok x) read = read ≡ Ok (view x)
+Tells view (Err fault) read = (fault ≢ NoMemory) × (read ≡ Err fault)
 
 -- the last of a list, if any
 abbrev pub last_of : {X : Type 0} → List X → Option X
@@ -194,6 +199,22 @@ header_at bytes = do
     },
     file.1,
   )
+
+-- the header of bytes that begin as an image, or their first fault up to there
+unfoldable pub header_of_bytes : List ℕ → Result Header ImageFault
+header_of_bytes bytes = do
+  fields ← magic_at bytes
+  form ← form_at fields
+  header ← header_at form.1
+  Ok header.0
+
+-- the bytes have a header that is whole and right
+abbrev pub HasHeader : List ℕ → Type 0
+HasHeader bytes = (header : Header) × (header_of_bytes bytes ≡ Ok header)
+
+-- a reader runs out of memory behind the header alone
+abbrev pub IsLate : ImageFault → List ℕ → Type 0
+IsLate fault bytes = fault ≡ NoMemory → HasHeader bytes
 
 -- made files and changed links
 unfoldable pub changes_at : ℕ → List ℕ → Result (Changes × List ℕ) ImageFault

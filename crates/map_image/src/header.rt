@@ -2,25 +2,29 @@
 ghost use Rattle.std.specs.Prelude.{◌≡◌};
 ghost use Rattle.byte_codec.specs.Reading.{bytes_at};
 ghost use Rattle.map_image.specs.declared.fault.ImageFault.TheVariants.{Short};
-ghost use Rattle.map_image.specs.ImageReading.{Gives, magic_at, form_at, header_at};
+ghost use Rattle.map_image.specs.ImageReading.{Tells, magic_at, form_at, header_at, header_of_bytes};
 ghost use Rattle.map_image.specs.ImageText.{first_form};
 
 use crate::ImageFault;
 use byte_codec::{u16_at, u64_at};
 
-/// The commit, and what is next.
+/// What is known of an image before its lists are read.
 #[derive(Clone, Copy)]
-pub(crate) struct Header {
+pub struct Header {
+    /// Names the manifest that the checkout stands on.
     pub commit: [u8; 20],
+    /// At which the daemon has the seat.
     pub generation: u64,
+    /// The number that is given next.
     pub next_number: u64,
+    /// The file id that is given next.
     pub next_file: u64,
 }
 
 /// Takes `EDTK`.
 #[tactic(auto, unfolding(crate::specs::ImageReading::magic_at, byte_codec::specs::Reading::bytes_at, crate::specs::ImageText::magic))]
 pub(crate) fn magic_at(bytes: &[u8]) -> Result<&[u8], ImageFault>
-    ensures { Gives (λ rest. rest.now) result (magic_at bytes.now) }
+    ensures { Tells (λ rest. rest.now) result (magic_at bytes.now) }
 {
     if bytes.len() < 4 {
         return Err(ImageFault::Short);
@@ -35,7 +39,7 @@ pub(crate) fn magic_at(bytes: &[u8]) -> Result<&[u8], ImageFault>
 /// Takes the version, of which there is one.
 #[tactic(auto, unfolding(crate::specs::ImageReading::form_at))]
 pub(crate) fn form_at(bytes: &[u8]) -> Result<&[u8], ImageFault>
-    ensures { Gives (λ rest. (first_form, rest.now)) result (form_at bytes.now) }
+    ensures { Tells (λ rest. (first_form, rest.now)) result (form_at bytes.now) }
 {
     let (version, rest) = u16_at(bytes, ImageFault::Short)?;
     if version != 1 {
@@ -47,7 +51,7 @@ pub(crate) fn form_at(bytes: &[u8]) -> Result<&[u8], ImageFault>
 /// Takes a commit.
 #[tactic(auto, unfolding(byte_codec::specs::Reading::bytes_at))]
 fn commit_at(bytes: &[u8]) -> Result<([u8; 20], &[u8]), ImageFault>
-    ensures { Gives (λ x. (x.0, x.1.now)) result (bytes_at Short 20 bytes.now) }
+    ensures { Tells (λ x. (x.0, x.1.now)) result (bytes_at Short 20 bytes.now) }
 {
     if bytes.len() < 20 {
         return Err(ImageFault::Short);
@@ -61,7 +65,7 @@ fn commit_at(bytes: &[u8]) -> Result<([u8; 20], &[u8]), ImageFault>
 /// Takes the commit, the generation, the next number and the next file.
 #[tactic(auto, unfolding(crate::specs::ImageReading::header_at))]
 pub(crate) fn header_at(bytes: &[u8]) -> Result<(Header, &[u8]), ImageFault>
-    ensures { Gives (λ x. (x.0, x.1.now)) result (header_at bytes.now) }
+    ensures { Tells (λ x. (x.0, x.1.now)) result (header_at bytes.now) }
 {
     let (commit, rest) = commit_at(bytes)?;
     let (generation, rest) = u64_at(rest, ImageFault::Short)?;
@@ -74,4 +78,15 @@ pub(crate) fn header_at(bytes: &[u8]) -> Result<(Header, &[u8]), ImageFault>
         next_file,
     };
     Ok((header, rest))
+}
+
+/// Reads what stands before the lists of the image that begins the bytes. Takes no memory, and looks at nothing behind.
+#[tactic(auto, unfolding(crate::specs::ImageReading::header_of_bytes))]
+pub fn read_header(bytes: &[u8]) -> Result<Header, ImageFault>
+    ensures exact { Tells (λ header. header) result (header_of_bytes bytes.now) }
+{
+    let rest = magic_at(bytes)?;
+    let rest = form_at(rest)?;
+    let (header, _rest) = header_at(rest)?;
+    Ok(header)
 }

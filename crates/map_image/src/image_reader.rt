@@ -1,8 +1,8 @@
 //! Images read from their bytes.
-ghost use Rattle.std.specs.Prelude.{◌≡◌, ℕ, IfOk, Ok};
+ghost use Rattle.std.specs.Prelude.{◌≡◌, ℕ, IfErr, IfOk, Ok, OnOk};
 ghost use Rattle.map_image.specs.Fit.{CountsFit, IsFit};
 ghost use Rattle.map_image.specs.ImageText.{IsImageText};
-ghost use Rattle.map_image.specs.ImageReading.{Gives, changes_at, fields_at, image_of_bytes};
+ghost use Rattle.map_image.specs.ImageReading.{Gives, HasHeader, IsLate, changes_at, fields_at, image_of_bytes};
 ghost use Rattle.map_image.specs.declared.image.Image.{Image};
 
 use crate::header::{form_at, header_at, magic_at};
@@ -29,9 +29,11 @@ fn changes_at(alloc: Global, next_file: u64, bytes: &[u8]) -> Result<(Changes, &
 }
 
 /// Takes every field.
-#[tactic(auto, unfolding(crate::specs::ImageReading::fields_at))]
+#[tactic(auto, unfolding(crate::specs::ImageReading::fields_at, crate::specs::ImageReading::header_of_bytes))]
 fn fields_at(alloc: Global, bytes: &[u8]) -> Result<(Image, &[u8]), ImageFault>
-    ensures { Gives (λ x. (x.0, x.1.now)) result (fields_at bytes.now) }
+    ensures gives { Gives (λ x. (x.0, x.1.now)) result (fields_at bytes.now) }
+    ensures header { OnOk result (HasHeader bytes.now) }
+    ensures late { IfErr result (λ fault. IsLate fault bytes.now) }
 {
     let rest = magic_at(bytes)?;
     let rest = form_at(rest)?;
@@ -52,7 +54,8 @@ fn fields_at(alloc: Global, bytes: &[u8]) -> Result<(Image, &[u8]), ImageFault>
 /// Reads every field, and then looks at the whole.
 #[tactic(auto, unfolding(crate::specs::ImageReading::image_of_bytes))]
 fn read_image(alloc: Global, bytes: &[u8]) -> Result<Image, ImageFault>
-    ensures { Gives (λ image. image) result (image_of_bytes bytes.now) }
+    ensures gives { Gives (λ image. image) result (image_of_bytes bytes.now) }
+    ensures late { IfErr result (λ fault. IsLate fault bytes.now) }
 {
     let (image, rest) = fields_at(alloc, bytes)?;
     if !rest.is_empty() {
@@ -84,6 +87,8 @@ pub fn read(alloc: Global, bytes: &[u8]) -> Result<Image, ImageFault>
         → Gives (λ image. image) result (Ok image) }
     // Which fault it is.
     ensures exact { Gives (λ image. image) result (image_of_bytes bytes.now) }
+    // Memory is first taken behind the header.
+    ensures late { IfErr result (λ fault. IsLate fault bytes.now) }
 {
     read_image(alloc, bytes)
 }

@@ -1,10 +1,10 @@
 //! Images as bytes.
-ghost use Rattle.std.specs.Prelude.{All, ◌≡◌, ◌<◌, ◌^◌, false, length, IfOk, IfErr, None, Ok, OnOk};
+ghost use Rattle.std.specs.Prelude.{All, ◌≡◌, ◌<◌, ◌^◌, false, length, is_some, IfOk, IfErr, None, Ok, OnOk};
 ghost use Rattle.std.specs.Int.{w32};
 ghost use Rattle.std.specs.List.{list_any};
 ghost use Rattle.byte_codec.specs.Writing.{HasRoom, Puts};
 ghost use Rattle.map_image.specs.Fit.{IsFit};
-ghost use Rattle.map_image.specs.ImageText.{magic, numbers_text, header_text, lists_text, image_text, FitsNumbers, FitsMembers, IsImageText};
+ghost use Rattle.map_image.specs.ImageText.{form_of, magic, numbers_text, header_text, lists_text, image_text, FitsNumbers, FitsMembers, IsImageText};
 ghost use Rattle.map_image.specs.ImageReading.{image_of_bytes};
 ghost use Rattle.map_image.specs.Writing.{AreFew, IsWriteRefusal, is_too_large, refusal};
 
@@ -20,6 +20,13 @@ const VERSION: u16 = 1;
 
 /// The first count that has no room in its four bytes.
 const COUNT_LIMIT: u64 = 1 << 32;
+
+/// Returns whether there is such a version.
+pub fn is_version(version: u16) -> bool
+    ensures is { result ≡ is_some (form_of version) }
+{
+    version == VERSION
+}
 
 /// Returns whether a count has no room in four bytes.
 fn has_large_count(entries: &[Kept]) -> bool

@@ -15,6 +15,7 @@ mod reader;
 mod usage;
 
 pub use fault::{ImageFault, WriteFault};
+pub use header::{Header, read_header};
 pub use image::{Entries, Image};
 pub use image_reader::read;
-pub use image_writer::write;
+pub use image_writer::{is_version, write};

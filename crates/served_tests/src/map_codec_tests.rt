@@ -3,6 +3,7 @@
 mod asking;
 mod deeds;
 mod deep_tests;
+mod handing_tests;
 mod images;
 mod limit_tests;
 mod raise_tests;
@@ -12,7 +13,7 @@ mod vectors;
 use crate::map_codec_tests::asking::{Asking, Asks};
 use crate::map_codec_tests::deeds::{Deed, all_go_so};
 use crate::map_codec_tests::images::{all, fault_of, has_text, image_of_bytes, is_written_again};
-use crate::map_codec_tests::vectors::{CHANGED, LOOKED_UP, MOVED};
+use crate::map_codec_tests::vectors::{CHANGED, LOOKED_UP, MOVED, changed_with};
 use map_image::ImageFault;
 use std::alloc::{AllocError, Global};
 
@@ -40,11 +41,7 @@ fn refuses_each_cut(rt: HostRuntime) {
 
 /// Returns the fault of the changed image with one byte set.
 fn fault_with(alloc: Global, at: usize, byte: u8) -> Option<ImageFault> {
-    let mut bytes = CHANGED;
-    if let Some(place) = bytes.get_mut(at) {
-        *place = byte;
-    }
-    fault_of(alloc, bytes.as_slice())
+    fault_of(alloc, changed_with(at, byte).as_slice())
 }
 
 /// The first byte of the magic, the version, the first entry's mark, and its count.
@@ -113,11 +110,7 @@ fn is_refused_or_spelled_so(alloc: Global, bytes: &[u8]) -> bool {
 
 /// Returns whether the changed image with one byte set is refused, or spelled so.
 fn is_refused_or_spelled_with(alloc: Global, at: usize, byte: u8) -> bool {
-    let mut bytes = CHANGED;
-    if let Some(place) = bytes.get_mut(at) {
-        *place = byte;
-    }
-    is_refused_or_spelled_so(alloc, bytes.as_slice())
+    is_refused_or_spelled_so(alloc, changed_with(at, byte).as_slice())
 }
 
 /// Returns that of each byte set to 00, to ff and with its lowest bit turned.

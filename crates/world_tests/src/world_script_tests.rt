@@ -2,6 +2,7 @@
 mod bad_lines;
 mod bounds;
 mod endings;
+mod handings;
 mod rows;
 mod sizes;
 mod streams;

@@ -1,6 +1,7 @@
 //! What is done over one manifest and comes of it, as data, so that a test is a table.
 use super::asking::{Asking, is_spelled_after};
-use super::deep_tests::{is_chain_raised, is_circle_refused};
+use super::deep_tests::{is_chain_handed, is_chain_raised, is_circle_refused};
+use super::handing_tests::{is_not_taken_with, is_rest_not_taken};
 use super::limit_tests::is_limited;
 use super::raise_tests::{comes_to_with, is_raised_and_spelled, is_twice_refused};
 use crate::again::manifest_of;
@@ -27,6 +28,12 @@ pub enum Deed {
     Refuse(usize, u8, RaiseFault),
     /// The changed image with the name of its first entry in the second too is refused.
     RefuseTwice,
+    /// The changed image with a byte set isn't taken over.
+    NotTaken(usize, u8),
+    /// Nor is it with a byte behind it.
+    RestNotTaken,
+    /// The image of this number of directories, each in the one before it, is raised, and handed over, or refused.
+    HandChain(u32, bool),
     /// What is raised of the changed image with eight bytes set refuses a request so.
     Limit(usize, [u8; 8], Asking, Errno),
     /// The image of this number of directories, each in the one before it, is raised.
@@ -42,6 +49,9 @@ fn goes_so(alloc: Global, manifest: &Manifest, deed: Deed) -> bool {
         Deed::Raise(bytes) => is_raised_and_spelled(alloc, manifest, bytes),
         Deed::Refuse(at, byte, fault) => comes_to_with(alloc, manifest, at, byte, fault),
         Deed::RefuseTwice => is_twice_refused(alloc, manifest),
+        Deed::NotTaken(at, byte) => is_not_taken_with(alloc, manifest, at, byte),
+        Deed::RestNotTaken => is_rest_not_taken(alloc, manifest),
+        Deed::HandChain(count, is_refused) => is_chain_handed(alloc, manifest, count, is_refused),
         Deed::Limit(at, others, asking, errno) => {
             is_limited(alloc, manifest, (at, others), asking, errno)
         }

@@ -1,5 +1,6 @@
 //! Entries that stand in one another, so deep that a walk up may not take stack for each, and in a circle.
 use super::deeds::{Deed, all_go_so};
+use super::handing_tests::is_raised_and_handed;
 use super::images::put;
 use super::raise_tests::comes_to;
 use super::vectors::CHANGED;
@@ -95,6 +96,18 @@ fn put_circle(bytes: &mut Vec<u8>, count: u32) -> Result<(), AllocError> {
 pub(crate) fn is_chain_raised(alloc: Global, manifest: &Manifest, count: u32) -> bool {
     let mut bytes = Vec::new(alloc);
     put_chain(&mut bytes, count).is_ok() && comes_to(alloc, manifest, bytes.as_slice(), None)
+}
+
+/// Returns whether a chain of `count` directories is raised, and handed over, or refused.
+pub(crate) fn is_chain_handed(
+    alloc: Global,
+    manifest: &Manifest,
+    count: u32,
+    is_refused: bool,
+) -> bool {
+    let mut bytes = Vec::new(alloc);
+    put_chain(&mut bytes, count).is_ok()
+        && is_raised_and_handed(alloc, manifest, bytes.as_slice(), is_refused)
 }
 
 /// Returns whether a circle of `count` entries is refused.

@@ -3,8 +3,9 @@ ghost use Rattle.std.specs.Prelude.{◌≡◌, IfOk};
 
 use super::asking::is_spelled;
 use super::deeds::{Deed, all_go_so};
+use super::handing_tests::is_not_taken;
 use super::images::{all, image_of_bytes};
-use super::vectors::{CHANGED, LOOKED_UP, MOVED};
+use super::vectors::{CHANGED, LOOKED_UP, MOVED, changed_with};
 use fuse_ops::Served;
 use manifest::Manifest;
 use map_codec::{RaiseFault, raise};
@@ -54,7 +55,7 @@ pub fn comes_to(
     }
 }
 
-/// Returns whether the changed image with one byte set is refused so.
+/// Returns whether the changed image with one byte set is refused so, and isn't taken over.
 pub(crate) fn comes_to_with(
     alloc: Global,
     manifest: &Manifest,
@@ -62,11 +63,9 @@ pub(crate) fn comes_to_with(
     byte: u8,
     fault: RaiseFault,
 ) -> bool {
-    let mut bytes = CHANGED;
-    if let Some(place) = bytes.get_mut(at) {
-        *place = byte;
-    }
+    let bytes = changed_with(at, byte);
     comes_to(alloc, manifest, bytes.as_slice(), Some(fault))
+        && is_not_taken(alloc, manifest, bytes.as_slice())
 }
 
 /// The commit; the file that was made; the directory of the first entry, which is none or itself, and the end of its
@@ -88,14 +87,15 @@ fn tells_the_first_that_stands_against_an_image(rt: HostRuntime) {
     assert!(rt; all_go_so(rt.alloc(), &FAULTS));
 }
 
-/// Returns whether the changed image, whose second entry gets the name of the first, is refused.
+/// Returns whether the changed image, whose second entry gets the name of the first, is refused and isn't taken over.
 pub(crate) fn is_twice_refused(alloc: Global, manifest: &Manifest) -> bool {
     let (front, rest) = CHANGED.split_at(100);
     let (_, rest) = rest.split_at(7);
     match all(alloc, &[front, b"\x03src".as_slice(), rest]) {
         Ok(twice) => {
             let fault = Some(RaiseFault::TwoNumbers);
-            let is_refused = comes_to(alloc, manifest, twice.as_slice(), fault);
+            let is_refused = comes_to(alloc, manifest, twice.as_slice(), fault)
+                && is_not_taken(alloc, manifest, twice.as_slice());
             drop(twice);
             is_refused
         }

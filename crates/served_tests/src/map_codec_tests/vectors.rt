@@ -24,6 +24,15 @@ pub(crate) const CHANGED: [u8; 147] = [
     0x00, 0x00, 0x00,
 ];
 
+/// Returns the changed image with one byte set.
+pub(crate) fn changed_with(at: usize, byte: u8) -> [u8; 147] {
+    let mut bytes = CHANGED;
+    if let Some(place) = bytes.get_mut(at) {
+        *place = byte;
+    }
+    bytes
+}
+
 /// `a` made in the root, and that of `src` without a name.
 pub(crate) const MOVED: [u8; 151] = [
     0x45, 0x44, 0x54, 0x4b, 0x00, 0x01, 0x01, 0x23, 0x45, 0x67, 0x89, 0xab, 0xcd, 0xef, 0x01, 0x23,
