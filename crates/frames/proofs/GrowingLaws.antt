@@ -37,7 +37,7 @@ over_grows false says bytes more inner is = inner is
 long_grows : (len n : ℕ) (bytes more : List ℕ) → Grows (said_long len n) bytes more
 long_grows len n bytes more = over_grows (ltb longest_body len) (said_behind (kind_with n) len) bytes more (behind_grows (kind_with n) len bytes more)
 
-four_are : (a b c d : ℕ) → said (a ∷ b ∷ c ∷ d ∷ []) ≡ cond (ltb longest_body (of_four a b c d)) (Faulty TooLong) NotYet
+pub four_are : (a b c d : ℕ) → said (a ∷ b ∷ c ∷ d ∷ []) ≡ cond (ltb longest_body (of_four a b c d)) (Faulty TooLong) NotYet
 unfolding said
 four_are a b c d = refl
 

@@ -6,8 +6,10 @@ pub mod FoundFields
 pub mod FoundFrames
 pub mod FrameLaws
 pub mod GrowingLaws
+pub mod PartedLaws
 pub mod PartingLaws
 pub mod SaysLaws
 pub mod StreamLaws
+pub mod TextLaws
 pub mod Versions
 pub mod Written

@@ -1,10 +1,11 @@
 -- The laws of frames and streams.
-use Rattle.std.specs.Prelude.{◌≡◌, ◌≢◌, ◌↔◌, List, ℕ, [], ◌∷◌, ◌++◌, Option, Some}
+use Rattle.std.specs.Prelude.{◌≡◌, ◌≢◌, ◌↔◌, List, ℕ, [], ◌∷◌, ◌++◌, Option, Some, None}
 use Rattle.byte_codec.specs.Field.{AreBytes}
 use Rattle.frames.specs.declared.fault.LinkFault.{LinkFault}
+use Rattle.frames.specs.declared.fault.LinkFault.TheVariants.{Torn}
 use Rattle.frames.specs.declared.frame.Frame.{Frame}
 use Rattle.frames.specs.FrameText.{Fits, frame_text}
-use Rattle.frames.specs.Reading.{Said, First, NotYet, said}
+use Rattle.frames.specs.Reading.{Said, First, Faulty, NotYet, said}
 use Rattle.frames.specs.Says.{Says}
 use Rattle.frames.specs.Stream.{Ends}
 
@@ -50,9 +51,40 @@ FramesJoin =
     (bytes rest left : List ℕ) (frames : List Frame) (frame : Frame) →
     AreFirst bytes frames rest → said rest ≡ First frame left → AreFirst bytes (frames ++ frame ∷ []) left
 
--- bytes have one list of frames up to where none is whole
+-- what is left of a stream behind its whole frames: bytes in which no frame is whole, or bytes with a faulty one in front
+pub data Tail : Type 0 where
+  Rest : (rest : List ℕ) → Tail
+  FaultyRest : (fault : LinkFault) (rest : List ℕ) → Tail
+
+-- a stream parts so: into these frames, one behind the other, and this tail
+abbrev pub Parts : List ℕ → List Frame → Tail → Type 0
+Parts bytes frames (Rest rest) = AreFirst bytes frames rest × (said rest ≡ NotYet)
+Parts bytes frames (FaultyRest fault rest) = AreFirst bytes frames rest × (said rest ≡ Faulty fault)
+
+-- each stream parts
+abbrev pub HasAParting : Type 0
+HasAParting = (bytes : List ℕ) → (frames : List Frame) × (tail : Tail) × Parts bytes frames tail
+
+-- and in one way alone
 abbrev pub HasOneParting : Type 0
 HasOneParting =
-    (bytes rest left : List ℕ) (frames others : List Frame) →
-    AreFirst bytes frames rest → AreFirst bytes others left → said rest ≡ NotYet → said left ≡ NotYet →
-    (frames ≡ others) × (rest ≡ left)
+    (bytes : List ℕ) (frames others : List Frame) (tail other : Tail) →
+    Parts bytes frames tail → Parts bytes others other → (frames ≡ others) × (tail ≡ other)
+
+-- a faulty frame stays where it is, with the frames before it, whatever comes behind
+abbrev pub FaultStays : Type 0
+FaultStays =
+    (bytes rest more : List ℕ) (frames : List Frame) (fault : LinkFault) →
+    Parts bytes frames (FaultyRest fault rest) → Parts (bytes ++ more) frames (FaultyRest fault (rest ++ more))
+
+-- how a stream with this tail ends: torn where bytes are left of which no frame is whole
+abbrev pub end_with : Tail → Option LinkFault
+end_with (Rest []) = None
+end_with (Rest (byte ∷ rest)) = Some Torn
+end_with (FaultyRest fault rest) = None
+
+-- a stream ends as its parting does
+abbrev pub EndsAsItParts : Type 0
+EndsAsItParts =
+    (bytes : List ℕ) (frames : List Frame) (tail : Tail) (end : Option LinkFault) →
+    Parts bytes frames tail → (Ends bytes end ↔ (end ≡ end_with tail))

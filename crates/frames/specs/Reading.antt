@@ -1,5 +1,5 @@
 -- Which frame a body is, and what the front of a stream of bytes is. (This project's own.)
-use Rattle.std.specs.Prelude.{◌≡◌, ◌≤◌, ◌<◌, IsOkAnd, ℕ, suc, zero, ◌+◌, ◌*◌, ◌==◌, nat_lt, nat_le, ◌&&◌, List, [], ◌∷◌, length, take, drop, slice_index, Option, Some, None, Result, Ok, Err, if◌then◌else◌}
+use Rattle.std.specs.Prelude.{◌≡◌, ◌≢◌, ◌≤◌, ◌<◌, IsOkAnd, ℕ, suc, zero, ◌+◌, ◌*◌, ◌==◌, nat_lt, nat_le, ◌&&◌, List, [], ◌∷◌, length, take, drop, slice_index, Option, Some, None, Result, Ok, Err, if◌then◌else◌}
 use Rattle.std.specs.Int.{Width, w16, w32, w64, byte_len}
 use Rattle.byte_codec.specs.Field.{number_in}
 use Rattle.byte_codec.specs.Reading.{◌>>=◌, number_at}
@@ -23,15 +23,15 @@ abbrev pub Is : {X Y : Type 0} → (X → Y) → Result X LinkFault → Result Y
 Is view (Ok x) read = read ≡ Ok (view x)
 Is view (Err fault) read = (fault ≡ BadBody) × (read ≡ Err BadBody)
 
--- a message whose bytes are copied when it is read
+-- a message with bytes that are copied when it is read, at least one
 abbrev pub HasImage : Message → Type 0
-HasImage (Data session generation bytes) = Unit {0}
+HasImage (Data session generation bytes) = bytes ≢ []
 HasImage message = ⊥
 
--- a frame whose bytes are copied when it is read
+-- a frame with bytes that are copied when it is read, at least one
 abbrev pub HasBytes : Frame → Type 0
-HasBytes (Ask request) = Unit {0}
-HasBytes (Post generation reply) = Unit {0}
+HasBytes (Ask request) = request ≢ []
+HasBytes (Post generation reply) = reply ≢ []
 HasBytes (Takeover message) = HasImage message
 HasBytes frame = ⊥
 

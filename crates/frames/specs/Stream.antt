@@ -3,8 +3,8 @@ use Rattle.std.specs.Prelude.{◌≡◌, ◌≢◌, ℕ, List, [], drop, Option,
 use Rattle.frames.specs.declared.fault.LinkFault.{LinkFault}
 use Rattle.frames.specs.declared.fault.LinkFault.TheVariants.{Torn, NoMemory}
 use Rattle.frames.specs.declared.frame.Frame.{Frame}
-use Rattle.frames.specs.Says.{IsFirst}
-use Rattle.frames.specs.Reading.{First, Faulty, NotYet, SaysCopied, said}
+use Rattle.frames.specs.Says.{IsFirst, Says}
+use Rattle.frames.specs.Reading.{First, Faulty, HasBytes, NotYet, SaysCopied, said}
 
 -- a reader: the bytes that it was fed and has not read, and the fault that stands
 pub record ReaderState : Type 0 where
@@ -28,15 +28,28 @@ abbrev pub TakesBeside : Option LinkFault → ReaderState → Result (Option Fra
 TakesBeside None old result new = Takes old result new
 TakesBeside (Some fault) old result new = (result ≡ Err fault) × (new ≡ old)
 
--- the text of a frame that was read stands in front
+-- bytes have the text of a frame in front that takes memory
+abbrev pub BeginsCopied : List ℕ → Type 0
+BeginsCopied bytes = (frame : Frame) × (rest : List ℕ) × IsFirst bytes frame rest × HasBytes frame
+
+-- the same by texts alone: what stands in front of the bytes that were looked at
 abbrev pub ReadsText : List ℕ → Result (Option (Frame × ℕ)) LinkFault → Type 0
 ReadsText bytes (Ok (Some first)) = IsFirst bytes first.0 (drop first.1 bytes)
-ReadsText bytes result = Unit {0}
+ReadsText bytes (Ok None) = Says bytes NotYet
+ReadsText bytes (Err NoMemory) = BeginsCopied bytes
+ReadsText bytes (Err fault) = Says bytes (Faulty fault)
 
--- the text of a frame that was taken off stood in front
+-- what stood in front of the unread bytes, and what is left of them
 abbrev pub TakesText : List ℕ → Result (Option Frame) LinkFault → List ℕ → Type 0
 TakesText old (Ok (Some frame)) new = IsFirst old frame new
-TakesText old result new = Unit {0}
+TakesText old (Ok None) new = Says old NotYet
+TakesText old (Err NoMemory) new = BeginsCopied old
+TakesText old (Err fault) new = Says old (Faulty fault)
+
+-- a fault that stands, if any, is that of the unread bytes, as they are read and by texts alone
+abbrev pub StandsFor : Option LinkFault → List ℕ → Type 0
+StandsFor None bytes = Unit {0}
+StandsFor (Some fault) bytes = (said bytes ≡ Faulty fault) × Says bytes (Faulty fault)
 
 -- how a stream ends that has no byte more: torn, where it ends within a frame; and well, where it is whole frames, or
 -- where one is faulty, which taking it tells
@@ -51,8 +64,3 @@ pub data Ends : List ℕ → Option LinkFault → Type 0 where
 abbrev pub fault_of : Result (Unit {0}) LinkFault → Option LinkFault
 fault_of (Ok done) = None
 fault_of (Err fault) = Some fault
-
--- what comes of the end with this fault standing, if any: the frame that has it is no torn one
-abbrev pub Finishes : Option LinkFault → List ℕ → Result (Unit {0}) LinkFault → Type 0
-Finishes None bytes result = Ends bytes (fault_of result)
-Finishes (Some fault) bytes result = result ≡ Ok tt

@@ -1,5 +1,5 @@
 //! Bodies, as they are read.
-ghost use Rattle.std.specs.Prelude.{◌≡◌, ◌*◌, ◌≤◌, length, IfOk, IfErr};
+ghost use Rattle.std.specs.Prelude.{◌≡◌, ◌≢◌, ◌*◌, ◌≤◌, [], length, IfOk, IfErr, OnErr};
 ghost use Rattle.frames.specs.declared.fault.LinkFault.TheVariants.{NoMemory};
 ghost use Rattle.frames.specs.declared.kind.Kind.TheVariants as kinds;
 ghost use Rattle.frames.specs.declared.kind.MessageKind.TheVariants as messages;
@@ -18,7 +18,11 @@ use takeover_core::{Message, Versions};
 fn copy(alloc: Global, bytes: &[u8]) -> Result<Vec<u8>, LinkFault>
     ensures copied { IfOk result (λ copied. copied.items ≡ bytes.now) }
     ensures refused { IfErr result (λ fault. fault ≡ NoMemory) }
+    ensures some { OnErr result (bytes.now ≢ []) }
 {
+    if bytes.is_empty() {
+        return Ok(Vec::new(alloc));
+    }
     match bytes.to_vec(alloc) {
         Ok(copied) => Ok(copied),
         Err(_refused) => Err(LinkFault::NoMemory),

@@ -46,7 +46,7 @@ fn find(bytes: &[u8]) -> Result<Option<(Kind, usize)>, LinkFault>
 }
 
 /// Reads the frame at the front, and how many bytes it takes up.
-#[tactic(auto, using(crate::proofs::SaysLaws::first_says))]
+#[tactic(auto, using(crate::proofs::SaysLaws::first_says, crate::proofs::TextLaws::reads_text))]
 pub(crate) fn read_first(alloc: Global, bytes: &[u8]) -> Result<Option<(Frame, usize)>, LinkFault>
     ensures read { Reads bytes.now result }
     ensures text { ReadsText bytes.now result }

@@ -1,6 +1,6 @@
 //! What texts and streams promise. Each law is the contract of a function that does nothing, over the definitions that
 //! the contracts of `Frame` and `FrameReader` cite.
-ghost use Rattle.frames.specs.Laws.{EndsOneWay, FramesJoin, HasOneParting, MoreChangesNothing, PiecesJoin, ReadsWhatWasWritten, SaysWhatIsRead};
+ghost use Rattle.frames.specs.Laws.{EndsAsItParts, EndsOneWay, FaultStays, FramesJoin, HasAParting, HasOneParting, MoreChangesNothing, PiecesJoin, ReadsWhatWasWritten, SaysWhatIsRead};
 
 /// States that the text of a frame is read as that frame, whatever stands behind it, and that this is left unread.
 pub fn reads_what_was_written()
@@ -34,8 +34,23 @@ pub fn frames_join()
     ensures law { FramesJoin }
 {}
 
-/// States that bytes have one list of frames up to where none is whole. So whatever the pieces are in which they are
-/// fed, and whenever frames are taken off, the frames are those of the bytes.
+/// States that each stream is a list of frames, and behind it bytes in which no frame is whole, or a faulty frame.
+pub fn has_a_parting()
+    ensures law { HasAParting }
+{}
+
+/// States that no stream parts in two ways, be its tail no whole frame or a faulty one. So whatever the pieces are in
+/// which it is fed, and whenever frames are taken off, frames and fault are those of the stream.
 pub fn has_one_parting()
     ensures law { HasOneParting }
+{}
+
+/// States that a faulty frame stays behind the same frames, whatever bytes follow.
+pub fn fault_stays()
+    ensures law { FaultStays }
+{}
+
+/// States that a stream ends as its one parting says: torn exactly where bytes are left of which no frame is whole.
+pub fn ends_as_it_parts()
+    ensures law { EndsAsItParts }
 {}

@@ -1,7 +1,7 @@
 //! A stream of frames that comes in pieces.
-ghost use Rattle.std.specs.Prelude.{◌≡◌, ◌++◌, [], None, IfErr, OnOk, OnErr, unwrap_or};
+ghost use Rattle.std.specs.Prelude.{◌≡◌, ◌≢◌, ◌++◌, [], None, Ok, IfErr, IsNone, IsSome, OnOk, OnErr, unwrap_or};
 ghost use Rattle.frames.specs.declared.fault.LinkFault.TheVariants.{NoMemory};
-ghost use Rattle.frames.specs.Stream.{Finishes, TakesBeside, TakesText};
+ghost use Rattle.frames.specs.Stream.{Ends, TakesBeside, TakesText, fault_of};
 
 use crate::front::{end_of, read_first};
 use crate::{Frame, LinkFault};
@@ -20,7 +20,7 @@ pub struct FrameReader {
 
 impl Model for FrameReader {
     ghost use Rattle.std.specs.Prelude.{◌≤◌, drop, vec_len};
-    ghost use Rattle.frames.specs.Stream.{ReaderState};
+    ghost use Rattle.frames.specs.Stream.{ReaderState, StandsFor};
 
     ghost Value = { ReaderState };
 
@@ -29,7 +29,8 @@ impl Model for FrameReader {
       fault = reader.fault;
     } };
 
-    ghost invariant = { λ reader. reader.read ≤ vec_len reader.bytes };
+    ghost invariant = { λ reader. (reader.read ≤ vec_len reader.bytes)
+        × StandsFor reader.fault (drop reader.read reader.bytes.items) };
 }
 
 impl FrameReader {
@@ -68,6 +69,7 @@ impl FrameReader {
         ensures sound { OnOk result (self.old.fault ≡ None) }
         ensures refused { IfErr result (λ fault. fault ≡ unwrap_or self.old.fault NoMemory) }
         ensures unchanged { OnErr result (self.new.unread ≡ self.old.unread) }
+        ensures grew { OnErr result (IsNone self.old.fault → piece.now ≢ []) }
         ensures stands { self.new.fault ≡ self.old.fault }
     {
         if let Some(fault) = self.fault {
@@ -105,7 +107,8 @@ impl FrameReader {
     /// Returns whether the stream may end here: it is Torn where it ends within a frame. A faulty frame is none such:
     /// `next` tells its fault. Frames that were not taken are passed over.
     pub fn finish(self) -> Result<(), LinkFault>
-        ensures ends { Finishes self.fault self.unread result }
+        ensures ends { Ends self.unread (fault_of result) }
+        ensures faulty { IsSome self.fault → result ≡ Ok tt }
     {
         if self.fault.is_some() {
             return Ok(());

@@ -1,5 +1,5 @@
 //! Worked examples: what the kernel may ask and when, and the way of an ask, an item and a reply.
-mod deeds;
+pub(crate) mod deeds;
 
 use crate::broker_core_tests::deeds::{Deed, Said, Wish, all_go_so};
 use broker_core::{DeliverFault, IssueFault, MountFault, PostFault, Seat, TakeFault};

@@ -9,7 +9,7 @@ use std::alloc::Global;
 use std::test::Fail;
 
 /// Calls `feed`, and once more where memory was refused.
-fn feed(reader: &mut FrameReader, piece: &[u8]) -> Result<(), LinkFault> {
+pub(crate) fn feed(reader: &mut FrameReader, piece: &[u8]) -> Result<(), LinkFault> {
     match reader.feed(piece) {
         Err(LinkFault::NoMemory) => reader.feed(piece),
         fed => fed,
@@ -17,7 +17,7 @@ fn feed(reader: &mut FrameReader, piece: &[u8]) -> Result<(), LinkFault> {
 }
 
 /// Calls `next`, and once more where memory was refused.
-fn next(reader: &mut FrameReader) -> Result<Option<Frame>, LinkFault> {
+pub(crate) fn next(reader: &mut FrameReader) -> Result<Option<Frame>, LinkFault> {
     match reader.next() {
         Err(LinkFault::NoMemory) => reader.next(),
         taken => taken,
@@ -25,7 +25,7 @@ fn next(reader: &mut FrameReader) -> Result<Option<Frame>, LinkFault> {
 }
 
 /// Calls `write`, and once more where memory was refused.
-fn write(alloc: Global, frame: &Frame) -> Result<Vec<u8>, LinkFault> {
+pub(crate) fn write(alloc: Global, frame: &Frame) -> Result<Vec<u8>, LinkFault> {
     match frame.write(alloc) {
         Err(LinkFault::NoMemory) => frame.write(alloc),
         written => written,
@@ -47,7 +47,7 @@ fn has_only(alloc: Global, reader: &mut FrameReader, text: &[u8]) -> bool {
 }
 
 /// Returns whether a frame comes out of its text where that is cut in two at a place.
-fn comes_out(alloc: Global, text: &[u8], cut: usize) -> bool {
+pub(crate) fn comes_out(alloc: Global, text: &[u8], cut: usize) -> bool {
     if cut > text.len() {
         return true;
     }

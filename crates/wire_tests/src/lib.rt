@@ -17,3 +17,5 @@ mod frames_tests;
 mod fuse_wire_tests;
 #[cfg(test)]
 mod node_arena_tests;
+#[cfg(test)]
+mod sweep_tests;

@@ -65,6 +65,8 @@ pub enum Deed {
     DeliverNothing(DeliverFault),
     /// Sends a look-up its whole way so many times, and this answer reaches the kernel each time.
     LookUpEach(u64, Said),
+    /// Does it once for each number from 2 to this one.
+    LookUpNumbers(u64),
     /// A daemon claims the seat at a generation.
     Claim(u64, u64, Result<u64, ClaimFault>),
     /// A daemon is gone.
@@ -282,6 +284,28 @@ fn is_found_each(alloc: Global, broker: &mut Broker, times: u64, said: Said) -> 
     }
 }
 
+/// Sends a look-up its whole way for each number from 2 to `last`, and returns whether each reached the kernel.
+fn answers_numbers(broker: &mut Broker, request: &Request, last: u64) -> bool {
+    for number in 2..last {
+        if !answers(broker, request, Said::Entry(number)) {
+            return false;
+        }
+    }
+    answers(broker, request, Said::Entry(last))
+}
+
+/// Does that with a look-up.
+fn are_numbers_found(alloc: Global, broker: &mut Broker, last: u64) -> bool {
+    match request(alloc, Wish::LookUp) {
+        Some(request) => {
+            let are_answered = answers_numbers(broker, &request, last);
+            drop(request);
+            are_answered
+        }
+        None => false,
+    }
+}
+
 /// Returns whether a number is held so often, and so many posted replies and waiting items tell of it.
 fn stands(broker: &Broker, number: Number, counts: [u64; 3]) -> bool {
     broker.held(number) == counts[0]
@@ -315,6 +339,7 @@ fn goes_so(alloc: Global, broker: &mut Broker, deed: Deed) -> bool {
         Deed::Deliver(unique, said) => deliver(broker) == Ok(reply(unique, said)),
         Deed::DeliverNothing(fault) => deliver(broker) == Err(fault),
         Deed::LookUpEach(times, said) => is_found_each(alloc, broker, times, said),
+        Deed::LookUpNumbers(last) => are_numbers_found(alloc, broker, last),
         Deed::Claim(daemon, generation, claimed) => {
             broker.claim(DaemonId(daemon), generation) == claimed
         }

@@ -1,0 +1,98 @@
+//! Sizes up to the limits, with ample memory. No clause can say that memory suffices: so a call that tells out of memory
+//! from some size on is found here alone.
+mod messages;
+mod streams;
+
+use crate::broker_core_tests::deeds::{Deed, Said, Wish, all_go_so};
+use crate::sweep_tests::messages::{is_each_batch_made, is_each_name_made};
+use crate::sweep_tests::streams::{Carrier, is_each_body_carried, is_stream_read};
+use std::alloc::Global;
+
+/// What is made in many sizes.
+#[derive(Clone, Copy)]
+enum Sweep {
+    /// Names of each length.
+    Names,
+    /// Batches of each length.
+    Batches,
+    /// Frames that carry bytes, with bodies up to the longest.
+    Bodies(Carrier),
+    /// A stream of `pieces` pieces with `frames` frames each, of which none is read before all were fed.
+    Stream { pieces: u32, frames: u32 },
+    /// The calls of a broker.
+    Calls(&'static [Deed]),
+}
+
+/// Looks one number up 70,000 times, and takes it back by ever more at once.
+const ONE_NUMBER: [Deed; 10] = [
+    Deed::Mount(1, 1),
+    Deed::LookUpEach(70_000, Said::Entry(2)),
+    Deed::Issue(Wish::Forget(2, 1), Ok(None)),
+    Deed::Issue(Wish::Forget(2, 999), Ok(None)),
+    Deed::Issue(Wish::Forget(2, 1_001), Ok(None)),
+    Deed::Issue(Wish::Forget(2, 4_097), Ok(None)),
+    Deed::Issue(Wish::Forget(2, 63_902), Ok(None)),
+    Deed::Stand(2, [0, 0, 70_000]),
+    Deed::TakeItems(Some(5)),
+    Deed::Issue(Wish::Getattr(1), Ok(Some(70_001))),
+];
+
+/// Holds 9,999 numbers at once.
+const MANY_NUMBERS: [Deed; 4] = [
+    Deed::Mount(1, 1),
+    Deed::LookUpNumbers(10_000),
+    Deed::Held(10_000, 1),
+    Deed::HeldAfter(10_000, None),
+];
+
+static SWEEPS: [Sweep; 11] = [
+    Sweep::Names,
+    Sweep::Batches,
+    Sweep::Bodies(Carrier::Ask),
+    Sweep::Bodies(Carrier::Post),
+    Sweep::Bodies(Carrier::Data),
+    Sweep::Stream {
+        pieces: 1,
+        frames: 40_001,
+    },
+    Sweep::Stream {
+        pieces: 1,
+        frames: 400_000,
+    },
+    Sweep::Stream {
+        pieces: 40_001,
+        frames: 1,
+    },
+    Sweep::Stream {
+        pieces: 64,
+        frames: 13_107,
+    },
+    Sweep::Calls(&ONE_NUMBER),
+    Sweep::Calls(&MANY_NUMBERS),
+];
+
+/// Returns whether each call of a sweep succeeds.
+fn succeeds(alloc: Global, sweep: Sweep) -> bool {
+    match sweep {
+        Sweep::Names => is_each_name_made(alloc),
+        Sweep::Batches => is_each_batch_made(alloc),
+        Sweep::Bodies(carrier) => is_each_body_carried(alloc, carrier),
+        Sweep::Stream { pieces, frames } => is_stream_read(alloc, pieces, frames),
+        Sweep::Calls(deeds) => all_go_so(alloc, deeds),
+    }
+}
+
+/// Returns the place of the first sweep that fails.
+fn first_failed(alloc: Global, sweeps: &[Sweep]) -> Option<usize> {
+    for place in 0..sweeps.len() {
+        if !succeeds(alloc, sweeps[place]) {
+            return Some(place);
+        }
+    }
+    None
+}
+
+#[test]
+fn succeeds_at_all_sizes(rt: HostRuntime) {
+    assert!(rt; first_failed(rt.alloc(), &SWEEPS).is_none());
+}

@@ -1,0 +1,133 @@
+//! Frames with bodies up to the longest, and long streams.
+use crate::frames_tests::{comes_out, feed, next, write};
+use byte_codec::Bytes;
+use frames::{Frame, FrameReader};
+use std::alloc::{AllocError, Global};
+use takeover_core::Message;
+
+/// A kind of frame that carries bytes.
+#[derive(Clone, Copy)]
+pub enum Carrier {
+    Ask,
+    Post,
+    Data,
+}
+
+/// Returns how long the fields are that stand before the bytes.
+fn fields_len(carrier: Carrier) -> usize {
+    match carrier {
+        Carrier::Ask => 0,
+        Carrier::Post => 8,
+        Carrier::Data => 12,
+    }
+}
+
+/// Makes a frame of bytes.
+fn frame(carrier: Carrier, bytes: Bytes) -> Frame {
+    match carrier {
+        Carrier::Ask => Frame::Ask(bytes),
+        Carrier::Post => Frame::Post {
+            generation: 1,
+            reply: bytes,
+        },
+        Carrier::Data => Frame::Takeover(Message::Data {
+            session: 1,
+            generation: 1,
+            bytes,
+        }),
+    }
+}
+
+/// Makes so many bytes, and once more where memory was refused.
+fn bytes(alloc: Global, len: usize) -> Result<Vec<u8>, AllocError> {
+    match Vec::from_elem(alloc, 7, len) {
+        Ok(bytes) => Ok(bytes),
+        Err(_refused) => Vec::from_elem(alloc, 7, len),
+    }
+}
+
+/// Returns whether a frame whose body has this length is written, and comes out of its text.
+fn is_carried(alloc: Global, carrier: Carrier, len: usize) -> bool {
+    let Some(rest) = len.checked_sub(fields_len(carrier)) else {
+        return true;
+    };
+    let Ok(bytes) = bytes(alloc, rest) else {
+        return false;
+    };
+    let frame = frame(carrier, Bytes::of(bytes));
+    let written = write(alloc, &frame);
+    drop(frame);
+    match &written {
+        Ok(text) => text.len().checked_sub(5) == Some(len) && comes_out(alloc, text.as_slice(), 0),
+        Err(_) => false,
+    }
+}
+
+/// Returns that of lengths up to 65,520, in steps of 1,008.
+fn is_each_step_carried(alloc: Global, carrier: Carrier) -> bool {
+    for step in 0..66u16 {
+        if !is_carried(alloc, carrier, 1_008 * usize::from(step)) {
+            return false;
+        }
+    }
+    true
+}
+
+/// Returns that of these lengths and of each from there to the longest.
+pub(crate) fn is_each_body_carried(alloc: Global, carrier: Carrier) -> bool {
+    if !is_each_step_carried(alloc, carrier) {
+        return false;
+    }
+    for len in 65_521..65_537usize {
+        if !is_carried(alloc, carrier, len) {
+            return false;
+        }
+    }
+    true
+}
+
+/// Puts the texts of `frames` frames without fields.
+fn put_frames(text: &mut Vec<u8>, frames: u32) -> Result<(), AllocError> {
+    for _ in 0..frames {
+        text.extend_from_slice(&[0, 0, 0, 0, 5])?;
+    }
+    Ok(())
+}
+
+/// Feeds a piece so many times, and returns whether each was taken.
+fn is_fed(reader: &mut FrameReader, piece: &[u8], times: u32) -> bool {
+    for _ in 0..times {
+        if feed(reader, piece).is_err() {
+            return false;
+        }
+    }
+    true
+}
+
+/// Returns whether so many frames come out.
+fn come_out(reader: &mut FrameReader, frames: u64) -> bool {
+    for _ in 0..frames {
+        if !matches!(next(reader), Ok(Some(Frame::Posted))) {
+            return false;
+        }
+    }
+    matches!(next(reader), Ok(None))
+}
+
+/// Returns whether all frames come out of a stream of such pieces.
+fn is_piece_read(alloc: Global, piece: &[u8], pieces: u32, frames: u32) -> bool {
+    let mut reader = FrameReader::new(alloc);
+    let are_read = is_fed(&mut reader, piece, pieces)
+        && come_out(&mut reader, u64::from(pieces) * u64::from(frames));
+    drop(reader);
+    are_read
+}
+
+/// Returns whether a stream of `pieces` pieces with `frames` frames each is read.
+pub(crate) fn is_stream_read(alloc: Global, pieces: u32, frames: u32) -> bool {
+    let mut piece = Vec::new(alloc);
+    let is_read = put_frames(&mut piece, frames).is_ok()
+        && is_piece_read(alloc, piece.as_slice(), pieces, frames);
+    drop(piece);
+    is_read
+}
