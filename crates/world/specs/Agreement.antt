@@ -1,6 +1,6 @@
 -- Which moves an event makes in the world, what a served state knows of a world, and how the state matches the world
 -- after them.
-use Rattle.std.specs.Prelude.{◌≡◌, ◌≢◌, ℕ, ◌+◌, ◌<◌, ◌≤◌, ◌↔◌, Bool, true, false, ◌||◌, ◌==◌, List, [], ◌∷◌, ◌++◌, sum_by, count_by, Contains, Option, Some, None, IsSome, if◌then◌else◌}
+use Rattle.std.specs.Prelude.{◌≡◌, ◌≢◌, ℕ, ◌+◌, ◌-◌, ◌<◌, ◌≤◌, ◌↔◌, Bool, true, false, ◌||◌, ◌==◌, List, [], ◌∷◌, ◌++◌, sum_by, count_by, Contains, Option, Some, None, IsSome, if◌then◌else◌}
 use Rattle.std.specs.Option.{option_map_or}
 use Rattle.std.specs.List.{AllByRecursion, list_any}
 use Rattle.eden_base.specs.declared.number.DaemonId.{DaemonId}
@@ -38,9 +38,9 @@ use Rattle.daemon.specs.declared.happened.Happened.TheVariants as happened
 abbrev pub holds : Option Seat → DaemonId → Bool
 holds seat daemon = option_map_or (λ (seat : Seat). seat.daemon.0 == daemon.0) seat false
 
--- The moves that an event made, by who had the seat and what is told of the event. A take only hands on what is under
--- way, messages and the end of a daemon without the seat change nothing for the kernel, and what was refused made
--- none.
+-- The moves that an event made, by who had the seat and what is told of the event. A claim is from the generation
+-- before the one that is told. A take only hands on what is under way, messages and the end of a daemon without the
+-- seat change nothing for the kernel, and what was refused made none.
 abbrev pub move_of : Option Seat → Event → Happened → List Move
 move_of seat (Mount daemon) (happened.Mounted generation) = mount daemon ∷ []
 move_of seat (Issue request) (happened.Asked (Some unique)) = issue (record { unique = unique; what = request }) ∷ []
@@ -50,8 +50,7 @@ move_of seat (Work daemon place fails) (happened.Made reply) = work reply.unique
 move_of seat (Work daemon place fails) (happened.Forgot item forgot) = work_item item ∷ []
 move_of seat (Post daemon place) (happened.Posted unique) = accept unique daemon ∷ []
 move_of seat Deliver (happened.Answered reply) = deliver reply.unique ∷ []
-move_of seat (Claim daemon) (happened.Claimed next) =
-    option_map_or (λ (now : Seat). claim now.generation daemon ∷ []) seat []
+move_of seat (Claim daemon) (happened.Claimed next) = claim (next - 1) daemon ∷ []
 move_of seat (Crash daemon) happened.Crashed = if holds seat daemon then mount_end ∷ [] else []
 move_of seat event told = []
 
