@@ -22,6 +22,7 @@ use Rattle.map_codec.specs.Handover.{IsHandedOver}
 use Rattle.takeover_core.specs.Phases.{claim_wanted}
 use Rattle.takeover_core.specs.declared.message.Message.TheVariants.{Data}
 use Rattle.world.specs.Handing.{IsHanding}
+use Rattle.world.specs.Attending.{MayBeTold, IsAttended}
 use Rattle.daemon.specs.Daemon.{DaemonState}
 use Rattle.daemon.specs.Server.{ServerState, IsIdle, at_place, is_single}
 use Rattle.world.specs.State.{State, IsSeated, daemon_of, server_of, is_data_of}
@@ -275,10 +276,12 @@ pub record Follows (world : World) (state : State) : Type 0 where
   pub knows : HolderKnows world state
   pub others_idle : OthersAreIdle state
 
--- the state matches the world, and whoever may take the seat over knows what its holder knows
+-- the state matches the world; whoever may take the seat over knows what its holder knows; and whoever serves has the
+-- seat, and is waited for
 pub record Matches (world : World) (state : State) : Type 0 where
   pub follows : Follows world state
   pub handing : IsHanding state
+  pub attended : IsAttended state
 
 -- the events' moves are a run from before anything happened, and the world after it agrees with the state at the end
 pub record IsRunOfMoves (manifest : Manifest) (events : List Event) (outcomes : List (List Happened))
@@ -286,10 +289,11 @@ pub record IsRunOfMoves (manifest : Manifest) (events : List Event) (outcomes : 
   pub run : IsRun (first_world manifest) (all_moves (first_world manifest) events outcomes)
   pub agrees : Agrees (world_after manifest events outcomes) end
 
--- what one event does: its moves may happen in the world, the state matches the world after them, no forget was bad,
--- and a reply was posted by the daemon that the world saw
+-- what one event does: its moves may happen in the world, the state matches the world after them, no forget was bad, a
+-- reply was posted by the daemon that the world saw, and it was refused only as it may be
 pub record MovesOn (world : World) (old : State) (event : Event) (outcome : List Happened) (new : State) : Type 0 where
   pub run : IsRun world (moves_of world event outcome)
   pub matches : Matches (after_all world (moves_of world event outcome)) new
   pub forgets : AllByRecursion IsGoodForget outcome
   pub answered : IsAnswered (after_all world (moves_of world event outcome)) (posted_from old outcome)
+  pub refusals : AllByRecursion (MayBeTold event) outcome

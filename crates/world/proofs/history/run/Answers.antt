@@ -15,6 +15,9 @@ returns-clause-events_are_a_run_of_moves c = record { run = (whole c).run; agree
 pub returns-clause-matches : goal.returns-clause-matches
 returns-clause-matches c = (whole c).matches
 
+pub returns-clause-refusals_may_come : goal.returns-clause-refusals_may_come
+returns-clause-refusals_may_come c = (whole c).refusals
+
 pub returns-clause-counts_are_what_is_owed : goal.returns-clause-counts_are_what_is_owed
 returns-clause-counts_are_what_is_owed c = match-counts _ _ (whole c).matches.follows
 
