@@ -1,10 +1,13 @@
--- Who takes or posts has the seat.
-use Rattle.std.proofs.Common.{◌≡◌, ℕ, Bool, true, false, ◌&&◌, Option, Some, None, refl, if◌then◌else◌}
+-- Who takes or posts has the seat, and nothing else stands against whoever has it.
+use Rattle.std.proofs.Common.{◌≡◌, ℕ, Bool, true, false, ◌&&◌, Option, Some, None, is_none, refl, ap, ◌∙◌, if◌then◌else◌}
 use Rattle.std.specs.Prelude.{◌==◌}
-use Rattle.eden_base.proofs.NumberTests.{true-eq}
+use Rattle.eden_base.proofs.NumberTests.{eq-true, true-eq}
 use Rattle.eden_base.specs.declared.number.DaemonId.{DaemonId}
 use Rattle.fuse_wire.specs.declared.reply.Reply.{Reply}
 use Rattle.broker_core.specs.Broker.{BrokerState, seat_fault, take_fault, take_fault_by, post_fault, post_fault_by}
+use Rattle.broker_core.specs.Traffic.{next_taken, is_asked}
+use Rattle.broker_core.specs.declared.fault.TakeFault.TheVariants.{Empty}
+use Rattle.broker_core.specs.declared.fault.PostFault.TheVariants.{NotAsked}
 use Rattle.broker_core.specs.declared.fault.NotSeated.{NotSeated}
 use Rattle.broker_core.specs.declared.fault.NotSeated.TheVariants as unseated
 use Rattle.broker_core.specs.declared.seat.Seat.{Seat}
@@ -39,3 +42,19 @@ posted-seated broker daemon generation reply h = seated broker.seat daemon gener
   clear None e = refl
   clear (Some unseated.Ended) e = absurd (let none : ⊥ = cc in none)
   clear (Some (unseated.Stale now)) e = absurd (let none : ⊥ = cc in none)
+
+-- ---- the seat's daemon
+
+free : (seat : Option Seat) (daemon : DaemonId) (generation : ℕ) → seat ≡ Some (record { generation = generation; daemon = daemon }) → seat_fault seat daemon generation ≡ None
+free seat daemon generation is =
+    let d : (daemon.0 == daemon.0) ≡ true = eq-true daemon.0 daemon.0 refl in
+    let g : (generation == generation) ≡ true = eq-true generation generation refl in
+    ap (λ (s : Option Seat). seat_fault s daemon generation) is ∙ rw (d, g) refl
+
+pub seated-taken : (broker : BrokerState) (daemon : DaemonId) (generation : ℕ) → broker.seat ≡ Some (record { generation = generation; daemon = daemon }) →
+    take_fault broker daemon generation ≡ (if is_none (next_taken broker.traffic) then Some Empty else None)
+seated-taken broker daemon generation is = ap (take_fault_by broker.traffic) (free broker.seat daemon generation is)
+
+pub seated-posted : (broker : BrokerState) (daemon : DaemonId) (generation : ℕ) (reply : Reply) → broker.seat ≡ Some (record { generation = generation; daemon = daemon }) →
+    post_fault broker daemon generation reply ≡ (if is_asked broker.traffic reply then None else Some NotAsked)
+seated-posted broker daemon generation reply is = ap (post_fault_by broker.traffic reply) (free broker.seat daemon generation is)

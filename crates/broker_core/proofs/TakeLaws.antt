@@ -1,16 +1,17 @@
 -- What a take hands out leaves the queue that it waited in, and no other.
-use Rattle.std.proofs.Common.{◌≡◌, Bool, true, false, List, [], ◌∷◌, ◌++◌, Some, refl, sym, ap, ◌∙◌, if◌then◌else◌, inl, inr, ◌⊎◌, take, drop}
+use Rattle.std.proofs.Common.{◌≡◌, Bool, true, false, List, [], ◌∷◌, ◌++◌, Some, refl, sym, ap, ◌∙◌, if◌then◌else◌, inl, inr, ◌⊎◌, map, take, drop}
 use Rattle.std.specs.Option.{option_map}
 use Rattle.std.proofs.lemmas.List.{take-append-drop}
 use Rattle.fuse_wire.specs.Request.{is_ask, items_of}
 use Rattle.fuse_wire.specs.declared.request.Ask.{Ask}
 use Rattle.fuse_wire.specs.declared.request.Request.TheVariants.{Forget, BatchForget}
 use Rattle.fuse_wire.specs.declared.item.Item.{Item}
-use Rattle.broker_core.specs.Traffic.{TrafficState, front, forget_of, without_unique, items_go_first, next_taken, left_by_take, ask_taken}
+use Rattle.broker_core.specs.Traffic.{TrafficState, front, asked_of, forget_of, without_unique, items_go_first, next_taken, left_by_take, ask_taken}
 
 -- the first untaken ask is taken
 pub record IsAskTaken (traffic : TrafficState) (ask : Ask) (left : TrafficState) : Type 0 where
   pub was : traffic.untaken ≡ ask ∷ left.untaken
+  pub taken : left.taken ≡ traffic.taken ++ asked_of ask ∷ []
   pub items : left.items ≡ traffic.items
   pub posted : left.posted ≡ traffic.posted
 
@@ -19,6 +20,7 @@ pub record AreItemsTaken (traffic : TrafficState) (ask : Ask) (left : TrafficSta
   pub no_ask : is_ask ask.what ≡ false
   pub was : items_of ask.what ++ left.items ≡ traffic.items
   pub untaken : left.untaken ≡ traffic.untaken
+  pub taken : left.taken ≡ traffic.taken
   pub posted : left.posted ≡ traffic.posted
 
 -- a request of items has them, and is no ask
@@ -40,6 +42,9 @@ take-is traffic ask = in_ (items_go_first traffic) where
     no_ask = r.0;
     was = ap (λ (is : List Item). is ++ drop 256 traffic.items) r.1 ∙ take-append-drop 256 traffic.items;
     untaken = refl;
+    taken = refl;
     posted = refl;
   })
-  in_ false e = inl (record { was = ask_in traffic ask traffic.untaken refl e; items = refl; posted = refl })
+  in_ false e =
+      let was = ask_in traffic ask traffic.untaken refl e in
+      inl (record { was = was; taken = ap (λ (us : List Ask). traffic.taken ++ map asked_of (take 1 us)) was; items = refl; posted = refl })

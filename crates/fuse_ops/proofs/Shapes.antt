@@ -18,7 +18,7 @@ use Rattle.fuse_wire.specs.Request.{is_ask, nodes, form_of}
 use Rattle.fuse_wire.specs.Given.{given_out}
 use Rattle.fuse_wire.specs.declared.request.Request.{Request}
 use Rattle.fuse_wire.specs.declared.request.Request.TheVariants.{Other}
-use Rattle.fuse_wire.specs.declared.form.Form.TheVariants.{AnEntry, Attributes}
+use Rattle.fuse_wire.specs.declared.form.Form.TheVariants.{AnEntry, Attributes, NoValue}
 use Rattle.fuse_wire.specs.declared.reply.Answer.{Answer}
 use Rattle.fuse_wire.specs.declared.reply.Answer.TheVariants.{Entry, Opened, Attrs, Done, Error}
 use Rattle.entry_table.specs.Entries.{entry_at, stands_at, once_more, new_entry}
@@ -70,7 +70,7 @@ entry-gives : (request : Request) (dir : Number) (name : List ℕ) → place_tol
 entry-gives (Other opcode node) dir name e number attr = absurd (let none : ⊥ = cc in none)
 entry-gives request dir name e number attr = cc
 
--- the form in which a name that is found is told, and a file that is shown
+-- the form in which a name that is found is told, and a file that is shown, and that a name was taken away
 pub find-form : (request : Request) (dir : Number) (name : List ℕ) → deed_of request ≡ find_name dir name → form_of request ≡ AnEntry
 find-form (Other opcode node) dir name e = absurd (let none : ⊥ = cc in none)
 find-form request dir name e = cc
@@ -78,6 +78,10 @@ find-form request dir name e = cc
 pub show-form : (request : Request) (node : Number) → deed_of request ≡ show_file node → form_of request ≡ Attributes
 show-form (Other opcode other) node e = absurd (let none : ⊥ = cc in none)
 show-form request node e = cc
+
+pub take-form : (request : Request) (dir : Number) (name : List ℕ) (kind : Kind) → deed_of request ≡ take_name dir name kind → form_of request ≡ NoValue
+take-form (Other opcode node) dir name kind e = absurd (let none : ⊥ = cc in none)
+take-form request dir name kind e = cc
 
 pub find-goes : (request : Request) (dir : Number) (name : List ℕ) → deed_of request ≡ find_name dir name → GoesTo request dir (λ tree above. enters tree (found_in tree above name))
 find-goes request dir name e = record {

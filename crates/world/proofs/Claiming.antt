@@ -1,5 +1,5 @@
 -- A claim moves the seat; one that is refused moves nothing.
-use Rattle.std.proofs.Common.{◌≡◌, ℕ, ◌+◌, ◌≤◌, true, List, [], ◌∷◌, ◌++◌, Option, Some, None, Err, refl, sym, ap, ◌∙◌, subst, inl, inr, ◌⊎◌, arith}
+use Rattle.std.proofs.Common.{◌≡◌, ℕ, ◌+◌, ◌-◌, ◌≤◌, true, List, [], ◌∷◌, ◌++◌, Option, Some, None, Err, refl, sym, ap, ◌∙◌, subst, inl, inr, ◌⊎◌, arith}
 use Rattle.std.specs.Prelude.{sum_by}
 use Rattle.std.specs.Option.{option_map, option_map_or, option_and_then}
 use Rattle.eden_base.specs.declared.claim.ClaimFault.{ClaimFault}
@@ -168,13 +168,17 @@ module _ (w : World) (old : State) (daemon : DaemonId) (was later : DaemonState)
 claim-moved : (w : World) (old : State) (daemon : DaemonId) (was later : DaemonState) (g : ℕ) (new : State) → Follows w old → IsHanding old → daemon_of old daemon ≡ Some was → table.claim_wanted was.node.phase ≡ Some g → IsClaim w old g → later.server ≡ option_map (at_generation (g + 1)) was.server →
     new ≡ with_daemon (record old { broker = claimed old.broker daemon g }) daemon later → MovesBy w (move_of w.seat (Claim daemon) (happened.Claimed (g + 1))) old (happened.Claimed (g + 1)) new
 claim-moved w old daemon was later g new m h there wants c serves makes =
-    subst (λ (o : Option Seat). MovesBy w (option_map_or (λ (now : Seat). claim now.generation daemon ∷ []) o []) old (happened.Claimed (g + 1)) new) (sym here) (record {
+    subst (λ (n : ℕ). MovesBy w (claim n daemon ∷ []) old (happened.Claimed (g + 1)) new) from (record {
       run = (((c.seat).daemon, here), tt);
       matches = subst (λ (s : State). Follows (after w (claim (c.seat).generation daemon)) s) (sym (makes ∙ ap (λ (n : ℕ). with_daemon (record old { broker = claimed old.broker daemon n }) daemon later) (sym c.is)))
           (claimed-follows w old daemon was later c.seat m h there c.seated k at_next);
       forget = tt;
       answered = λ e. absurd (let none : ⊥ = cc in none);
     }) where
+      -- the generation that was claimed is the seat's
+      from : (c.seat).generation ≡ g + 1 - 1
+      from = let same : (c.seat).generation ≡ g = c.is in omega arith
+
       here : w.seat ≡ Some c.seat
       here = (m.books).seat ∙ c.seated
 

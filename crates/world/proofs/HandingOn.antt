@@ -121,7 +121,7 @@ started-in [] (suc i) now e = absurd (let none : ⊥ = cc in none)
 started-in (d ∷ ds) zero now e = inl e
 started-in (d ∷ ds) (suc i) now e = started-in ds i now e
 
-started-there : (old : State) (messages : List Message) (daemon : DaemonId) (now : DaemonState) → daemon_of (record old { daemons = old.daemons ++ new_daemon ∷ []; messages = messages }) daemon ≡ Some now →
+pub started-there : (old : State) (messages : List Message) (daemon : DaemonId) (now : DaemonState) → daemon_of (record old { daemons = old.daemons ++ new_daemon ∷ []; messages = messages }) daemon ≡ Some now →
     (daemon_of old daemon ≡ Some now) ⊎ ((daemon_of old daemon ≡ None) × (now ≡ new_daemon))
 started-there old messages daemon now e = in_ (daemon.0 == 0) e where
   in_ : (b : Bool) → (if b then None else slice_get (old.daemons ++ new_daemon ∷ []) (daemon.0 - 1)) ≡ Some now →

@@ -18,7 +18,12 @@ use Rattle.world.specs.Step.{after_refusal, unclaimed, Makes, OnceBy, Once, IfMa
 use Rattle.world.specs.declared.event.Event.{Event}
 use Rattle.world.specs.declared.event.Event.TheVariants.{Start, Mount, Issue, Take, Work, Post, Deliver, Hear, Drained, GiveUp, Claim, Crash, Do, Show}
 use Rattle.daemon.specs.declared.happened.Happened.{Happened}
+use Rattle.daemon.specs.declared.happened.Happened.TheVariants as happened
 use Rattle.daemon.specs.declared.happened.Refusal.{Refusal}
+use Rattle.daemon.specs.declared.happened.Refusal.TheVariants as refusal
+use Rattle.world.specs.Attending.{is_claim, may_come, MayBeTold}
+use Rattle.world.proofs.AttendingOn.{once-attended}
+use Rattle.world.proofs.Coming.{once-comes}
 use Rattle.world.proofs.Events.{once-moved}
 use Rattle.world.proofs.HandingOn.{once-handing}
 use Rattle.world.proofs.Moving.{MovesBy}
@@ -74,6 +79,25 @@ StaysSeated [] = Unit {0}
 StaysSeated (event ∷ []) = Unit {0}
 StaysSeated (event ∷ next ∷ events) = KeepsSeat event × StaysSeated (next ∷ events)
 
+-- ---- what an event is refused for
+
+-- what comes to these events may come to the one that they are parts of
+abbrev pub Covers : Event → List Event → Type 0
+Covers whole [] = Unit {0}
+Covers whole (event ∷ events) = ((r : Refusal) → may_come r event ≡ true → may_come r whole ≡ true) × Covers whole events
+
+as-part : (whole event : Event) (told : Happened) → ((r : Refusal) → may_come r event ≡ true → may_come r whole ≡ true) → MayBeTold event told → MayBeTold whole told
+as-part whole event (happened.Refused r) covers may = covers r may
+as-part whole event told covers may = tt
+
+-- what may come to an event that is no claim may come to each
+no-claim-covers : (whole event : Event) → is_claim event ≡ false → (r : Refusal) → may_come r event ≡ true → may_come r whole ≡ true
+no-claim-covers whole event none refusal.Ended may = absurd (let two : true ≡ false = sym may ∙ none in let x : ⊥ = cc in x)
+no-claim-covers whole event none (refusal.Stale now) may = absurd (let two : true ≡ false = sym may ∙ none in let x : ⊥ = cc in x)
+no-claim-covers whole event none refusal.NotAsked may = absurd (let x : ⊥ = cc in x)
+no-claim-covers whole event none (refusal.Unanswered asks) may = absurd (let x : ⊥ = cc in x)
+no-claim-covers whole event none r may = refl
+
 -- ---- one after another
 
 -- what events did
@@ -82,19 +106,21 @@ pub record Carried (w : World) (old : State) (events : List Event) (outcome : Li
   pub matches : Matches (after_all w (moves_in_turn w events outcome)) new
   pub forgets : AllByRecursion IsGoodForget outcome
   pub answered : list_any is_posted outcome ≡ true → IsAnswered (after_all w (moves_in_turn w events outcome)) old.broker.seat
+  pub refusals : (whole : Event) → Covers whole events → AllByRecursion (MayBeTold whole) outcome
 
 or_in : (b c : Bool) → (b || c) ≡ true → (b ≡ true) ⊎ (c ≡ true)
 or_in true c e = inl refl
 or_in false c e = inr e
 
 -- one event, and then the others
-carried-on : (w : World) (old between : State) (event : Event) (events : List Event) (told : Happened) (rest : List Happened) (new : State) → MovesBy w (move_of w.seat event told) old told between →
+carried-on : (w : World) (old between : State) (event : Event) (events : List Event) (told : Happened) (rest : List Happened) (new : State) → MovesBy w (move_of w.seat event told) old told between → MayBeTold event told →
     Carried (after_all w (move_of w.seat event told)) between events rest new → (list_any is_posted rest ≡ true → between.broker.seat ≡ old.broker.seat) → Carried w old (event ∷ events) (told ∷ rest) new
-carried-on w old between event events told rest new one more seat = record {
+carried-on w old between event events told rest new one may more seat = record {
   run = run-append w (move_of w.seat event told) (moves_in_turn (after_all w (move_of w.seat event told)) events rest) one.run more.run;
   matches = subst (λ (x : World). Matches x new) (sym joined) more.matches;
   forgets = (one.forget, more.forgets);
   answered = λ e. subst (λ (x : World). IsAnswered x old.broker.seat) (sym joined) (answered_in (or_in (is_posted told) (list_any is_posted rest) e));
+  refusals = λ whole covers. (as-part whole event told covers.0 may, more.refusals whole covers.1);
 } where
   joined : after_all w (move_of w.seat event told ++ moves_in_turn (after_all w (move_of w.seat event told)) events rest) ≡ after_all (after_all w (move_of w.seat event told)) (moves_in_turn (after_all w (move_of w.seat event told)) events rest)
   joined = after_all-append w (move_of w.seat event told) (moves_in_turn (after_all w (move_of w.seat event told)) events rest)
@@ -110,6 +136,7 @@ carried-none w old new events rest m none same = subst (λ (r : List Happened). 
   matches = subst (λ (ms : List Move). Matches (after_all w ms) new) (sym (no_moves events)) (subst (λ (s : State). Matches w s) (sym same) m);
   forgets = tt;
   answered = λ e. absurd (let x : ⊥ = cc in x);
+  refusals = λ whole covers. tt;
 }) where
   no_moves : (es : List Event) → moves_in_turn w es [] ≡ []
   no_moves [] = refl
@@ -129,6 +156,7 @@ carries-moved w old (event ∷ events) (told ∷ rest) new m stays (between, onc
       matched = record {
         follows = (once-moved w old event told between m.follows m.handing once).matches;
         handing = once-handing w old event told between m.follows m.handing once;
+        attended = once-attended w old event told between m.follows m.handing m.attended once;
       }
 
       seat_in : (es : List Event) → es ≡ events → StaysSeated (event ∷ es) → Carries between es rest new → list_any is_posted rest ≡ true → between.broker.seat ≡ old.broker.seat
@@ -137,8 +165,8 @@ carries-moved w old (event ∷ events) (told ∷ rest) new m stays (between, onc
 
       in_ : (b : Bool) → MovesBy w (move_of w.seat event told) old told between → IfMade b (Carries between events rest new) ((rest ≡ []) × (new ≡ between)) →
           (Carries between events rest new → Carried (after_all w (move_of w.seat event told)) between events rest new) → Carried w old (event ∷ events) (told ∷ rest) new
-      in_ true one goes more = carried-on w old between event events told rest new one (more goes) (λ p. seat_in events refl stays goes p)
-      in_ false one (none, same) more = carried-on w old between event events told rest new one (carried-none (after_all w (move_of w.seat event told)) between new events rest matched none same)
+      in_ true one goes more = carried-on w old between event events told rest new one (once-comes w old m event told between once) (more goes) (λ p. seat_in events refl stays goes p)
+      in_ false one (none, same) more = carried-on w old between event events told rest new one (once-comes w old m event told between once) (carried-none (after_all w (move_of w.seat event told)) between new events rest matched none same)
           (λ p. absurd (let q : list_any is_posted [] ≡ true = subst (λ (r : List Happened). list_any is_posted r ≡ true) none p in let x : ⊥ = cc in x))
 
 -- ---- every event
@@ -166,6 +194,27 @@ stays-parts seat (Crash daemon) = tt
 stays-parts seat (Do request) = stays-do seat request
 stays-parts seat Show = tt
 
+-- the parts of an event are refused only as it may be
+covers-parts : (seat : Option Seat) (event : Event) → Covers event (parts_of seat event)
+covers-parts seat Start = (λ r may. may, tt)
+covers-parts seat (Mount daemon) = (λ r may. may, tt)
+covers-parts seat (Issue request) = (λ r may. may, tt)
+covers-parts seat (Take daemon) = (λ r may. may, tt)
+covers-parts seat (Work daemon place fails) = (λ r may. may, tt)
+covers-parts seat (Post daemon place) = (λ r may. may, tt)
+covers-parts seat Deliver = (λ r may. may, tt)
+covers-parts seat (Hear daemon place) = (λ r may. may, tt)
+covers-parts seat (Drained daemon) = (λ r may. may, tt)
+covers-parts seat (GiveUp daemon) = (λ r may. may, tt)
+covers-parts seat (Claim daemon) = (λ r may. may, tt)
+covers-parts seat (Crash daemon) = (λ r may. may, tt)
+covers-parts None (Do request) = (no-claim-covers (Do request) (Issue request) refl, tt)
+covers-parts (Some seat) (Do request) = (no-claim-covers (Do request) (Issue request) refl, (no-claim-covers (Do request) (Take seat.daemon) refl, (no-claim-covers (Do request) (Work seat.daemon 1 false) refl, in_ (is_ask request)))) where
+  in_ : (b : Bool) → Covers (Do request) (if b then Post seat.daemon 1 ∷ Deliver ∷ [] else [])
+  in_ true = (no-claim-covers (Do request) (Post seat.daemon 1) refl, (no-claim-covers (Do request) Deliver refl, tt))
+  in_ false = tt
+covers-parts seat Show = tt
+
 -- Every event, made or refused, is moves that may happen in the world, and the state matches the world after them.
 pub step-matched : (w : World) (old : State) (event : Event) (outcome : List Happened) (new : State) → Matches w old → Step old event outcome new → MovesOn w old event outcome new
 step-matched w old event outcome new m step = record {
@@ -173,6 +222,7 @@ step-matched w old event outcome new m step = record {
   matches = subst (λ (ms : List Move). Matches (after_all w ms) new) (sym moves) carried.matches;
   forgets = carried.forgets;
   answered = subst (λ (ms : List Move). IsAnswered (after_all w ms) (posted_from old outcome)) (sym moves) (answered_in (list_any is_posted outcome) refl);
+  refusals = carried.refusals event (covers-parts old.broker.seat event);
 } where
   moves : moves_of w event outcome ≡ moves_in_turn w (parts_of old.broker.seat event) outcome
   moves = ap (λ (o : Option Seat). moves_in_turn w (parts_of o event) outcome) ((m.follows).books).seat

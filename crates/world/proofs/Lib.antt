@@ -28,6 +28,16 @@ mod HandingTalks
 mod HandingOn
 mod Talks
 mod Claiming
+mod Accepting
+mod Awaiting
+mod AwaitingPosts
+mod Attending
+mod AttendingWork
+mod AttendingSeat
+mod AttendingTalks
+mod AttendingOn
+mod Refusing
+mod Coming
 mod Events
 pub mod InTurn
 pub mod WholeRun

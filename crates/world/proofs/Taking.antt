@@ -37,7 +37,7 @@ use Rattle.world.proofs.UnderWay.{under-taken, under-posted, posted-under, IsRea
 -- ---- take
 
 -- a daemon that serves where no cause stands against a take has the seat
-take-seat : (old : State) (daemon : DaemonId) (was : DaemonState) (server : ServerState) → was.server ≡ Some server → take_refusal old daemon (Some was) ≡ None → old.broker.seat ≡ Some (record { generation = server.generation; daemon = daemon })
+pub take-seat : (old : State) (daemon : DaemonId) (was : DaemonState) (server : ServerState) → was.server ≡ Some server → take_refusal old daemon (Some was) ≡ None → old.broker.seat ≡ Some (record { generation = server.generation; daemon = daemon })
 take-seat old daemon was server serves h = in_ (may_take was.node.phase) (subst (λ (o : Option ServerState). server_refusal old daemon (may_take was.node.phase) o ≡ None) serves h) where
   clear : (f : Option TakeFault) → option_map refusal_of_take f ≡ None → f ≡ None
   clear None e = refl
@@ -47,7 +47,7 @@ take-seat old daemon was server serves h = in_ (may_take was.node.phase) (subst 
   in_ true e = taken-seated old.broker daemon server.generation (clear (take_fault old.broker daemon server.generation) e)
   in_ false e = absurd (let none : ⊥ = cc in none)
 
-each-right : (P : Ask → Type 0) (xs ys : List Ask) → AllByRecursion P (xs ++ ys) → AllByRecursion P ys
+pub each-right : (P : Ask → Type 0) (xs ys : List Ask) → AllByRecursion P (xs ++ ys) → AllByRecursion P ys
 each-right P [] ys every = every
 each-right P (x ∷ xs) ys every = each-right P xs ys every.1
 
@@ -92,7 +92,7 @@ takes-moved w old daemon told new m clear t = subst (λ (x : Happened). MovesBy 
 
 -- ---- post
 
-post-seat : (old : State) (daemon : DaemonId) (server : ServerState) (reply : Reply) → reply_refusal old daemon server (Some reply) ≡ None → old.broker.seat ≡ Some (record { generation = server.generation; daemon = daemon })
+pub post-seat : (old : State) (daemon : DaemonId) (server : ServerState) (reply : Reply) → reply_refusal old daemon server (Some reply) ≡ None → old.broker.seat ≡ Some (record { generation = server.generation; daemon = daemon })
 post-seat old daemon server reply h = posted-seated old.broker daemon server.generation reply (clear (post_fault old.broker daemon server.generation reply) h) where
   clear : (f : Option PostFault) → option_map refusal_of_post f ≡ None → f ≡ None
   clear None e = refl

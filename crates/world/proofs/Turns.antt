@@ -11,6 +11,7 @@ use Rattle.takeover_core.specs.declared.message.Message.{Message}
 use Rattle.takeover_core.specs.declared.message.Message.TheVariants.{Offer, Choice, Ready, Pong, Data, Failed}
 use Rattle.takeover_core.specs.declared.phase.Phase.{Phase}
 use Rattle.takeover_core.specs.declared.phase.Phase.TheVariants.{Waiting, Chosen, Raising, Serving, Draining, Pinged, Making, Handed, Gone}
+use Rattle.world.specs.Attending.{serving_at}
 use Rattle.world.specs.Handing.{part_at, is_drained, is_out, in_session}
 use Rattle.daemon.specs.Talking.{bytes_of}
 
@@ -27,13 +28,14 @@ abbrev pub says_data : Answer → Bool
 says_data (Say m) = is_data m
 says_data answer = false
 
--- a phase that a daemon turned to, seen at a generation, by whether it has nothing left: its part is what it was; it is
--- drained where it was, or has nothing left; what is out stays out; a session is begun only where a claim may follow;
--- and what is held was held, or is the holder's own
+-- a phase that a daemon turned to, seen at a generation, by whether it has nothing left: its part is what it was; it
+-- serves only where it did; it is drained where it was, or has nothing left; what is out stays out; a session is begun
+-- only where a claim may follow; and what is held was held, or is the holder's own
 pub record IsTurn (g : ℕ) (idle : Bool) (old new : Phase) : Type 0 where
   pub part_back : part_at new ≡ Some g → part_at old ≡ Some g
   pub part_on : part_at old ≡ Some g → part_at new ≡ Some g
   pub seat_back : seat_of new ≡ Some g → seat_of old ≡ Some g
+  pub serving_back : serving_at new ≡ Some g → serving_at old ≡ Some g
   pub out_on : is_out old ≡ true → is_out new ≡ true
   pub drained_back : is_drained new ≡ true → (is_drained old ≡ true) ⊎ (idle ≡ true)
   pub session_back : in_session new ≡ true → part_at old ≡ Some g → (in_session old ≡ true) ⊎ ((g == last_generation) ≡ false)

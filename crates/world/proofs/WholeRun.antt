@@ -17,6 +17,7 @@ use Rattle.world.specs.State.{State, started, server_of}
 use Rattle.world.specs.Step.{Steps}
 use Rattle.world.specs.World.{World, first_world, IsRun, after_all}
 use Rattle.world.specs.Agreement.{Agrees, CountsAreOwed, NumbersNameTheirFirstFile, DataIsCurrent, Follows, Matches, IsGoodForget, IsAnswered, posted_from, posters, moves_of, all_moves}
+use Rattle.world.specs.Attending.{RefusalsMayCome}
 use Rattle.world.specs.declared.event.Event.{Event}
 use Rattle.daemon.specs.declared.happened.Happened.{Happened}
 use Rattle.world.proofs.InTurn.{step-matched}
@@ -96,6 +97,7 @@ pub first-matches : (manifest : Manifest) (limit : ℕ) → IsManifest manifest 
 first-matches manifest limit is_manifest is = record {
   follows = first-follows manifest limit is;
   handing = record { is_manifest = is_manifest; low = omega arith; daemons = λ daemon was there. absurd (no_daemon (daemon.0 == 0) was there); messages = tt; once = λ seat e. absurd (let none : ⊥ = cc in none) };
+  attended = record { daemons = λ daemon was there. absurd (no_daemon (daemon.0 == 0) was there); asked = λ seat server at. absurd (let two : None ≡ Some seat = at.has_seat in let none : ⊥ = cc in none) };
 } where
   no_daemon : (b : Bool) (was : DaemonState) → (if b then None else None) ≡ Some was → ⊥
   no_daemon true was e = let none : ⊥ = cc in none
@@ -106,9 +108,10 @@ pub record Ran (w : World) (events : List Event) (outcomes : List (List Happened
   pub run : IsRun w (all_moves w events outcomes)
   pub matches : Matches (after_all w (all_moves w events outcomes)) new
   pub forgets : AllByRecursion (AllByRecursion IsGoodForget) outcomes
+  pub refusals : RefusalsMayCome events outcomes
 
 pub steps-matched : (w : World) (old : State) (events : List Event) (outcomes : List (List Happened)) (new : State) → Matches w old → Steps old events outcomes new → Ran w events outcomes new
-steps-matched w old [] [] new m same = record { run = tt; matches = subst (λ (s : State). Matches w s) (sym same) m; forgets = tt }
+steps-matched w old [] [] new m same = record { run = tt; matches = subst (λ (s : State). Matches w s) (sym same) m; forgets = tt; refusals = tt }
 steps-matched w old [] (outcome ∷ outcomes) new m none = absurd none
 steps-matched w old (event ∷ events) [] new m none = absurd none
 steps-matched w old (event ∷ events) (outcome ∷ outcomes) new m (between, step, steps) =
@@ -119,6 +122,7 @@ steps-matched w old (event ∷ events) (outcome ∷ outcomes) new m (between, st
       run = run-append w (moves_of w event outcome) (all_moves w' events outcomes) one.run rest.run;
       matches = subst (λ (x : World). Matches x new) (sym (after_all-append w (moves_of w event outcome) (all_moves w' events outcomes))) rest.matches;
       forgets = (one.forgets, rest.forgets);
+      refusals = (one.refusals, rest.refusals);
     }
 
 -- each reply that was posted on the way is one that the world saw posted

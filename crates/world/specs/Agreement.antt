@@ -1,6 +1,6 @@
 -- Which moves an event makes in the world, what a served state knows of a world, and how the state matches the world
 -- after them.
-use Rattle.std.specs.Prelude.{◌≡◌, ◌≢◌, ℕ, ◌+◌, ◌<◌, ◌≤◌, ◌↔◌, Bool, true, false, ◌||◌, ◌==◌, List, [], ◌∷◌, ◌++◌, sum_by, count_by, Contains, Option, Some, None, IsSome, if◌then◌else◌}
+use Rattle.std.specs.Prelude.{◌≡◌, ◌≢◌, ℕ, ◌+◌, ◌-◌, ◌<◌, ◌≤◌, ◌↔◌, Bool, true, false, ◌||◌, ◌==◌, List, [], ◌∷◌, ◌++◌, sum_by, count_by, Contains, Option, Some, None, IsSome, if◌then◌else◌}
 use Rattle.std.specs.Option.{option_map_or}
 use Rattle.std.specs.List.{AllByRecursion, list_any}
 use Rattle.eden_base.specs.declared.number.DaemonId.{DaemonId}
@@ -22,6 +22,7 @@ use Rattle.map_codec.specs.Handover.{IsHandedOver}
 use Rattle.takeover_core.specs.Phases.{claim_wanted}
 use Rattle.takeover_core.specs.declared.message.Message.TheVariants.{Data}
 use Rattle.world.specs.Handing.{IsHanding}
+use Rattle.world.specs.Attending.{MayBeTold, IsAttended}
 use Rattle.daemon.specs.Daemon.{DaemonState}
 use Rattle.daemon.specs.Server.{ServerState, IsIdle, at_place, is_single}
 use Rattle.world.specs.State.{State, IsSeated, daemon_of, server_of, is_data_of}
@@ -38,9 +39,9 @@ use Rattle.daemon.specs.declared.happened.Happened.TheVariants as happened
 abbrev pub holds : Option Seat → DaemonId → Bool
 holds seat daemon = option_map_or (λ (seat : Seat). seat.daemon.0 == daemon.0) seat false
 
--- The moves that an event made, by who had the seat and what is told of the event. A take only hands on what is under
--- way, messages and the end of a daemon without the seat change nothing for the kernel, and what was refused made
--- none.
+-- The moves that an event made, by who had the seat and what is told of the event. A claim is from the generation
+-- before the one that is told. A take only hands on what is under way, messages and the end of a daemon without the
+-- seat change nothing for the kernel, and what was refused made none.
 abbrev pub move_of : Option Seat → Event → Happened → List Move
 move_of seat (Mount daemon) (happened.Mounted generation) = mount daemon ∷ []
 move_of seat (Issue request) (happened.Asked (Some unique)) = issue (record { unique = unique; what = request }) ∷ []
@@ -50,8 +51,7 @@ move_of seat (Work daemon place fails) (happened.Made reply) = work reply.unique
 move_of seat (Work daemon place fails) (happened.Forgot item forgot) = work_item item ∷ []
 move_of seat (Post daemon place) (happened.Posted unique) = accept unique daemon ∷ []
 move_of seat Deliver (happened.Answered reply) = deliver reply.unique ∷ []
-move_of seat (Claim daemon) (happened.Claimed next) =
-    option_map_or (λ (now : Seat). claim now.generation daemon ∷ []) seat []
+move_of seat (Claim daemon) (happened.Claimed next) = claim (next - 1) daemon ∷ []
 move_of seat (Crash daemon) happened.Crashed = if holds seat daemon then mount_end ∷ [] else []
 move_of seat event told = []
 
@@ -276,10 +276,12 @@ pub record Follows (world : World) (state : State) : Type 0 where
   pub knows : HolderKnows world state
   pub others_idle : OthersAreIdle state
 
--- the state matches the world, and whoever may take the seat over knows what its holder knows
+-- the state matches the world; whoever may take the seat over knows what its holder knows; and whoever serves has the
+-- seat, and is waited for
 pub record Matches (world : World) (state : State) : Type 0 where
   pub follows : Follows world state
   pub handing : IsHanding state
+  pub attended : IsAttended state
 
 -- the events' moves are a run from before anything happened, and the world after it agrees with the state at the end
 pub record IsRunOfMoves (manifest : Manifest) (events : List Event) (outcomes : List (List Happened))
@@ -287,10 +289,11 @@ pub record IsRunOfMoves (manifest : Manifest) (events : List Event) (outcomes : 
   pub run : IsRun (first_world manifest) (all_moves (first_world manifest) events outcomes)
   pub agrees : Agrees (world_after manifest events outcomes) end
 
--- what one event does: its moves may happen in the world, the state matches the world after them, no forget was bad,
--- and a reply was posted by the daemon that the world saw
+-- what one event does: its moves may happen in the world, the state matches the world after them, no forget was bad, a
+-- reply was posted by the daemon that the world saw, and it was refused only as it may be
 pub record MovesOn (world : World) (old : State) (event : Event) (outcome : List Happened) (new : State) : Type 0 where
   pub run : IsRun world (moves_of world event outcome)
   pub matches : Matches (after_all world (moves_of world event outcome)) new
   pub forgets : AllByRecursion IsGoodForget outcome
   pub answered : IsAnswered (after_all world (moves_of world event outcome)) (posted_from old outcome)
+  pub refusals : AllByRecursion (MayBeTold event) outcome

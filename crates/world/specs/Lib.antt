@@ -2,5 +2,6 @@ pub mod State
 pub mod Step
 pub mod World
 pub mod Handing
+pub mod Attending
 pub mod Agreement
 pub mod Laws

@@ -2,8 +2,9 @@
 ghost use Rattle.std.specs.Prelude.{IfOk};
 ghost use Rattle.world.specs.State.{started};
 ghost use Rattle.std.specs.List.{AllByRecursion};
+ghost use Rattle.world.specs.Attending.{RefusalsMayCome};
 ghost use Rattle.world.specs.Step.{Steps};
-ghost use Rattle.world.specs.Agreement.{world_after, IsRunOfMoves, CountsAreOwed, NumbersNameTheirFirstFile, OneDaemonForEachGeneration, DataIsCurrent, IsGoodForget, RepliesAreAnswered};
+ghost use Rattle.world.specs.Agreement.{world_after, Matches, IsRunOfMoves, CountsAreOwed, NumbersNameTheirFirstFile, OneDaemonForEachGeneration, DataIsCurrent, IsGoodForget, RepliesAreAnswered};
 
 use crate::event::Event;
 use crate::outcome::Outcome;
@@ -42,6 +43,12 @@ pub fn run(
         RepliesAreAnswered (world_after manifest.now events.now r.1.items) (started manifest.now limit) events.now r.1.items r.0) }
     ensures no_bad_forget { IfOk result (λ r.
         AllByRecursion (AllByRecursion IsGoodForget) r.1.items) }
+
+    // No take or post is refused as Ended, Stale or NotAsked, and no claim as Unanswered.
+    ensures refusals_may_come { IfOk result (λ r. RefusalsMayCome events.now r.1.items) }
+
+    // The state matches the last world, so that what `World::step` says of matching worlds goes on from here.
+    ensures matches { IfOk result (λ r. Matches (world_after manifest.now events.now r.1.items) r.0) }
 {
     let mut world = World::new(alloc, manifest, limit)?;
     let outcomes = outcomes_of(alloc, &mut world, events)?;

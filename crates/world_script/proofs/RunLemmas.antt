@@ -39,6 +39,7 @@ promised manifest limit events outcomes last matches steps =
       handed_data_is_current = match-current (world_after manifest events outcomes) last ran.matches;
       replies_are_answered = λ way. posters-answered (first_world manifest) (started manifest limit) events outcomes last matches way;
       no_bad_forget = ran.forgets;
+      refusals_may_come = ran.refusals;
     }
 
 runs-good : (script : List ℕ) (good : IsGood script) (limit : ℕ) (before after : Option (List ℕ)) → Matches (first_world good.manifest) (started good.manifest limit) → RunsEvents (started good.manifest limit) good.events before after → Runs script limit before after

@@ -9,6 +9,7 @@ use Rattle.world.specs.State.{State, started}
 use Rattle.world.specs.Step.{Step}
 use Rattle.world.specs.World.{IsRun, first_world}
 use Rattle.world.specs.Agreement.{all_moves, world_after, Matches, IsRunOfMoves, CountsAreOwed, NumbersNameTheirFirstFile, OneDaemonForEachGeneration, DataIsCurrent, RepliesAreAnswered, IsGoodForget}
+use Rattle.world.specs.Attending.{RefusalsMayCome}
 use Rattle.world.specs.declared.event.Event.{Event}
 use Rattle.daemon.specs.declared.happened.Happened.{Happened}
 use Rattle.world_script.specs.Parts.{IsSplit, SaysEvents}
@@ -63,6 +64,8 @@ pub record IsPromised (manifest : Manifest) (limit : ℕ) (events : List Event)
       RepliesAreAnswered (world_after manifest events outcomes) (started manifest limit) events outcomes last
   -- no forget was bad, or of the root
   pub no_bad_forget : AllByRecursion (AllByRecursion IsGoodForget) outcomes
+  -- no take or post was refused as Ended, Stale or NotAsked, and no claim as Unanswered
+  pub refusals_may_come : RefusalsMayCome events outcomes
 
 -- events happen from this state on, and what they print is written behind what was there
 pub record RunsEvents (start : State) (events : List Event) (before after : Option (List ℕ)) : Type 0 where

@@ -12,6 +12,12 @@ whole c = steps-matched (first_world c.args.manifest.now) c.in_ok-world.world c.
 pub returns-clause-events_are_a_run_of_moves : goal.returns-clause-events_are_a_run_of_moves
 returns-clause-events_are_a_run_of_moves c = record { run = (whole c).run; agrees = match-agrees _ _ (whole c).matches.follows }
 
+pub returns-clause-matches : goal.returns-clause-matches
+returns-clause-matches c = (whole c).matches
+
+pub returns-clause-refusals_may_come : goal.returns-clause-refusals_may_come
+returns-clause-refusals_may_come c = (whole c).refusals
+
 pub returns-clause-counts_are_what_is_owed : goal.returns-clause-counts_are_what_is_owed
 returns-clause-counts_are_what_is_owed c = match-counts _ _ (whole c).matches.follows
 

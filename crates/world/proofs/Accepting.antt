@@ -1,0 +1,108 @@
+-- A legal answer is one that the broker takes: it belongs to its request, and gives out neither number 0 nor the root.
+use Rattle.std.proofs.Common.{◌≡◌, ℕ, ◌≤◌, true, ◌&&◌, List, Option, Some, None, Result, Ok, Err, refl, sym, ap, ◌∙◌, subst, inl, inr, arith}
+use Rattle.std.specs.Option.{option_map_or}
+use Rattle.std.proofs.lemmas.Bool.Decides.{nat_tests}
+use Rattle.eden_base.specs.declared.attr.Attr.{Attr}
+use Rattle.eden_base.specs.declared.attr.Kind.{Kind}
+use Rattle.eden_base.specs.declared.attr.Perm.{Perm}
+use Rattle.eden_base.specs.declared.errno.Errno.{Errno}
+use Rattle.eden_base.specs.declared.errno.Errno.TheVariants.{ESTALE, EIO, ENOMEM, ENOSYS}
+use Rattle.eden_base.specs.declared.number.FileId.{FileId}
+use Rattle.eden_base.specs.declared.number.Number.{Number}
+use Rattle.manifest.specs.Tree.{Tree}
+use Rattle.fuse_wire.specs.Request.{form_of}
+use Rattle.fuse_wire.specs.Form.{belongs}
+use Rattle.fuse_wire.specs.Given.{given_out}
+use Rattle.fuse_wire.specs.declared.form.Form.{Form}
+use Rattle.fuse_wire.specs.declared.form.Form.TheVariants.{AnEntry, AnOpenEntry, Attributes, NoValue}
+use Rattle.fuse_wire.specs.declared.request.Request.{Request}
+use Rattle.fuse_wire.specs.declared.reply.Answer.{Answer}
+use Rattle.fuse_wire.specs.declared.reply.Answer.TheVariants.{Error}
+use Rattle.broker_core.specs.Traffic.{may_be_given}
+use Rattle.entry_table.specs.Entries.{entry_at, stands_at, number_of_kept}
+use Rattle.entry_table.specs.declared.kept.Kept.{Kept}
+use Rattle.entry_table.proofs.EntryLemmas.{numbers-bound, numbers-entry, entry_of-first}
+use Rattle.inode_map.specs.InodeMap.{number_given}
+use Rattle.fuse_ops.specs.Answers.{NumberFault, number_errno, Effect, enters, shows, makes, takes, takes_from, found_in, free_in, unless, against_taking, told_as, AnswersCounted, Answers, Deed, find_name, make_file, take_name, show_file, unserved, deed_of, done_to}
+use Rattle.fuse_ops.specs.Served.{ServedState, numbers_at, place_told, IsLegal}
+use Rattle.fuse_ops.specs.Soundness.{IsSound}
+use Rattle.fuse_ops.proofs.Shapes.{TellsEntry, find-tells, make-tells, show-form, take-form}
+
+-- an answer in this form is taken
+abbrev pub IsTakenAs : Form → Answer → Type 0
+IsTakenAs form answer = (belongs form answer && may_be_given answer) ≡ true
+
+-- ---- by the form
+
+error-taken : (form : Form) (answer : Answer) (errno : Errno) → answer ≡ Error errno → IsTakenAs form answer
+error-taken form answer errno is = subst (IsTakenAs form) (sym is) (in_ form) where
+  in_ : (f : Form) → IsTakenAs f (Error errno)
+  in_ AnEntry = refl
+  in_ f = refl
+
+-- what gives a number out above the root's
+entry-taken : (form : Form) (number : Number) (attr : Attr) → given_out (told_as form number attr) ≡ Some number → 2 ≤ number.0 → IsTakenAs form (told_as form number attr)
+entry-taken AnEntry number attr e two = grind (arith, nat_tests)
+entry-taken AnOpenEntry number attr e two = grind (arith, nat_tests)
+entry-taken form number attr e two = absurd (let none : ⊥ = cc in none)
+
+-- ---- the number
+
+-- the number that a place has or gets is above the root's
+given-above : (served : ServedState) (dir : ℕ) (name : List ℕ) → IsSound served → 2 ≤ (number_given served.map dir name).0
+given-above served dir name sound = in_ (entry_at served.map.entries dir name) refl where
+  in_ : (o : Option Kept) → entry_at served.map.entries dir name ≡ o → 2 ≤ (option_map_or number_of_kept o (record { 0 = served.map.next })).0
+  in_ None e = numbers-bound served.map.entries 2 served.map.next sound.numbers
+  in_ (Some kept) e = (numbers-entry served.map.entries 2 served.map.next kept.number.0 kept sound.numbers (entry_of-first served.map.entries 2 served.map.next (stands_at dir name) kept sound.numbers e)).0
+
+-- ---- by the deed
+
+module _ (served : ServedState) (request : Request) (answer : Answer) (sound : IsSound served) where
+  abbrev Taken : Type 0
+  Taken = IsTakenAs (form_of request) answer
+
+  abbrev Legal : Result Effect Errno → Type 0
+  Legal result = Answers (numbers_at served (place_told request)) request result answer
+
+  -- an entry, by what stands against its number
+  counted_in : (dir : Number) (name : List ℕ) (tree : Tree) (file : FileId) → TellsEntry request dir name → (fault : Option NumberFault) → AnswersCounted (numbers_at served (place_told request)) request tree file fault answer → Taken
+  counted_in dir name tree file tells (Some fault) a = error-taken (form_of request) answer (number_errno fault) a
+  counted_in dir name tree file tells None (inl t) = subst (IsTakenAs (form_of request)) (sym t.is)
+      (entry-taken (form_of request) t.number t.attr (tells.gives t.number t.attr) (subst (λ (n : ℕ). 2 ≤ n) (sym number) (given-above served dir.0 name sound))) where
+        number : t.number.0 ≡ (number_given served.map dir.0 name).0
+        number = subst (λ (place : Option (Number × List ℕ)). (numbers_at served place).IsNumber file t.number.0) tells.told t.is_number
+  counted_in dir name tree file tells None (inr (inl (is, may))) = error-taken (form_of request) answer EIO is
+  counted_in dir name tree file tells None (inr (inr (is, may))) = error-taken (form_of request) answer ENOMEM is
+
+  find_in : (dir : Number) (name : List ℕ) (tree : Tree) (found : Result FileId Errno) → TellsEntry request dir name → Legal (enters tree found) → Taken
+  find_in dir name tree (Ok file) tells (fault, against, a) = counted_in dir name tree file tells fault a
+  find_in dir name tree (Err errno) tells a = error-taken (form_of request) answer errno a
+
+  make_in : (dir : Number) (name : List ℕ) (tree : Tree) (kind : Kind) (perm : Perm) (free : Result FileId Errno) → TellsEntry request dir name → Legal (makes tree name kind perm free) → Taken
+  make_in dir name tree kind perm (Ok above) tells (fault, against, a) = counted_in dir name _ _ tells fault a
+  make_in dir name tree kind perm (Err errno) tells a = error-taken (form_of request) answer errno a
+
+  -- a name that is taken away
+  take_in : (tree : Tree) (dir : FileId) (name : List ℕ) (found : Result FileId Errno) → form_of request ≡ NoValue → Legal (takes tree dir name found) → Taken
+  take_in tree dir name (Ok file) form a = subst (λ (f : Form). IsTakenAs f answer) (sym form) (subst (λ (x : Answer). IsTakenAs NoValue x) (sym a) refl)
+  take_in tree dir name (Err errno) form a = error-taken (form_of request) answer errno a
+
+  take_from : (tree : Tree) (against : FileId → Option Errno) (above : Option FileId) (name : List ℕ) → form_of request ≡ NoValue → Legal (takes_from tree against above name) → Taken
+  take_from tree against (Some dir) name form a = take_in tree dir name (unless against (found_in tree (Some dir) name)) form a
+  take_from tree against None name form a = error-taken (form_of request) answer ESTALE a
+
+  -- attributes that are shown
+  show_in : (tree : Tree) (above : Option FileId) → form_of request ≡ Attributes → Legal (shows tree above) → Taken
+  show_in tree (Some file) form (inl t) = subst (λ (f : Form). IsTakenAs f answer) (sym form) (subst (IsTakenAs Attributes) (sym (t.is ∙ ap (λ (f : Form). told_as f t.number t.attr) form)) refl)
+  show_in tree (Some file) form (inr (is, may)) = error-taken (form_of request) answer EIO is
+  show_in tree None form a = error-taken (form_of request) answer ESTALE a
+
+  -- A legal answer is taken, a line a deed.
+  pub legal-taken : (later : ServedState) → IsLegal served request answer later → IsTakenAs (form_of request) answer
+  legal-taken later l = by_deed (deed_of request) refl l.answers where
+    by_deed : (deed : Deed) → deed_of request ≡ deed → Legal (done_to served.tree l.files deed) → Taken
+    by_deed (find_name dir name) is a = find_in dir name served.tree (found_in served.tree (l.files dir.0) name) (find-tells request dir name is) a
+    by_deed (make_file dir name kind perm) is a = make_in dir name served.tree kind perm (free_in served.tree (l.files dir.0) name) (make-tells request dir name kind perm is) a
+    by_deed (take_name dir name kind) is a = take_from served.tree (against_taking kind served.tree) (l.files dir.0) name (take-form request dir name kind is) a
+    by_deed (show_file node) is a = show_in served.tree (l.files node.0) (show-form request node is) a
+    by_deed unserved is a = error-taken (form_of request) answer ENOSYS a
