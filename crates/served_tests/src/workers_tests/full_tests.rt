@@ -13,6 +13,9 @@ use workers::{MAX_CHANNELS, MemoryChannel, OpenGate, Round, Stop, drain};
 /// One ask more than a worker takes.
 static UNIQUES: [u64; 65] = [7; 65];
 
+/// How many channels a round has, and how many records it leaves.
+static ROUNDS: [(usize, usize); 3] = [(1, 64), (2, 128), (16, 1024)];
+
 /// Returns `count` channels, each with one ask more than a worker takes.
 fn channels_of(alloc: Global, count: usize) -> Result<Vec<MemoryChannel>, NoMemory> {
     let mut channels = Vec::new(alloc);
@@ -22,29 +25,29 @@ fn channels_of(alloc: Global, count: usize) -> Result<Vec<MemoryChannel>, NoMemo
     Ok(channels)
 }
 
-/// Returns whether each worker of a round took and answered 64 asks, and all are in its journal.
-fn is_full(round: &Round<ManifestBacking<'_>, MemoryChannel>, count: usize) -> bool {
+/// Returns whether each worker of a round took and answered 64 asks, and its journal is as long as the row says.
+fn is_full(round: &Round<ManifestBacking<'_>, MemoryChannel>, row: &(usize, usize)) -> bool {
     let channels = round.channels.as_slice();
     let receipts = round.receipts.as_slice();
-    round.journal.records().len() == 64 * count
-        && channels.len() == count
+    round.journal.records().len() == row.1
+        && channels.len() == row.0
         && channels.iter().all(|one| one.taken() == 64)
         && channels.iter().all(|one| one.replies().len() == 64)
-        && receipts.len() == count
+        && receipts.len() == row.0
         && receipts.iter().all(|kept| kept.as_slice().len() == 64)
 }
 
-/// Returns whether a round of `count` channels is full, and settled.
+/// Returns whether a round of a row's channels is full, and settled.
 fn fills<R: Threads + Wait + Sync>(
     rt: &R,
     alloc: Global,
     manifest: &Manifest,
-    count: usize,
+    row: &(usize, usize),
 ) -> bool {
     let Ok(served) = begun(alloc, manifest) else {
         return false;
     };
-    let Ok(channels) = channels_of(alloc, count) else {
+    let Ok(channels) = channels_of(alloc, row.0) else {
         drop(served);
         return false;
     };
@@ -57,7 +60,7 @@ fn fills<R: Threads + Wait + Sync>(
     let Ok(round) = serve(rt, alloc, served, manifest, channels, 64, &OpenGate, &stop) else {
         return false;
     };
-    let full = is_full(&round, count);
+    let full = is_full(&round, row);
     let drained = drain(alloc, round);
     let settled = drained.is_ok();
     drop(drained);
@@ -68,9 +71,7 @@ fn fills<R: Threads + Wait + Sync>(
 fn workers_take_all_that_they_may(rt: HostRuntime) -> Result<(), Fail> {
     let alloc = rt.alloc();
     let manifest = Manifest::read(alloc, LISTED)?;
-    let full = [1, 2, 16]
-        .iter()
-        .all(|count| fills(&rt, alloc, &manifest, *count));
+    let full = ROUNDS.iter().all(|row| fills(&rt, alloc, &manifest, row));
     drop(manifest);
     assert!(rt; full);
     Ok(())
