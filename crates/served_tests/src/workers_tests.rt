@@ -1,7 +1,10 @@
 //! What a round leaves, by what its channels hold.
-mod broken_tests;
+mod ending_tests;
+mod full_tests;
 mod gates;
 mod rounds;
+mod scripted;
+mod shift_tests;
 
 use crate::workers_tests::gates::SecondFirst;
 use crate::workers_tests::rounds::{Change, Left, round, round_again};
@@ -111,7 +114,7 @@ fn one_turn_takes_one_ask_of_three(rt: HostRuntime) {
     assert!(rt; as_wanted);
 }
 
-/// Passes also where one allocation is refused.
+/// Passes also where one allocation is refused. A stop that is asked for once more stays asked for.
 #[test]
 fn a_stop_that_was_asked_for_takes_nothing(rt: HostRuntime) {
     let wanted = Left {
@@ -123,6 +126,7 @@ fn a_stop_that_was_asked_for_takes_nothing(rt: HostRuntime) {
         is_settled: true,
     };
     let stop = Stop::new();
+    stop.ask();
     stop.ask();
     let left = round_again(&rt, rt.alloc(), &[1], &[2], 64, &stop, Change::None);
     let as_wanted = left == Some(wanted);

@@ -16,7 +16,7 @@ use workers::{
 };
 
 /// Returns a channel that asks for the root's attributes, once by each unique.
-fn channel(alloc: Global, uniques: &[u64]) -> Result<MemoryChannel, NoMemory> {
+pub(crate) fn channel(alloc: Global, uniques: &[u64]) -> Result<MemoryChannel, NoMemory> {
     let mut asks = Vec::new(alloc);
     for unique in uniques {
         asks.push(Ask {

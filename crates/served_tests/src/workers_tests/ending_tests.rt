@@ -1,0 +1,159 @@
+//! How a round ends whose channels run out, stop or break, and one that is asked to stop.
+ghost use Rattle.std.specs.Prelude.{◌≡◌, vec_len, IfOk};
+
+use super::rounds::{begun, serve};
+use super::scripted::{Scripted, Then};
+use crate::listed::LISTED;
+use eden_base::NoMemory;
+use manifest::Manifest;
+use std::alloc::Global;
+use std::sync::Wait;
+use std::sync::atomic::{AtomicU64, Ordering};
+use std::test::*;
+use std::thread::Threads;
+use workers::{Gate, OpenGate, RoundFault, Stop};
+
+/// How a round ended.
+#[derive(Clone, Copy, PartialEq, Eq)]
+enum Ended {
+    /// Well, with the number of its records.
+    Well(usize),
+    Broken,
+    Otherwise,
+}
+
+/// A channel: how many asks it gives, how many replies it takes, and what it says when no ask is left.
+type Script = (u64, usize, Then);
+
+/// A channel with one ask.
+const WELL: Script = (1, 9, Then::Empty);
+
+/// Two channels, and how a round of them ends.
+static ENDINGS: [([Script; 2], Ended); 10] = [
+    ([WELL, WELL], Ended::Well(2)),
+    ([(2, 9, Then::Stopped), WELL], Ended::Well(3)),
+    ([WELL, (2, 9, Then::Stopped)], Ended::Well(3)),
+    (
+        [(0, 9, Then::Stopped), (0, 9, Then::Stopped)],
+        Ended::Well(0),
+    ),
+    ([(2, 9, Then::Broken), WELL], Ended::Broken),
+    ([WELL, (2, 9, Then::Broken)], Ended::Broken),
+    ([(5, 4, Then::Empty), WELL], Ended::Broken),
+    ([WELL, (5, 4, Then::Empty)], Ended::Broken),
+    ([(0, 9, Then::Broken), (1, 0, Then::Empty)], Ended::Broken),
+    ([(4, 4, Then::Empty), (4, 4, Then::Stopped)], Ended::Well(8)),
+];
+
+/// Returns two channels.
+fn two<'a>(
+    alloc: Global,
+    scripts: &[Script; 2],
+    posted: &'a AtomicU64,
+) -> Result<Vec<Scripted<'a>>, NoMemory>
+    ensures two { IfOk result (λ channels. vec_len channels ≡ 2) }
+{
+    let mut channels = Vec::with_capacity(alloc, 2)?;
+    let [first, second] = *scripts;
+    channels.push_reserved(Scripted::new(first.0, first.1, first.2, posted));
+    channels.push_reserved(Scripted::new(second.0, second.1, second.2, posted));
+    Ok(channels)
+}
+
+/// Serves a round of such channels, and tells how it ended.
+fn ending_of<R: Threads + Wait + Sync, G: Gate + Sync>(
+    rt: &R,
+    alloc: Global,
+    manifest: &Manifest,
+    channels: Vec<Scripted<'_>>,
+    gate: &G,
+    stop: &Stop,
+) -> Ended
+    requires channels { vec_len channels ≡ 2 }
+{
+    let Ok(served) = begun(alloc, manifest) else {
+        drop(channels);
+        return Ended::Otherwise;
+    };
+    let left = serve(rt, alloc, served, manifest, channels, 64, gate, stop);
+    let ended = match &left {
+        Ok(round) => Ended::Well(round.journal.records().len()),
+        Err(RoundFault::Broken) => Ended::Broken,
+        Err(_other) => Ended::Otherwise,
+    };
+    drop(left);
+    ended
+}
+
+/// Returns whether a round of two channels ends so.
+fn ends_so<R: Threads + Wait + Sync>(
+    rt: &R,
+    alloc: Global,
+    manifest: &Manifest,
+    row: &([Script; 2], Ended),
+) -> bool {
+    let posted = AtomicU64::new(0);
+    let Ok(channels) = two(alloc, &row.0, &posted) else {
+        return false;
+    };
+    ending_of(rt, alloc, manifest, channels, &OpenGate, &Stop::new()) == row.1
+}
+
+#[test]
+fn a_round_ends_as_its_channels_do(rt: HostRuntime) -> Result<(), Fail> {
+    let alloc = rt.alloc();
+    let manifest = Manifest::read(alloc, LISTED)?;
+    let all = ENDINGS
+        .iter()
+        .all(|row| ends_so(&rt, alloc, &manifest, row));
+    drop(manifest);
+    assert!(rt; all);
+    Ok(())
+}
+
+/// Asks for a stop behind the first reply, and looks whether each reply was posted before.
+#[derive(Drop)]
+struct Stopping<'a> {
+    stop: &'a Stop,
+    posted: &'a AtomicU64,
+    early: AtomicU64,
+}
+
+impl<'a> Gate for Stopping<'a> {
+    fn before(&self, _unique: u64) {}
+
+    fn after(&self, _unique: u64) {
+        if self.posted.load(Ordering::SeqCst) == 0 {
+            self.early.store(1, Ordering::SeqCst);
+        }
+        self.stop.ask()
+    }
+}
+
+/// Returns whether a stop that is asked for behind the first reply is seen before the next turn, and was asked for
+/// behind that reply.
+fn stops_at_one<R: Threads + Wait + Sync>(rt: &R, alloc: Global, manifest: &Manifest) -> bool {
+    let posted = AtomicU64::new(0);
+    let stop = Stop::new();
+    let gate = Stopping {
+        stop: &stop,
+        posted: &posted,
+        early: AtomicU64::new(0),
+    };
+    let scripts = [(3, 9, Then::Empty), (0, 9, Then::Empty)];
+    let Ok(channels) = two(alloc, &scripts, &posted) else {
+        return false;
+    };
+    let ended = ending_of(rt, alloc, manifest, channels, &gate, &stop);
+    ended == Ended::Well(1) && gate.early.load(Ordering::SeqCst) == 0
+}
+
+#[test]
+fn a_stop_from_within_a_round_is_seen_at_the_next_turn(rt: HostRuntime) -> Result<(), Fail> {
+    let alloc = rt.alloc();
+    let manifest = Manifest::read(alloc, LISTED)?;
+    let stops = stops_at_one(&rt, alloc, &manifest);
+    drop(manifest);
+    assert!(rt; stops);
+    Ok(())
+}

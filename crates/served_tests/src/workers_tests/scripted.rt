@@ -1,0 +1,74 @@
+//! A channel that ends as it is told.
+use eden_base::Number;
+use fuse_wire::{Ask, Reply, Request};
+use std::sync::atomic::{AtomicU64, Ordering};
+use workers::{Channel, Posted, Taken};
+
+/// What a channel says when it has no ask left.
+#[derive(Clone, Copy)]
+pub(crate) enum Then {
+    Empty,
+    Stopped,
+    Broken,
+}
+
+/// A channel that has some asks left, and takes some replies more before it is broken. It marks that a reply came.
+#[derive(Drop)]
+pub(crate) struct Scripted<'a> {
+    asks: u64,
+    replies: usize,
+    then: Then,
+    posted: &'a AtomicU64,
+}
+
+impl<'a> Scripted<'a> {
+    pub(crate) fn new(
+        asks: u64,
+        replies: usize,
+        then: Then,
+        posted: &'a AtomicU64,
+    ) -> Scripted<'a> {
+        Scripted {
+            asks,
+            replies,
+            then,
+            posted,
+        }
+    }
+}
+
+impl<'a> Channel for Scripted<'a> {
+    ghost use Rattle.std.specs.Prelude.{false, [], ⊤};
+
+    ghost takes = { λ _ _ _. ⊤ };
+
+    ghost posts = { λ _ _ _ _. ⊤ };
+
+    ghost tells = { false };
+
+    ghost told = { λ channel. record { taken = []; posted = [] } };
+
+    fn take(&mut self) -> Taken {
+        if self.asks > 0 {
+            self.asks -= 1;
+            return Taken::Ask(Ask {
+                unique: self.asks + 1,
+                what: Request::Getattr { node: Number::ROOT },
+            });
+        }
+        match self.then {
+            Then::Empty => Taken::Empty,
+            Then::Stopped => Taken::Stopped,
+            Then::Broken => Taken::Broken,
+        }
+    }
+
+    fn post(&mut self, _reply: Reply) -> Posted {
+        if self.replies == 0 {
+            return Posted::Broken;
+        }
+        self.replies -= 1;
+        self.posted.store(1, Ordering::SeqCst);
+        Posted::Done
+    }
+}

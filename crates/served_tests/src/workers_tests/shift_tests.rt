@@ -1,0 +1,68 @@
+//! A worker over a lock that the test made.
+ghost use Rattle.std.specs.Prelude.{◌≡◌};
+ghost use Rattle.fuse_ops.specs.Loading.{Backs};
+
+use super::rounds::{begun, channel};
+use crate::listed::LISTED;
+use checkout::{Backing, ManifestBacking};
+use eden_base::NoMemory;
+use fuse_ops::Served;
+use manifest::Manifest;
+use std::alloc::Global;
+use std::marker::Brand;
+use std::sync::Wait;
+use std::sync::ledger::Blank;
+use std::test::*;
+use workers::{
+    Ending, Journal, LockedMap, MemoryChannel, OpenGate, Opened, Opening, Receipts, Stop,
+    serve_channel,
+};
+
+/// Opens a round of one worker that has two turns, and returns whether it takes and journals two asks of three.
+fn takes_two<N: Opening, B: Backing + Drop, R: Wait>(
+    rt: &R,
+    alloc: Global,
+    blank: Blank,
+    served: Served,
+    backing: B,
+    channel: MemoryChannel,
+) -> Result<bool, NoMemory>
+    requires name { blank.name ≡ N.name }
+    requires parts { (blank.parts ≡ N.parts) × (N.parts ≡ 3) }
+    requires opening { served ≡ N.opening }
+    requires backs { Backs (B.content backing) served.tree }
+{
+    let journal = Journal::new(alloc, 2)?;
+    let room = Receipts::new(alloc, 2)?;
+    let Opened { shared, share } = LockedMap::<N, B>::open(alloc, blank, served, backing, journal);
+    let stop = Stop::new();
+    let shift = serve_channel(rt, &shared, channel, 2, room, share, &OpenGate, &stop);
+    let parts = shared.into_inner().into_parts();
+    let took = shift.ending == Ending::Done
+        && shift.receipts.as_slice().len() == 2
+        && shift.channel.taken() == 2
+        && shift.channel.replies().len() == 2
+        && parts.journal.records().len() == 2;
+    drop(parts);
+    drop(shift);
+    Ok(took)
+}
+
+/// Returns whether a worker under a lock of its own takes two asks of three.
+fn serves_alone<R: Wait>(rt: &R, alloc: Global, manifest: &Manifest) -> Result<bool, NoMemory> {
+    let channel = channel(alloc, &[1, 2, 3])?;
+    let served = begun(alloc, manifest)?;
+    let backing = ManifestBacking::of(manifest);
+    takes_two::<Brand, ManifestBacking<'_>, R>(rt, alloc, Blank::new(3), served, backing, channel)
+}
+
+#[test]
+fn a_worker_serves_under_a_lock_of_its_own(rt: HostRuntime) -> Result<(), Fail> {
+    let alloc = rt.alloc();
+    let manifest = Manifest::read(alloc, LISTED)?;
+    let took = serves_alone(&rt, alloc, &manifest);
+    drop(manifest);
+    let as_wanted = took?;
+    assert!(rt; as_wanted);
+    Ok(())
+}
