@@ -23,12 +23,12 @@ use Rattle.daemon.specs.declared.daemon.Reaction.TheVariants.{Ignores, Heeds, Sa
 
 -- ---- the data is made
 
--- the bytes are what is handed over
+-- the bytes are what is handed over: the text of the image of what is served, which its version accepts
 abbrev pub HasData : Option ServerState → ℕ → ℕ → List ℕ → Type 0
 HasData None generation version bytes = ⊥
 HasData (Some server) generation version bytes = IsHandedOver server.served generation version bytes
 
--- nothing is served, or what is served has no text in this version
+-- nothing is served, or what is served has no text that this version accepts
 abbrev pub HasNoData : Option ServerState → ℕ → ℕ → Type 0
 HasNoData None generation version = Unit {0}
 HasNoData (Some server) generation version = CannotBeHandedOver server.served generation version

@@ -1,5 +1,6 @@
 -- What is raised is held; else the daemon is gone.
-use Rattle.std.proofs.Common.{true, Some, inl, inr, ap, ◌∙◌}
+use Rattle.std.proofs.Common.{true, Some, inl, inr, ap, subst, ◌∙◌}
+use Rattle.map_codec.specs.Handover.{IsTakingRefusal}
 use Rattle.takeover_core.specs.Phases as table
 use Rattle.daemon.specs.Server.{ServerState}
 use Rattle.daemon.proofs.daemon.Daemon.take_data.Goals as goal
@@ -13,4 +14,4 @@ returns-in-Ok-clause-taken c = inl (record {
 })
 
 pub returns-in-Err-Refused-clause-taken : goal.returns-in-Err-Refused-clause-taken
-returns-in-Err-Refused-clause-taken c = inr (record { cannot = c.in-Err-Refused.ensures.refused c.in-Err-Refused.field-0-is; loses = c.lose.ensures.loses })
+returns-in-Err-Refused-clause-taken c = inr (record { cannot = subst (IsTakingRefusal c.args.manifest.now c.args.generation c.args.bytes.now) c.in-Err-Refused.field-0-is c.in-Err-Refused.ensures.refused; loses = c.lose.ensures.loses })
