@@ -2,6 +2,8 @@
 #![tactic(auto)]
 
 #[cfg(test)]
+mod sweep_tests;
+#[cfg(test)]
 mod world_script_tests;
 #[cfg(test)]
 mod world_tests;
