@@ -12,4 +12,6 @@ mod listed;
 #[cfg(test)]
 mod map_codec_tests;
 #[cfg(test)]
+mod sweep_tests;
+#[cfg(test)]
 mod workers_tests;

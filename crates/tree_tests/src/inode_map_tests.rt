@@ -1,5 +1,5 @@
 //! Which numbers an inode map gives, and what each of its calls tells of them.
-mod deeds;
+pub(crate) mod deeds;
 mod deep_tests;
 mod one_entry_tests;
 mod sequence_tests;

@@ -11,3 +11,5 @@ mod inode_map_tests;
 mod manifest_tests;
 #[cfg(test)]
 mod small;
+#[cfg(test)]
+mod sweep_tests;

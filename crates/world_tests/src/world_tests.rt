@@ -1,10 +1,10 @@
 //! Worked examples of whole lists of events.
-mod deeds;
-mod events;
+pub(crate) mod deeds;
+pub(crate) mod events;
 mod facts;
 mod orders;
-mod refused_tests;
-mod runs;
+pub(crate) mod refused_tests;
+pub(crate) mod runs;
 mod takeover_tests;
 
 use crate::world_tests::deeds::{

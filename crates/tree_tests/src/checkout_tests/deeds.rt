@@ -57,7 +57,7 @@ fn created(
 }
 
 /// Makes a file, once more where memory was refused.
-fn created_again(
+pub(crate) fn created_again(
     tree: &mut Tree,
     dir: FileId,
     name: &Name,

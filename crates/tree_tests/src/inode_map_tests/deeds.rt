@@ -63,7 +63,12 @@ pub(crate) fn given(
 }
 
 /// Gives a number in room that was made before, and makes the room again where memory was short.
-fn given_ready(alloc: Global, map: &mut InodeMap, parent: Number, name: Name) -> Option<Number> {
+pub(crate) fn given_ready(
+    alloc: Global,
+    map: &mut InodeMap,
+    parent: Number,
+    name: Name,
+) -> Option<Number> {
     if map.reserve(alloc).is_err() {
         map.reserve(alloc).ok()?;
     }
@@ -161,7 +166,7 @@ fn parent_of(map: &InodeMap, number: u64) -> u64 {
 }
 
 /// Returns the entries, and asks for them again where memory was short.
-fn entries_of(alloc: Global, map: &InodeMap) -> Result<Vec<Kept>, NoMemory> {
+pub(crate) fn entries_of(alloc: Global, map: &InodeMap) -> Result<Vec<Kept>, NoMemory> {
     match map.to_entries(alloc) {
         Err(_refused) => map.to_entries(alloc),
         told => told,

@@ -23,7 +23,7 @@ fn told_by(world: &mut World, event: &Event) -> Option<Happened> {
 const REFUSED: Option<Happened> = Some(Happened::Refused(Refusal::NoMemory));
 
 /// Returns the last that an event told, or, where memory ran out, the last that it told when it came again.
-fn last_told(world: &mut World, event: &Event) -> Option<Happened> {
+pub(crate) fn last_told(world: &mut World, event: &Event) -> Option<Happened> {
     let told = told_by(world, event);
     if told == REFUSED {
         return told_by(world, event);

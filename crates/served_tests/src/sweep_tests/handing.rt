@@ -1,0 +1,48 @@
+//! What is served, handed over, taken over, and handed over again.
+use fuse_ops::Served;
+use manifest::Manifest;
+use map_codec::{HandoverFault, hand_over, take_over};
+use std::alloc::Global;
+
+/// Hands over, and once more where memory was refused.
+fn handed(alloc: Global, served: &Served) -> Result<Vec<u8>, HandoverFault> {
+    match hand_over(alloc, served, 1, 1) {
+        Err(HandoverFault::NoMemory) => hand_over(alloc, served, 1, 1),
+        handed => handed,
+    }
+}
+
+/// Takes over, and once more where memory was refused.
+fn taken(alloc: Global, bytes: &[u8], manifest: &Manifest) -> Result<Served, HandoverFault> {
+    match take_over(alloc, bytes, manifest, 8, 1) {
+        Err(HandoverFault::NoMemory) => take_over(alloc, bytes, manifest, 8, 1),
+        taken => taken,
+    }
+}
+
+/// Returns whether what is taken over from bytes hands the same bytes over.
+fn is_same_again(alloc: Global, bytes: &[u8], manifest: &Manifest) -> bool {
+    match taken(alloc, bytes, manifest) {
+        Ok(served) => {
+            let again = handed(alloc, &served);
+            drop(served);
+            match &again {
+                Ok(text) => text.as_slice() == bytes,
+                Err(_) => false,
+            }
+        }
+        Err(_) => false,
+    }
+}
+
+/// Returns whether what is served goes on to another daemon.
+pub(crate) fn is_handed_on(alloc: Global, served: &Served, manifest: &Manifest) -> bool {
+    match handed(alloc, served) {
+        Ok(bytes) => {
+            let is_same = is_same_again(alloc, bytes.as_slice(), manifest);
+            drop(bytes);
+            is_same
+        }
+        Err(_) => false,
+    }
+}

@@ -1,0 +1,170 @@
+//! Files that are made one after the other, and handed on with those before them.
+ghost use Rattle.std.specs.Prelude.{◌≡◌};
+
+use super::handing::is_handed_on;
+use crate::again::{answer_to, name_of, served_of};
+use eden_base::{NoMemory, Number, Perm};
+use fuse_ops::Served;
+use fuse_wire::{Answer, Request};
+use manifest::Manifest;
+use std::alloc::Global;
+
+/// What is made in many sizes.
+#[derive(Clone, Copy)]
+pub enum Making {
+    /// So many files, of which each is handed on with those before it.
+    Handed(u64),
+    /// So many times ten files, handed on after each ten.
+    HandedInTens(u64),
+    /// A file with a name of each length, handed on.
+    HandedByName,
+    /// So many files, which are not handed on.
+    Made(u64),
+    /// Ever higher limits of what is loaded.
+    Limits,
+}
+
+static LONGEST_NAME: [u8; 255] = [b'n'; 255];
+
+/// Makes a file in the root, and returns whether it was made.
+fn makes(alloc: Global, served: &mut Served, manifest: &Manifest, bytes: &[u8]) -> bool
+    requires over { served.old.tree.manifest ≡ manifest.now }
+    ensures over { served.new.tree.manifest ≡ manifest.now }
+{
+    match name_of(alloc, bytes) {
+        Ok(name) => {
+            let request = Request::Create {
+                dir: Number::ROOT,
+                name,
+                perm: Perm::DIRECTORY,
+            };
+            let answer = answer_to(alloc, served, manifest, &request);
+            drop(request);
+            matches!(answer, Some(Answer::Opened { .. }))
+        }
+        Err(_) => false,
+    }
+}
+
+/// Makes a file under a number in digits.
+fn makes_numbered(alloc: Global, served: &mut Served, manifest: &Manifest, number: u64) -> bool
+    requires over { served.old.tree.manifest ≡ manifest.now }
+    ensures over { served.new.tree.manifest ≡ manifest.now }
+{
+    let mut text = String::new(alloc);
+    let is_put = write!(text, "{number}").is_ok();
+    let is_made = makes(alloc, served, manifest, text.as_bytes());
+    drop(text);
+    is_put && is_made
+}
+
+/// Makes files under the numbers from one to below another.
+fn makes_each(
+    alloc: Global,
+    served: &mut Served,
+    manifest: &Manifest,
+    from: u64,
+    below: u64,
+) -> bool
+    requires over { served.old.tree.manifest ≡ manifest.now }
+    ensures over { served.new.tree.manifest ≡ manifest.now }
+{
+    for number in from..below {
+        if !makes_numbered(alloc, served, manifest, number) {
+            return false;
+        }
+    }
+    true
+}
+
+/// Makes `times` times `many` files, and returns whether all are handed on after each time.
+fn hands_on_each(
+    alloc: Global,
+    served: &mut Served,
+    manifest: &Manifest,
+    times: u64,
+    many: u64,
+) -> bool
+    requires over { served.old.tree.manifest ≡ manifest.now }
+{
+    let mut from: u64 = 0;
+    for _ in 0..times {
+        let below = from.wrapping_add(many);
+        if !makes_each(alloc, served, manifest, from, below)
+            || !is_handed_on(alloc, served, manifest)
+        {
+            return false;
+        }
+        from = below;
+    }
+    true
+}
+
+/// Returns whether a file with a name of so many bytes is handed on by a daemon that begins.
+fn is_name_handed_on(alloc: Global, manifest: &Manifest, len: usize) -> bool {
+    match served_of(alloc, manifest, 8) {
+        Ok(mut served) => {
+            let is_so = makes(alloc, &mut served, manifest, &LONGEST_NAME[..len.min(255)])
+                && is_handed_on(alloc, &served, manifest);
+            drop(served);
+            is_so
+        }
+        Err(NoMemory) => false,
+    }
+}
+
+/// Returns that of each length.
+fn is_each_name_handed_on(alloc: Global, manifest: &Manifest) -> bool {
+    for len in 1..256usize {
+        if !is_name_handed_on(alloc, manifest, len) {
+            return false;
+        }
+    }
+    true
+}
+
+/// Returns whether a daemon may begin that keeps so many attributes loaded.
+fn is_limit_taken(alloc: Global, manifest: &Manifest, limit: usize) -> bool {
+    match served_of(alloc, manifest, limit) {
+        Ok(served) => {
+            drop(served);
+            true
+        }
+        Err(NoMemory) => false,
+    }
+}
+
+/// Returns that of the limits 1, 2, 4 and so on up to 65,536.
+fn is_each_limit_taken(alloc: Global, manifest: &Manifest) -> bool {
+    for shift in 0..17u32 {
+        if !is_limit_taken(alloc, manifest, 1 << shift) {
+            return false;
+        }
+    }
+    true
+}
+
+/// Returns whether each call of a sweep succeeds, where it begins with what is served.
+fn goes_so(alloc: Global, served: &mut Served, manifest: &Manifest, making: Making) -> bool
+    requires over { served.old.tree.manifest ≡ manifest.now }
+{
+    match making {
+        Making::Handed(files) => hands_on_each(alloc, served, manifest, files, 1),
+        Making::HandedInTens(tens) => hands_on_each(alloc, served, manifest, tens, 10),
+        Making::HandedByName => is_each_name_handed_on(alloc, manifest),
+        Making::Made(files) => makes_each(alloc, served, manifest, 0, files),
+        Making::Limits => is_each_limit_taken(alloc, manifest),
+    }
+}
+
+/// Returns that of a daemon that begins.
+pub(crate) fn goes_so_in_new(alloc: Global, manifest: &Manifest, making: Making) -> bool {
+    match served_of(alloc, manifest, 8) {
+        Ok(mut served) => {
+            let is_so = goes_so(alloc, &mut served, manifest, making);
+            drop(served);
+            is_so
+        }
+        Err(NoMemory) => false,
+    }
+}

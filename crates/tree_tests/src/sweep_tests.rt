@@ -1,0 +1,107 @@
+//! Sizes up to the limits, with ample memory. No clause can say that memory suffices: so a call that tells out of memory
+//! from some size on is found here alone.
+mod maps;
+mod texts;
+mod trees;
+
+use crate::sweep_tests::maps::{Giving, are_given, are_names_given, is_each_limit_taken};
+use crate::sweep_tests::texts::{are_names_read, is_each_count_read};
+use crate::sweep_tests::trees::{are_made, are_names_made};
+use std::alloc::Global;
+
+/// What is made in many sizes.
+#[derive(Clone, Copy)]
+enum Sweep {
+    /// Manifests of ever more lines.
+    Lines,
+    /// A manifest with names of each length.
+    ListedNames,
+    /// A tree in which `count` files are made, each in the directory made before or all in the root.
+    Files {
+        count: u64,
+        deep: bool,
+    },
+    /// A tree in which names of each length are made.
+    MadeNames,
+    /// A map in which `count` numbers are given, each in the directory of the one before or all in the root.
+    Numbers {
+        count: u64,
+        deep: bool,
+        giving: Giving,
+    },
+    /// A map in which names of each length get a number.
+    GivenNames,
+    /// Maps with ever higher limits of what is loaded.
+    Limits,
+}
+
+static SWEEPS: [Sweep; 11] = [
+    Sweep::Lines,
+    Sweep::ListedNames,
+    Sweep::Files {
+        count: 5_000,
+        deep: false,
+    },
+    Sweep::Files {
+        count: 400,
+        deep: true,
+    },
+    Sweep::MadeNames,
+    Sweep::Numbers {
+        count: 5_000,
+        deep: false,
+        giving: Giving::AtOnce,
+    },
+    Sweep::Numbers {
+        count: 400,
+        deep: true,
+        giving: Giving::AtOnce,
+    },
+    Sweep::Numbers {
+        count: 5_000,
+        deep: false,
+        giving: Giving::InRoom,
+    },
+    Sweep::Numbers {
+        count: 400,
+        deep: true,
+        giving: Giving::InRoom,
+    },
+    Sweep::GivenNames,
+    Sweep::Limits,
+];
+
+/// Returns whether each call of a sweep succeeds.
+fn succeeds(alloc: Global, sweep: Sweep) -> bool {
+    match sweep {
+        Sweep::Lines => is_each_count_read(alloc),
+        Sweep::ListedNames => are_names_read(alloc),
+        Sweep::Files { count, deep } => are_made(alloc, count, deep),
+        Sweep::MadeNames => are_names_made(alloc),
+        Sweep::Numbers {
+            count,
+            deep,
+            giving,
+        } => are_given(alloc, count, deep, giving),
+        Sweep::GivenNames => are_names_given(alloc),
+        Sweep::Limits => is_each_limit_taken(alloc),
+    }
+}
+
+/// Returns the place of the first sweep that fails.
+fn first_failed(alloc: Global, sweeps: &[Sweep]) -> Option<usize> {
+    for place in 0..sweeps.len() {
+        if !succeeds(alloc, sweeps[place]) {
+            return Some(place);
+        }
+    }
+    None
+}
+
+#[test]
+fn succeeds_at_all_sizes(rt: HostRuntime) {
+    assert!(rt; first_failed(rt.alloc(), &SWEEPS).is_none());
+}
+
+/// As many bytes as a name can have.
+static LONGEST_NAME: [u8; 255] = [b'n'; 255];
