@@ -1,89 +1,151 @@
 -- Lemmas on how the program ends.
-use Rattle.std.proofs.Common.{◌≡◌, ◌⊎◌, ℕ, true, List, [], ◌∷◌, Option, refl, subst, sym, inl, inr}
+use Rattle.std.proofs.Common.{◌≡◌, ◌⊎◌, ℕ, true, false, List, [], ◌∷◌, ◌++◌, Option, Some, None, Result, Ok, Err, option_map, refl, ap, subst, sym, ◌∙◌, inl, inr, string_bytes}
+use Rattle.std.specs.Prelude.{OnOk}
 use Rattle.std.specs.Io.KnownBytes.{Appends, Keeps}
-use Rattle.std.proofs.KnownBytes.{Appends-kept}
+use Rattle.std.proofs.KnownBytes.{Appends-kept, Keeps-refl, Keeps-trans}
+use Rattle.std.specs.declared.io.ErrorKind.{ErrorKind as IoErrorKind}
+use Rattle.std.specs.declared.io.ErrorKind.TheVariants as io_kind
+use Rattle.std.specs.declared.io.Error.{Error as IoError}
 use Rattle.clap.specs.Words.{IsAmong, Kinds}
 use Rattle.clap.specs.declared.error.kind.ErrorKind.{ErrorKind}
 use Rattle.clap.specs.declared.error.kind.ErrorKind.TheVariants as kind
-use Rattle.world_script.specs.Ending.{Answers, AskToShow, Ends, Finishes, IsFault, IsMistake, Shows, Tells, unwritten}
+use Rattle.world_script.specs.Ending.{Answers, Complains, Ends, Finishes, IsFault, IsMistake, IsWish, Tells, complaint, name_beside, name_by, name_of, name_with, plain, untold, untold_by, unwritten, wrong_had}
 use Rattle.world_script.specs.FaultText.{fault_line}
-use Rattle.world_script.specs.Refusal.{IsRunRefusal, comes_first}
+use Rattle.world_script.specs.Refusal.{IsRunRefusal, comes_first, is_caused}
 use Rattle.world_script.specs.Script.{Runs}
 use Rattle.world_script.specs.Source.{OfRead}
 use Rattle.world_script.proofs.ReadLemmas.{of_read-any, of_read-map}
 use Rattle.world_script.proofs.RunLemmas.{Runs-kept}
 use Rattle.world_script.specs.declared.ending.Ending.{Ending}
 use Rattle.world_script.specs.declared.ending.Ending.TheVariants.{Ran, Told, Untold, Shown, Refused}
+use Rattle.world_script.specs.declared.failure.Cause.{Cause}
+use Rattle.world_script.specs.declared.failure.Failure.{Failure}
 use Rattle.world_script.specs.declared.fault.Fault.{Fault}
 use Rattle.world_script.specs.declared.fault.Fault.TheVariants.{CannotWrite, NoMemory}
 
+-- an error that is there is named, and one that isn't there is not
+pub named-some : (path : List ℕ) (fault : Fault) → true ≡ is_caused fault → Some (name_with path fault) ≡ name_by path fault
+named-some path fault is = rw (sym is) refl
+
+pub named-none : (path : List ℕ) (fault : Fault) → false ≡ is_caused fault → None ≡ name_by path fault
+named-none path fault is = rw (sym is) refl
+
 -- memory may run out whatever the words say
-is_fault-memory : (wrong : Kinds) (script : Option (List ℕ)) → IsFault wrong script NoMemory
+pub is_fault-memory : (wrong : Kinds) (script : Option (List ℕ)) → IsFault wrong script NoMemory
 is_fault-memory [] script = of_read-any script (λ bytes. IsRunRefusal bytes NoMemory) (λ bytes. tt)
 is_fault-memory (kind ∷ more) script = inl refl
 
--- help and the version may stay unwritten
-is_fault-shown : (wrong : Kinds) (script : Option (List ℕ)) → AskToShow wrong → IsFault wrong script CannotWrite
-is_fault-shown [] script (inl none) = absurd none
-is_fault-shown [] script (inr none) = absurd none
-is_fault-shown (kind ∷ more) script asks = inr refl
+-- what is answered to words that ask for no script may stay unwritten
+is_fault-answered : (wrong : Kinds) (script : Option (List ℕ)) (k : ErrorKind) → IsAmong k wrong → IsFault wrong script CannotWrite
+is_fault-answered [] script k none = absurd none
+is_fault-answered (kind ∷ more) script k among = inr refl
 
--- a fault that is told ends the program so
-pub ends-told : (wrong : Kinds) (script : Option (List ℕ)) (limit : ℕ) (before after : Option (List ℕ)) (fault : Fault) (ending : Ending) → IsFault wrong script fault → Tells fault before after ending → Ends wrong script limit before after ending
-ends-told wrong script limit before after fault (Told told) is (same, line) =
-    subst (λ (f : Fault). IsFault wrong script f × (comes_first f ≡ true → Appends before after (fault_line f))) (sym same) (is, λ first. line)
-ends-told wrong script limit before after fault (Untold told) is same = subst (λ (f : Fault). IsFault wrong script f) (sym same) is
-ends-told wrong script limit before after fault Ran is none = absurd none
-ends-told wrong script limit before after fault Shown is none = absurd none
-ends-told wrong script limit before after fault Refused is none = absurd none
+-- a failure whose line could not be written
+ends-untold_by : (wrong : Kinds) (path : List ℕ) (script : Option (List ℕ)) (limit : ℕ) (before after : Option (List ℕ)) (fault : Fault) (cause : Option Cause) (failure : Failure) (error : IoError) →
+    failure.fault ≡ fault → failure.cause ≡ cause → IsFault wrong script failure.fault → name_of failure ≡ name_by path failure.fault →
+    Ends wrong path script limit before after (untold_by fault cause failure error)
+ends-untold_by wrong path script limit before after CannotWrite (Some first) failure error fault_is cause_is is named = (subst (IsFault wrong script) fault_is is, refl)
+ends-untold_by wrong path script limit before after CannotWrite None failure error fault_is cause_is is named =
+    (is, ap (option_map (λ (cause : Cause). cause.name.now)) cause_is ∙ sym (ap (name_beside path) fault_is))
+ends-untold_by wrong path script limit before after fault cause failure error fault_is cause_is is named =
+    (is, named ∙ (ap (name_by path) fault_is ∙ sym (ap (name_beside path) fault_is)))
 
-ends-shown : (wrong : Kinds) (script : Option (List ℕ)) (limit : ℕ) (before after : Option (List ℕ)) (ending : Ending) → AskToShow wrong → Shows ending → Ends wrong script limit before after ending
-ends-shown wrong script limit before after Shown asks shows = asks
-ends-shown wrong script limit before after (Untold fault) asks is = subst (λ (f : Fault). IsFault wrong script f) (sym is) (is_fault-shown wrong script asks)
-ends-shown wrong script limit before after Ran asks none = absurd none
-ends-shown wrong script limit before after (Told fault) asks none = absurd none
-ends-shown wrong script limit before after Refused asks none = absurd none
+ends-untold : (wrong : Kinds) (path : List ℕ) (script : Option (List ℕ)) (limit : ℕ) (before after : Option (List ℕ)) (failure : Failure) (error : IoError) →
+    IsFault wrong script failure.fault → name_of failure ≡ name_by path failure.fault → Ends wrong path script limit before after (untold failure error)
+ends-untold wrong path script limit before after failure error is named =
+    ends-untold_by wrong path script limit before after failure.fault failure.cause failure error refl refl is named
 
-ends-refused : (wrong : Kinds) (script : Option (List ℕ)) (limit : ℕ) (before after : Option (List ℕ)) (mistake : ErrorKind) (ending : Ending) → IsAmong mistake wrong → IsMistake mistake → ending ≡ Refused → Ends wrong script limit before after ending
-ends-refused wrong script limit before after mistake ending among is same = subst (λ (e : Ending). Ends wrong script limit before after e) (sym same) (mistake, among, is)
+-- what was kept at first grows by what is appended then
+pub Appends-from : (a b c : Option (List ℕ)) (bs : List ℕ) → Keeps a b → Appends b c bs → Appends a c bs
+Appends-from None b c bs kept grows = tt
+Appends-from (Some x) None c bs kept grows = absurd kept
+Appends-from (Some x) (Some y) None bs kept grows = absurd grows
+Appends-from (Some x) (Some y) (Some z) bs kept grows = grows ∙ ap (λ (xs : List ℕ). xs ++ bs) kept
+
+-- a failure that is told ends the program so
+pub ends-told : (wrong : Kinds) (path : List ℕ) (script : Option (List ℕ)) (limit : ℕ) (before between after : Option (List ℕ)) (failure : Failure) (ending : Ending) →
+    IsFault wrong script failure.fault → name_of failure ≡ name_by path failure.fault → (comes_first failure.fault ≡ true → Keeps before between) →
+    Tells failure between after ending → Ends wrong path script limit before after ending
+ends-told wrong path script limit before between after failure (Told told) is named kept (same, line) =
+    subst (λ (f : Failure). Ends wrong path script limit before after (Told f)) (sym same) (is, named, λ first. Appends-from before between after (fault_line failure.fault) (kept first) line)
+ends-told wrong path script limit before between after failure ending is named kept (error, same) =
+    subst (λ (e : Ending). Ends wrong path script limit before after e) (sym same) (ends-untold wrong path script limit before after failure error is named)
+
+-- there is no memory
+pub ends-no_memory : (wrong : Kinds) (path : List ℕ) (script : Option (List ℕ)) (limit : ℕ) (before after : Option (List ℕ)) (ending : Ending) →
+    Tells (plain NoMemory) before after ending → Ends wrong path script limit before after ending
+ends-no_memory wrong path script limit before after ending told =
+    ends-told wrong path script limit before before after (plain NoMemory) ending (is_fault-memory wrong script) refl (λ first. Keeps-refl before) told
+
+-- a script's fault, as the failure has it
+pub ends-failed : (path : List ℕ) (script : Option (List ℕ)) (limit : ℕ) (before between after : Option (List ℕ)) (fault : Fault) (failure : Failure) (ending : Ending) →
+    failure.fault ≡ fault → OfRead script (λ bytes. IsRunRefusal bytes fault) → name_of failure ≡ name_by path failure.fault → (comes_first fault ≡ true → Keeps before between) →
+    Tells failure between after ending → Ends [] path script limit before after ending
+ends-failed path script limit before between after fault failure ending same is named kept told =
+    ends-told [] path script limit before between after failure ending (subst (IsFault [] script) (sym same) is) named (λ first. kept (sym (ap comes_first same) ∙ first)) told
 
 -- words that ask for no script end by the kind of what is wrong with them
-pub ends-answered : (wrong : Kinds) (script : Option (List ℕ)) (limit : ℕ) (before after : Option (List ℕ)) (k : ErrorKind) (ending : Ending) → (k ≡ kind.OutOfMemory) ⊎ IsAmong k wrong → Answers k before after ending → Ends wrong script limit before after ending
-ends-answered wrong script limit before after kind.OutOfMemory ending has told = ends-told wrong script limit before after NoMemory ending (is_fault-memory wrong script) told
-ends-answered wrong script limit before after kind.DisplayHelp ending (inl is) shows = let none : ⊥ = cc in absurd none
-ends-answered wrong script limit before after kind.DisplayHelp ending (inr among) shows = ends-shown wrong script limit before after ending (inl among) shows
-ends-answered wrong script limit before after kind.DisplayVersion ending (inl is) shows = let none : ⊥ = cc in absurd none
-ends-answered wrong script limit before after kind.DisplayVersion ending (inr among) shows = ends-shown wrong script limit before after ending (inr among) shows
-ends-answered wrong script limit before after k ending (inl is) refused = let none : ⊥ = cc in absurd none
-ends-answered wrong script limit before after k ending (inr among) refused = ends-refused wrong script limit before after k ending among tt refused
+pub ends-answered : (wrong : Kinds) (path : List ℕ) (script : Option (List ℕ)) (limit : ℕ) (before after : Option (List ℕ)) (k : ErrorKind) (ending : Ending) →
+    (k ≡ kind.OutOfMemory) ⊎ IsAmong k wrong → Answers k before after ending → Ends wrong path script limit before after ending
+ends-answered wrong path script limit before after k Ran has none = absurd none
+ends-answered wrong path script limit before after k (Told failure) has told = ends-no_memory wrong path script limit before after (Told failure) told
+ends-answered wrong path script limit before after k (Untold failure error) has (inl same) =
+    subst (λ (f : Failure). Ends wrong path script limit before after (Untold f error)) (sym same) (is_fault-memory wrong script, refl)
+ends-answered wrong path script limit before after k (Untold failure error) (inl memory) (inr (wish, same)) = absurd (subst IsWish memory wish)
+ends-answered wrong path script limit before after k (Untold failure error) (inr among) (inr (wish, same)) =
+    subst (λ (f : Failure). Ends wrong path script limit before after (Untold f error)) (sym same) (is_fault-answered wrong script k among, refl)
+ends-answered wrong path script limit before after k (Shown text) (inl memory) (wish, line) = absurd (subst IsWish memory wish)
+ends-answered wrong path script limit before after k (Shown text) (inr among) (wish, line) = (k, among, wish, line)
+ends-answered wrong path script limit before after k (Refused text) (inl memory) (mistake, kept) = absurd (subst IsMistake memory mistake)
+ends-answered wrong path script limit before after k (Refused text) (inr among) (mistake, kept) = (k, among, mistake, kept)
+
+refused_as_no_text : (k : IoErrorKind) → (k ≡ io_kind.OutOfMemory → ⊥) → IsAmong kind.InvalidValue (wrong_had (Err k))
+refused_as_no_text io_kind.OutOfMemory other = absurd (other refl)
+refused_as_no_text k other = inl refl
+
+-- words that could not be had, and not for want of memory, end as those that are no text
+pub ends-unread : (k : IoErrorKind) (path : List ℕ) (script : Option (List ℕ)) (limit : ℕ) (before after : Option (List ℕ)) (said : ErrorKind) (ending : Ending) →
+    (k ≡ io_kind.OutOfMemory → ⊥) → said ≡ kind.InvalidValue → Answers said before after ending → Ends (wrong_had (Err k)) path script limit before after ending
+ends-unread k path script limit before after said ending other same answers =
+    ends-answered (wrong_had (Err k)) path script limit before after said ending (inr (subst (λ (a : ErrorKind). IsAmong a (wrong_had (Err k))) (sym same) (refused_as_no_text k other))) answers
 
 -- a script that was run may stay unwritten
-is_fault-ran : (wrong : Kinds) (script : Option (List ℕ)) (limit : ℕ) (before after : Option (List ℕ)) → Ends wrong script limit before after Ran → IsFault wrong script CannotWrite
+is_fault-ran : (wrong : Kinds) (script : Option (List ℕ)) (limit : ℕ) (before after : Option (List ℕ)) → (wrong ≡ []) × OfRead script (λ bytes. Runs bytes limit before after) → IsFault wrong script CannotWrite
 is_fault-ran [] script limit before after ran =
     of_read-map script (λ bytes. Runs bytes limit before after) (λ bytes. IsRunRefusal bytes CannotWrite) (λ bytes runs. runs.good) ran.1
 is_fault-ran (kind ∷ more) script limit before after ran = let none : ⊥ = cc in absurd none
 
-ends-unwritten : (wrong : Kinds) (script : Option (List ℕ)) (limit : ℕ) (before between after : Option (List ℕ)) (ending : Ending) → Ends wrong script limit before between ending → Ends wrong script limit before after (unwritten ending)
-ends-unwritten wrong script limit before between after Ran ends = is_fault-ran wrong script limit before between ends
-ends-unwritten wrong script limit before between after (Told fault) ends = ends.0
-ends-unwritten wrong script limit before between after (Untold fault) ends = ends
-ends-unwritten wrong script limit before between after Shown ends = is_fault-shown wrong script ends
-ends-unwritten wrong script limit before between after Refused ends = ends
+ends-unwritten : (wrong : Kinds) (path : List ℕ) (script : Option (List ℕ)) (limit : ℕ) (before between after : Option (List ℕ)) (ending : Ending) (error : IoError) →
+    Ends wrong path script limit before between ending → Ends wrong path script limit before after (unwritten ending error)
+ends-unwritten wrong path script limit before between after Ran error ends = (is_fault-ran wrong script limit before between ends, refl)
+ends-unwritten wrong path script limit before between after (Told failure) error (is, named, line) = ends-untold wrong path script limit before after failure error is named
+ends-unwritten wrong path script limit before between after (Untold failure first) error ends = ends
+ends-unwritten wrong path script limit before between after (Shown text) error (wish, among, is, line) = (is_fault-answered wrong script wish among, refl)
+ends-unwritten wrong path script limit before between after (Refused text) error (mistake, among, is, kept) = (is_fault-answered wrong script mistake among, refl)
 
 runs-kept : (script : Option (List ℕ)) (limit : ℕ) (before between after : Option (List ℕ)) → OfRead script (λ bytes. Runs bytes limit before between) → Keeps between after → OfRead script (λ bytes. Runs bytes limit before after)
 runs-kept script limit before between after runs kept =
     of_read-map script (λ bytes. Runs bytes limit before between) (λ bytes. Runs bytes limit before after) (λ bytes ran. Runs-kept bytes limit before between after ran kept) runs
 
-ends-kept : (wrong : Kinds) (script : Option (List ℕ)) (limit : ℕ) (before between after : Option (List ℕ)) (ending : Ending) → Ends wrong script limit before between ending → Keeps between after → Ends wrong script limit before after ending
-ends-kept wrong script limit before between after Ran (none, runs) kept = (none, runs-kept script limit before between after runs kept)
-ends-kept wrong script limit before between after (Told fault) (is, line) kept = (is, λ first. Appends-kept before between after (fault_line fault) (line first) kept)
-ends-kept wrong script limit before between after (Untold fault) ends kept = ends
-ends-kept wrong script limit before between after Shown ends kept = ends
-ends-kept wrong script limit before between after Refused ends kept = ends
+ends-kept : (wrong : Kinds) (path : List ℕ) (script : Option (List ℕ)) (limit : ℕ) (before between after : Option (List ℕ)) (ending : Ending) →
+    Ends wrong path script limit before between ending → Keeps between after → Ends wrong path script limit before after ending
+ends-kept wrong path script limit before between after Ran (none, runs) kept = (none, runs-kept script limit before between after runs kept)
+ends-kept wrong path script limit before between after (Told failure) (is, named, line) kept =
+    (is, named, λ first. Appends-kept before between after (fault_line failure.fault) (line first) kept)
+ends-kept wrong path script limit before between after (Untold failure error) ends kept = ends
+ends-kept wrong path script limit before between after (Shown text) (wish, among, is, line) kept = (wish, among, is, Appends-kept before between after (string_bytes text) line kept)
+ends-kept wrong path script limit before between after (Refused text) (mistake, among, is, stays) kept = (mistake, among, is, Keeps-trans before between after stays kept)
 
 -- the end stays what it is once all is written, or says that it could not be
-pub ends-finished : (wrong : Kinds) (script : Option (List ℕ)) (limit : ℕ) (before between after : Option (List ℕ)) (ending new : Ending) → Ends wrong script limit before between ending → Finishes ending between after new → Ends wrong script limit before after new
-ends-finished wrong script limit before between after ending new ends (inl (same, kept)) =
-    subst (λ (e : Ending). Ends wrong script limit before after e) (sym same) (ends-kept wrong script limit before between after ending ends kept)
-ends-finished wrong script limit before between after ending new ends (inr same) =
-    subst (λ (e : Ending). Ends wrong script limit before after e) (sym same) (ends-unwritten wrong script limit before between after ending ends)
+pub ends-finished : (wrong : Kinds) (path : List ℕ) (script : Option (List ℕ)) (limit : ℕ) (before between after : Option (List ℕ)) (ending new : Ending) →
+    Ends wrong path script limit before between ending → Finishes ending between after new → Ends wrong path script limit before after new
+ends-finished wrong path script limit before between after ending new ends (inl (same, kept)) =
+    subst (λ (e : Ending). Ends wrong path script limit before after e) (sym same) (ends-kept wrong path script limit before between after ending ends kept)
+ends-finished wrong path script limit before between after ending new ends (inr (error, same)) =
+    subst (λ (e : Ending). Ends wrong path script limit before after e) (sym same) (ends-unwritten wrong path script limit before between after ending error ends)
+
+-- a line of complaint has some cause
+pub complains-of : (r : Result (Unit {0}) IoError) (name cause : List ℕ) (before after : Option (List ℕ)) →
+    OnOk r (Appends before after (complaint name cause)) → OnOk r (Complains (Some name) before after)
+complains-of (Ok done) name cause before after line = (cause, line)
+complains-of (Err error) name cause before after line = tt

@@ -3,6 +3,7 @@ pub mod EndingLemmas
 pub mod LineLemmas
 pub mod PlainWords
 pub mod PlayLemmas
+pub mod ProcessLemmas
 pub mod ReadLemmas
 pub mod RunLemmas
 pub mod ScriptLemmas

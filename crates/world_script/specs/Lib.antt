@@ -4,6 +4,7 @@ pub mod Ending
 pub mod FaultText
 pub mod Input
 pub mod Parts
+pub mod Process
 pub mod Refusal
 pub mod Script
 pub mod Source

@@ -1,11 +1,12 @@
 -- Why a script is refused: the first of no line `--`, a bad manifest, and a bad line behind it. (This project's own.)
-use Rattle.std.specs.Prelude.{◌≡◌, ℕ, ◌+◌, ◌<◌, ◌≤◌, Bool, true, false, List, length, ⊤, Some, None, Ok, Err, option_map}
+use Rattle.std.specs.Prelude.{◌≡◌, ℕ, ◌+◌, ◌<◌, ◌≤◌, Bool, true, false, is_some, List, length, ⊤, Some, None, Ok, Err, option_map}
 use Rattle.manifest.specs.Manifest.{Manifest}
 use Rattle.manifest.specs.declared.fault.ManifestFault.{ManifestFault}
 use Rattle.manifest.specs.declared.fault.ManifestFaultKind.{ManifestFaultKind}
 use Rattle.manifest.specs.declared.fault.ManifestFaultKind.TheVariants as kind
 use Rattle.world_script.specs.declared.fault.Fault.{Fault}
 use Rattle.world_script.specs.declared.fault.Fault.TheVariants.{CannotRead, TooLong, NoEvents, BadManifest, BadLine, NoMemory, CannotWrite}
+use Rattle.world_script.specs.declared.run_error.RunError.{RunError}
 use Rattle.script_lines.specs.Lines.{lines_of}
 use Rattle.world_script.specs.Parts.{lines_behind, first_bad, IsBadLine}
 use Rattle.world_script.specs.Script.{SaysManifest, IsGood}
@@ -48,6 +49,16 @@ IsReadRefusal _ = ⊥
 abbrev pub comes_first : Fault → Bool
 comes_first CannotWrite = false
 comes_first _ = true
+
+-- the system's error of the reader or of the writer is behind the fault
+abbrev pub is_caused : Fault → Bool
+is_caused CannotRead = true
+is_caused CannotWrite = true
+is_caused _ = false
+
+-- it is there just where it is behind the fault
+abbrev pub IsCaused : RunError → Type 0
+IsCaused error = is_some error.cause ≡ is_caused error.fault
 
 -- why a script that was read whole is refused; a longer one is `too long`, whatever it says
 abbrev pub IsShortRefusal : List ℕ → Fault → Type 0

@@ -1,51 +1,65 @@
 //! How the program ends.
-ghost use Rattle.std.specs.Prelude.{◌≡◌};
-ghost use Rattle.world_script.specs.Ending.{is_unwritten, status_of, unwritten};
+ghost use Rattle.std.specs.Prelude.{◌≡◌, OnOk};
+ghost use Rattle.world_script.specs.Ending.{Says, status_of, unwritten};
 
-use crate::Fault;
+use crate::complaint::complain;
+use crate::failure::STANDARD_OUTPUT;
+use crate::{Failure, Fault};
+use std::io::{self, Write};
 
-/// The end of a run of the program.
-#[derive(Clone, Copy, PartialEq, Eq)]
-pub enum Ending {
+/// The end of a run of the program, with what standard error is to get.
+#[derive(Drop)]
+pub enum Ending<'a> {
     /// The script was run, and each event's lines were written.
     Ran,
     /// A fault ended the program, and its line was written.
-    Told(Fault),
-    /// A fault ended the program, and its line could not be written.
-    Untold(Fault),
-    /// The help or the version was written, as the words ask.
-    Shown,
-    /// The words were refused.
-    Refused,
+    Told(Failure<'a>),
+    /// A fault ended the program, and its line could not be written. The error is that of the first write that failed.
+    Untold(Failure<'a>, io::Error),
+    /// The help or the version was written, as the words ask: this text.
+    Shown(String),
+    /// The words were refused, for the reason that the text has.
+    Refused(String),
 }
 
-impl Ending {
+impl<'a> Ending<'a> {
     /// Returns the exit status: 0 where a script was run or help was asked for, 1 at a fault, 2 for refused words.
-    pub fn status(self) -> u8
-        ensures { result ≡ status_of self }
+    pub fn status(&self) -> u8
+        ensures { result ≡ status_of self.now }
     {
         match self {
-            Ending::Ran | Ending::Shown => 0,
-            Ending::Told(_) | Ending::Untold(_) => 1,
-            Ending::Refused => 2,
+            Ending::Ran | Ending::Shown(_) => 0,
+            Ending::Told(_) | Ending::Untold(..) => 1,
+            Ending::Refused(_) => 2,
         }
     }
 
-    /// Returns whether it is known by now that output can't be written.
-    pub fn is_unwritten(self) -> bool
-        ensures { result ≡ is_unwritten self }
-    {
-        matches!(self, Ending::Untold(_) | Ending::Told(Fault::CannotWrite))
-    }
-
     /// Returns the ending of a program whose last output could not be written.
-    pub fn unwritten(self) -> Ending
-        ensures { result ≡ unwritten self }
+    pub fn unwritten(self, error: io::Error) -> Ending<'a>
+        ensures { result ≡ unwritten self.entry error }
     {
         match self {
-            Ending::Ran | Ending::Shown => Ending::Untold(Fault::CannotWrite),
-            Ending::Told(fault) => Ending::Untold(fault),
-            Ending::Untold(_) | Ending::Refused => self,
+            Ending::Told(failure) => failure.untold(error),
+            Ending::Untold(failure, first) => Ending::Untold(failure, first),
+            Ending::Ran => Failure::plain(Fault::CannotWrite).untold(error),
+            Ending::Shown(_text) => Failure::plain(Fault::CannotWrite).untold(error),
+            Ending::Refused(_text) => Failure::plain(Fault::CannotWrite).untold(error),
+        }
+    }
+
+    /// Says on standard error what the ending has to say: why the words are refused, or a line for each stream with
+    /// which the system had an error.
+    pub fn say<E: Write>(&self, err: &mut E) -> io::Result<()>
+        ensures says { OnOk result (Says self.now (E.contents err.old) (E.contents err.new)) }
+    {
+        match self {
+            Ending::Ran | Ending::Shown(_) => Ok(()),
+            Ending::Told(failure) => failure.say(err),
+            Ending::Untold(failure, error) => {
+                failure.say(err)?;
+                complain(err, STANDARD_OUTPUT, error)
+            }
+            Ending::Refused(text) => err.write_all(text.as_bytes()),
         }
     }
 }

@@ -2,7 +2,7 @@
 ghost use Rattle.std.specs.Prelude.{◌≡◌, ◌≤◌, ◌<◌, ◌++◌, true, length, IfOk, IfErr, IfSome};
 ghost use Rattle.std.specs.Io.KnownBytes.{IsAtEnd};
 ghost use Rattle.world_script.specs.Input.{Reads};
-ghost use Rattle.world_script.specs.Refusal.{IsReadRefusal};
+ghost use Rattle.world_script.specs.Refusal.{IsCaused, IsReadRefusal};
 
 use crate::{Fault, RunError};
 use std::alloc::Global;
@@ -22,6 +22,7 @@ pub fn read_whole<R: Read>(alloc: Global, reader: &mut R) -> Result<Vec<u8>, Run
     ensures whole { IfOk result (λ bytes.
         IfSome (R.remaining reader.old) (λ all. bytes.items ≡ all)) }
     ensures refused { IfErr result (λ error. IsReadRefusal error.fault) }
+    ensures caused { IfErr result IsCaused }
     ensures too_long { IfErr result (λ error. error.fault ≡ Fault.TooLong
         → IfSome (R.remaining reader.old) (λ all. MAX_LEN < length all)) }
 {
@@ -49,6 +50,7 @@ fn read_once<R: Read>(
         (R.remaining reader.new) bytes.new.items) }
     ensures end { IfOk result (λ is_last. is_last ≡ true → IsAtEnd (R.remaining reader.new)) }
     ensures refused { IfErr result (λ error. IsReadRefusal error.fault) }
+    ensures caused { IfErr result IsCaused }
     ensures too_long { IfErr result (λ error. error.fault ≡ Fault.TooLong
         → IfSome (R.remaining reader.old) (λ rest. MAX_LEN < length (bytes.old.items ++ rest))) }
 {

@@ -3,9 +3,12 @@
 #![tactic(auto)]
 
 mod command_line;
+mod complaint;
 mod ending;
+mod failure;
 mod fault;
 mod input;
+mod process;
 mod program;
 mod run;
 mod run_error;
@@ -13,7 +16,9 @@ mod script;
 mod sources;
 
 pub use ending::Ending;
+pub use failure::{Cause, Failure};
 pub use fault::{Fault, write_fault};
+pub use process::{Process, RunIn, run_process};
 pub use program::{run_program, run_words};
 pub use run::{DEFAULT_LIMIT, run_script, run_world};
 pub use run_error::RunError;

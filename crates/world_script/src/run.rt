@@ -1,7 +1,7 @@
 //! A script, run.
 ghost use Rattle.std.specs.Prelude.{◌≡◌, true, IfErr, OnOk};
 ghost use Rattle.std.specs.Io.KnownBytes.{Keeps};
-ghost use Rattle.world_script.specs.Refusal.{IsRunRefusal, comes_first};
+ghost use Rattle.world_script.specs.Refusal.{IsCaused, IsRunRefusal, comes_first};
 ghost use Rattle.world_script.specs.Script.{Runs, RunsEvents};
 ghost use Rattle.world_script.specs.Source.{OfRead};
 
@@ -53,6 +53,7 @@ pub fn run_script<R: Read, W: Write>(
         OfRead (R.remaining reader.old) (λ script. IsRunRefusal script error.fault)) }
     ensures unwritten { IfErr result (λ error. comes_first error.fault ≡ true
         → Keeps (W.contents writer.old) (W.contents writer.new)) }
+    ensures caused { IfErr result IsCaused }
 {
     let bytes = read_whole(alloc, reader)?;
     let script = Script::read(alloc, bytes.as_slice());

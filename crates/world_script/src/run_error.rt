@@ -1,5 +1,5 @@
 //! A fault, and what the system says of it.
-ghost use Rattle.std.specs.Prelude.{◌≡◌};
+ghost use Rattle.std.specs.Prelude.{◌≡◌, None, Some};
 ghost use Rattle.world_script.specs.declared.fault.Fault.TheVariants.{NoMemory as OutOfMemory};
 
 use crate::Fault;
@@ -17,7 +17,8 @@ pub struct RunError {
 impl RunError {
     /// Joins a fault and its cause.
     pub fn with_cause(fault: Fault, cause: io::Error) -> RunError
-        ensures { result.fault ≡ fault }
+        ensures fault { result.fault ≡ fault }
+        ensures cause { result.cause ≡ Some cause }
     {
         RunError {
             fault,
@@ -27,7 +28,7 @@ impl RunError {
 }
 
 impl From<Fault> for RunError {
-    ghost from_gives = { λ fault error. error.fault ≡ fault };
+    ghost from_gives = { λ fault error. (error.fault ≡ fault) × (error.cause ≡ None) };
 
     fn from(fault: Fault) -> RunError {
         RunError { fault, cause: None }
@@ -35,7 +36,7 @@ impl From<Fault> for RunError {
 }
 
 impl From<NoMemory> for RunError {
-    ghost from_gives = { λ _ error. error.fault ≡ OutOfMemory };
+    ghost from_gives = { λ _ error. (error.fault ≡ OutOfMemory) × (error.cause ≡ None) };
 
     fn from(_refused: NoMemory) -> RunError {
         RunError::from(Fault::NoMemory)
@@ -43,7 +44,7 @@ impl From<NoMemory> for RunError {
 }
 
 impl From<AllocError> for RunError {
-    ghost from_gives = { λ _ error. error.fault ≡ OutOfMemory };
+    ghost from_gives = { λ _ error. (error.fault ≡ OutOfMemory) × (error.cause ≡ None) };
 
     fn from(_refused: AllocError) -> RunError {
         RunError::from(Fault::NoMemory)

@@ -1,15 +1,15 @@
 //! Where scripts come from.
 ghost use Rattle.std.specs.Prelude.{None, IfErr, IfOk, List, Option, ℕ, OnOk, true, ◌≡◌};
 ghost use Rattle.std.specs.Io.KnownBytes.{Keeps};
-ghost use Rattle.world_script.specs.Refusal.{IsRunRefusal, comes_first};
+ghost use Rattle.world_script.specs.Refusal.{IsCaused, IsRunRefusal, comes_first};
 ghost use Rattle.world_script.specs.Script.{Runs};
-ghost use Rattle.world_script.specs.Source.{OfRead, script_at};
+ghost use Rattle.world_script.specs.Source.{OfRead, script_at, stream_at};
 
 use crate::{Fault, RunError, run_script};
 use std::alloc::Global;
 use std::fs;
 use std::io::{self, Read, Write};
-use std::rt::Files;
+use std::rt::{Files, Stderr, Stdout};
 
 /// The word for standard input.
 pub const STANDARD_INPUT: &str = "-";
@@ -37,9 +37,13 @@ pub trait Sources {
             Keeps (file_bytes self.now path.now) (Self.File.remaining file)) };
 }
 
-/// The files and the standard input of the system.
+/// The words, the files and the streams of the system.
 #[derive(Drop)]
-pub struct System<'a, R>(pub &'a R);
+pub struct System<'a, R> {
+    pub host: &'a R,
+    pub output: Stdout,
+    pub errors: Stderr,
+}
 
 impl<R: Files + Input> Sources for System<'_, R> {
     type Input = R::Reader;
@@ -47,11 +51,22 @@ impl<R: Files + Input> Sources for System<'_, R> {
     type File = R::File;
 
     fn input(&self) -> R::Reader {
-        self.0.reader()
+        self.host.reader()
     }
 
     fn open(&self, path: &str) -> io::Result<R::File> {
-        fs::open(self.0, path)
+        fs::open(self.host, path)
+    }
+}
+
+/// Returns the name of what the script at a path is read from.
+pub fn stream_at(path: &str) -> &str
+    ensures { result.now ≡ stream_at path.now }
+{
+    if path == STANDARD_INPUT {
+        "standard input"
+    } else {
+        path
     }
 }
 
@@ -71,6 +86,7 @@ pub fn run_path<S: Sources, W: Write>(
         (λ script. IsRunRefusal script error.fault)) }
     ensures unwritten { IfErr result (λ error. comes_first error.fault ≡ true
         → Keeps (W.contents out.old) (W.contents out.new)) }
+    ensures caused { IfErr result IsCaused }
 {
     if path == STANDARD_INPUT {
         return run_script(alloc, &mut sources.input(), limit, out);

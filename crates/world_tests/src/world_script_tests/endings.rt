@@ -1,7 +1,7 @@
-//! Words, what the program prints for them, and how it ends.
+//! The program in processes in memory: their words and streams, what the streams get, and the status.
 use std::alloc::Global;
-use std::io::{self, BufWriter, ErrorKind, Write};
-use world_script::{Ending, Fault, Sources, run_program};
+use std::io::{self, ErrorKind, Write};
+use world_script::{Process, Sources, run_process};
 
 /// A script on standard input, and two in files.
 const INPUT: &[u8] = b"commit 0123456789abcdef0123456789abcdef01234567\n--\nstart\n";
@@ -10,11 +10,21 @@ const SHOWS: &[u8] = b"commit 0123456789abcdef0123456789abcdef01234567\n--\nshow
 
 const BAD: &[u8] = b"commit 0123456789abcdef0123456789abcdef01234567\n--\nstart\nstop\n";
 
-/// Standard input and files in memory.
-#[derive(Drop)]
-struct Memory;
+/// Words behind the program's name. None stands for those that are no text.
+type Words = Option<&'static [&'static str]>;
 
-impl Sources for Memory {
+/// How many bytes are gathered for one write, and how many standard output and standard error take.
+type Rooms = [usize; 3];
+
+/// A process in memory.
+#[derive(Drop)]
+struct InMemory {
+    alloc: Global,
+    words: Words,
+    rooms: Rooms,
+}
+
+impl Sources for InMemory {
     type Input = &'static [u8];
 
     type File = &'static [u8];
@@ -32,11 +42,42 @@ impl Sources for Memory {
     }
 }
 
+impl Process for InMemory {
+    type Output = Room;
+
+    type Errors = Room;
+
+    fn words(&self, alloc: Global) -> io::Result<Vec<String>> {
+        words_of(alloc, self.words)
+    }
+
+    fn capacity(&self) -> usize {
+        self.rooms[0]
+    }
+
+    fn output(&self) -> Room {
+        Room::new(self.alloc, self.rooms[1])
+    }
+
+    fn errors(&self) -> Room {
+        Room::new(self.alloc, self.rooms[2])
+    }
+}
+
 /// A writer that takes so many bytes.
 #[derive(Drop)]
 struct Room {
     text: Vec<u8>,
     room: usize,
+}
+
+impl Room {
+    fn new(alloc: Global, room: usize) -> Room {
+        Room {
+            text: Vec::new(alloc),
+            room,
+        }
+    }
 }
 
 impl Write for Room {
@@ -55,91 +96,136 @@ impl Write for Room {
     }
 }
 
-/// Words behind the program's name, if they are text, the room on standard output, the ending, and what both streams
-/// get.
-type Row = (
-    Option<&'static [&'static str]>,
-    usize,
-    Ending,
-    &'static [u8],
-    &'static [u8],
-);
+/// The words, the rooms, the status, what both streams get, and whether all that is to be said is written. Text is
+/// whole, unless it ends without LF.
+type Row = (Words, Rooms, u8, &'static [u8], &'static [u8], bool);
 
-static ROWS: [Row; 14] = [
-    (Some(&[]), 4096, Ending::Ran, b"daemon 1\n", b""),
-    (Some(&["world", "-"]), 4096, Ending::Ran, b"daemon 1\n", b""),
+const AMPLE: Rooms = [4096, 4096, 4096];
+
+/// A buffer for which there is no memory.
+const NONE: usize = usize::MAX;
+
+static ROWS: [Row; 20] = [
+    (Some(&[]), AMPLE, 0, b"daemon 1\n", b"", true),
+    (Some(&["world", "-"]), AMPLE, 0, b"daemon 1\n", b"", true),
     (
         Some(&["world", "shows"]),
-        4096,
-        Ending::Ran,
+        AMPLE,
+        0,
         b"seat none\n",
         b"",
+        true,
     ),
     (
         Some(&["world", "--limit", "65536", "shows"]),
-        4096,
-        Ending::Ran,
+        AMPLE,
+        0,
         b"seat none\n",
         b"",
+        true,
     ),
     (
         Some(&["world", "shows", "--limit", "65537"]),
-        4096,
-        Ending::Refused,
+        AMPLE,
+        2,
         b"",
         b"error: ",
+        true,
     ),
     (
         Some(&["world", "bad"]),
-        4096,
-        Ending::Told(Fault::BadLine(4)),
+        AMPLE,
+        1,
         b"fault: line 4: bad line\n",
         b"",
+        true,
     ),
     (
         Some(&["world", "none"]),
-        4096,
-        Ending::Told(Fault::CannotRead),
+        AMPLE,
+        1,
         b"fault: cannot read\n",
         b"edend: none: entity not found\n",
+        true,
     ),
     (
         Some(&["--help"]),
-        4096,
-        Ending::Shown,
+        AMPLE,
+        0,
         b"Graceful restart of a FUSE daemon",
         b"",
+        true,
     ),
-    (
-        Some(&["--version"]),
-        4096,
-        Ending::Shown,
-        b"edend 0.1.0\n",
-        b"",
-    ),
-    (Some(&["worlds"]), 4096, Ending::Refused, b"", b"error: "),
-    (Some(&["world"]), 4096, Ending::Refused, b"", b"error: "),
+    (Some(&["--version"]), AMPLE, 0, b"edend 0.1.0\n", b"", true),
+    (Some(&["worlds"]), AMPLE, 2, b"", b"error: ", true),
+    (Some(&["world"]), AMPLE, 2, b"", b"error: ", true),
     (
         None,
-        4096,
-        Ending::Refused,
+        AMPLE,
+        2,
         b"",
         b"error: a word of the command line is not UTF-8\n\nUsage: edend [COMMAND]\n\nFor more information, try '--help'.\n",
+        true,
     ),
-    // Output that can't be written.
+    // Output that can't be written: lines of events, the version, and a fault beside which a file can't be read.
     (
         Some(&["world", "shows"]),
-        9,
-        Ending::Untold(Fault::CannotWrite),
+        [4096, 9, 4096],
+        1,
         b"",
         b"edend: standard output: no storage space\n",
+        true,
     ),
     (
         Some(&["--version"]),
-        0,
-        Ending::Untold(Fault::CannotWrite),
+        [4096, 0, 4096],
+        1,
         b"",
         b"edend: standard output: no storage space\n",
+        true,
+    ),
+    (
+        Some(&["world", "none"]),
+        [4096, 0, 4096],
+        1,
+        b"",
+        b"edend: none: entity not found\nedend: standard output: no storage space\n",
+        true,
+    ),
+    // What can't be said changes no status.
+    (
+        Some(&["world", "none"]),
+        [4096, 4096, 0],
+        1,
+        b"fault: cannot read\n",
+        b"",
+        false,
+    ),
+    (Some(&["worlds"]), [4096, 4096, 0], 2, b"", b"", false),
+    // No buffer, whatever the words are.
+    (
+        Some(&["world", "shows"]),
+        [NONE, 4096, 4096],
+        1,
+        b"fault: no memory\n",
+        b"",
+        true,
+    ),
+    (
+        Some(&["worlds"]),
+        [NONE, 4096, 4096],
+        1,
+        b"fault: no memory\n",
+        b"",
+        true,
+    ),
+    (
+        Some(&["world", "shows"]),
+        [NONE, 0, 4096],
+        1,
+        b"",
+        b"edend: standard output: no storage space\n",
+        true,
     ),
 ];
 
@@ -173,29 +259,18 @@ fn add_word(alloc: Global, all: &mut Vec<String>, word: &str) -> io::Result<()> 
 }
 
 fn ends_so(alloc: Global, row: &Row) -> bool {
-    let out = Room {
-        text: Vec::new(alloc),
-        room: row.1,
+    let process = InMemory {
+        alloc,
+        words: row.0,
+        rooms: row.1,
     };
-    match BufWriter::new(alloc, out) {
-        Ok(lines) => runs_so(alloc, lines, row),
-        Err(_) => false,
-    }
-}
-
-fn runs_so(alloc: Global, lines: BufWriter<Room>, row: &Row) -> bool {
-    let mut err = Vec::new(alloc);
-    let words = words_of(alloc, row.0);
-    let (out, ending) = run_program(alloc, words, &Memory, lines, &mut err);
-    let is_so = is_row(ending, out.text.as_slice(), err.as_slice(), row);
-    drop(out);
-    drop(err);
+    let ran = run_process(alloc, &process);
+    let is_so = ran.status == row.2
+        && is_text(ran.output.text.as_slice(), row.3)
+        && is_text(ran.errors.text.as_slice(), row.4)
+        && ran.said.is_ok() == row.5;
+    drop(ran);
     is_so
-}
-
-/// Returns whether an ending and both texts are those of the row. Text of the row is whole, unless it ends without LF.
-fn is_row(ending: Ending, out: &[u8], err: &[u8], row: &Row) -> bool {
-    ending == row.2 && is_text(out, row.3) && is_text(err, row.4)
 }
 
 fn is_text(text: &[u8], want: &[u8]) -> bool {

@@ -1,6 +1,7 @@
--- What a wrong body of must-fail/ breaks; an answer makes its refusal cheap.
-use Rattle.std.proofs.Common.{rules}
+-- The end of the words stays what it is once all is written.
+use Rattle.world_script.specs.Ending.{path_had, words_had}
+use Rattle.world_script.proofs.EndingLemmas.{ends-finished}
 use Rattle.world_script.proofs.program.run_program.Goals as goal
 
-pub returns-in-Ok : goal.returns-in-Ok
-returns-in-Ok g c = search rules
+pub returns : goal.returns
+returns g c = record { ends = ends-finished _ (path_had (words_had c.args.words.now)) _ _ _ _ _ _ _ c.run_had-ending.ensures c.finish.ensures }

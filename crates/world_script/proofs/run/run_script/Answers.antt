@@ -15,7 +15,7 @@ returns-in-Ok-clause-runs g c =
 
 pub returns-in-Err-clause-refused : goal.returns-in-Err-clause-refused
 returns-in-Err-clause-refused g c =
-    refused_late _ _ _ _ _ _ c.in_ok-bytes.ensures.whole c.in_ok-bytes.ensures.len c.as_slice.ensures.value c.in_ok-script.ensures.manifest c.in_ok-script.ensures.events c.with_cause.ensures
+    refused_late _ _ _ _ _ _ c.in_ok-bytes.ensures.whole c.in_ok-bytes.ensures.len c.as_slice.ensures.value c.in_ok-script.ensures.manifest c.in_ok-script.ensures.events c.with_cause.ensures.fault
 
 pub returns-in_err-bytes-clause-refused : goal.returns-in_err-bytes-clause-refused
 returns-in_err-bytes-clause-refused g c =

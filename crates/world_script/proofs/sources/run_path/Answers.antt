@@ -20,4 +20,4 @@ returns-in-Ok-clause-refused g c = opened_refused c.run_script-in-Ok.result _ (g
 pub returns-in-Err-clause-refused : goal.returns-in-Err-clause-refused
 returns-in-Err-clause-refused g c =
     let at = script_at (g.S.Sources.input_bytes c.args.sources.now) (g.S.Sources.file_bytes c.args.sources.now) c.args.path.now in
-    subst (λ (fault : Fault). OfRead at (λ script. IsRunRefusal script fault)) (sym c.with_cause.ensures) (of_read-any at (λ script. IsRunRefusal script CannotRead) (λ script. tt))
+    subst (λ (fault : Fault). OfRead at (λ script. IsRunRefusal script fault)) (sym c.with_cause.ensures.fault) (of_read-any at (λ script. IsRunRefusal script CannotRead) (λ script. tt))

@@ -1,0 +1,29 @@
+//! A line on standard error.
+ghost use Rattle.std.specs.Prelude.{OnOk, Some};
+ghost use Rattle.std.specs.Io.KnownBytes.{Appends};
+ghost use Rattle.world_script.specs.Ending.{Complains, complaint};
+
+use arrayvec::ArrayString;
+use std::fmt::Write as _;
+use std::io::{self, Write};
+
+/// How many bytes of the system's words are told; what it says of an error has at most 300.
+const MOST: usize = 320;
+
+/// Says what the system's error with a file or a stream is, by its `name`. It takes no memory, so that it can say
+/// that there is none.
+pub fn complain<E: Write>(err: &mut E, name: &str, error: &io::Error) -> io::Result<()>
+    ensures { OnOk result (Complains (Some name.now) (E.contents err.old) (E.contents err.new)) }
+{
+    let mut cause = ArrayString::<MOST>::new();
+    let _ = write!(cause, "{error}");
+    write_line(err, name, cause.as_str())
+}
+
+/// Writes the line of a complaint.
+fn write_line<E: Write>(err: &mut E, name: &str, cause: &str) -> io::Result<()>
+    ensures { OnOk result (Appends (E.contents err.old) (E.contents err.new)
+        (complaint name.now cause.now)) }
+{
+    writeln!(err, "edend: {name}: {cause}")
+}
