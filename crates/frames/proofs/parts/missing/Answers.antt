@@ -6,12 +6,12 @@ pub returns-in-Ok : goal.returns-in-Ok
 returns-in-Ok c =
     let bytes = c.args.bytes.now in
     let count = c.in-Ok.count in
-    let is = sym c.in-Ok.ensures in
-    record { missing = c.in-Ok.ensures; not_yet = lacking_some bytes count is; faulty = tt; faults = tt; at_most = lacking_few bytes count is }
+    let is = sym c.in-Ok.ensures.lacks in
+    record { missing = c.in-Ok.ensures.lacks; not_yet = lacking_some bytes count is; faulty = tt; faults = tt; at_most = lacking_few bytes count is }
 
 pub returns-in-Err : goal.returns-in-Err
 returns-in-Err c =
     let bytes = c.args.bytes.now in
     let fault = c.in-Err.fault in
-    let is = sym c.in-Err.ensures in
-    record { missing = c.in-Err.ensures; not_yet = tt; faulty = lacking_fault bytes fault is; faults = lacking_faults bytes fault is; at_most = tt }
+    let is = sym c.in-Err.ensures.lacks in
+    record { missing = c.in-Err.ensures.lacks; not_yet = tt; faulty = lacking_fault bytes fault is; faults = lacking_faults bytes fault is; at_most = tt }

@@ -1,4 +1,4 @@
-use Rattle.std.proofs.Common.{[], sym, ap, ◌∙◌}
+use Rattle.std.proofs.Common.{[], sym, ap, ◌∙◌, arith}
 use Rattle.frames.specs.Reading.{Faulty, said_frame}
 use Rattle.frames.proofs.LackingLaws.{body_says, parts_text}
 use Rattle.frames.proofs.frame.Frame.of_parts.Goals as goal
@@ -10,7 +10,7 @@ returns-in-Ok-clause-read c =
 
 pub returns-in-Ok-clause-text : goal.returns-in-Ok-clause-text
 returns-in-Ok-clause-text c =
-    parts_text c.args.head.now c.args.body.items c.in-Ok.frame c.type_inv.head c.in-Ok.ensures.bytes
+    parts_text c.args.head.now c.args.body.items c.in-Ok.frame (λ i. omega (arith, c.type_inv.head i)) c.in-Ok.ensures.bytes
     (body_says c.args.head.now c.args.body.items c.in-Some.kind c.requires.head c.requires.body (sym c.in-Some.ensures.kind)
     ∙ ap (λ read. said_frame read []) c.in-Ok.ensures.frame)
 
