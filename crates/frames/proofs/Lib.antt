@@ -6,8 +6,10 @@ pub mod FoundFields
 pub mod FoundFrames
 pub mod FrameLaws
 pub mod GrowingLaws
+pub mod LackingLaws
 pub mod PartedLaws
 pub mod PartingLaws
+pub mod PlainKinds
 pub mod SaysLaws
 pub mod StreamLaws
 pub mod TextLaws

@@ -1,5 +1,6 @@
 pub mod FrameText
 pub mod Kind
+pub mod Lacking
 pub mod Laws
 pub mod Reading
 pub mod Says

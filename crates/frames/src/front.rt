@@ -15,7 +15,7 @@ use takeover_core::Versions;
 pub(crate) const LONGEST_BODY: usize = 65_536;
 
 /// How many bytes tell the length of a body.
-const LENGTH: usize = 4;
+pub(crate) const LENGTH: usize = 4;
 
 /// How many bytes stand before a body.
 pub(crate) const BEFORE_BODY: usize = 5;
@@ -88,7 +88,7 @@ fn is_message(kind: MessageKind, body: &[u8]) -> bool
 
 /// Returns whether a body is a frame's of this kind.
 #[tactic(auto, unfolding(crate::specs::Reading::frame_of, crate::specs::Reading::alone, byte_codec::specs::Reading::number_at, byte_codec::specs::Reading::bytes_at, crate::specs::Reading::nothing))]
-fn is_body(kind: Kind, body: &[u8]) -> bool
+pub(crate) fn is_body(kind: Kind, body: &[u8]) -> bool
     ensures whole { result ≡ is_ok (frame_of kind body.now) }
     ensures bad { IsFalse result → frame_of kind body.now ≡ Err BadBody }
 {

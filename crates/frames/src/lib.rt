@@ -8,9 +8,11 @@ mod frame;
 mod front;
 mod kind;
 pub mod laws;
+mod parts;
 mod reader;
 mod writer;
 
 pub use fault::LinkFault;
 pub use frame::Frame;
+pub use parts::missing;
 pub use reader::FrameReader;

@@ -1,4 +1,4 @@
-//! Tests of `fuse_ops`, `map_image`, `map_codec`, `journal` and `workers` by their public calls.
+//! Tests of `fuse_ops`, `map_image`, `map_codec`, `journal`, `workers` and `links` by their public calls.
 #![tactic(auto)]
 
 #[cfg(test)]
@@ -7,6 +7,8 @@ mod again;
 mod fuse_ops_tests;
 #[cfg(test)]
 mod handover_tests;
+#[cfg(test)]
+mod links_tests;
 #[cfg(test)]
 mod listed;
 #[cfg(test)]

@@ -1,0 +1,18 @@
+-- What was written in parts was written.
+use Rattle.std.proofs.Common.{◌≡◌, ℕ, ◌+◌, List, length, take, drop, Option, sym, subst, take_all, arith}
+use Rattle.std.proofs.KnownBytes.{Appends-kept, Appends-trans}
+use Rattle.std.proofs.Math.Seq.{take-add}
+use Rattle.std.specs.Io.KnownBytes.{Appends, Keeps}
+
+-- a write behind what was written
+pub text_grown : (old mid new : Option (List ℕ)) (written count : ℕ) (text : List ℕ) → Appends old mid (take written text) → Appends mid new (take count (drop written text)) → Appends old new (take (written + count) text)
+text_grown old mid new written count text first then =
+    subst (Appends old new) (sym (take-add written count text)) (Appends-trans old mid new (take written text) (take count (drop written text)) first then)
+
+-- a write that failed
+pub text_kept : (old mid new : Option (List ℕ)) (written : ℕ) (text : List ℕ) → Appends old mid (take written text) → Keeps mid new → Appends old new (take written text)
+text_kept old mid new written text first kept = Appends-kept old mid new (take written text) first kept
+
+-- the whole of it
+pub text_whole : (old new : Option (List ℕ)) (written : ℕ) (text : List ℕ) → written ≡ length text → Appends old new (take written text) → Appends old new text
+text_whole old new written text all first = subst (Appends old new) (take_all written text (omega (arith, all))) first

@@ -1,0 +1,128 @@
+-- A channel over a link, as contracts see it, and what a look for an ask and a reply make of it. (This project's own.)
+use Rattle.std.specs.Prelude.{◌≡◌, ◌≢◌, ◌⊎◌, ◌<◌, ◌++◌, ℕ, List, [], ◌∷◌, length, flat_map, Option, Some, None, Result, Ok, Err}
+use Rattle.std.specs.Io.KnownBytes.{Appends, Consumes, Keeps}
+use Rattle.broker_core.specs.declared.fault.TakeFault.{TakeFault}
+use Rattle.broker_core.specs.declared.fault.TakeFault.TheVariants as refused
+use Rattle.frames.specs.declared.fault.LinkFault.{LinkFault}
+use Rattle.frames.specs.declared.frame.Frame.{Frame}
+use Rattle.frames.specs.declared.frame.Frame.TheVariants as frames
+use Rattle.frames.specs.FrameText.{body_of, framed, kind_of}
+use Rattle.fuse_wire.specs.FaultReply.{fault_reply_of}
+use Rattle.fuse_wire.specs.ReplyText.{reply_text}
+use Rattle.fuse_wire.specs.RequestReading.{request_of}
+use Rattle.fuse_wire.specs.declared.fault.WireFault.{WireFault}
+use Rattle.fuse_wire.specs.declared.reply.Reply.{Reply}
+use Rattle.fuse_wire.specs.declared.request.Ask.{Ask}
+use Rattle.links.specs.Reading.{Gives, Took}
+use Rattle.links.specs.Writing.{Writes}
+use Rattle.links.specs.declared.socket_channel.SocketChannel.{SocketChannel}
+use Rattle.workers.specs.declared.channel.Posted.{Posted}
+use Rattle.workers.specs.declared.channel.Posted.TheVariants as post
+use Rattle.workers.specs.declared.channel.Taken.{Taken}
+use Rattle.workers.specs.declared.channel.Taken.TheVariants as took
+
+-- a channel: the generation at which it serves, why it stopped, and, where they are known, the bytes that come in and
+-- those that went out
+pub record LinkState : Type 0 where
+  pub generation : ℕ
+  pub ended : Option TakeFault
+  pub incoming : Option (List ℕ)
+  pub outgoing : Option (List ℕ)
+
+abbrev pub state_of : {R W : Type 0} → (R → Option (List ℕ)) → (W → Option (List ℕ)) → SocketChannel R W → LinkState
+state_of remaining contents channel = record {
+  generation = channel.generation;
+  ended = channel.ended;
+  incoming = remaining channel.reader;
+  outgoing = contents channel.writer;
+}
+
+-- the text of a frame that has one
+abbrev pub text_of : Frame → List ℕ
+text_of frame = framed (kind_of frame) (body_of frame)
+
+-- a frame was written, and a frame was read
+pub record Exchanged (old new : LinkState) (said heard : Frame) : Type 0 where
+  pub generation : new.generation ≡ old.generation
+  pub ended : new.ended ≡ old.ended
+  pub wrote : Appends old.outgoing new.outgoing (text_of said)
+  pub read : Consumes old.incoming new.incoming (text_of heard)
+
+-- reading gave no frame
+abbrev pub IsNoFrame : Result (Option Frame) LinkFault → Type 0
+IsNoFrame (Ok (Some frame)) = ⊥
+IsNoFrame result = Unit {0}
+
+-- a frame was not answered: it could not be written whole, or then no frame could be read
+pub data Unanswered : LinkState → Frame → LinkState → Type 0 where
+  NotSent : {old new : LinkState} {said : Frame} {fault : LinkFault} →
+      Writes old.outgoing new.outgoing said (Err fault) → Keeps old.incoming new.incoming → Unanswered old said new
+  NotHeard : {old new : LinkState} {said : Frame} {result : Result (Option Frame) LinkFault} →
+      Writes old.outgoing new.outgoing said (Ok tt) → IsNoFrame result →
+      Took old.incoming new.incoming (λ bytes. Gives bytes new.incoming result) → Unanswered old said new
+
+-- what comes of a frame that is to be answered
+abbrev pub Answers : LinkState → Frame → Option Frame → LinkState → Type 0
+Answers old said (Some heard) new = Exchanged old new said heard
+Answers old said None new = Unanswered old said new
+
+-- ---- replies
+
+-- the frame of a reply
+abbrev pub post_of : LinkState → Reply → Frame
+post_of channel reply = frames.Post channel.generation (reply_text reply)
+
+-- what comes of a reply: the other end passed it on; or it told something else, or nothing
+abbrev pub Posts : LinkState → Reply → Posted → LinkState → Type 0
+Posts old reply post.Done new = Exchanged old new (post_of old reply) frames.Posted
+Posts old reply post.Broken new =
+    ((heard : Frame) × (heard ≢ frames.Posted) × Exchanged old new (post_of old reply) heard)
+    ⊎ Unanswered old (post_of old reply) new
+
+-- ---- asks
+
+-- a frame that no Take is answered
+abbrev pub IsNoAnswer : Frame → Type 0
+IsNoAnswer (frames.Ask request) = ⊥
+IsNoAnswer frames.Empty = ⊥
+IsNoAnswer frames.Ended = ⊥
+IsNoAnswer (frames.Stale now) = ⊥
+IsNoAnswer frame = Unit {0}
+
+-- the request that a frame has is answered by an error, where it cannot be read and the kernel waits for it
+abbrev pub Refuses : LinkState → List ℕ → WireFault → Taken → LinkState → Type 0
+Refuses old bytes fault took.Empty new =
+    (reply : Reply) × (fault_reply_of bytes fault ≡ Some reply) × Posts old reply post.Done new
+Refuses old bytes fault took.Broken new =
+    ((fault_reply_of bytes fault ≡ None) × (new ≡ old))
+    ⊎ ((reply : Reply) × (fault_reply_of bytes fault ≡ Some reply) × Posts old reply post.Broken new)
+Refuses old bytes fault taken new = ⊥
+
+-- what comes of the request that a frame has
+abbrev pub Serves : LinkState → List ℕ → Result Ask WireFault → Taken → LinkState → Type 0
+Serves old bytes (Ok ask) taken new = (taken ≡ took.Ask ask) × (new ≡ old)
+Serves old bytes (Err fault) taken new = Refuses old bytes fault taken new
+
+-- it has ended, for this cause
+abbrev pub Stops : LinkState → TakeFault → Taken → LinkState → Type 0
+Stops old why taken new = (taken ≡ took.Stopped) × (new ≡ record old { ended = Some why })
+
+-- what comes of the answer to a Take
+abbrev pub Hears : LinkState → Frame → Taken → LinkState → Type 0
+Hears old (frames.Ask bytes) taken new = Serves old bytes (request_of bytes) taken new
+Hears old frames.Empty taken new = (taken ≡ took.Empty) × (new ≡ old)
+Hears old frames.Ended taken new = Stops old refused.Ended taken new
+Hears old (frames.Stale now) taken new = Stops old (refused.Stale now) taken new
+Hears old frame taken new = (taken ≡ took.Broken) × (new ≡ old)
+
+-- the frame that asks
+abbrev pub take_of : LinkState → Frame
+take_of channel = frames.Take channel.generation
+
+-- What comes of a look for an ask: it is asked, and the answer decides; or the asking is not answered; or nothing is
+-- asked at all, since there is no room for what may come.
+pub data Takes : LinkState → Taken → LinkState → Type 0 where
+  Heard : {old mid new : LinkState} {taken : Taken} {answer : Frame} →
+      Exchanged old mid (take_of old) answer → Hears mid answer taken new → Takes old taken new
+  Unheard : {old new : LinkState} → Unanswered old (take_of old) new → Takes old took.Broken new
+  NoRoom : {channel : LinkState} → Takes channel took.Empty channel

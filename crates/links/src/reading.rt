@@ -1,0 +1,133 @@
+//! Frames, as they are read.
+ghost use Rattle.std.specs.Prelude.{◌≡◌, ◌<◌, ◌≤◌, Ok, length, take, IfOk, IfErr};
+ghost use Rattle.std.specs.Io.KnownBytes.{Consumes, IsAtEnd};
+ghost use Rattle.frames.specs.declared.fault.LinkFault.TheVariants.{Read as ReadFault};
+ghost use Rattle.frames.specs.Lacking.{lacking};
+ghost use Rattle.links.specs.Reading.{Gives, GivesBehind, GivesHead, GivesKind, GivesKnown, Took};
+
+use crate::{Frame, LinkFault};
+use frames::missing;
+use std::alloc::Global;
+use std::io::{ErrorKind, Read};
+
+/// How often a reader may be read for one frame. A read that was interrupted counts.
+pub const MAX_READS: usize = 131_072;
+
+/// How many bytes tell the length of a body.
+const LENGTH: usize = 4;
+
+/// How many bytes stand before a body.
+const HEAD: usize = 5;
+
+/// Reads until at least `enough` bytes stand in the room or the input ends, and returns how many do. It makes at most
+/// `left` reads, and takes those that it made off.
+#[tactic(auto, using(crate::proofs::ReadingLaws::room_read, crate::proofs::ReadingLaws::room_same))]
+fn fill<R: Read>(
+    reader: &mut R,
+    room: &mut [u8],
+    enough: usize,
+    left: &mut usize,
+) -> Result<usize, LinkFault>
+    requires some { 0 < enough }
+    requires room { enough ≤ length room.old }
+    ensures within { IfOk result (λ count. count ≤ length room.new) }
+    ensures filled { IfOk result (λ count. Consumes (R.remaining reader.old) (R.remaining reader.new)
+        (take count room.new)) }
+    ensures end { IfOk result (λ count. count < enough → IsAtEnd (R.remaining reader.new)) }
+    ensures refused { IfErr result (λ fault. (fault ≡ ReadFault)
+        × Took (R.remaining reader.old) (R.remaining reader.new) (λ bytes. length bytes < enough)) }
+{
+    let mut held = 0;
+    while *left > 0 {
+        *left -= 1;
+        match reader.read(&mut room[held..]) {
+            Ok(0) => return Ok(held),
+            Ok(count) => {
+                held += count;
+                if held >= enough {
+                    return Ok(held);
+                }
+            }
+            Err(error) if error.kind() == ErrorKind::Interrupted => {}
+            Err(_) => return Err(LinkFault::Read),
+        }
+    }
+    Err(LinkFault::Read)
+}
+
+/// Reads the kind behind a length that was read, and returns how long the body is.
+fn read_kind<R: Read>(reader: &mut R, head: &mut [u8], left: &mut usize) -> Result<usize, LinkFault>
+    requires five { length head.old ≡ 5 }
+    ensures kind { GivesKind (take 4 head.old) (R.remaining reader.old) (R.remaining reader.new)
+        head.new result }
+{
+    missing(&head[..LENGTH])?;
+    if fill(reader, &mut head[LENGTH..], 1, left)? == 0 {
+        return Err(LinkFault::Torn);
+    }
+    missing(head)
+}
+
+/// Reads a head, and returns how long the body behind it is; none where the input ends before the head.
+fn read_head<R: Read>(
+    reader: &mut R,
+    head: &mut [u8],
+    left: &mut usize,
+) -> Result<Option<usize>, LinkFault>
+    requires five { length head.old ≡ 5 }
+    ensures head { GivesHead (R.remaining reader.old) (R.remaining reader.new) head.new result }
+{
+    let held = fill(reader, head, LENGTH, left)?;
+    if held == 0 {
+        return Ok(None);
+    }
+    if held < LENGTH {
+        return Err(LinkFault::Torn);
+    }
+    if held == LENGTH {
+        return Ok(Some(read_kind(reader, head, left)?));
+    }
+    Ok(Some(missing(head)?))
+}
+
+/// Reads the body behind a head.
+fn read_body<R: Read>(
+    alloc: Global,
+    reader: &mut R,
+    head: &[u8],
+    len: usize,
+    left: &mut usize,
+) -> Result<Frame, LinkFault>
+    requires five { length head.now ≡ 5 }
+    requires len { lacking head.now ≡ Ok len }
+    ensures behind { GivesBehind head.now (R.remaining reader.old) (R.remaining reader.new) result }
+{
+    let mut body = Vec::new(alloc);
+    if len == 0 {
+        return Frame::of_parts(head, body);
+    }
+    if body.resize(len, 0).is_err() {
+        return Err(LinkFault::NoMemory);
+    }
+    if fill(reader, body.as_mut_slice(), len, left)? < len {
+        return Err(LinkFault::Torn);
+    }
+    Frame::of_parts(head, body)
+}
+
+/// Reads the first frame of what a reader has left, and no byte behind it: none where the input ends before it. It makes
+/// at most 131,072 reads, and makes a read again only where it was interrupted. It takes no memory but for a body. Where
+/// it is Read, a part of a frame may be lost: close the connection.
+#[tactic(auto, using(crate::proofs::ReadingLaws::gives_known))]
+pub fn read_frame<R: Read>(alloc: Global, reader: &mut R) -> Result<Option<Frame>, LinkFault>
+    ensures gives { Took (R.remaining reader.old) (R.remaining reader.new)
+        (λ bytes. Gives bytes (R.remaining reader.new) result) }
+    ensures first { GivesKnown (R.remaining reader.old) (R.remaining reader.new) result }
+{
+    let mut left = MAX_READS;
+    let mut head = [0; HEAD];
+    match read_head(reader, &mut head, &mut left)? {
+        None => Ok(None),
+        Some(len) => Ok(Some(read_body(alloc, reader, &head, len, &mut left)?)),
+    }
+}

@@ -1,0 +1,244 @@
+//! A worker's channel over a link to the broker.
+ghost use Rattle.std.specs.Prelude.{◌≡◌, [], None, false, IfOk, IsSome, IsTrue};
+ghost use Rattle.fuse_wire.specs.RequestReading.{request_of};
+ghost use Rattle.links.specs.Channel.{Answers, Hears, Posts, Refuses, Serves, Stops, Takes, state_of};
+
+use crate::{Frame, read_frame, write_frame};
+use broker_core::TakeFault;
+use byte_codec::Bytes;
+use eden_base::{NameRoom, NoMemory};
+use fuse_wire::{
+    Ask, BatchRoom, MAX_REPLY_LEN, Reply, WireFault, fault_reply, read_request, read_request_to,
+    write_reply,
+};
+use std::alloc::Global;
+use std::io::{Read, Write};
+use workers::{Channel, Posted, Taken};
+
+/// Room for what one request holds: two names and a batch.
+#[derive(Drop)]
+struct Rooms {
+    first: NameRoom,
+    second: NameRoom,
+    batch: BatchRoom,
+}
+
+impl Rooms {
+    /// Takes memory for whatever request comes.
+    fn new(alloc: Global) -> Result<Rooms, NoMemory> {
+        let first = NameRoom::new(alloc)?;
+        let second = NameRoom::new(alloc)?;
+        let batch = BatchRoom::new(alloc)?;
+        Ok(Rooms {
+            first,
+            second,
+            batch,
+        })
+    }
+
+    /// Reads the request that the bytes are.
+    fn read(self, bytes: &[u8]) -> Result<Ask, WireFault>
+        ensures exact { result ≡ request_of bytes.now }
+    {
+        read_request_to(self.first, self.second, self.batch, bytes)
+    }
+}
+
+/// The asks of a broker, and its end of a connection: a reader and a writer, of which a socket has two handles.
+#[derive(Drop)]
+pub struct SocketChannel<R, W> {
+    alloc: Global,
+    reader: R,
+    writer: W,
+    generation: u64,
+    ended: Option<TakeFault>,
+    rooms: Option<Rooms>,
+}
+
+impl<R: Read, W: Write> SocketChannel<R, W> {
+    /// Returns a channel at a generation, over a connection whose daemon is attached. Reader and writer are lost where
+    /// memory is refused.
+    pub fn new(
+        alloc: Global,
+        reader: R,
+        writer: W,
+        generation: u64,
+    ) -> Result<SocketChannel<R, W>, NoMemory>
+    where
+        R: Drop,
+        W: Drop,
+        ensures channel { IfOk result (λ channel. state_of R.remaining W.contents channel
+            ≡ record {
+              generation = generation;
+              ended = None;
+              incoming = R.remaining reader;
+              outgoing = W.contents writer;
+            }) }
+    {
+        let rooms = Rooms::new(alloc)?;
+        Ok(SocketChannel {
+            alloc,
+            reader,
+            writer,
+            generation,
+            ended: None,
+            rooms: Some(rooms),
+        })
+    }
+
+    /// Returns why the last `take` was Stopped, if one was.
+    pub fn ended(&self) -> Option<TakeFault>
+        ensures ended { result ≡ (state_of R.remaining W.contents self.now).ended }
+    {
+        self.ended
+    }
+
+    /// Writes a frame and reads the answer. There is none where either fails.
+    fn ask(&mut self, frame: &Frame) -> Option<Frame>
+        ensures answers { Answers (state_of R.remaining W.contents self.old) frame.now result
+            (state_of R.remaining W.contents self.new) }
+    {
+        if let Err(_fault) = write_frame(self.alloc, &mut self.writer, frame) {
+            return None;
+        }
+        match read_frame(self.alloc, &mut self.reader) {
+            Ok(Some(answer)) => Some(answer),
+            Ok(None) => None,
+            Err(_fault) => None,
+        }
+    }
+
+    /// Sees to it that whatever request comes can be read, and returns whether it can.
+    fn has_rooms(&mut self) -> bool
+        ensures rooms { IsTrue result → IsSome self.new.rooms }
+        ensures same { state_of R.remaining W.contents self.new
+            ≡ state_of R.remaining W.contents self.old }
+    {
+        if self.rooms.is_some() {
+            return true;
+        }
+        match Rooms::new(self.alloc) {
+            Ok(rooms) => {
+                self.rooms = Some(rooms);
+                true
+            }
+            Err(NoMemory) => false,
+        }
+    }
+
+    /// Reads the request that the bytes are, in the rooms where memory is refused.
+    fn read(&mut self, bytes: &[u8]) -> Result<Ask, WireFault>
+        requires rooms { IsSome self.old.rooms }
+        ensures exact { result ≡ request_of bytes.now }
+        ensures same { state_of R.remaining W.contents self.new
+            ≡ state_of R.remaining W.contents self.old }
+    {
+        match read_request(self.alloc, bytes) {
+            Ok(ask) => Ok(ask),
+            Err(WireFault::NoMemory) => match self.rooms.take() {
+                Some(rooms) => rooms.read(bytes),
+                None => Err(WireFault::NoMemory),
+            },
+            Err(fault) => Err(fault),
+        }
+    }
+
+    /// Answers a request that cannot be read, where the kernel waits for it.
+    fn refuse(&mut self, bytes: &[u8], fault: WireFault) -> Taken
+        ensures refuses { Refuses (state_of R.remaining W.contents self.old) bytes.now fault result
+            (state_of R.remaining W.contents self.new) }
+    {
+        let Some(reply) = fault_reply(bytes, &fault) else {
+            return Taken::Broken;
+        };
+        match self.post(reply) {
+            Posted::Done => Taken::Empty,
+            Posted::Broken => Taken::Broken,
+        }
+    }
+
+    /// Takes the request that the bytes are.
+    fn serve(&mut self, bytes: &[u8]) -> Taken
+        requires rooms { IsSome self.old.rooms }
+        ensures serves { Serves (state_of R.remaining W.contents self.old) bytes.now
+            (request_of bytes.now) result (state_of R.remaining W.contents self.new) }
+    {
+        match self.read(bytes) {
+            Ok(ask) => Taken::Ask(ask),
+            Err(fault) => self.refuse(bytes, fault),
+        }
+    }
+
+    /// Stops for a cause.
+    fn stop(&mut self, why: TakeFault) -> Taken
+        ensures stops { Stops (state_of R.remaining W.contents self.old) why result
+            (state_of R.remaining W.contents self.new) }
+    {
+        self.ended = Some(why);
+        Taken::Stopped
+    }
+
+    /// Does what the answer to a Take tells.
+    fn hear(&mut self, answer: Frame) -> Taken
+        requires rooms { IsSome self.old.rooms }
+        ensures hears { Hears (state_of R.remaining W.contents self.old) answer result
+            (state_of R.remaining W.contents self.new) }
+    {
+        match answer {
+            Frame::Ask(bytes) => self.serve(bytes.as_slice()),
+            Frame::Empty => Taken::Empty,
+            Frame::Ended => self.stop(TakeFault::Ended),
+            Frame::Stale { now } => self.stop(TakeFault::Stale(now)),
+            _ => Taken::Broken,
+        }
+    }
+
+    /// Asks the broker for the next ask. A request that cannot be read is answered by its error, and then there is none
+    /// now. No request is lost for want of memory: rooms for whatever comes are taken before the broker is asked, and
+    /// where they are refused it is not asked. Where it is Broken, close the connection.
+    pub fn take(&mut self) -> Taken
+        ensures takes { Takes (state_of R.remaining W.contents self.old) result
+            (state_of R.remaining W.contents self.new) }
+    {
+        if !self.has_rooms() {
+            return Taken::Empty;
+        }
+        let generation = self.generation;
+        match self.ask(&Frame::Take { generation }) {
+            Some(answer) => self.hear(answer),
+            None => Taken::Broken,
+        }
+    }
+
+    /// Posts the reply to an ask that was taken. Where it is Broken, close the connection.
+    pub fn post(&mut self, reply: Reply) -> Posted
+        ensures posts { Posts (state_of R.remaining W.contents self.old) reply result
+            (state_of R.remaining W.contents self.new) }
+    {
+        let mut room = [0; MAX_REPLY_LEN];
+        let len = write_reply(&reply, &mut room);
+        let Ok(text) = room[..len].to_vec(self.alloc) else {
+            return Posted::Broken;
+        };
+        let generation = self.generation;
+        let reply = Bytes::of(text);
+        match self.ask(&Frame::Post { generation, reply }) {
+            Some(Frame::Posted) => Posted::Done,
+            _ => Posted::Broken,
+        }
+    }
+}
+
+impl<R: Read, W: Write> Channel for SocketChannel<R, W> {
+    ghost tells = { false };
+
+    ghost told = { λ _. record { taken = []; posted = [] } };
+
+    fn take(&mut self) -> Taken {
+        SocketChannel::take(self)
+    }
+
+    fn post(&mut self, reply: Reply) -> Posted {
+        SocketChannel::post(self, reply)
+    }
+}

@@ -1,0 +1,270 @@
+//! A channel over memory: what it takes of what it hears, and what it says.
+use broker_core::TakeFault;
+use eden_base::Errno;
+use fuse_wire::{Answer, Reply};
+use links::SocketChannel;
+use std::alloc::Global;
+use std::test::Fail;
+use workers::{Posted, Taken};
+
+/// What comes of a look for an ask.
+enum Expected {
+    /// An ask of this unique.
+    Ask(u64),
+    Empty,
+    Stopped(TakeFault),
+    Broken,
+}
+
+/// What the broker says, in parts of its bytes, and what comes of it.
+struct Row {
+    hears: &'static [&'static [u8]],
+    taken: Expected,
+    /// What the channel says behind its Take.
+    says: &'static [u8],
+}
+
+/// The Take of generation 1.
+static TAKE: [u8; 13] = [0, 0, 0, 8, 1, 0, 0, 0, 0, 0, 0, 0, 1];
+
+static ROWS: [Row; 15] = [
+    // Empty, Ended, Stale of 2.
+    Row {
+        hears: &[&[0, 0, 0, 0, 3]],
+        taken: Expected::Empty,
+        says: &[],
+    },
+    Row {
+        hears: &[&[0, 0, 0, 0, 6]],
+        taken: Expected::Stopped(TakeFault::Ended),
+        says: &[],
+    },
+    Row {
+        hears: &[&[0, 0, 0, 8, 7, 0, 0, 0, 0, 0, 0, 0, 2]],
+        taken: Expected::Stopped(TakeFault::Stale(2)),
+        says: &[],
+    },
+    // A GETATTR of the root, unique 7.
+    Row {
+        hears: &[
+            &[0, 0, 0, 56, 2],
+            &[
+                56, 0, 0, 0, 3, 0, 0, 0, 7, 0, 0, 0, 0, 0, 0, 0, 1, 0, 0, 0, 0, 0, 0, 0,
+            ],
+            &[0; 32],
+        ],
+        taken: Expected::Ask(7),
+        says: &[],
+    },
+    // A batch of one forget: number 2, once.
+    Row {
+        hears: &[
+            &[0, 0, 0, 64, 2],
+            &[
+                64, 0, 0, 0, 42, 0, 0, 0, 8, 0, 0, 0, 0, 0, 0, 0, 0, 0, 0, 0, 0, 0, 0, 0,
+            ],
+            &[0; 16],
+            &[
+                1, 0, 0, 0, 0, 0, 0, 0, 2, 0, 0, 0, 0, 0, 0, 0, 1, 0, 0, 0, 0, 0, 0, 0,
+            ],
+        ],
+        taken: Expected::Ask(8),
+        says: &[],
+    },
+    // 40 bytes whose header says 41: EINVAL is posted.
+    Row {
+        hears: &[
+            &[0, 0, 0, 40, 2],
+            &[
+                41, 0, 0, 0, 3, 0, 0, 0, 7, 0, 0, 0, 0, 0, 0, 0, 1, 0, 0, 0, 0, 0, 0, 0,
+            ],
+            &[0; 16],
+            &[0, 0, 0, 0, 5],
+        ],
+        taken: Expected::Empty,
+        says: &[
+            0, 0, 0, 24, 4, 0, 0, 0, 0, 0, 0, 0, 1, 16, 0, 0, 0, 234, 255, 255, 255, 7, 0, 0, 0, 0,
+            0, 0, 0,
+        ],
+    },
+    // A LOOKUP of a name of 256 bytes: ENAMETOOLONG is posted.
+    Row {
+        hears: &[
+            &[0, 0, 1, 41, 2],
+            &[
+                41, 1, 0, 0, 1, 0, 0, 0, 7, 0, 0, 0, 0, 0, 0, 0, 1, 0, 0, 0, 0, 0, 0, 0,
+            ],
+            &[0; 16],
+            &[97; 256],
+            &[0],
+            &[0, 0, 0, 0, 5],
+        ],
+        taken: Expected::Empty,
+        says: &[
+            0, 0, 0, 24, 4, 0, 0, 0, 0, 0, 0, 0, 1, 16, 0, 0, 0, 220, 255, 255, 255, 7, 0, 0, 0, 0,
+            0, 0, 0,
+        ],
+    },
+    // The same as EINVAL above, but the Post is answered NotAsked; or nothing.
+    Row {
+        hears: &[
+            &[0, 0, 0, 40, 2],
+            &[
+                41, 0, 0, 0, 3, 0, 0, 0, 7, 0, 0, 0, 0, 0, 0, 0, 1, 0, 0, 0, 0, 0, 0, 0,
+            ],
+            &[0; 16],
+            &[0, 0, 0, 0, 8],
+        ],
+        taken: Expected::Broken,
+        says: &[
+            0, 0, 0, 24, 4, 0, 0, 0, 0, 0, 0, 0, 1, 16, 0, 0, 0, 234, 255, 255, 255, 7, 0, 0, 0, 0,
+            0, 0, 0,
+        ],
+    },
+    Row {
+        hears: &[
+            &[0, 0, 0, 40, 2],
+            &[
+                41, 0, 0, 0, 3, 0, 0, 0, 7, 0, 0, 0, 0, 0, 0, 0, 1, 0, 0, 0, 0, 0, 0, 0,
+            ],
+            &[0; 16],
+        ],
+        taken: Expected::Broken,
+        says: &[
+            0, 0, 0, 24, 4, 0, 0, 0, 0, 0, 0, 0, 1, 16, 0, 0, 0, 234, 255, 255, 255, 7, 0, 0, 0, 0,
+            0, 0, 0,
+        ],
+    },
+    // 39 bytes, and a FORGET of a wrong length: neither is answered.
+    Row {
+        hears: &[
+            &[0, 0, 0, 39, 2],
+            &[
+                39, 0, 0, 0, 3, 0, 0, 0, 7, 0, 0, 0, 0, 0, 0, 0, 1, 0, 0, 0, 0, 0, 0, 0,
+            ],
+            &[0; 15],
+        ],
+        taken: Expected::Broken,
+        says: &[],
+    },
+    Row {
+        hears: &[
+            &[0, 0, 0, 40, 2],
+            &[
+                40, 0, 0, 0, 2, 0, 0, 0, 7, 0, 0, 0, 0, 0, 0, 0, 2, 0, 0, 0, 0, 0, 0, 0,
+            ],
+            &[0; 16],
+        ],
+        taken: Expected::Broken,
+        says: &[],
+    },
+    // NotAsked, which answers no Take; a kind that is none; an end within a frame; an end.
+    Row {
+        hears: &[&[0, 0, 0, 0, 8]],
+        taken: Expected::Broken,
+        says: &[],
+    },
+    Row {
+        hears: &[&[0, 0, 0, 0, 200]],
+        taken: Expected::Broken,
+        says: &[],
+    },
+    Row {
+        hears: &[&[0, 0, 0, 8, 7, 0]],
+        taken: Expected::Broken,
+        says: &[],
+    },
+    Row {
+        hears: &[],
+        taken: Expected::Broken,
+        says: &[],
+    },
+];
+
+/// Joins parts of bytes.
+fn joined(alloc: Global, parts: &[&[u8]]) -> Option<Vec<u8>> {
+    let mut all = Vec::new(alloc);
+    for part in parts {
+        if all.extend_from_slice(part).is_err() {
+            return None;
+        }
+    }
+    Some(all)
+}
+
+/// Returns whether a channel was left so: what was taken, and why it ended.
+fn is_left(expected: &Expected, taken: &Taken, ended: Option<TakeFault>) -> bool {
+    match expected {
+        Expected::Ask(unique) => {
+            matches!(taken, Taken::Ask(ask) if ask.unique == *unique) && ended == None
+        }
+        Expected::Empty => matches!(taken, Taken::Empty) && ended == None,
+        Expected::Stopped(why) => matches!(taken, Taken::Stopped) && ended == Some(*why),
+        Expected::Broken => matches!(taken, Taken::Broken) && ended == None,
+    }
+}
+
+/// Returns whether a look for an ask comes to what a row says.
+fn takes(alloc: Global, row: &Row) -> bool {
+    let Some(hears) = joined(alloc, row.hears) else {
+        return false;
+    };
+    let mut said = Vec::new(alloc);
+    let Ok(mut channel) = SocketChannel::new(alloc, hears.as_slice(), &mut said, 1) else {
+        return false;
+    };
+    let taken = channel.take();
+    let ended = channel.ended();
+    drop(channel);
+    is_left(&row.taken, &taken, ended)
+        && said.len() >= 13
+        && &said[..13] == TAKE.as_slice()
+        && &said[13..] == row.says
+}
+
+/// Returns whether each row comes so.
+fn all_take(alloc: Global, rows: &[Row]) -> bool {
+    for row in rows {
+        if !takes(alloc, row) && !takes(alloc, row) {
+            return false;
+        }
+    }
+    true
+}
+
+#[test]
+fn a_channel_takes_what_it_hears(rt: HostRuntime) {
+    assert!(rt; all_take(rt.alloc(), &ROWS));
+}
+
+/// The Post of generation 1 that answers ENOENT to unique 9.
+static POST: [u8; 29] = [
+    0, 0, 0, 24, 4, 0, 0, 0, 0, 0, 0, 0, 1, 16, 0, 0, 0, 254, 255, 255, 255, 9, 0, 0, 0, 0, 0, 0, 0,
+];
+
+/// Returns whether a reply is posted where the broker says these bytes, and whether it was said so.
+fn posts(alloc: Global, hears: &[u8], wanted: Posted) -> bool {
+    let mut said = Vec::new(alloc);
+    let Ok(mut channel) = SocketChannel::new(alloc, hears, &mut said, 1) else {
+        return false;
+    };
+    let posted = channel.post(Reply {
+        unique: 9,
+        answer: Answer::Error(Errno::ENOENT),
+    });
+    drop(channel);
+    posted == wanted && said.as_slice() == POST.as_slice()
+}
+
+/// Returns whether a reply is Done at Posted, and Broken at NotAsked, at Ended and where the input ends.
+fn all_post(alloc: Global) -> bool {
+    posts(alloc, &[0, 0, 0, 0, 5], Posted::Done)
+        && posts(alloc, &[0, 0, 0, 0, 8], Posted::Broken)
+        && posts(alloc, &[0, 0, 0, 0, 6], Posted::Broken)
+        && posts(alloc, &[], Posted::Broken)
+}
+
+#[test]
+fn a_reply_is_done_where_it_was_posted(rt: HostRuntime) {
+    assert!(rt; all_post(rt.alloc()) || all_post(rt.alloc()));
+}

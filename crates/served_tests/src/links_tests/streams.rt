@@ -1,0 +1,78 @@
+//! Readers and writers that take and give a few bytes at a time, and fail.
+use std::io::{self, ErrorKind, Read, Write};
+
+/// Bytes that are read a few at a time.
+#[derive(Drop)]
+pub(crate) struct Pieces<'a> {
+    pub rest: &'a [u8],
+    /// How many bytes the first read gives at most.
+    pub first: usize,
+    /// How many bytes a later read gives at most.
+    pub later: usize,
+    /// Which read fails, counted from 1; none at 0.
+    pub fails: usize,
+    pub reads: usize,
+}
+
+impl Read for Pieces<'_> {
+    fn read(&mut self, room: &mut [u8]) -> io::Result<usize> {
+        self.reads = self.reads.saturating_add(1);
+        if self.reads == self.fails {
+            return Err(io::Error::from(ErrorKind::WouldBlock));
+        }
+        let most = if self.reads == 1 {
+            self.first
+        } else {
+            self.later
+        };
+        let count = most.min(room.len()).min(self.rest.len());
+        room[..count].copy_from_slice(&self.rest[..count]);
+        self.rest = &self.rest[count..];
+        Ok(count)
+    }
+}
+
+/// A reader whose every read is interrupted.
+#[derive(Drop)]
+pub(crate) struct Interrupted {
+    pub reads: usize,
+}
+
+impl Read for Interrupted {
+    fn read(&mut self, _room: &mut [u8]) -> io::Result<usize> {
+        self.reads = self.reads.saturating_add(1);
+        Err(io::Error::from(ErrorKind::Interrupted))
+    }
+}
+
+/// A writer that takes a few bytes at a time, in memory that it has.
+#[derive(Drop)]
+pub(crate) struct Sink {
+    pub held: Vec<u8>,
+    /// How many bytes a write takes at most.
+    pub most: usize,
+    /// Which write fails, counted from 1; none at 0.
+    pub fails: usize,
+    /// Whether every other write is interrupted, from the first on.
+    pub stutters: bool,
+    pub writes: usize,
+}
+
+impl Write for Sink {
+    fn write(&mut self, bytes: &[u8]) -> io::Result<usize> {
+        self.writes = self.writes.saturating_add(1);
+        if self.writes == self.fails {
+            return Err(io::Error::from(ErrorKind::BrokenPipe));
+        }
+        if self.stutters && self.writes % 2 == 1 {
+            return Err(io::Error::from(ErrorKind::Interrupted));
+        }
+        let count = self.most.min(bytes.len());
+        self.held.extend_from_slice(&bytes[..count])?;
+        Ok(count)
+    }
+
+    fn flush(&mut self) -> io::Result<()> {
+        Ok(())
+    }
+}
