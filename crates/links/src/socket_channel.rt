@@ -230,6 +230,12 @@ impl<R: Read, W: Write> SocketChannel<R, W> {
 }
 
 impl<R: Read, W: Write> Channel for SocketChannel<R, W> {
+    ghost takes = { λ before taken after. Takes (state_of R.remaining W.contents before) taken
+        (state_of R.remaining W.contents after) };
+
+    ghost posts = { λ before reply posted after. Posts (state_of R.remaining W.contents before) reply posted
+        (state_of R.remaining W.contents after) };
+
     ghost tells = { false };
 
     ghost told = { λ _. record { taken = []; posted = [] } };
