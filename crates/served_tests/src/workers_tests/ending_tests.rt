@@ -29,32 +29,29 @@ type Script = (u64, usize, Then);
 const WELL: Script = (1, 9, Then::Empty);
 
 /// Two channels, and how a round of them ends.
-static ENDINGS: [([Script; 2], Ended); 10] = [
-    ([WELL, WELL], Ended::Well(2)),
-    ([(2, 9, Then::Stopped), WELL], Ended::Well(3)),
-    ([WELL, (2, 9, Then::Stopped)], Ended::Well(3)),
-    (
-        [(0, 9, Then::Stopped), (0, 9, Then::Stopped)],
-        Ended::Well(0),
-    ),
-    ([(2, 9, Then::Broken), WELL], Ended::Broken),
-    ([WELL, (2, 9, Then::Broken)], Ended::Broken),
-    ([(5, 4, Then::Empty), WELL], Ended::Broken),
-    ([WELL, (5, 4, Then::Empty)], Ended::Broken),
-    ([(0, 9, Then::Broken), (1, 0, Then::Empty)], Ended::Broken),
-    ([(4, 4, Then::Empty), (4, 4, Then::Stopped)], Ended::Well(8)),
+static ENDINGS: [(Script, Script, Ended); 10] = [
+    (WELL, WELL, Ended::Well(2)),
+    ((2, 9, Then::Stopped), WELL, Ended::Well(3)),
+    (WELL, (2, 9, Then::Stopped), Ended::Well(3)),
+    ((0, 9, Then::Stopped), (0, 9, Then::Stopped), Ended::Well(0)),
+    ((2, 9, Then::Broken), WELL, Ended::Broken),
+    (WELL, (2, 9, Then::Broken), Ended::Broken),
+    ((5, 4, Then::Empty), WELL, Ended::Broken),
+    (WELL, (5, 4, Then::Empty), Ended::Broken),
+    ((0, 9, Then::Broken), (1, 0, Then::Empty), Ended::Broken),
+    ((4, 4, Then::Empty), (4, 4, Then::Stopped), Ended::Well(8)),
 ];
 
 /// Returns two channels.
 fn two<'a>(
     alloc: Global,
-    scripts: &[Script; 2],
+    first: Script,
+    second: Script,
     posted: &'a AtomicU64,
 ) -> Result<Vec<Scripted<'a>>, NoMemory>
     ensures two { IfOk result (λ channels. vec_len channels ≡ 2) }
 {
     let mut channels = Vec::with_capacity(alloc, 2)?;
-    let [first, second] = *scripts;
     channels.push_reserved(Scripted::new(first.0, first.1, first.2, posted));
     channels.push_reserved(Scripted::new(second.0, second.1, second.2, posted));
     Ok(channels)
@@ -90,13 +87,13 @@ fn ends_so<R: Threads + Wait + Sync>(
     rt: &R,
     alloc: Global,
     manifest: &Manifest,
-    row: &([Script; 2], Ended),
+    row: &(Script, Script, Ended),
 ) -> bool {
     let posted = AtomicU64::new(0);
-    let Ok(channels) = two(alloc, &row.0, &posted) else {
+    let Ok(channels) = two(alloc, row.0, row.1, &posted) else {
         return false;
     };
-    ending_of(rt, alloc, manifest, channels, &OpenGate, &Stop::new()) == row.1
+    ending_of(rt, alloc, manifest, channels, &OpenGate, &Stop::new()) == row.2
 }
 
 #[test]
@@ -140,8 +137,9 @@ fn stops_at_one<R: Threads + Wait + Sync>(rt: &R, alloc: Global, manifest: &Mani
         posted: &posted,
         early: AtomicU64::new(0),
     };
-    let scripts = [(3, 9, Then::Empty), (0, 9, Then::Empty)];
-    let Ok(channels) = two(alloc, &scripts, &posted) else {
+    let three = (3, 9, Then::Empty);
+    let none = (0, 9, Then::Empty);
+    let Ok(channels) = two(alloc, three, none, &posted) else {
         return false;
     };
     let ended = ending_of(rt, alloc, manifest, channels, &gate, &stop);
