@@ -1,7 +1,7 @@
 //! One request served under the map's lock: public for what its contract says.
 ghost use Rattle.std.specs.Prelude.{◌≡◌, ◌+◌, ◌<◌, ◌++◌, ◌∷◌, [], length};
 ghost use Rattle.eden_base.specs.declared.number.FileId.{FileId};
-ghost use Rattle.fuse_ops.specs.Loading.{Backs, FailsAs, Loads};
+ghost use Rattle.fuse_ops.specs.Loading.{AsksAs, Backs, FailsAs, Loads};
 ghost use Rattle.fuse_ops.specs.Served.{Replay};
 ghost use Rattle.journal.specs.Journal.{applied};
 
@@ -35,6 +35,7 @@ pub fn serve_one<B: Backing>(
     ensures replay { Replay served.old ask.what result.answer served.new }
     ensures loads { Loads served.old.map ask.what result.answer served.new.map }
     ensures fails { FailsAs result.answer (B.failed backing.old) (B.failed backing.new) }
+    ensures asks { AsksAs served.old ask.what result.answer (B.will_answer backing.old) }
     ensures same_content { (file : FileId) → B.content backing.new file ≡ B.content backing.old file }
     ensures same_manifest { served.new.tree.manifest ≡ served.old.tree.manifest }
 {
