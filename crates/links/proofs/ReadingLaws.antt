@@ -72,6 +72,14 @@ joined_fault old mid new front fault first then = record {
   holds = then.holds;
 }
 
+-- and so is a frame
+pub joined_frame : (old mid new : Option (List ℕ)) (head : List ℕ) (frame : Frame) → Consumes old mid head → Took mid new (λ bytes. IsFirst (head ++ bytes) frame []) → Took old new (λ bytes. IsFirst bytes frame [])
+joined_frame old mid new head frame first then = record {
+  bytes = head ++ then.bytes;
+  taken = Consumes-trans old mid new head then.bytes first then.taken;
+  holds = then.holds;
+}
+
 -- and so is a head that was read in two parts
 pub joined_head : (old mid new : Option (List ℕ)) (front head : List ℕ) → Consumes old mid front → Took mid new (λ bytes. head ≡ front ++ bytes) → Consumes old new head
 joined_head old mid new front head first then = subst (Consumes old new) (sym then.holds) (Consumes-trans old mid new front then.bytes first then.taken)

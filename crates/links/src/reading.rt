@@ -125,6 +125,24 @@ fn read_body<R: Read>(
     Frame::of_parts(head, body)
 }
 
+/// Reads a head and then its body.
+#[tactic(auto, using(crate::proofs::ReadingLaws::joined_frame, crate::proofs::ReadingLaws::joined_fault))]
+fn read_parts<R: Read>(alloc: Global, reader: &mut R) -> Result<Option<Frame>, LinkFault>
+    ensures gives { Took (R.remaining reader.old) (R.remaining reader.new)
+        (λ bytes. Gives bytes (R.remaining reader.new) result) }
+{
+    let mut left = MAX_READS;
+    let mut head = [0; HEAD];
+    match read_head(reader, &mut head, &mut left) {
+        Ok(None) => Ok(None),
+        Ok(Some(len)) => match read_body(alloc, reader, &head, len, &mut left) {
+            Ok(frame) => Ok(Some(frame)),
+            Err(fault) => Err(fault),
+        },
+        Err(fault) => Err(fault),
+    }
+}
+
 /// Reads the first frame of what a reader has left, and no byte behind it: none where the input ends before it. It makes
 /// at most 131,072 reads, and makes a read again only where it was interrupted. It takes no memory but for a body. Where
 /// it is Read, a part of a frame may be lost: close the connection.
@@ -134,10 +152,5 @@ pub fn read_frame<R: Read>(alloc: Global, reader: &mut R) -> Result<Option<Frame
         (λ bytes. Gives bytes (R.remaining reader.new) result) }
     ensures first { GivesKnown (R.remaining reader.old) (R.remaining reader.new) result }
 {
-    let mut left = MAX_READS;
-    let mut head = [0; HEAD];
-    match read_head(reader, &mut head, &mut left)? {
-        None => Ok(None),
-        Some(len) => Ok(Some(read_body(alloc, reader, &head, len, &mut left)?)),
-    }
+    read_parts(alloc, reader)
 }
