@@ -229,3 +229,19 @@ are_joined head body are its i = elim (cases_lt i (length head)) [
 
 pub parts_text : (head body : List ℕ) (frame : Frame) → AreBytes head → AreBytes body → said (head ++ body) ≡ First frame [] → IsFirst (head ++ body) frame []
 parts_text head body frame are its is = first_says (head ++ body) frame [] (are_joined head body are its) is
+
+-- ---- four bytes
+
+four_some : (over : Bool) (n : ℕ) → four_lack over ≡ Ok n → 0 < n
+four_some true n e = absurd cc
+four_some false n e = let same : 1 ≡ n = cc in omega (arith, same)
+
+-- a whole length that is not too long says nothing
+pub length_says_nothing : (bytes : List ℕ) (n : ℕ) → length bytes ≡ 4 → lacking bytes ≡ Ok n → said bytes ≡ NotYet
+unfolding lacking
+length_says_nothing [] n four e = absurd (omega (arith, four))
+length_says_nothing (a ∷ []) n four e = absurd (omega (arith, four))
+length_says_nothing (a ∷ b ∷ []) n four e = absurd (omega (arith, four))
+length_says_nothing (a ∷ b ∷ c ∷ []) n four e = absurd (omega (arith, four))
+length_says_nothing (a ∷ b ∷ c ∷ d ∷ []) n four e = lacking_some (a ∷ b ∷ c ∷ d ∷ []) n e (four_some (ltb longest_body (of_four a b c d)) n e)
+length_says_nothing (a ∷ b ∷ c ∷ d ∷ x ∷ bytes) n four e = absurd (omega (arith, four))

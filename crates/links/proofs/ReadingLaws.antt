@@ -1,9 +1,9 @@
 -- What was read in parts was read.
-use Rattle.std.proofs.Common.{◌≡◌, ◌≢◌, ℕ, ◌+◌, ◌<◌, ◌≤◌, List, [], ◌∷◌, ◌++◌, length, take, drop, Option, Some, None, Result, Ok, Err, refl, sym, ap, subst, ◌∙◌, append-nil, length-take, length-take-le, take_at, drop_at, arith}
+use Rattle.std.proofs.Common.{◌≡◌, ◌≢◌, ℕ, ◌+◌, ◌<◌, ◌≤◌, List, [], ◌∷◌, ◌++◌, length, take, drop, Option, Some, None, Result, Ok, Err, refl, sym, ap, subst, ◌∙◌, append-nil, length-append, length-take, length-take-le, take_at, drop_at, arith}
 use Rattle.std.proofs.Math.Seq.{take-add}
 use Rattle.std.proofs.lemmas.List.{take-append-le}
 use borrow.Rule.Slice.PartMut.{put_mid, post_of}
-use Rattle.std.proofs.KnownBytes.{Consumes-kept, Consumes-trans}
+use Rattle.std.proofs.KnownBytes.{Consumes-nil, Consumes-kept, Consumes-trans}
 use Rattle.std.specs.Io.KnownBytes.{Consumes, IsAtEnd, Keeps}
 use Rattle.frames.specs.declared.fault.LinkFault.{LinkFault}
 use Rattle.frames.specs.declared.fault.LinkFault.TheVariants.{TooLong, BadKind, BadBody, Torn, Read, Write, NoMemory}
@@ -72,6 +72,14 @@ joined_fault old mid new front fault first then = record {
   holds = then.holds;
 }
 
+-- and so is a frame
+pub joined_frame : (old mid new : Option (List ℕ)) (head : List ℕ) (frame : Frame) → Consumes old mid head → Took mid new (λ bytes. IsFirst (head ++ bytes) frame []) → Took old new (λ bytes. IsFirst bytes frame [])
+joined_frame old mid new head frame first then = record {
+  bytes = head ++ then.bytes;
+  taken = Consumes-trans old mid new head then.bytes first then.taken;
+  holds = then.holds;
+}
+
 -- and so is a head that was read in two parts
 pub joined_head : (old mid new : Option (List ℕ)) (front head : List ℕ) → Consumes old mid front → Took mid new (λ bytes. head ≡ front ++ bytes) → Consumes old new head
 joined_head old mid new front head first then = subst (Consumes old new) (sym then.holds) (Consumes-trans old mid new front then.bytes first then.taken)
@@ -95,6 +103,36 @@ kind_fault old new front none took = record {
 -- or before the body was whole
 pub body_fault : (old new : Option (List ℕ)) (head : List ℕ) (n : ℕ) → length head ≡ 5 → lacking head ≡ Ok n → Took old new (λ bytes. length bytes < n) → Took old new (λ bytes. IsFault (head ++ bytes) new Read)
 body_fault old new head n five lacks took = record { bytes = took.bytes; taken = took.taken; holds = part_says_nothing head took.bytes n five lacks took.holds }
+
+-- ---- an end within a frame, and no memory for its body
+
+pub head_torn : (old new : Option (List ℕ)) (held : ℕ) (room : List ℕ) → 0 < held → held < 4 → held ≤ length room → Consumes old new (take held room) → IsAtEnd new → Took old new (λ bytes. IsFault bytes new Torn)
+head_torn old new held room some few within read end = record {
+  bytes = take held room;
+  taken = read;
+  holds = (omega (arith, some, within, length-take held room), few_say_nothing (take held room) (omega (arith, few, length-take held room)), end);
+}
+
+pub kind_torn : (old new : Option (List ℕ)) (front room : List ℕ) → said front ≡ NotYet → 0 < length front → Consumes old new (take 0 room) → IsAtEnd new → Took old new (λ bytes. IsFault (front ++ bytes) new Torn)
+kind_torn old new front room none some read end = record {
+  bytes = [];
+  taken = read;
+  holds = (subst (λ (t : List ℕ). 0 < length t) (sym (append-nil front)) some, ap said (append-nil front) ∙ none, end);
+}
+
+pub body_torn : (old new : Option (List ℕ)) (head : List ℕ) (n held : ℕ) (room : List ℕ) → length head ≡ 5 → lacking head ≡ Ok n → held < n → Consumes old new (take held room) → IsAtEnd new → Took old new (λ bytes. IsFault (head ++ bytes) new Torn)
+body_torn old new head n held room five lacks few read end = record {
+  bytes = take held room;
+  taken = read;
+  holds = (omega (arith, five, length-append head (take held room)), part_says_nothing head (take held room) n five lacks (omega (arith, few, length-take held room)), end);
+}
+
+pub body_unread : (known : Option (List ℕ)) (head : List ℕ) (n : ℕ) → length head ≡ 5 → lacking head ≡ Ok n → 0 < n → Took known known (λ bytes. IsFault (head ++ bytes) known NoMemory)
+body_unread known head n five lacks some = record {
+  bytes = [];
+  taken = Consumes-nil known;
+  holds = (ap length (append-nil head) ∙ five, part_says_nothing head [] n five lacks some);
+}
 
 -- ---- all that a reader had
 

@@ -1,6 +1,7 @@
 -- What was written in parts was written.
-use Rattle.std.proofs.Common.{◌≡◌, ℕ, ◌+◌, List, length, take, drop, Option, sym, subst, take_all, arith}
-use Rattle.std.proofs.KnownBytes.{Appends-kept, Appends-trans}
+use Rattle.std.proofs.Common.{◌≡◌, ℕ, ◌+◌, ◌<◌, List, [], length, take, drop, Option, sym, subst, append-nil, take_all, arith}
+use Rattle.links.specs.Writing.{Cuts}
+use Rattle.std.proofs.KnownBytes.{Appends-nil, Appends-kept, Appends-trans}
 use Rattle.std.proofs.Math.Seq.{take-add}
 use Rattle.std.specs.Io.KnownBytes.{Appends, Keeps}
 
@@ -9,9 +10,17 @@ pub text_grown : (old mid new : Option (List ℕ)) (written count : ℕ) (text :
 text_grown old mid new written count text first then =
     subst (Appends old new) (sym (take-add written count text)) (Appends-trans old mid new (take written text) (take count (drop written text)) first then)
 
--- a write that failed
-pub text_kept : (old mid new : Option (List ℕ)) (written : ℕ) (text : List ℕ) → Appends old mid (take written text) → Keeps mid new → Appends old new (take written text)
-text_kept old mid new written text first kept = Appends-kept old mid new (take written text) first kept
+-- a write that put nothing out
+pub nothing_written : (old new : Option (List ℕ)) → Keeps old new → Appends old new []
+nothing_written old new kept = Appends-kept old old new [] (Appends-nil old) kept
+
+-- a write that failed behind what was written
+pub text_cut : (old mid new : Option (List ℕ)) (written : ℕ) (text : List ℕ) → written < length text → Appends old mid (take written text) → Appends mid new [] → Cuts old new text
+text_cut old mid new written text fewer first then = record {
+  count = written;
+  fewer = fewer;
+  written = subst (Appends old new) (append-nil (take written text)) (Appends-trans old mid new (take written text) [] first then);
+}
 
 -- the whole of it
 pub text_whole : (old new : Option (List ℕ)) (written : ℕ) (text : List ℕ) → written ≡ length text → Appends old new (take written text) → Appends old new text

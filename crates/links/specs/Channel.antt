@@ -55,9 +55,9 @@ IsNoFrame result = Unit {0}
 
 -- a frame was not answered: it could not be written whole, or then no frame could be read
 pub data Unanswered : LinkState → Frame → LinkState → Type 0 where
-  NotSent : {old new : LinkState} {said : Frame} {fault : LinkFault} →
+  NotSent : {old new : LinkState} {said : Frame} (fault : LinkFault) →
       Writes old.outgoing new.outgoing said (Err fault) → Keeps old.incoming new.incoming → Unanswered old said new
-  NotHeard : {old new : LinkState} {said : Frame} {result : Result (Option Frame) LinkFault} →
+  NotHeard : {old new : LinkState} {said : Frame} (result : Result (Option Frame) LinkFault) →
       Writes old.outgoing new.outgoing said (Ok tt) → IsNoFrame result →
       Took old.incoming new.incoming (λ bytes. Gives bytes new.incoming result) → Unanswered old said new
 
@@ -122,7 +122,7 @@ take_of channel = frames.Take channel.generation
 -- What comes of a look for an ask: it is asked, and the answer decides; or the asking is not answered; or nothing is
 -- asked at all, since there is no room for what may come.
 pub data Takes : LinkState → Taken → LinkState → Type 0 where
-  Heard : {old mid new : LinkState} {taken : Taken} {answer : Frame} →
+  Heard : {old new : LinkState} {taken : Taken} (mid : LinkState) (answer : Frame) →
       Exchanged old mid (take_of old) answer → Hears mid answer taken new → Takes old taken new
   Unheard : {old new : LinkState} → Unanswered old (take_of old) new → Takes old took.Broken new
   NoRoom : {channel : LinkState} → Takes channel took.Empty channel

@@ -56,19 +56,23 @@ fn fill<R: Read>(
 }
 
 /// Reads the kind behind a length that was read, and returns how long the body is.
+#[tactic(auto, using(crate::proofs::ReadingLaws::head_fault, crate::proofs::ReadingLaws::kind_fault, crate::proofs::ReadingLaws::kind_torn))]
 fn read_kind<R: Read>(reader: &mut R, head: &mut [u8], left: &mut usize) -> Result<usize, LinkFault>
     requires five { length head.old ≡ 5 }
     ensures kind { GivesKind (take 4 head.old) (R.remaining reader.old) (R.remaining reader.new)
         head.new result }
 {
     missing(&head[..LENGTH])?;
-    if fill(reader, &mut head[LENGTH..], 1, left)? == 0 {
-        return Err(LinkFault::Torn);
+    match fill(reader, &mut head[LENGTH..], 1, left) {
+        Ok(0) => return Err(LinkFault::Torn),
+        Ok(_) => {}
+        Err(_fault) => return Err(LinkFault::Read),
     }
     missing(head)
 }
 
 /// Reads a head, and returns how long the body behind it is; none where the input ends before the head.
+#[tactic(auto, using(crate::proofs::ReadingLaws::few_fault, crate::proofs::ReadingLaws::head_torn, crate::proofs::ReadingLaws::joined_fault, crate::proofs::ReadingLaws::joined_head))]
 fn read_head<R: Read>(
     reader: &mut R,
     head: &mut [u8],
@@ -77,7 +81,9 @@ fn read_head<R: Read>(
     requires five { length head.old ≡ 5 }
     ensures head { GivesHead (R.remaining reader.old) (R.remaining reader.new) head.new result }
 {
-    let held = fill(reader, head, LENGTH, left)?;
+    let Ok(held) = fill(reader, head, LENGTH, left) else {
+        return Err(LinkFault::Read);
+    };
     if held == 0 {
         return Ok(None);
     }
@@ -91,6 +97,7 @@ fn read_head<R: Read>(
 }
 
 /// Reads the body behind a head.
+#[tactic(auto, using(crate::proofs::ReadingLaws::body_fault, crate::proofs::ReadingLaws::body_torn, crate::proofs::ReadingLaws::body_unread))]
 fn read_body<R: Read>(
     alloc: Global,
     reader: &mut R,
@@ -109,10 +116,31 @@ fn read_body<R: Read>(
     if body.resize(len, 0).is_err() {
         return Err(LinkFault::NoMemory);
     }
-    if fill(reader, body.as_mut_slice(), len, left)? < len {
+    let Ok(held) = fill(reader, body.as_mut_slice(), len, left) else {
+        return Err(LinkFault::Read);
+    };
+    if held < len {
         return Err(LinkFault::Torn);
     }
     Frame::of_parts(head, body)
+}
+
+/// Reads a head and then its body.
+#[tactic(auto, using(crate::proofs::ReadingLaws::joined_frame, crate::proofs::ReadingLaws::joined_fault))]
+fn read_parts<R: Read>(alloc: Global, reader: &mut R) -> Result<Option<Frame>, LinkFault>
+    ensures gives { Took (R.remaining reader.old) (R.remaining reader.new)
+        (λ bytes. Gives bytes (R.remaining reader.new) result) }
+{
+    let mut left = MAX_READS;
+    let mut head = [0; HEAD];
+    match read_head(reader, &mut head, &mut left) {
+        Ok(None) => Ok(None),
+        Ok(Some(len)) => match read_body(alloc, reader, &head, len, &mut left) {
+            Ok(frame) => Ok(Some(frame)),
+            Err(fault) => Err(fault),
+        },
+        Err(fault) => Err(fault),
+    }
 }
 
 /// Reads the first frame of what a reader has left, and no byte behind it: none where the input ends before it. It makes
@@ -124,10 +152,5 @@ pub fn read_frame<R: Read>(alloc: Global, reader: &mut R) -> Result<Option<Frame
         (λ bytes. Gives bytes (R.remaining reader.new) result) }
     ensures first { GivesKnown (R.remaining reader.old) (R.remaining reader.new) result }
 {
-    let mut left = MAX_READS;
-    let mut head = [0; HEAD];
-    match read_head(reader, &mut head, &mut left)? {
-        None => Ok(None),
-        Some(len) => Ok(Some(read_body(alloc, reader, &head, len, &mut left)?)),
-    }
+    read_parts(alloc, reader)
 }

@@ -1,5 +1,5 @@
 //! Frames, as they are written.
-ghost use Rattle.std.specs.Prelude.{◌≡◌, ◌<◌, length, OnOk, IfErr};
+ghost use Rattle.std.specs.Prelude.{◌≡◌, ◌<◌, ◌≤◌, [], length, take, OnOk, OnErr, IfOk, IfErr};
 ghost use Rattle.std.specs.Io.KnownBytes.{Appends};
 ghost use Rattle.frames.specs.declared.fault.LinkFault.TheVariants.{Write as WriteFault};
 ghost use Rattle.links.specs.Writing.{Cuts, Writes};
@@ -11,25 +11,39 @@ use std::io::{ErrorKind, Write};
 /// How often a frame may be written on. A write that was interrupted counts.
 pub const MAX_WRITES: usize = 131_072;
 
+/// Makes one write, and returns how many bytes it took: none where it was interrupted.
+#[tactic(auto, using(crate::proofs::WritingLaws::nothing_written))]
+fn write_once<W: Write>(writer: &mut W, bytes: &[u8]) -> Result<usize, LinkFault>
+    ensures within { IfOk result (λ count. count ≤ length bytes.now) }
+    ensures written { IfOk result (λ count. Appends (W.contents writer.old) (W.contents writer.new)
+        (take count bytes.now)) }
+    ensures refused { IfErr result (λ fault. fault ≡ WriteFault) }
+    ensures kept { OnErr result (Appends (W.contents writer.old) (W.contents writer.new) []) }
+{
+    match writer.write(bytes) {
+        Ok(0) => Err(LinkFault::Write),
+        Ok(count) => Ok(count),
+        Err(error) if error.kind() == ErrorKind::Interrupted => Ok(0),
+        Err(_) => Err(LinkFault::Write),
+    }
+}
+
 /// Writes bytes, in one write where the writer takes them all.
-#[tactic(auto, using(crate::proofs::WritingLaws::text_grown, crate::proofs::WritingLaws::text_kept, crate::proofs::WritingLaws::text_whole))]
+#[tactic(auto, using(crate::proofs::WritingLaws::text_cut, crate::proofs::WritingLaws::text_grown, crate::proofs::WritingLaws::text_whole))]
 fn write_bytes<W: Write>(writer: &mut W, bytes: &[u8]) -> Result<(), LinkFault>
     requires some { 0 < length bytes.now }
     ensures whole { OnOk result (Appends (W.contents writer.old) (W.contents writer.new) bytes.now) }
-    ensures cut { IfErr result (λ fault. (fault ≡ WriteFault) × Cuts (W.contents writer.old) (W.contents writer.new) bytes.now) }
+    ensures refused { IfErr result (λ fault. fault ≡ WriteFault) }
+    ensures cut { OnErr result (Cuts (W.contents writer.old) (W.contents writer.new) bytes.now) }
 {
     let mut written = 0;
     for _ in 0..MAX_WRITES {
-        match writer.write(&bytes[written..]) {
-            Ok(0) => return Err(LinkFault::Write),
-            Ok(count) => {
-                written += count;
-                if written == bytes.len() {
-                    return Ok(());
-                }
-            }
-            Err(error) if error.kind() == ErrorKind::Interrupted => {}
-            Err(_) => return Err(LinkFault::Write),
+        match write_once(writer, &bytes[written..]) {
+            Ok(count) => written += count,
+            Err(fault) => return Err(fault),
+        }
+        if written == bytes.len() {
+            return Ok(());
         }
     }
     Err(LinkFault::Write)
@@ -40,6 +54,8 @@ fn write_bytes<W: Write>(writer: &mut W, bytes: &[u8]) -> Result<(), LinkFault>
 pub fn write_frame<W: Write>(alloc: Global, writer: &mut W, frame: &Frame) -> Result<(), LinkFault>
     ensures writes { Writes (W.contents writer.old) (W.contents writer.new) frame.now result }
 {
-    let text = frame.write(alloc)?;
-    write_bytes(writer, text.as_slice())
+    match frame.write(alloc) {
+        Ok(text) => write_bytes(writer, text.as_slice()),
+        Err(fault) => Err(fault),
+    }
 }
