@@ -72,6 +72,11 @@ joined_fault old mid new front fault first then = record {
   holds = then.holds;
 }
 
+-- a head that was read whole was read
+pub head_read : (old new : Option (List ℕ)) (head : List ℕ) (given : Option ℕ) (count : ℕ) → given ≡ Some count → GivesHead old new head (Ok given) → Consumes old new head
+head_read old new head (Some n) count e is = is.0
+head_read old new head None count e is = absurd cc
+
 -- and so is a frame
 pub joined_frame : (old mid new : Option (List ℕ)) (head : List ℕ) (frame : Frame) → Consumes old mid head → Took mid new (λ bytes. IsFirst (head ++ bytes) frame []) → Took old new (λ bytes. IsFirst bytes frame [])
 joined_frame old mid new head frame first then = record {

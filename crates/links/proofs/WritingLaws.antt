@@ -1,5 +1,5 @@
 -- What was written in parts was written.
-use Rattle.std.proofs.Common.{◌≡◌, ℕ, ◌+◌, ◌<◌, List, [], length, take, drop, Option, sym, subst, append-nil, take_all, arith}
+use Rattle.std.proofs.Common.{◌≡◌, ℕ, ◌+◌, ◌-◌, ◌<◌, ◌≤◌, List, [], length, take, drop, Option, ap, sym, subst, ◌∙◌, append-nil, length-drop, take_all, arith}
 use Rattle.links.specs.Writing.{Cuts}
 use Rattle.std.proofs.KnownBytes.{Appends-nil, Appends-kept, Appends-trans}
 use Rattle.std.proofs.Math.Seq.{take-add}
@@ -9,6 +9,17 @@ use Rattle.std.specs.Io.KnownBytes.{Appends, Keeps}
 pub text_grown : (old mid new : Option (List ℕ)) (written count : ℕ) (text : List ℕ) → Appends old mid (take written text) → Appends mid new (take count (drop written text)) → Appends old new (take (written + count) text)
 text_grown old mid new written count text first then =
     subst (Appends old new) (sym (take-add written count text)) (Appends-trans old mid new (take written text) (take count (drop written text)) first then)
+
+-- what is left of a text is all that stands behind what was written
+left_whole : (written : ℕ) (text : List ℕ) → take (length text - written) (drop written text) ≡ drop written text
+left_whole written text = take_all (length text - written) (drop written text) (omega (arith, length-drop written text))
+
+pub left_grown : (old mid new : Option (List ℕ)) (written count : ℕ) (text : List ℕ) → Appends old mid (take written text) → Appends mid new (take count (take (length text - written) (drop written text))) → Appends old new (take (written + count) text)
+left_grown old mid new written count text first then =
+    text_grown old mid new written count text first (subst (λ (left : List ℕ). Appends mid new (take count left)) (left_whole written text) then)
+
+pub within_left : (written count : ℕ) (text : List ℕ) → count ≤ length (take (length text - written) (drop written text)) → count ≤ length text - written
+within_left written count text fits = subst (λ (n : ℕ). count ≤ n) (ap length (left_whole written text) ∙ length-drop written text) fits
 
 -- a write that put nothing out
 pub nothing_written : (old new : Option (List ℕ)) → Keeps old new → Appends old new []

@@ -72,12 +72,20 @@ Answers old said None new = Unanswered old said new
 abbrev pub post_of : LinkState → Reply → Frame
 post_of channel reply = frames.Post channel.generation (reply_text reply)
 
--- what comes of a reply: the other end passed it on; or it told something else, or nothing
+-- what the answer to a Post tells of the reply
+abbrev pub posted_of : Frame → Posted
+posted_of frames.Posted = post.Done
+posted_of heard = post.Broken
+
+-- a reply was not answered; or memory for its frame was refused, and nothing was said
+abbrev pub IsUnposted : LinkState → Reply → LinkState → Type 0
+IsUnposted old reply new = Unanswered old (post_of old reply) new ⊎ (new ≡ old)
+
+-- what comes of a reply: what the other end tells of it; or it is Broken, since nothing was told
 abbrev pub Posts : LinkState → Reply → Posted → LinkState → Type 0
-Posts old reply post.Done new = Exchanged old new (post_of old reply) frames.Posted
-Posts old reply post.Broken new =
-    ((heard : Frame) × (heard ≢ frames.Posted) × Exchanged old new (post_of old reply) heard)
-    ⊎ Unanswered old (post_of old reply) new
+Posts old reply posted new =
+    ((heard : Frame) × (posted ≡ posted_of heard) × Exchanged old new (post_of old reply) heard)
+    ⊎ ((posted ≡ post.Broken) × IsUnposted old reply new)
 
 -- ---- asks
 

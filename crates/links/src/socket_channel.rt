@@ -1,7 +1,7 @@
 //! A worker's channel over a link to the broker.
 ghost use Rattle.std.specs.Prelude.{◌≡◌, [], None, false, IfOk, IsSome, IsTrue};
 ghost use Rattle.fuse_wire.specs.RequestReading.{request_of};
-ghost use Rattle.links.specs.Channel.{Answers, Hears, Posts, Refuses, Serves, Stops, Takes, state_of};
+ghost use Rattle.links.specs.Channel.{Answers, Hears, Posts, Refuses, Serves, Stops, Takes, posted_of, state_of};
 
 use crate::{Frame, read_frame, write_frame};
 use broker_core::TakeFault;
@@ -97,6 +97,7 @@ impl<R: Read, W: Write> SocketChannel<R, W> {
     fn ask(&mut self, frame: &Frame) -> Option<Frame>
         ensures answers { Answers (state_of R.remaining W.contents self.old) frame.now result
             (state_of R.remaining W.contents self.new) }
+        ensures rooms { self.new.rooms ≡ self.old.rooms }
     {
         if let Err(_fault) = write_frame(self.alloc, &mut self.writer, frame) {
             return None;
@@ -223,9 +224,19 @@ impl<R: Read, W: Write> SocketChannel<R, W> {
         let generation = self.generation;
         let reply = Bytes::of(text);
         match self.ask(&Frame::Post { generation, reply }) {
-            Some(Frame::Posted) => Posted::Done,
-            _ => Posted::Broken,
+            Some(answer) => posted_of(&answer),
+            None => Posted::Broken,
         }
+    }
+}
+
+/// Returns what the answer to a Post tells of the reply.
+fn posted_of(answer: &Frame) -> Posted
+    ensures { result ≡ posted_of answer.now }
+{
+    match answer {
+        Frame::Posted => Posted::Done,
+        _ => Posted::Broken,
     }
 }
 
