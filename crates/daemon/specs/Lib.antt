@@ -2,5 +2,6 @@ pub mod Server
 pub mod Daemon
 pub mod Refusals
 pub mod Serving
+pub mod Beginning
 pub mod Talking
 pub mod Inside

@@ -3,15 +3,17 @@ ghost use Rattle.std.specs.Option.{option_copied, option_map};
 ghost use Rattle.std.specs.Prelude.{◌≡◌, ◌⊎◌, true, Some, IsTrue, IfOk, IfErr, OnErr};
 ghost use Rattle.takeover_core.specs.Phases.{after, Raised, is_making, is_raising, is_holding, drain_fault, claim_wanted};
 ghost use Rattle.daemon.specs.Daemon.{new_daemon, is_waiting, in_hand, unposted, with_node};
+ghost use Rattle.daemon.specs.Beginning.{DaemonBegins, NobodyBegins};
 ghost use Rattle.daemon.specs.Serving.{DaemonTakes, DaemonWorks, DaemonPosts};
 ghost use Rattle.daemon.specs.declared.daemon.Reaction.TheVariants.{Heeds};
 ghost use Rattle.daemon.specs.Talking.{MountsSo, EndsSo, HandsOver, ServesOn, TakesOver, CannotTakeOver, Loses, HearsSo, GivesUpSo, DrainsSo, ClaimsSo, HasData, HasNoData, bytes_of, at_generation};
 
-use crate::happened::{Happened, Refusal};
+use crate::happened::{Begun, Happened, Refusal};
 use crate::server::Server;
 use broker_core::Broker;
 use byte_codec::Bytes;
 use eden_base::{ClaimFault, DaemonId, NoMemory};
+use fuse_wire::Request;
 use manifest::Manifest;
 use map_codec::{HandoverFault, hand_over, take_over};
 use std::alloc::Global;
@@ -120,14 +122,17 @@ impl Daemon {
         server.post(broker, daemon, place)
     }
 
-    /// Makes room for what a take, a work and a post may bring, and returns whether there is some.
-    pub fn make_room(&mut self) -> bool
-        ensures same { self.new ≡ self.old }
+    /// Issues a request, and takes what waits first then. The room that it needs for the take comes before the issue.
+    pub fn begin(&mut self, broker: &mut Broker, daemon: DaemonId, request: &Request) -> Begun
+        ensures begins { DaemonBegins broker.old daemon request.now result broker.new self.old self.new }
     {
-        match &mut self.server {
-            Some(server) => server.make_room().is_ok(),
-            None => true,
+        let Some(server) = &mut self.server else {
+            return issue_untaken(broker, request);
+        };
+        if self.node.may_take() {
+            return server.begin(broker, daemon, request);
         }
+        issue_untaken(broker, request)
     }
 
     /// Begins to serve at a generation, where the broker gave this daemon the seat.
@@ -355,6 +360,19 @@ impl Daemon {
             Heard::Say(said) => Reaction::Says(said),
             Heard::MakeData { .. } | Heard::GotData { .. } => unreachable!(),
         }
+    }
+}
+
+/// Issues a request, where the daemon is in no phase in which it takes one.
+fn issue_untaken(broker: &mut Broker, request: &Request) -> Begun
+    ensures begins { NobodyBegins broker.old request.now result broker.new }
+{
+    match broker.issue(request) {
+        Ok(unique) => Begun::Issued {
+            unique,
+            taken: Happened::Refused(Refusal::WrongPhase),
+        },
+        Err(fault) => Begun::Refused(Refusal::from(fault)),
     }
 }
 

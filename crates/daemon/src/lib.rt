@@ -8,6 +8,6 @@ mod place;
 mod server;
 
 pub use daemon::{Daemon, Reaction};
-pub use happened::{Happened, Refusal};
+pub use happened::{Begun, Happened, Refusal};
 pub use place::index_of;
 pub use server::{Server, opening};

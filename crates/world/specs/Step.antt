@@ -190,8 +190,9 @@ Makes old (Claim daemon) told new = Claims old daemon told new
 Makes old (Crash daemon) told new = Crashes old daemon told new
 Makes old event told new = ⊥
 
--- a post, a claim and a crash take no memory
+-- a work, a post, a claim and a crash take no memory
 abbrev pub TakesMemory : Event → Type 0
+TakesMemory (Work daemon place fails) = ⊥
 TakesMemory (Claim daemon) = ⊥
 TakesMemory (Post daemon place) = ⊥
 TakesMemory (Crash daemon) = ⊥
@@ -235,9 +236,16 @@ parts_of seat (Do request) = events_of_do seat request
 parts_of seat Show = []
 parts_of seat event = event ∷ []
 
--- one event, with its outcome
+-- What happens second is the take of a `do`. Its room was made before the request was issued, and where there was none
+-- the issue is refused.
+abbrev pub HasRoom : List Happened → Type 0
+HasRoom (asked ∷ taken ∷ later) = taken ≢ happened.Refused NoMemory
+HasRoom outcome = Unit {0}
+
+-- One event, with its outcome. So of the events of a `do` two may be refused for want of memory: the issue, and then
+-- nothing else happened and nothing changed; and the delivery.
 abbrev pub Step : State → Event → List Happened → State → Type 0
-Step old event outcome new = Carries old (parts_of old.broker.seat event) outcome new
+Step old event outcome new = Carries old (parts_of old.broker.seat event) outcome new × HasRoom outcome
 
 -- one event after another, each with its outcome
 abbrev pub Steps : State → List Event → List (List Happened) → State → Type 0
