@@ -22,6 +22,7 @@ use Rattle.takeover_core.specs.declared.message.Message.{Message}
 use Rattle.takeover_core.specs.declared.message.Message.TheVariants.{Offer}
 use Rattle.daemon.specs.Daemon.{DaemonState, versions, new_daemon, with_server}
 use Rattle.world.specs.State.{State, daemon_of, with_daemon, fault}
+use Rattle.daemon.specs.Saying.{what_is_said}
 use Rattle.daemon.specs.Talking.{HearsSo, IsReady, GivesUpSo, MountsSo, EndsSo, ClaimsSo, after_claim}
 use Rattle.daemon.specs.declared.daemon.Reaction.{Reaction}
 use Rattle.daemon.specs.declared.daemon.Reaction.TheVariants.{Ignores, Heeds, Says}
@@ -126,16 +127,11 @@ pub record Delivers (old : State) (told : Happened) (new : State) : Type 0 where
   pub tells : told ≡ happened.Answered reply
   pub makes : new ≡ record old { broker = delivered old.broker }
 
--- what is told of what a daemon made of a message: what it says is told by its place, behind so many
+-- what is told of what a daemon made of a message: what it says is told by the place of its first, behind so many
 abbrev pub told_reaction : ℕ → Reaction → Happened
 told_reaction count Ignores = happened.Ignored
 told_reaction count Heeds = happened.Heard
-told_reaction count (Says said) = happened.Said (count + 1)
-
--- what it says
-abbrev pub what_is_said : Reaction → List Message
-what_is_said (Says said) = said ∷ []
-what_is_said reaction = []
+told_reaction count (Says said others) = happened.Said (count + 1)
 
 -- a daemon turned to something, and what it says is said
 pub record Reacts (old : State) (daemon : DaemonId) (turns : DaemonState → Reaction → DaemonState → Type 0)

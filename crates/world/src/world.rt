@@ -9,7 +9,7 @@ ghost use Rattle.world.specs.Agreement.{Matches, MovesOn};
 
 use crate::event::Event;
 use crate::outcome::Outcome;
-use crate::said::{index_of_data, let_hear, say};
+use crate::said::{index_of_data, let_turn, say};
 use broker_core::{Broker, DeliverFault};
 use daemon::{Daemon, Happened, Refusal, Server, index_of, opening};
 use eden_base::{DaemonId, NoMemory};
@@ -272,7 +272,7 @@ impl World {
         }
     }
 
-    /// Lets a daemon hear what was said at a place. The room for what it says comes first.
+    /// Lets a daemon hear what was said at a place. The room for what it says comes before it turns to anything.
     fn hear(&mut self, daemon: DaemonId, place: u64) -> Happened
         ensures once { Once self.old (Event.Hear daemon place) result self.new }
     {
@@ -282,20 +282,15 @@ impl World {
         let Some(at) = index_of(place, self.messages.len()) else {
             return Happened::Refused(Refusal::NoSuch);
         };
-        if self.messages.reserve(1).is_err() {
-            return Happened::Refused(Refusal::NoMemory);
-        }
         let said = &self.messages[at];
-        let Ok(reaction) = let_hear(
-            &mut self.daemons,
-            index,
-            self.alloc,
-            &self.manifest,
-            self.limit,
-            said,
-        ) else {
+        let hearer = &self.daemons[index];
+        let Ok(turn) = hearer.hear(self.alloc, &self.manifest, self.limit, said) else {
             return Happened::Refused(Refusal::NoMemory);
         };
+        if self.messages.reserve(turn.count()).is_err() {
+            return Happened::Refused(Refusal::NoMemory);
+        }
+        let reaction = let_turn(&mut self.daemons, index, turn);
         say(&mut self.messages, reaction)
     }
 
