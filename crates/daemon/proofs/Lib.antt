@@ -1,3 +1,4 @@
 pub mod Places
 pub mod ServingLemmas
 pub mod DaemonCalls
+pub mod BeginningLemmas

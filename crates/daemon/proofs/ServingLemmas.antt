@@ -1,8 +1,8 @@
 -- What a daemon's calls did, by the first fault.
-use Rattle.std.proofs.Common.{◌≡◌, ℕ, suc, zero, ◌+◌, ◌<◌, Bool, List, [], ◌∷◌, ◌++◌, length, Option, Some, None, get_or, refl, sym, ap, ◌∙◌, subst, inl, inr, arith}
+use Rattle.std.proofs.Common.{◌≡◌, ℕ, ◌+◌, ◌<◌, Bool, List, [], ◌∷◌, ◌++◌, length, Option, Some, None, get_or, refl, sym, ap, ◌∙◌, subst}
 use Rattle.std.proofs.lemmas.List.{append-nil, map-append, take_more}
 use Rattle.std.proofs.lemmas.Option.{slice_get_read}
-use Rattle.std.specs.Prelude.{slice_get, remove, map, take, true, false, ◌||◌, is_some, if◌then◌else◌}
+use Rattle.std.specs.Prelude.{remove, map, take, ◌≢◌, true, false, ◌||◌, is_some, if◌then◌else◌}
 use Rattle.std.specs.List.{AllByRecursion}
 use Rattle.eden_base.specs.declared.number.DaemonId.{DaemonId}
 use Rattle.fuse_wire.specs.Request.{is_ask, item_of, items_of}
@@ -18,14 +18,8 @@ use Rattle.daemon.specs.Server.{ServerState, at_place, without_place, single, is
 use Rattle.daemon.specs.Serving.{IsIndex, HasNone, FailsSo, WorksBy, WorksOff, PostsBy, PostsReply}
 use Rattle.daemon.specs.declared.happened.Happened.{Happened}
 use Rattle.daemon.specs.declared.happened.Happened.TheVariants.{Refused, Made}
-use Rattle.daemon.specs.declared.happened.Refusal.TheVariants.{NoSuch, NoMemory}
+use Rattle.daemon.specs.declared.happened.Refusal.TheVariants.{NoSuch}
 use Rattle.daemon.proofs.Places.{at-none, at-index}
-
--- a list has a member at each index
-member : {X : Type 0} (xs : List X) (i : ℕ) → i < length xs → (x : X) × (slice_get xs i ≡ Some x)
-member [] i h = absurd (omega arith)
-member (x ∷ xs) zero h = (x, refl)
-member (x ∷ xs) (suc i) h = member xs i (omega arith)
 
 -- what was read at an index stands at its place
 pub at-read : {X : Type 0} (xs : List X) (place index : ℕ) (x : X) → IsIndex (length xs) place index → x ≡ get_or xs index x → at_place xs place ≡ Some x
@@ -40,18 +34,11 @@ pub WorksBy-none : (s : ServerState) (place : ℕ) (fails : Bool) (told : Happen
     WorksBy (at_place s.hand place) s place fails told s
 WorksBy-none s place fails told none tells = subst (λ (o : Option Ask). WorksBy o s place fails told s) (sym (at-none s.hand place none)) (record { tells = tells; same = refl })
 
--- there is no memory for a reply
-pub WorksBy-lacks : (s : ServerState) (place : ℕ) (fails : Bool) (index : ℕ) (told : Happened) → IsIndex (length s.hand) place index → told ≡ Refused NoMemory →
-    WorksBy (at_place s.hand place) s place fails told s
-WorksBy-lacks s place fails index told at tells =
-    let task = member s.hand index at.within in
-    subst (λ (o : Option Ask). WorksBy o s place fails told s) (sym (at-index s.hand place index at ∙ task.1)) (inr (record { tells = tells; same = refl }))
-
 -- a member of the hand was worked
 pub WorksBy-some : (s n : ServerState) (place : ℕ) (fails : Bool) (index : ℕ) (task : Ask) (told : Happened) → IsIndex (length s.hand) place index → task ≡ get_or s.hand index task →
     WorksOff s place fails task told n → WorksBy (at_place s.hand place) s place fails told n
 WorksBy-some s n place fails index task told at read works =
-    subst (λ (o : Option Ask). WorksBy o s place fails told n) (sym (at-read s.hand place index task at read)) (inl works)
+    subst (λ (o : Option Ask). WorksBy o s place fails told n) (sym (at-read s.hand place index task at read)) works
 
 -- no reply of that place is unposted
 pub PostsBy-none : (s : ServerState) (broker : BrokerState) (d : DaemonId) (place : ℕ) (told : Happened) → HasNone (length s.unposted) place → told ≡ Refused NoSuch →

@@ -1,6 +1,6 @@
 -- Why an event is refused: the words that printed lines have for it, and the cause that each fault is. (This project's
 -- own.)
-use Rattle.std.specs.Prelude.{ℕ, Bool, true, false, List, codes}
+use Rattle.std.specs.Prelude.{ℕ, Bool, true, false, List, [], ◌∷◌, codes}
 use Rattle.eden_base.specs.declared.claim.ClaimFault.{ClaimFault}
 use Rattle.eden_base.specs.declared.claim.ClaimFault.TheVariants as claim
 use Rattle.broker_core.specs.declared.broker.MountFault.{MountFault}
@@ -13,6 +13,8 @@ use Rattle.broker_core.specs.declared.fault.PostFault.{PostFault}
 use Rattle.broker_core.specs.declared.fault.PostFault.TheVariants as post
 use Rattle.takeover_core.specs.declared.node.DrainFault.{DrainFault}
 use Rattle.takeover_core.specs.declared.node.DrainFault.TheVariants as drain
+use Rattle.daemon.specs.declared.happened.Begun.{Begun}
+use Rattle.daemon.specs.declared.happened.Begun.TheVariants as begun
 use Rattle.daemon.specs.declared.happened.Happened.{Happened}
 use Rattle.daemon.specs.declared.happened.Happened.TheVariants as happened
 use Rattle.daemon.specs.declared.happened.Refusal.{Refusal}
@@ -82,3 +84,13 @@ refusal_of_claim claim.LastGeneration = refusal.LastGeneration
 abbrev pub is_made : Happened → Bool
 is_made (happened.Refused refusal) = false
 is_made told = true
+
+-- a request was issued, and taken
+abbrev pub is_begun : Begun → Bool
+is_begun (begun.Refused refusal) = false
+is_begun (begun.Issued unique taken) = is_made taken
+
+-- what is told of it: of the issue, and then of the take
+abbrev pub told_begun : Begun → List Happened
+told_begun (begun.Refused refusal) = happened.Refused refusal ∷ []
+told_begun (begun.Issued unique taken) = happened.Asked unique ∷ taken ∷ []

@@ -80,11 +80,10 @@ pub record Keeps {X : Type 0} (old : X) (refusal : Refusal) (told : Happened) (n
   pub tells : told ≡ Refused refusal
   pub same : new ≡ old
 
--- by what stands at the place
+-- by what stands at the place; the room for a reply was made at the take
 abbrev pub WorksBy : Option Ask → ServerState → ℕ → Bool → Happened → ServerState → Type 0
 WorksBy None old place fails told new = Keeps old NoSuch told new
-WorksBy (Some task) old place fails told new =
-    WorksOff old place fails task told new ⊎ Keeps old NoMemory told new
+WorksBy (Some task) old place fails told new = WorksOff old place fails task told new
 
 -- a reply waits for the kernel
 pub record PostsOff (old : ServerState) (broker : BrokerState) (place : ℕ) (reply : Reply) (told : Happened)

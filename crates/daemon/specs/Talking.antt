@@ -40,7 +40,7 @@ pub record HandsOver (old : DaemonState) (node : NodeState) (generation version 
   pub said : Message
   pub has : HasData old.server generation version bytes
   pub says : table.said (table.heard node (table.DataMade bytes)) ≡ Some said
-  pub reacts : reaction ≡ Says said
+  pub reacts : reaction ≡ Says said []
   pub becomes : new ≡ with_node old (table.after node (table.DataMade bytes))
 
 -- a daemon that has no data to hand over serves on
@@ -49,7 +49,7 @@ pub record ServesOn (old : DaemonState) (node : NodeState) (generation version :
   pub said : Message
   pub no_data : HasNoData old.server generation version
   pub says : table.said (table.heard node table.DataFailed) ≡ Some said
-  pub reacts : reaction ≡ Says said
+  pub reacts : reaction ≡ Says said []
   pub becomes : new ≡ with_node old (table.after node table.DataFailed)
 
 -- ---- the data is taken
@@ -72,7 +72,7 @@ pub record TakesOver (manifest : Manifest) (limit : ℕ) (bytes : List ℕ) (nod
 pub record Loses (old : DaemonState) (node : NodeState) (reaction : Reaction) (new : DaemonState) : Type 0 where
   pub said : Message
   pub says : table.said (table.heard node (table.Raised false)) ≡ Some said
-  pub reacts : reaction ≡ Says said
+  pub reacts : reaction ≡ Says said []
   pub becomes : new ≡ with_node old (table.after node (table.Raised false))
 
 -- nothing is raised from the data
@@ -92,7 +92,7 @@ pub record Turns (old : DaemonState) (node : NodeState) (is reaction : Reaction)
 abbrev pub TurnsBy : DaemonState → NodeState → Answer → Reaction → DaemonState → Type 0
 TurnsBy old node answer.Ignored reaction new = Turns old node Ignores reaction new
 TurnsBy old node answer.Heard reaction new = Turns old node Heeds reaction new
-TurnsBy old node (answer.Say said) reaction new = Turns old node (Says said) reaction new
+TurnsBy old node (answer.Say said) reaction new = Turns old node (Says said []) reaction new
 TurnsBy old node other reaction new = ⊥
 
 -- what it makes of any answer
@@ -125,7 +125,7 @@ drained daemon = table.Drained (in_hand daemon) (unposted daemon)
 pub record IsReady (old : DaemonState) (reaction : Reaction) (new : DaemonState) : Type 0 where
   pub said : Message
   pub says : table.heard old.node (drained old) ≡ answer.Say said
-  pub reacts : reaction ≡ Says said
+  pub reacts : reaction ≡ Says said []
   pub becomes : new ≡ with_node old (table.after old.node (drained old))
 
 -- it is ready, or is refused by the first cause, and then nothing changes

@@ -1,22 +1,25 @@
 //! One daemon of the world.
 ghost use Rattle.std.specs.Option.{option_copied, option_map};
-ghost use Rattle.std.specs.Prelude.{◌≡◌, ◌⊎◌, true, Some, IsTrue, IfOk, IfErr, OnErr};
+ghost use Rattle.std.specs.Prelude.{◌≡◌, ◌≤◌, ◌⊎◌, true, Some, None, length, IsTrue, IfOk, IfErr};
 ghost use Rattle.takeover_core.specs.Phases.{after, Raised, is_making, is_raising, is_holding, drain_fault, claim_wanted};
-ghost use Rattle.daemon.specs.Daemon.{new_daemon, is_waiting, in_hand, unposted, with_node};
+ghost use Rattle.daemon.specs.Daemon.{new_daemon, is_waiting, in_hand, unposted};
+ghost use Rattle.daemon.specs.Saying.{turned, what_is_said};
+ghost use Rattle.daemon.specs.Beginning.{DaemonBegins, NobodyBegins};
 ghost use Rattle.daemon.specs.Serving.{DaemonTakes, DaemonWorks, DaemonPosts};
 ghost use Rattle.daemon.specs.declared.daemon.Reaction.TheVariants.{Heeds};
 ghost use Rattle.daemon.specs.Talking.{MountsSo, EndsSo, HandsOver, ServesOn, TakesOver, CannotTakeOver, Loses, HearsSo, GivesUpSo, DrainsSo, ClaimsSo, HasData, HasNoData, bytes_of, at_generation};
 
-use crate::happened::{Happened, Refusal};
+use crate::happened::{Begun, Happened, Refusal};
+use crate::messages::Messages;
 use crate::server::Server;
 use broker_core::Broker;
 use byte_codec::Bytes;
 use eden_base::{ClaimFault, DaemonId, NoMemory};
+use fuse_wire::Request;
 use manifest::Manifest;
 use map_codec::{HandoverFault, hand_over, take_over};
 use std::alloc::Global;
 use std::marker::Model;
-use std::mem;
 use takeover_core::{DrainFault, Heard, Message, Node, Phase, Versions};
 
 /// The versions of the image that every daemon reads and writes.
@@ -29,7 +32,57 @@ pub enum Reaction {
     Ignores,
     /// It is taken, and nothing is to be said.
     Heeds,
-    Says(Message),
+    /// It says this message, and the others behind it.
+    Says(Message, Messages),
+}
+
+/// What a daemon is to become of a message, and what it makes of it. Clauses see it as a `TurnState`.
+#[derive(Drop)]
+pub struct Turn {
+    node: Node,
+    /// What it holds from then on, if it took data over.
+    held: Option<Server>,
+    reaction: Reaction,
+}
+
+impl Model for Turn {
+    ghost use Rattle.std.specs.Coded.{codes};
+    ghost use Rattle.manifest.specs.Codes.{tree_code};
+    ghost use Rattle.takeover_core.specs.Node.{node_state_code};
+    ghost use Rattle.daemon.specs.Saying.{TurnState};
+
+    ghost Value = { TurnState };
+
+    ghost coded = { Prim.hlevel (codes, tree_code, node_state_code) };
+
+    ghost view = { λ turn. record {
+      node = turn.node;
+      held = turn.held;
+      reaction = turn.reaction;
+    } };
+}
+
+impl Turn {
+    /// Returns a turn to this part in takeovers, and to nothing else.
+    fn to(node: Node, reaction: Reaction) -> Turn
+        ensures to { result ≡ record { node = node; held = None; reaction = reaction } }
+    {
+        Turn {
+            node,
+            held: None,
+            reaction,
+        }
+    }
+
+    /// Returns how many messages are said then.
+    pub fn count(&self) -> usize
+        ensures count { result ≡ length (what_is_said self.now.reaction) }
+    {
+        match &self.reaction {
+            Reaction::Says(_, others) => others.len() + 1,
+            Reaction::Ignores | Reaction::Heeds => 0,
+        }
+    }
 }
 
 /// A daemon's part in takeovers, and what it serves, if it does. Clauses see it as a `DaemonState`.
@@ -120,14 +173,17 @@ impl Daemon {
         server.post(broker, daemon, place)
     }
 
-    /// Makes room for what a take, a work and a post may bring, and returns whether there is some.
-    pub fn make_room(&mut self) -> bool
-        ensures same { self.new ≡ self.old }
+    /// Issues a request, and takes what waits first then. The room that it needs for the take comes before the issue.
+    pub fn begin(&mut self, broker: &mut Broker, daemon: DaemonId, request: &Request) -> Begun
+        ensures begins { DaemonBegins broker.old daemon request.now result broker.new self.old self.new }
     {
-        match &mut self.server {
-            Some(server) => server.make_room().is_ok(),
-            None => true,
+        let Some(server) = &mut self.server else {
+            return issue_untaken(broker, request);
+        };
+        if self.node.may_take() {
+            return server.begin(broker, daemon, request);
         }
+        issue_untaken(broker, request)
     }
 
     /// Begins to serve at a generation, where the broker gave this daemon the seat.
@@ -147,24 +203,23 @@ impl Daemon {
         drop(self.server.take());
     }
 
-    /// Hears a message of another daemon. Data that it is to hand over is made of what it serves, and data that is
-    /// handed to it is read and raised over the manifest. Where memory runs out nothing changes.
+    /// Returns what it is to become of a message of another daemon. Data that it is to hand over is made of what it
+    /// serves, and data that is handed to it is read and raised over the manifest.
     pub fn hear(
-        &mut self,
+        &self,
         alloc: Global,
         manifest: &Manifest,
         limit: usize,
         message: &Message,
-    ) -> Result<Reaction, NoMemory>
-        ensures hears { IfOk result (λ reaction.
-            HearsSo manifest.now limit self.old message.now reaction self.new) }
-        ensures unchanged { OnErr result (self.new ≡ self.old) }
+    ) -> Result<Turn, NoMemory>
+        ensures hears { IfOk result (λ turn.
+            HearsSo manifest.now limit self.now message.now turn.reaction (turned self.now turn)) }
     {
         let mut node = self.node.copy();
         match node.hear(message) {
-            Heard::Ignored => Ok(self.turn(node, Reaction::Ignores)),
-            Heard::Heard => Ok(self.turn(node, Reaction::Heeds)),
-            Heard::Say(said) => Ok(self.turn(node, Reaction::Says(said))),
+            Heard::Ignored => Ok(Turn::to(node, Reaction::Ignores)),
+            Heard::Heard => Ok(Turn::to(node, Reaction::Heeds)),
+            Heard::Say(said) => Ok(Turn::to(node, Reaction::Says(said, Messages::none()))),
             Heard::MakeData {
                 generation,
                 version,
@@ -176,38 +231,46 @@ impl Daemon {
         }
     }
 
-    /// Goes on with this part in takeovers.
-    fn turn(&mut self, node: Node, reaction: Reaction) -> Reaction
-        ensures reacts { result ≡ reaction }
-        ensures becomes { self.new ≡ with_node self.old node }
+    /// Becomes what it is to become, and returns what it makes of the message. It takes no memory.
+    pub fn turn(&mut self, turn: Turn) -> Reaction
+        ensures reacts { result ≡ turn.reaction }
+        ensures becomes { self.new ≡ turned self.old turn }
     {
+        let Turn {
+            node,
+            held,
+            reaction,
+        } = turn;
         self.node = node;
+        if let Some(server) = held {
+            let before = self.server.replace(server);
+            drop(before);
+        }
         reaction
     }
 
     /// Hands over what it serves, or serves on where that cannot be written in this version.
     fn make_data(
-        &mut self,
+        &self,
         alloc: Global,
         node: Node,
         generation: u64,
         version: u16,
-    ) -> Result<Reaction, NoMemory>
+    ) -> Result<Turn, NoMemory>
         requires making { IsTrue (is_making node.phase) }
-        ensures made { IfOk result (λ reaction.
-            HandsOver self.old node generation version reaction self.new
-            ⊎ ServesOn self.old node generation version reaction self.new) }
-        ensures unchanged { OnErr result (self.new ≡ self.old) }
+        ensures made { IfOk result (λ turn.
+            HandsOver self.now node generation version turn.reaction (turned self.now turn)
+            ⊎ ServesOn self.now node generation version turn.reaction (turned self.now turn)) }
     {
         let mut node = node;
         match self.data(alloc, generation, version) {
             Ok(bytes) => {
                 let said = node.data_made(Bytes::of(bytes));
-                Ok(self.turn(node, Reaction::Says(said)))
+                Ok(Turn::to(node, Reaction::Says(said, Messages::none())))
             }
             Err(HandoverFault::Refused) => {
                 let said = node.data_failed();
-                Ok(self.turn(node, Reaction::Says(said)))
+                Ok(Turn::to(node, Reaction::Says(said, Messages::none())))
             }
             Err(HandoverFault::NoMemory) => Err(NoMemory),
         }
@@ -227,23 +290,22 @@ impl Daemon {
 
     /// Holds what is raised from the data, or is gone where nothing can be raised from it.
     fn take_data(
-        &mut self,
+        &self,
         alloc: Global,
         manifest: &Manifest,
         limit: usize,
         node: Node,
         generation: u64,
         bytes: &[u8],
-    ) -> Result<Reaction, NoMemory>
+    ) -> Result<Turn, NoMemory>
         requires raising { IsTrue (is_raising node.phase) }
-        ensures taken { IfOk result (λ reaction.
-            TakesOver manifest.now limit bytes.now node generation reaction self.new
-            ⊎ CannotTakeOver self.old manifest.now bytes.now node generation reaction self.new) }
-        ensures unchanged { OnErr result (self.new ≡ self.old) }
+        ensures taken { IfOk result (λ turn.
+            TakesOver manifest.now limit bytes.now node generation turn.reaction (turned self.now turn)
+            ⊎ CannotTakeOver self.now manifest.now bytes.now node generation turn.reaction (turned self.now turn)) }
     {
         let shared = manifest.share()?;
         match take_over(alloc, bytes, manifest, limit, generation) {
-            Ok(served) => Ok(self.hold(node, Server::new(alloc, generation, shared, served))),
+            Ok(served) => Ok(hold(node, Server::new(alloc, generation, shared, served))),
             Err(HandoverFault::Refused) => {
                 drop(shared);
                 Ok(self.lose(node))
@@ -255,33 +317,14 @@ impl Daemon {
         }
     }
 
-    /// Holds what was raised, until it claims the seat.
-    fn hold(&mut self, node: Node, server: Server) -> Reaction
-        requires raising { IsTrue (is_raising node.phase) }
-        ensures reacts { result ≡ Heeds }
-        ensures becomes { self.new ≡ record { node = after node (Raised true); server = Some server } }
-    {
-        let mut node = node;
-        drop(node.raised(true));
-        let before = mem::replace(
-            self,
-            Daemon {
-                node,
-                server: Some(server),
-            },
-        );
-        drop(before);
-        Reaction::Heeds
-    }
-
     /// Takes in that nothing was raised.
-    fn lose(&mut self, node: Node) -> Reaction
+    fn lose(&self, node: Node) -> Turn
         requires raising { IsTrue (is_raising node.phase) }
-        ensures loses { Loses self.old node result self.new }
+        ensures loses { Loses self.now node result.reaction (turned self.now result) }
     {
         let mut node = node;
         match node.raised(false) {
-            Some(said) => self.turn(node, Reaction::Says(said)),
+            Some(said) => Turn::to(node, Reaction::Says(said, Messages::none())),
             None => unreachable!(),
         }
     }
@@ -297,10 +340,11 @@ impl Daemon {
     /// Says that it is ready to hand over, where it drains and has nothing left.
     pub fn drain(&mut self) -> Result<Reaction, DrainFault>
         ensures drains { DrainsSo self.old result self.new }
+        ensures at_most_one { IfOk result (λ reaction. length (what_is_said reaction) ≤ 1) }
     {
         let (in_hand, unposted) = self.left();
         let said = self.node.drained(in_hand, unposted)?;
-        Ok(Reaction::Says(said))
+        Ok(Reaction::Says(said, Messages::none()))
     }
 
     /// Returns the generation that it wants to claim the seat from, if it does.
@@ -348,13 +392,41 @@ impl Daemon {
     /// Ends its part in a takeover, as where the other daemon cannot be reached any more.
     pub fn give_up(&mut self) -> Reaction
         ensures gives_up { GivesUpSo self.old result self.new }
+        ensures at_most_one { length (what_is_said result) ≤ 1 }
     {
         match self.node.give_up() {
             Heard::Ignored => Reaction::Ignores,
             Heard::Heard => Reaction::Heeds,
-            Heard::Say(said) => Reaction::Says(said),
+            Heard::Say(said) => Reaction::Says(said, Messages::none()),
             Heard::MakeData { .. } | Heard::GotData { .. } => unreachable!(),
         }
+    }
+}
+
+/// Issues a request, where the daemon is in no phase in which it takes one.
+fn issue_untaken(broker: &mut Broker, request: &Request) -> Begun
+    ensures begins { NobodyBegins broker.old request.now result broker.new }
+{
+    match broker.issue(request) {
+        Ok(unique) => Begun::Issued {
+            unique,
+            taken: Happened::Refused(Refusal::WrongPhase),
+        },
+        Err(fault) => Begun::Refused(Refusal::from(fault)),
+    }
+}
+
+/// Holds what was raised, until it claims the seat.
+fn hold(node: Node, server: Server) -> Turn
+    requires raising { IsTrue (is_raising node.phase) }
+    ensures holds { result ≡ record { node = after node (Raised true); held = Some server; reaction = Heeds } }
+{
+    let mut node = node;
+    drop(node.raised(true));
+    Turn {
+        node,
+        held: Some(server),
+        reaction: Reaction::Heeds,
     }
 }
 

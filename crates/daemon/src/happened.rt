@@ -1,6 +1,6 @@
 //! What came of an event.
 ghost use Rattle.std.specs.Prelude.{◌≡◌};
-ghost use Rattle.daemon.specs.Refusals.{refusal_name, refusal_of_mount, refusal_of_issue, refusal_of_take, refusal_of_post, refusal_of_drain, refusal_of_claim, is_made};
+ghost use Rattle.daemon.specs.Refusals.{refusal_name, refusal_of_mount, refusal_of_issue, refusal_of_take, refusal_of_post, refusal_of_drain, refusal_of_claim, is_made, is_begun};
 
 use broker_core::{IssueFault, MountFault, PostFault, TakeFault};
 use eden_base::{ClaimFault, DaemonId};
@@ -90,6 +90,30 @@ pub enum Happened {
     /// The daemon is gone.
     Crashed,
     Refused(Refusal),
+}
+
+/// What came of a request that a daemon was to take as soon as it was issued.
+#[derive(Clone, Copy)]
+pub enum Begun {
+    /// It was not issued.
+    Refused(Refusal),
+    /// It was issued, an ask under this unique, and this came of the take.
+    Issued {
+        unique: Option<u64>,
+        taken: Happened,
+    },
+}
+
+impl Begun {
+    /// Returns whether it was issued and taken.
+    pub fn is_made(&self) -> bool
+        ensures made { result ≡ is_begun self.now }
+    {
+        match self {
+            Begun::Refused(_) => false,
+            Begun::Issued { taken, .. } => taken.is_made(),
+        }
+    }
 }
 
 impl Happened {

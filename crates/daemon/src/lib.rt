@@ -4,10 +4,12 @@
 mod backing;
 mod daemon;
 mod happened;
+mod messages;
 mod place;
 mod server;
 
-pub use daemon::{Daemon, Reaction};
-pub use happened::{Happened, Refusal};
+pub use daemon::{Daemon, Reaction, Turn};
+pub use happened::{Begun, Happened, Refusal};
+pub use messages::Messages;
 pub use place::index_of;
 pub use server::{Server, opening};

@@ -1,13 +1,14 @@
 //! A daemon that mounted.
-ghost use Rattle.std.specs.Prelude.{◌≡◌, ◌++◌, ◌+◌, ◌≤◌, map, length, vec_len, vec_capacity, IfOk};
+ghost use Rattle.std.specs.Prelude.{◌≡◌, ◌++◌, ◌+◌, ◌≤◌, map, length, vec_len, vec_capacity, IfOk, OnOk};
 ghost use Rattle.broker_core.specs.Broker.{take_fault};
 ghost use Rattle.fuse_ops.specs.Served.{new_served};
 ghost use Rattle.daemon.specs.Server.{at_place, handed, single, told_taken, told_item};
+ghost use Rattle.daemon.specs.Beginning.{PutsBy, ServerBegins};
 ghost use Rattle.daemon.specs.Serving.{beginning, TakesBy, WorksBy, PostsBy};
 ghost use Rattle.daemon.specs.Talking.{at_generation};
 
 use crate::backing::apply;
-use crate::happened::{Happened, Refusal};
+use crate::happened::{Begun, Happened, Refusal};
 use crate::place::index_of;
 use broker_core::Broker;
 use eden_base::{DaemonId, NoMemory};
@@ -94,43 +95,52 @@ impl Server {
         self.unposted.as_slice()
     }
 
-    /// Makes room for what a take may bring, and for one reply.
-    pub(crate) fn make_room(&mut self) -> Result<(), NoMemory>
-        ensures same { self.new ≡ self.old }
-    {
-        self.hand.reserve(Items::MAX_LEN)?;
-        self.unposted.reserve(1)?;
-        Ok(())
-    }
-
-    /// Takes what waits first at the broker. The room for it comes first, but the broker's refusals before out of
-    /// memory.
+    /// Takes what waits first at the broker. The room for it and for its reply comes first, but the broker's refusals
+    /// before out of memory.
     pub(crate) fn take(&mut self, broker: &mut Broker, daemon: DaemonId) -> Happened
         ensures takes { TakesBy (take_fault broker.old daemon self.old.generation)
             self.old broker.old result self.new broker.new }
     {
-        if self.hand.reserve(Items::MAX_LEN).is_err() {
+        if make_room(&mut self.hand, &mut self.unposted).is_err() {
             return match broker.take_refusal(daemon, self.generation) {
                 Some(fault) => Happened::Refused(Refusal::from(fault)),
                 None => Happened::Refused(Refusal::NoMemory),
             };
         }
-        match broker.take(daemon, self.generation) {
-            Ok(ask) => put_in_hand(&mut self.hand, ask),
-            Err(fault) => Happened::Refused(Refusal::from(fault)),
+        take_into(&mut self.hand, broker, daemon, self.generation)
+    }
+
+    /// Issues a request, and takes what waits first then. The room for the take comes before the issue.
+    pub(crate) fn begin(
+        &mut self,
+        broker: &mut Broker,
+        daemon: DaemonId,
+        request: &Request,
+    ) -> Begun
+        ensures begins { ServerBegins broker.old daemon request.now result broker.new self.old self.new }
+    {
+        if make_room(&mut self.hand, &mut self.unposted).is_err() {
+            return match broker.refusal(request) {
+                Some(fault) => Begun::Refused(Refusal::from(fault)),
+                None => Begun::Refused(Refusal::NoMemory),
+            };
+        }
+        match broker.issue(request) {
+            Ok(unique) => Begun::Issued {
+                unique,
+                taken: take_into(&mut self.hand, broker, daemon, self.generation),
+            },
+            Err(fault) => Begun::Refused(Refusal::from(fault)),
         }
     }
 
-    /// Answers the ask, or applies the item, at a place of the hand, counted from 1.
+    /// Answers the ask, or applies the item, at a place of the hand, counted from 1. The room for the reply is there.
     pub(crate) fn work(&mut self, place: u64, fails: bool) -> Happened
         ensures works { WorksBy (at_place self.old.hand place) self.old place fails result self.new }
     {
         let Some(index) = index_of(place, self.hand.len()) else {
             return Happened::Refused(Refusal::NoSuch);
         };
-        if self.unposted.reserve(1).is_err() {
-            return Happened::Refused(Refusal::NoMemory);
-        }
         let task = self.hand.remove(index);
         let told = told_of_item(&self.served, task.what.item());
         let answer = apply(
@@ -194,10 +204,43 @@ fn told_of_item(served: &Served, item: Option<Item>) -> Happened
     }
 }
 
+/// Makes room for what a take may bring: for a whole batch in the hand, and for a reply to each that is in it then.
+fn make_room(hand: &mut Vec<Ask>, unposted: &mut Vec<Reply>) -> Result<(), NoMemory>
+    ensures same_hand { hand.new.items ≡ hand.old.items }
+    ensures same_replies { unposted.new.items ≡ unposted.old.items }
+    ensures lens { (vec_len hand.new ≡ vec_len hand.old) × (vec_len unposted.new ≡ vec_len unposted.old) }
+    ensures hand_room { OnOk result (vec_len hand.new + 256 ≤ vec_capacity hand.new) }
+    ensures reply_room { OnOk result (vec_len unposted.new + vec_len hand.new + 256 ≤ vec_capacity unposted.new) }
+    ensures never_less { vec_capacity unposted.old ≤ vec_capacity unposted.new }
+{
+    hand.reserve(Items::MAX_LEN)?;
+    unposted.reserve(hand.len() + Items::MAX_LEN)?;
+    Ok(())
+}
+
+/// Takes what waits first at the broker into a hand that has room for it.
+fn take_into(
+    hand: &mut Vec<Ask>,
+    broker: &mut Broker,
+    daemon: DaemonId,
+    generation: u64,
+) -> Happened
+    requires room { vec_len hand.old + 256 ≤ vec_capacity hand.old }
+    ensures takes { PutsBy (take_fault broker.old daemon generation)
+        hand.old.items broker.old result hand.new.items broker.new }
+    ensures at_most { vec_len hand.new ≤ vec_len hand.old + 256 }
+{
+    match broker.take(daemon, generation) {
+        Ok(ask) => put_in_hand(hand, ask),
+        Err(fault) => Happened::Refused(Refusal::from(fault)),
+    }
+}
+
 /// Puts what was taken into the hand: an ask as it is, each item of a forget by itself.
 fn put_in_hand(hand: &mut Vec<Ask>, taken: Ask) -> Happened
     requires room { vec_len hand.old + 256 ≤ vec_capacity hand.old }
     ensures hand { hand.new.items ≡ hand.old.items ++ handed taken }
+    ensures at_most { vec_len hand.new ≤ vec_len hand.old + 256 }
     ensures told { result ≡ told_taken taken }
 {
     if !taken.what.is_ask() {
@@ -214,6 +257,7 @@ fn put_in_hand(hand: &mut Vec<Ask>, taken: Ask) -> Happened
 fn put_each(hand: &mut Vec<Ask>, items: &[Item]) -> usize
     requires room { vec_len hand.old + length items.now ≤ vec_capacity hand.old }
     ensures hand { hand.new.items ≡ hand.old.items ++ map single items.now }
+    ensures len { vec_len hand.new ≡ vec_len hand.old + length items.now }
     ensures count { result ≡ length items.now }
 {
     for item in items {

@@ -1,17 +1,21 @@
 -- Events one after another, until one is refused.
-use Rattle.std.proofs.Common.{◌≡◌, Bool, true, false, List, [], ◌∷◌, ◌++◌, Option, Some, None, refl, sym, ap, ◌∙◌, subst}
+use Rattle.std.proofs.Common.{◌≡◌, ℕ, suc, zero, ◌+◌, ◌≤◌, length, Bool, true, false, List, [], ◌∷◌, ◌++◌, Option, Some, None, refl, sym, ap, ◌∙◌, subst, arith}
 use Rattle.std.proofs.lemmas.List.{append-nil}
 use Rattle.std.proofs.Common.{append_assoc}
-use Rattle.std.specs.Prelude.{if◌then◌else◌}
+use Rattle.std.specs.Prelude.{◌≢◌, if◌then◌else◌}
+use Rattle.eden_base.specs.declared.number.DaemonId.{DaemonId}
 use Rattle.broker_core.specs.declared.seat.Seat.{Seat}
 use Rattle.fuse_wire.specs.Request.{is_ask}
 use Rattle.fuse_wire.specs.declared.request.Request.{Request}
 use Rattle.world.specs.State.{State}
 use Rattle.daemon.specs.Refusals.{is_made}
-use Rattle.world.specs.Step.{Once, Carries, IfMade, Step, parts_of, events_of_do}
+use Rattle.world.specs.Step.{Once, Carries, IfMade, HasRoom, Step, parts_of, events_of_do}
+use Rattle.world.specs.Beginning.{Goes, HasTwo, Begins}
 use Rattle.world.specs.declared.event.Event.{Event}
 use Rattle.world.specs.declared.event.Event.TheVariants.{Issue, Take, Work, Post, Deliver, Do}
 use Rattle.daemon.specs.declared.happened.Happened.{Happened}
+use Rattle.daemon.specs.declared.happened.Happened.TheVariants.{Refused}
+use Rattle.daemon.specs.declared.happened.Refusal.TheVariants.{NoMemory}
 
 -- the first is refused
 Carries-stop : (old : State) (event : Event) (events : List Event) (told : Happened) (new : State) → Once old event told new → false ≡ is_made told →
@@ -35,12 +39,10 @@ Carries-one old event told new once = by_made (is_made told) refl where
 -- an event that is no `do`
 pub Step-alone : (old : State) (event : Event) (told : Happened) (outcome : List Happened) (new : State) → parts_of old.broker.seat event ≡ event ∷ [] →
     Once old event told new → outcome ≡ told ∷ [] → Step old event outcome new
-Step-alone old event told outcome new parts once one =
-    subst (λ (es : List Event). Carries old es outcome new) (sym parts) (subst (λ (os : List Happened). Carries old (event ∷ []) os new) (sym one) (Carries-one old event told new once))
-
--- so far all were made, and what comes of the others completes it
-abbrev pub Goes : State → List Event → List Happened → State → List Event → Type 0
-Goes old events told now rest = (outcome : List Happened) (new : State) → Carries now rest outcome new → Carries old events (told ++ outcome) new
+Step-alone old event told outcome new parts once one = (
+  subst (λ (es : List Event). Carries old es outcome new) (sym parts) (subst (λ (os : List Happened). Carries old (event ∷ []) os new) (sym one) (Carries-one old event told new once)),
+  subst HasRoom (sym one) tt,
+)
 
 -- nothing happened yet
 pub goes-nothing : (old : State) (events : List Event) (told : List Happened) → told ≡ [] → Goes old events told old events
@@ -69,21 +71,84 @@ goes-last old events before after between event told next goes once added =
 pub goes-end : (old : State) (events : List Event) (told : List Happened) (now : State) → Goes old events told now [] → Carries old events told now
 goes-end old events told now goes = subst (λ (os : List Happened). Carries old events os now) (append-nil told) (goes [] now (refl, refl))
 
--- a `do` by its seat
-pub Step-do : (old start : State) (seat : Option Seat) (request : Request) (outcome : List Happened) (new : State) → start ≡ old → start.broker.seat ≡ seat →
-    Carries start (events_of_do seat request) outcome new → Step old (Do request) outcome new
-Step-do old start seat request outcome new same has h =
-    subst (λ (s : State). Step s (Do request) outcome new) same
-    (subst (λ (o : Option Seat). Carries start (events_of_do o request) outcome new) (sym has) h)
+-- ---- a `do`
 
--- a `do` whose request was not issued
-refused-by : (old : State) (seat : Option Seat) (request : Request) (told : Happened) (new : State) → Once old (Issue request) told new → false ≡ is_made told →
-    Carries old (events_of_do seat request) (told ∷ []) new
-refused-by old None request told new once refused = Carries-stop old (Issue request) [] told new once refused
-refused-by old (Some seat) request told new once refused = Carries-stop old (Issue request) (Take seat.daemon ∷ Work seat.daemon 1 false ∷ (if is_ask request then Post seat.daemon 1 ∷ Deliver ∷ [] else [])) told new once refused
+-- one more was told
+pub few-more : (before after : List Happened) (told : Happened) (n : ℕ) → length before ≤ n → after ≡ before ++ told ∷ [] → length after ≤ n + 1
+few-more before after told n few added = subst (λ (os : List Happened). length os ≤ n + 1) (sym added) (longer before n few) where
+  longer : (os : List Happened) (m : ℕ) → length os ≤ m → length (os ++ told ∷ []) ≤ m + 1
+  longer [] m few = omega arith
+  longer (o ∷ os) zero few = absurd (omega arith)
+  longer (o ∷ os) (suc m) few = let more : length (os ++ told ∷ []) ≤ m + 1 = longer os m (omega arith) in omega arith
 
-pub Step-do-refused : (old start : State) (request : Request) (told : Happened) (outcome : List Happened) (new : State) → start ≡ old → Once start (Issue request) told new → false ≡ is_made told →
-    outcome ≡ told ∷ [] → Step old (Do request) outcome new
-Step-do-refused old start request told outcome new same once refused one =
-    Step-do old start start.broker.seat request outcome new same refl
-    (subst (λ (os : List Happened). Carries start (events_of_do start.broker.seat request) os new) (sym one) (refused-by start start.broker.seat request told new once refused))
+-- by its seat
+Step-do : (old : State) (seat : Option Seat) (request : Request) (outcome : List Happened) (new : State) → old.broker.seat ≡ seat →
+    Carries old (events_of_do seat request) outcome new → HasRoom outcome → Step old (Do request) outcome new
+Step-do old seat request outcome new has h room = (subst (λ (o : Option Seat). Carries old (events_of_do o request) outcome new) (sym has) h, room)
+
+-- without a seat it is issued alone
+pub Step-do-unseated : (old : State) (request : Request) (told : Happened) (outcome : List Happened) (new : State) → old.broker.seat ≡ None →
+    Once old (Issue request) told new → outcome ≡ told ∷ [] → Step old (Do request) outcome new
+Step-do-unseated old request told outcome new free once one =
+    Step-do old None request outcome new free (subst (λ (os : List Happened). Carries old (Issue request ∷ []) os new) (sym one) (Carries-one old (Issue request) told new once)) (subst HasRoom (sym one) tt)
+
+-- what follows the take
+abbrev pub rest_of_do : DaemonId → Request → List Event
+rest_of_do daemon request = Work daemon 1 false ∷ (if is_ask request then Post daemon 1 ∷ Deliver ∷ [] else [])
+
+-- it was not issued, or not taken
+pub Step-do-unbegun : (old : State) (seat : Seat) (request : Request) (outcome : List Happened) (new : State) → old.broker.seat ≡ Some seat →
+    Begins old request seat.daemon false outcome new → Step old (Do request) outcome new
+Step-do-unbegun old seat request outcome new has begins =
+    Step-do old (Some seat) request outcome new has (begins.1 (rest_of_do seat.daemon request)) begins.0
+
+-- what happened first happened still
+two-more : (before more : List Happened) → HasTwo before → HasTwo (before ++ more)
+two-more [] more two = absurd two
+two-more (asked ∷ []) more two = absurd two
+two-more (asked ∷ taken ∷ later) more two = two
+
+two-room : (outcome : List Happened) → HasTwo outcome → HasRoom outcome
+two-room [] two = absurd two
+two-room (asked ∷ []) two = absurd two
+two-room (asked ∷ taken ∷ later) two = two
+
+pub two-after : (before more after : List Happened) → HasTwo before → after ≡ before ++ more → HasTwo after
+two-after before more after two added = subst HasTwo (sym added) (two-more before more two)
+
+-- it was begun, and then carried on
+pub Step-do-begun : (old : State) (seat : Seat) (request : Request) (outcome : List Happened) (new : State) → old.broker.seat ≡ Some seat →
+    HasTwo outcome → Carries old (Issue request ∷ Take seat.daemon ∷ rest_of_do seat.daemon request) outcome new → Step old (Do request) outcome new
+Step-do-begun old seat request outcome new has two carries = Step-do old (Some seat) request outcome new has carries (two-room outcome two)
+
+-- ---- how it begins
+
+-- both were made
+pub begins-both : (old : State) (request : Request) (daemon : DaemonId) (asked : Happened) (between : State) (taken : Happened) (outcome : List Happened) (new : State) →
+    Once old (Issue request) asked between → true ≡ is_made asked → Once between (Take daemon) taken new → true ≡ is_made taken → taken ≢ Refused NoMemory →
+    outcome ≡ asked ∷ taken ∷ [] → Begins old request daemon true outcome new
+begins-both old request daemon asked between taken outcome new once made then_once then_made room tells = (
+  subst (λ (os : List Happened). length os ≤ 2) (sym tells) (omega arith),
+  subst HasTwo (sym tells) room,
+  λ events more last carries. subst (λ (os : List Happened). Carries old (Issue request ∷ Take daemon ∷ events) (os ++ more) last) (sym tells)
+      (Carries-go old (Issue request) (Take daemon ∷ events) asked between (taken ∷ more) last once made (Carries-go between (Take daemon) events taken new more last then_once then_made carries)),
+)
+
+-- the take was refused
+pub begins-untaken : (old : State) (request : Request) (daemon : DaemonId) (asked : Happened) (between : State) (taken : Happened) (outcome : List Happened) (new : State) →
+    Once old (Issue request) asked between → true ≡ is_made asked → Once between (Take daemon) taken new → false ≡ is_made taken → taken ≢ Refused NoMemory →
+    outcome ≡ asked ∷ taken ∷ [] → Begins old request daemon false outcome new
+begins-untaken old request daemon asked between taken outcome new once made then_once refused room tells = (
+  subst HasRoom (sym tells) room,
+  λ events. subst (λ (os : List Happened). Carries old (Issue request ∷ Take daemon ∷ events) os new) (sym tells)
+      (Carries-go old (Issue request) (Take daemon ∷ events) asked between (taken ∷ []) new once made (Carries-stop between (Take daemon) events taken new then_once refused)),
+)
+
+-- the issue was refused
+pub begins-unissued : (old : State) (request : Request) (daemon : DaemonId) (asked : Happened) (outcome : List Happened) (new : State) →
+    Once old (Issue request) asked new → false ≡ is_made asked → outcome ≡ asked ∷ [] → Begins old request daemon false outcome new
+begins-unissued old request daemon asked outcome new once refused tells = (
+  subst HasRoom (sym tells) tt,
+  λ events. subst (λ (os : List Happened). Carries old (Issue request ∷ Take daemon ∷ events) os new) (sym tells)
+      (Carries-stop old (Issue request) (Take daemon ∷ events) asked new once refused),
+)

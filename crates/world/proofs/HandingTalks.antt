@@ -26,25 +26,34 @@ use Rattle.world.specs.Handing.{part_at, is_out, HasTheSeat, MessageStands, Daem
 use Rattle.daemon.specs.Server.{ServerState, IsIdle, at_place}
 use Rattle.daemon.specs.Serving.{beginning}
 use Rattle.world.specs.State.{State, daemon_of, with_daemon, is_data_of, IsSeated}
-use Rattle.world.specs.Step.{Hears, Reacts, what_is_said}
+use Rattle.world.specs.Step.{Hears, Reacts}
+use Rattle.daemon.specs.Saying.{what_is_said}
 use Rattle.daemon.specs.Talking.{HasData, HandsOver, ServesOn, TakesOver, CannotTakeOver, ReactsBy, TurnsBy, IsReady, GivesUpSo, drained, bytes_of}
 use Rattle.daemon.specs.declared.daemon.Reaction.{Reaction}
 use Rattle.daemon.specs.declared.daemon.Reaction.TheVariants.{Ignores, Heeds, Says}
 use Rattle.daemon.specs.declared.happened.Happened.{Happened}
 use Rattle.world.proofs.Daemons.{daemon_of-with, holder-is, HolderIs, at-is}
-use Rattle.world.proofs.Handing.{KeepsSeat, IsBase, all-at, no-data-stands, handing-stays, stays}
-use Rattle.world.proofs.Once.{once-other, once-quiet, once-said}
+use Rattle.world.proofs.Handing.{KeepsSeat, IsBase, all-along, all-at, no-data-stands, handing-stays, stays}
+use Rattle.world.proofs.Once.{once-other, once-quiet, once-said, once-alone}
 use Rattle.world.proofs.Standing.{Turned, turned-out, turned-stands}
 use Rattle.world.proofs.Turns.{IsTurn, is_data, says_data, node_of, turn-hear, turn-give_up, turn-drained, turn-made, turn-failed, turn-gone, hear-no-data, give_up-no-data, drained-no-data, MakesIt, makes-it, TakesIt, takes-it}
 
 -- ---- a turn
 
--- a daemon turned, and said this, which is no data
-turned-handing : (old : State) (daemon : DaemonId) (was later : DaemonState) (idle : Bool) (reaction : Reaction) (new : State) → IsHanding old → Turned old daemon was later idle → ((m : Message) → reaction ≡ Says m → is_data m ≡ false) →
+-- all that is said is no data
+abbrev pub SaysNoData : Reaction → Type 0
+SaysNoData reaction = AllByRecursion (λ (m : Message). is_data m ≡ false) (what_is_said reaction)
+
+-- what is said is what it is known to be
+says-none : (is reaction : Reaction) → reaction ≡ is → SaysNoData is → SaysNoData reaction
+says-none is reaction same quiet = subst SaysNoData (sym same) quiet
+
+-- a daemon turned, and what it said is no data
+turned-handing : (old : State) (daemon : DaemonId) (was later : DaemonState) (idle : Bool) (reaction : Reaction) (new : State) → IsHanding old → Turned old daemon was later idle → SaysNoData reaction →
     new ≡ with_daemon (record old { messages = old.messages ++ what_is_said reaction }) daemon later → IsHanding new
-turned-handing old daemon was later idle reaction new h t no_data makes =
-    handing-stays old base new daemon was later (what_is_said reaction) is makes t.there h keeps (turned-stands old daemon was later idle t (h.daemons daemon was t.there)) (said_in reaction no_data)
-    (once-quiet old (what_is_said reaction) h (quiet_in reaction no_data)) where
+turned-handing old daemon was later idle reaction new h t quiet makes =
+    handing-stays old base new daemon was later (what_is_said reaction) is makes t.there h keeps (turned-stands old daemon was later idle t (h.daemons daemon was t.there))
+    (all-along (λ (m : Message). is_data m ≡ false) (MessageStands new) (no-data-stands new) (what_is_said reaction) quiet) (once-quiet old (what_is_said reaction) h quiet) where
       base : State
       base = record old { messages = old.messages ++ what_is_said reaction }
 
@@ -54,22 +63,9 @@ turned-handing old daemon was later idle reaction new h t no_data makes =
       keeps : KeepsSeat old new
       keeps = stays old base new daemon was later (what_is_said reaction) is makes t.there h refl refl (λ seat e here. turned-out old daemon was later idle t)
 
-      said_in : (r : Reaction) → ((m : Message) → r ≡ Says m → is_data m ≡ false) → AllByRecursion (MessageStands new) (what_is_said r)
-      said_in Ignores none = tt
-      said_in Heeds none = tt
-      said_in (Says m) none = (no-data-stands new m (none m refl), tt)
-
-      quiet_in : (r : Reaction) → ((m : Message) → r ≡ Says m → is_data m ≡ false) → AllByRecursion (λ (m : Message). is_data m ≡ false) (what_is_said r)
-      quiet_in Ignores none = tt
-      quiet_in Heeds none = tt
-      quiet_in (Says m) none = (none m refl, tt)
-
 -- what says no data says none
-no_data_of : (a : Answer) (said m : Message) → says_data a ≡ false → a ≡ answer.Say said → Says said ≡ Says m → is_data m ≡ false
-no_data_of a said m silent is same =
-    let one : says_data (answer.Say said) ≡ false = ap says_data (sym is) ∙ silent in
-    let two : said ≡ m = cc in
-    subst (λ (x : Message). is_data x ≡ false) two one
+no_data_of : (a : Answer) (said : Message) → says_data a ≡ false → a ≡ answer.Say said → SaysNoData (Says said [])
+no_data_of a said silent is = (ap says_data (sym is) ∙ silent, tt)
 
 -- by an answer that brings no data
 by-turn : (old : State) (daemon : DaemonId) (was : DaemonState) (node : NodeState) (a : Answer) (reaction : Reaction) (later : DaemonState) (new : State) → IsHanding old → daemon_of old daemon ≡ Some was →
@@ -84,9 +80,9 @@ by-turn old daemon was node a reaction later new h there turn silent t makes = i
   }
 
   in_ : (b : Answer) → a ≡ b → TurnsBy was node b reaction later → IsHanding new
-  in_ answer.Ignored e t = turned-handing old daemon was later false reaction new h (turned t.becomes) (λ m says. absurd (let two : Ignores ≡ Says m = sym t.reacts ∙ says in let none : ⊥ = cc in none)) makes
-  in_ answer.Heard e t = turned-handing old daemon was later false reaction new h (turned t.becomes) (λ m says. absurd (let two : Heeds ≡ Says m = sym t.reacts ∙ says in let none : ⊥ = cc in none)) makes
-  in_ (answer.Say said) e t = turned-handing old daemon was later false reaction new h (turned t.becomes) (λ m says. no_data_of a said m silent e (sym t.reacts ∙ says)) makes
+  in_ answer.Ignored e t = turned-handing old daemon was later false reaction new h (turned t.becomes) (says-none Ignores reaction t.reacts tt) makes
+  in_ answer.Heard e t = turned-handing old daemon was later false reaction new h (turned t.becomes) (says-none Heeds reaction t.reacts tt) makes
+  in_ (answer.Say said) e t = turned-handing old daemon was later false reaction new h (turned t.becomes) (says-none (Says said []) reaction t.reacts (no_data_of a said silent e)) makes
   in_ (answer.MakeData s g v) e t = absurd t
   in_ (answer.GotData s g v) e t = absurd t
 
@@ -169,13 +165,13 @@ hands-handing old daemon was said s g v reaction later new h there e t makes =
           let serving : seat_of was.node.phase ≡ Some seat.generation = ap seat_of it.was ∙ ap Some (true-eq g seat.generation e) in
           let here : daemon ≡ seat.daemon = was_stands.only seat at serving in
           let its = was_stands.serves g part in
-          once-said old seat was its.0 t.said h (record { seated = at; there = sym (ap (daemon_of old) here) ∙ there; serves = its.1 }) (ap is_out it.was)
+          once-said old seat was its.0 (t.said ∷ []) h (record { seated = at; there = sym (ap (daemon_of old) here) ∙ there; serves = its.1 }) (ap is_out it.was) (once-alone seat.generation t.said)
       once seat at false e = once-other old (t.said ∷ []) seat h at (ap (is_data_of seat.generation) is_said ∙ e, tt)
 
 -- nothing could be written, and the daemon serves on
 serves-handing : (old : State) (daemon : DaemonId) (was : DaemonState) (said : Message) (s g v : ℕ) (reaction : Reaction) (later : DaemonState) (new : State) → IsHanding old → daemon_of old daemon ≡ Some was →
     table.heard was.node (table.Hear said) ≡ answer.MakeData s g v → ServesOn was (table.after was.node (table.Hear said)) g v reaction later → new ≡ with_daemon (record old { messages = old.messages ++ what_is_said reaction }) daemon later → IsHanding new
-serves-handing old daemon was said s g v reaction later new h there e t makes = turned-handing old daemon was later false reaction new h turned no_data makes where
+serves-handing old daemon was said s g v reaction later new h there e t makes = turned-handing old daemon was later false reaction new h turned quiet makes where
   it : MakesIt was.node.versions was.node.sessions was.node.phase said s g v
   it = makes-it was.node.versions was.node.sessions was.node.phase said s g v e
 
@@ -193,14 +189,12 @@ serves-handing old daemon was said s g v reaction later new h there e t makes = 
     empty = λ x. absurd (let none : ⊥ = cc in none);
   }
 
-  no_data : (m : Message) → reaction ≡ Says m → is_data m ≡ false
-  no_data m says =
-      let two : Says t.said ≡ Says m = sym t.reacts ∙ says in
-      let same : t.said ≡ m = cc in
+  quiet : SaysNoData reaction
+  quiet =
       let failed : table.said (table.heard (node_of made.versions made.sessions (Making g s v)) table.DataFailed) ≡ Some t.said =
       ap (λ (p : Phase). table.said (table.heard (node_of made.versions made.sessions p) table.DataFailed)) (sym it.now) ∙ t.says in
       let is : Rattle.takeover_core.specs.declared.message.Message.TheVariants.Failed s ≡ t.said = cc in
-      sym (ap is_data (is ∙ same))
+      says-none (Says t.said []) reaction t.reacts (sym (ap is_data is), tt)
 
 -- what is raised knows what the holder knows
 takes-handing : (w : World) (old : State) (daemon : DaemonId) (was : DaemonState) (place : ℕ) (said : Message) (s g v : ℕ) (reaction : Reaction) (later : DaemonState) (new : State) → Follows w old → IsHanding old → daemon_of old daemon ≡ Some was → at_place old.messages place ≡ Some said →
@@ -266,7 +260,7 @@ takes-handing w old daemon was place said s g v reaction later new m h there at 
 -- nothing could be raised, and the daemon is gone
 cannot-handing : (old : State) (daemon : DaemonId) (was : DaemonState) (said : Message) (s g v : ℕ) (reaction : Reaction) (later : DaemonState) (new : State) → IsHanding old → daemon_of old daemon ≡ Some was →
     table.heard was.node (table.Hear said) ≡ answer.GotData s g v → CannotTakeOver was old.manifest (bytes_of said) (table.after was.node (table.Hear said)) g reaction later → new ≡ with_daemon (record old { messages = old.messages ++ what_is_said reaction }) daemon later → IsHanding new
-cannot-handing old daemon was said s g v reaction later new h there e t makes = turned-handing old daemon was later false reaction new h turned no_data makes where
+cannot-handing old daemon was said s g v reaction later new h there e t makes = turned-handing old daemon was later false reaction new h turned quiet makes where
   it : TakesIt was.node.versions was.node.sessions was.node.phase said s g v
   it = takes-it was.node.versions was.node.sessions was.node.phase said s g v e
 
@@ -284,14 +278,12 @@ cannot-handing old daemon was said s g v reaction later new h there e t makes = 
     empty = λ x. absurd (let none : ⊥ = cc in none);
   }
 
-  no_data : (m : Message) → reaction ≡ Says m → is_data m ≡ false
-  no_data m says =
-      let two : Says (t.loses).said ≡ Says m = sym (t.loses).reacts ∙ says in
-      let same : (t.loses).said ≡ m = cc in
+  quiet : SaysNoData reaction
+  quiet =
       let failed : table.said (table.heard (node_of got.versions got.sessions (Raising s g)) (table.Raised false)) ≡ Some (t.loses).said =
       ap (λ (p : Phase). table.said (table.heard (node_of got.versions got.sessions p) (table.Raised false))) (sym it.now) ∙ (t.loses).says in
       let is : Rattle.takeover_core.specs.declared.message.Message.TheVariants.Failed s ≡ (t.loses).said = cc in
-      sym (ap is_data (is ∙ same))
+      says-none (Says (t.loses).said []) reaction (t.loses).reacts (sym (ap is_data is), tt)
 
 -- ---- the events
 
@@ -334,7 +326,7 @@ idle-left was server serves (hand, replies) = record {
 }
 
 pub drains-handing : (old : State) (daemon : DaemonId) (told : Happened) (new : State) → IsHanding old → Reacts old daemon IsReady told new → IsHanding new
-drains-handing old daemon told new h r = turned-handing old daemon r.was r.later left r.reaction new h turned no_data r.makes where
+drains-handing old daemon told new h r = turned-handing old daemon r.was r.later left r.reaction new h turned quiet r.makes where
   left : Bool
   left = in_hand r.was == 0 && unposted r.was == 0
 
@@ -349,5 +341,6 @@ drains-handing old daemon told new h r = turned-handing old daemon r.was r.later
     empty = λ e server serves. idle-left r.was server serves (none-left (in_hand r.was) (unposted r.was) e);
   }
 
-  no_data : (m : Message) → r.reaction ≡ Says m → is_data m ≡ false
-  no_data m says = no_data_of (table.heard (r.was).node (drained r.was)) t.said m (drained-no-data (r.was).node.versions (r.was).node.sessions (r.was).node.phase (in_hand r.was) (unposted r.was)) t.says (sym t.reacts ∙ says)
+  quiet : SaysNoData r.reaction
+  quiet = says-none (Says t.said []) r.reaction t.reacts
+      (no_data_of (table.heard (r.was).node (drained r.was)) t.said (drained-no-data (r.was).node.versions (r.was).node.sessions (r.was).node.phase (in_hand r.was) (unposted r.was)) t.says)

@@ -228,7 +228,7 @@ step-matched w old event outcome new m step = record {
   moves = ap (λ (o : Option Seat). moves_in_turn w (parts_of o event) outcome) ((m.follows).books).seat
 
   carried : Carried w old (parts_of old.broker.seat event) outcome new
-  carried = carries-moved w old (parts_of old.broker.seat event) outcome new m (stays-parts old.broker.seat event) step
+  carried = carries-moved w old (parts_of old.broker.seat event) outcome new m (stays-parts old.broker.seat event) step.0
 
   answered_in : (b : Bool) → list_any is_posted outcome ≡ b → IsAnswered (after_all w (moves_in_turn w (parts_of old.broker.seat event) outcome)) (if b then old.broker.seat else None)
   answered_in true e = carried.answered e

@@ -1,5 +1,6 @@
 pub mod Carrying
 pub mod StepLemmas
+pub mod Beginning
 mod Bags
 mod Hands
 mod UnderWay

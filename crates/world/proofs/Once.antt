@@ -74,15 +74,21 @@ once-later old g h rises =
     let none : count_by (is_data_of g) old.messages ≡ 0 = count-other g old.messages (all-along (MessageStands old) (λ (m : Message). is_data_of g m ≡ false) (not-before old g rises) old.messages h.messages) in
     let empty : count_by (is_data_of g) [] ≡ 0 = refl in omega arith
 
--- the holder says it for the first time
-pub once-said : (old : State) (seat : Seat) (was : DaemonState) (server : ServerState) (m : Message) → IsHanding old → HasTheSeat old seat was server → is_out was.node.phase ≡ false → count_by (is_data_of seat.generation) (old.messages ++ m ∷ []) ≤ 1
-once-said old seat was server m h has in_house =
-    let sum : count_by (is_data_of seat.generation) (old.messages ++ m ∷ []) ≡ count_by (is_data_of seat.generation) old.messages + count_by (is_data_of seat.generation) (m ∷ []) = count-more seat.generation old.messages (m ∷ []) in
+-- the holder says it for the first time, once among what it says
+pub once-said : (old : State) (seat : Seat) (was : DaemonState) (server : ServerState) (more : List Message) → IsHanding old → HasTheSeat old seat was server → is_out was.node.phase ≡ false → count_by (is_data_of seat.generation) more ≤ 1 →
+    count_by (is_data_of seat.generation) (old.messages ++ more) ≤ 1
+once-said old seat was server more h has in_house few =
+    let sum : count_by (is_data_of seat.generation) (old.messages ++ more) ≡ count_by (is_data_of seat.generation) old.messages + count_by (is_data_of seat.generation) more = count-more seat.generation old.messages more in
     let none : count_by (is_data_of seat.generation) old.messages ≡ 0 =
     count-other seat.generation old.messages (all-along (MessageStands old) (λ (x : Message). is_data_of seat.generation x ≡ false) (not-out old seat was server has in_house) old.messages h.messages) in
-    let one : count_by (is_data_of seat.generation) (m ∷ []) ≡ mark (is_data_of seat.generation m) + count_by (is_data_of seat.generation) [] = count-cons (is_data_of seat.generation) m [] in
-    let empty : count_by (is_data_of seat.generation) [] ≡ 0 = refl in
-    let few : mark (is_data_of seat.generation m) ≤ 1 = mark-few (is_data_of seat.generation m) in omega arith
+    omega arith
+
+-- a message is one at most
+pub once-alone : (g : ℕ) (m : Message) → count_by (is_data_of g) (m ∷ []) ≤ 1
+once-alone g m =
+    let one : count_by (is_data_of g) (m ∷ []) ≡ mark (is_data_of g m) + count_by (is_data_of g) [] = count-cons (is_data_of g) m [] in
+    let empty : count_by (is_data_of g) [] ≡ 0 = refl in
+    let few : mark (is_data_of g m) ≤ 1 = mark-few (is_data_of g m) in omega arith
   where
     mark-few : (b : Bool) → mark b ≤ 1
     mark-few true = omega arith

@@ -133,7 +133,7 @@ works-by : (old : State) (d : DaemonId) (place : ℕ) (fails : Bool) (index : �
     WorksBy t s place fails told n → OnceBy old (Work d place fails) (if is_none t then Some NoSuch else None) told (record old { daemons = daemons })
 works-by old d place fails index was later s n told daemons None e at there makes serves becomes h =
     refuses old index was later old.broker daemons _ told there makes h.tells (same-server was later s n serves becomes h.same) refl
-works-by old d place fails index was later s n told daemons (Some task) e at there makes serves becomes (inl h) = inl (record {
+works-by old d place fails index was later s n told daemons (Some task) e at there makes serves becomes h = inl (record {
   was = was;
   server = s;
   task = task;
@@ -147,8 +147,6 @@ works-by old d place fails index was later s n told daemons (Some task) e at the
   tells = h.tells;
   makes = changes old d index old.broker old.broker daemons later _ at makes (becomes ∙ ap (with_server was) h.makes) refl;
 })
-works-by old d place fails index was later s n told daemons (Some task) e at there makes serves becomes (inr h) =
-    inr (tt, refuses old index was later old.broker daemons NoMemory told there makes h.tells (same-server was later s n serves becomes h.same) refl)
 
 works-if : (old : State) (d : DaemonId) (place : ℕ) (fails : Bool) (index : ℕ) (was later : DaemonState) (told : Happened) (daemons : List DaemonState) (server : Option ServerState) →
     IsIndex (length old.daemons) d.0 index → slice_get old.daemons index ≡ Some was → daemons ≡ set old.daemons index later → was.server ≡ server →

@@ -84,7 +84,7 @@ talks-follow w old messages daemon was later m there on = record {
 told_in : (count : ℕ) (reaction : Reaction) → IsGoodForget (told_reaction count reaction) × (is_posted (told_reaction count reaction) ≡ false)
 told_in count Ignores = (tt, refl)
 told_in count Heeds = (tt, refl)
-told_in count (Says said) = (tt, refl)
+told_in count (Says said others) = (tt, refl)
 
 reacts-moved : (w : World) (old : State) (daemon : DaemonId) (turns : DaemonState → Reaction → DaemonState → Type 0) (told : Happened) (new : State) → Follows w old → (r : Reacts old daemon turns told new) → ServesOn old daemon r.was r.later → MovesBy w [] old told new
 reacts-moved w old daemon turns told new m r on =

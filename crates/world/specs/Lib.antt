@@ -1,5 +1,6 @@
 pub mod State
 pub mod Step
+pub mod Beginning
 pub mod World
 pub mod Handing
 pub mod Attending

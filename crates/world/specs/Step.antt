@@ -21,6 +21,7 @@ use Rattle.takeover_core.specs.declared.message.Message.TheVariants.{Offer}
 use Rattle.daemon.specs.Daemon.{DaemonState, versions, new_daemon, with_server}
 use Rattle.daemon.specs.Serving.{FailsSo}
 use Rattle.world.specs.State.{State, daemon_of, with_daemon, fault}
+use Rattle.daemon.specs.Saying.{what_is_said}
 use Rattle.daemon.specs.Talking.{HearsSo, IsReady, GivesUpSo, MountsSo, EndsSo, ClaimsSo, after_claim}
 use Rattle.daemon.specs.declared.daemon.Reaction.{Reaction}
 use Rattle.daemon.specs.declared.daemon.Reaction.TheVariants.{Ignores, Heeds, Says}
@@ -125,16 +126,11 @@ pub record Delivers (old : State) (told : Happened) (new : State) : Type 0 where
   pub tells : told ≡ happened.Answered reply
   pub makes : new ≡ record old { broker = delivered old.broker }
 
--- what is told of what a daemon made of a message: what it says is told by its place, behind so many
+-- what is told of what a daemon made of a message: what it says is told by the place of its first, behind so many
 abbrev pub told_reaction : ℕ → Reaction → Happened
 told_reaction count Ignores = happened.Ignored
 told_reaction count Heeds = happened.Heard
-told_reaction count (Says said) = happened.Said (count + 1)
-
--- what it says
-abbrev pub what_is_said : Reaction → List Message
-what_is_said (Says said) = said ∷ []
-what_is_said reaction = []
+told_reaction count (Says said others) = happened.Said (count + 1)
 
 -- a daemon turned to something, and what it says is said
 pub record Reacts (old : State) (daemon : DaemonId) (turns : DaemonState → Reaction → DaemonState → Type 0)
@@ -189,8 +185,9 @@ Makes old (Claim daemon) told new = Claims old daemon told new
 Makes old (Crash daemon) told new = Crashes old daemon told new
 Makes old event told new = ⊥
 
--- a post, a claim and a crash take no memory
+-- a work, a post, a claim and a crash take no memory
 abbrev pub TakesMemory : Event → Type 0
+TakesMemory (Work daemon place fails) = ⊥
 TakesMemory (Claim daemon) = ⊥
 TakesMemory (Post daemon place) = ⊥
 TakesMemory (Crash daemon) = ⊥
@@ -234,9 +231,16 @@ parts_of seat (Do request) = events_of_do seat request
 parts_of seat Show = []
 parts_of seat event = event ∷ []
 
--- one event, with its outcome
+-- What happens second is the take of a `do`. Its room was made before the request was issued, and where there was none
+-- the issue is refused.
+abbrev pub HasRoom : List Happened → Type 0
+HasRoom (asked ∷ taken ∷ later) = taken ≢ happened.Refused NoMemory
+HasRoom outcome = Unit {0}
+
+-- One event, with its outcome. So of the events of a `do` two may be refused for want of memory: the issue, and then
+-- nothing else happened and nothing changed; and the delivery.
 abbrev pub Step : State → Event → List Happened → State → Type 0
-Step old event outcome new = Carries old (parts_of old.broker.seat event) outcome new
+Step old event outcome new = Carries old (parts_of old.broker.seat event) outcome new × HasRoom outcome
 
 -- one event after another, each with its outcome
 abbrev pub Steps : State → List Event → List (List Happened) → State → Type 0

@@ -1,9 +1,9 @@
 //! What came of one event.
 ghost use Rattle.std.specs.Prelude.{◌≡◌, ◌<◌, ◌++◌, [], ◌∷◌, length};
-ghost use Rattle.daemon.specs.Refusals.{is_made};
+ghost use Rattle.daemon.specs.Refusals.{is_made, told_begun};
 
 use arrayvec::ArrayVec;
-use daemon::Happened;
+use daemon::{Begun, Happened};
 use std::marker::Model;
 
 /// What came of one event, in its order.
@@ -55,6 +55,20 @@ impl Outcome {
         let is_made = happened.is_made();
         self.tell(happened);
         is_made
+    }
+
+    /// Tells what came of an issue and of the take behind it.
+    pub(crate) fn tell_begun(&mut self, begun: Begun)
+        requires nothing { self.old ≡ [] }
+        ensures told { self.new ≡ told_begun begun }
+    {
+        match begun {
+            Begun::Refused(refusal) => self.tell(Happened::Refused(refusal)),
+            Begun::Issued { unique, taken } => {
+                self.tell(Happened::Asked(unique));
+                self.tell(taken);
+            }
+        }
     }
 
     /// Returns what happened, in its order.

@@ -1,47 +1,36 @@
 //! What daemons say to one another, and hear.
-ghost use Rattle.std.specs.Prelude.{◌≡◌, ◌<◌, ◌≤◌, ◌+◌, ◌++◌, IfOk, IfSome, OnErr, length, position, vec_len, vec_capacity};
-ghost use Rattle.daemon.specs.Talking.{HearsSo};
+ghost use Rattle.std.specs.Prelude.{◌≡◌, ◌<◌, ◌≤◌, ◌+◌, ◌++◌, IfSome, length, position, vec_len, vec_capacity};
+ghost use Rattle.daemon.specs.Saying.{turned, what_is_said};
 ghost use Rattle.world.specs.State.{ChangesAt, is_data_of};
-ghost use Rattle.world.specs.Step.{told_reaction, what_is_said};
+ghost use Rattle.world.specs.Step.{told_reaction};
 
-use daemon::{Daemon, Happened, Reaction};
-use eden_base::NoMemory;
-use manifest::Manifest;
-use std::alloc::Global;
+use daemon::{Daemon, Happened, Reaction, Turn};
 use takeover_core::Message;
 
-/// Lets the daemon at `index` hear `said`. Where memory runs out nothing changes. It is a function of its own since the
-/// proof's search gives up at its limit where the caller's two ends stand beside the daemon that was changed or was not.
-pub(crate) fn let_hear(
-    daemons: &mut Vec<Daemon>,
-    index: usize,
-    alloc: Global,
-    manifest: &Manifest,
-    limit: usize,
-    said: &Message,
-) -> Result<Reaction, NoMemory>
+/// Lets the daemon at `index` become what it is to become, and returns what it makes of the message.
+pub(crate) fn let_turn(daemons: &mut Vec<Daemon>, index: usize, turn: Turn) -> Reaction
     requires within { index < vec_len daemons.old }
-    ensures hears { IfOk result (λ reaction.
-        ChangesAt (λ was. HearsSo manifest.now limit was said.now reaction)
-        daemons.old.items index daemons.new.items) }
-    ensures unchanged { OnErr result (daemons.new.items ≡ daemons.old.items) }
+    ensures reacts { result ≡ turn.reaction }
+    ensures turns { ChangesAt (λ was later. later ≡ turned was turn) daemons.old.items index daemons.new.items }
 {
     let hearer = &mut daemons[index];
-    hearer.hear(alloc, manifest, limit, said)
+    hearer.turn(turn)
 }
 
-/// Says what a daemon has to say, behind what was said before, and returns what is told of it.
+/// Says what a daemon has to say, behind what was said before, and returns what is told of it: the place of the first.
 pub(crate) fn say(messages: &mut Vec<Message>, reaction: Reaction) -> Happened
-    requires room { vec_len messages.old + 1 ≤ vec_capacity messages.old }
+    requires room { vec_len messages.old + length (what_is_said reaction) ≤ vec_capacity messages.old }
     ensures told { result ≡ told_reaction (vec_len messages.old) reaction }
     ensures said { messages.new.items ≡ messages.old.items ++ what_is_said reaction }
 {
     match reaction {
         Reaction::Ignores => Happened::Ignored,
         Reaction::Heeds => Happened::Heard,
-        Reaction::Says(said) => {
+        Reaction::Says(said, others) => {
             messages.push_reserved(said);
-            Happened::Said(messages.len())
+            let place = messages.len();
+            others.append_to(messages);
+            Happened::Said(place)
         }
     }
 }

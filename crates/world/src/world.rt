@@ -1,14 +1,15 @@
 //! All daemons and the kernel's side of their mount.
-ghost use Rattle.std.specs.Prelude.{◌≡◌, [], IfOk, IfSome};
+ghost use Rattle.std.specs.Prelude.{◌≡◌, [], IfOk};
 ghost use Rattle.std.specs.Option.{option_copied};
 ghost use Rattle.world.specs.State.{started, server_of, served_of, hand_of, unposted_of, handed_of};
 ghost use Rattle.world.specs.Step.{Once, Step};
+ghost use Rattle.world.specs.Beginning.{Begins};
 ghost use Rattle.world.specs.World.{first_world, World as Ideal};
 ghost use Rattle.world.specs.Agreement.{Matches, MovesOn};
 
 use crate::event::Event;
 use crate::outcome::Outcome;
-use crate::said::{index_of_data, let_hear, say};
+use crate::said::{index_of_data, let_turn, say};
 use broker_core::{Broker, DeliverFault};
 use daemon::{Daemon, Happened, Refusal, Server, index_of, opening};
 use eden_base::{DaemonId, NoMemory};
@@ -271,7 +272,7 @@ impl World {
         }
     }
 
-    /// Lets a daemon hear what was said at a place. The room for what it says comes first.
+    /// Lets a daemon hear what was said at a place. The room for what it says comes before it turns to anything.
     fn hear(&mut self, daemon: DaemonId, place: u64) -> Happened
         ensures once { Once self.old (Event.Hear daemon place) result self.new }
     {
@@ -281,20 +282,15 @@ impl World {
         let Some(at) = index_of(place, self.messages.len()) else {
             return Happened::Refused(Refusal::NoSuch);
         };
-        if self.messages.reserve(1).is_err() {
-            return Happened::Refused(Refusal::NoMemory);
-        }
         let said = &self.messages[at];
-        let Ok(reaction) = let_hear(
-            &mut self.daemons,
-            index,
-            self.alloc,
-            &self.manifest,
-            self.limit,
-            said,
-        ) else {
+        let hearer = &self.daemons[index];
+        let Ok(turn) = hearer.hear(self.alloc, &self.manifest, self.limit, said) else {
             return Happened::Refused(Refusal::NoMemory);
         };
+        if self.messages.reserve(turn.count()).is_err() {
+            return Happened::Refused(Refusal::NoMemory);
+        }
+        let reaction = let_turn(&mut self.daemons, index, turn);
         say(&mut self.messages, reaction)
     }
 
@@ -370,23 +366,16 @@ impl World {
         Happened::Crashed
     }
 
-    /// Lets the events of a `do` happen. The room that they need in the daemon comes first.
+    /// Lets the events of a `do` happen.
     fn carry_out(&mut self, request: &Request, outcome: &mut Outcome)
         requires nothing { outcome.old ≡ [] }
         ensures step { Step self.old (Event.Do request.now) outcome.new self.new }
     {
-        if let Some(refusal) = self.want_of_room(request) {
-            outcome.tell(Happened::Refused(refusal));
-            return;
-        }
-        let seat = self.broker.seat();
-        if !outcome.add(self.issue(request)) {
-            return;
-        }
-        let Some(seat) = seat else {
+        let Some(seat) = self.broker.seat() else {
+            outcome.tell(self.issue(request));
             return;
         };
-        if !outcome.add(self.take(seat.daemon)) {
+        if !self.begin(seat.daemon, request, outcome) {
             return;
         }
         if !outcome.add(self.work(seat.daemon, 1, false)) {
@@ -401,29 +390,30 @@ impl World {
         let _is_made = outcome.add(self.deliver());
     }
 
+    /// Issues the request and lets the daemon take what waits first then, tells of each, and returns whether both were
+    /// made. The room that the daemon needs comes before the issue.
+    fn begin(&mut self, daemon: DaemonId, request: &Request, outcome: &mut Outcome) -> bool
+        requires nothing { outcome.old ≡ [] }
+        ensures begins { Begins self.old request.now daemon result outcome.new self.new }
+    {
+        let Some(index) = index_of(daemon.0, self.daemons.len()) else {
+            if !outcome.add(self.issue(request)) {
+                return false;
+            }
+            outcome.tell(Happened::Refused(Refusal::NoDaemon));
+            return false;
+        };
+        let beginner = &mut self.daemons[index];
+        let begun = beginner.begin(&mut self.broker, daemon, request);
+        outcome.tell_begun(begun);
+        begun.is_made()
+    }
+
     /// Returns the daemon of a number, where it serves.
     fn server(&self, daemon: DaemonId) -> Option<&Server>
         ensures server { option_copied result ≡ server_of self.now daemon }
     {
         let index = index_of(daemon.0, self.daemons.len())?;
         self.daemons[index].server()
-    }
-
-    /// Makes room in the daemon of the seat for what a `do` brings, or returns why the request is refused.
-    fn want_of_room(&mut self, request: &Request) -> Option<Refusal>
-        ensures same { self.new ≡ self.old }
-        ensures refused { IfSome result (λ refusal.
-            Once self.old (Event.Issue request.now) (Happened.Refused refusal) self.old) }
-    {
-        let seat = self.broker.seat()?;
-        let index = index_of(seat.daemon.0, self.daemons.len())?;
-        let server = &mut self.daemons[index];
-        if server.make_room() {
-            return None;
-        }
-        match self.broker.refusal(request) {
-            Some(fault) => Some(Refusal::from(fault)),
-            None => Some(Refusal::NoMemory),
-        }
     }
 }

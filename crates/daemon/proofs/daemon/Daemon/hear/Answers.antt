@@ -2,5 +2,5 @@
 use Rattle.std.proofs.Common.{rules}
 use Rattle.daemon.proofs.daemon.Daemon.hear.Goals as goal
 
-pub returns-in-Heard-clause-hears : goal.returns-in-Heard-clause-hears
-returns-in-Heard-clause-hears c = search rules
+pub returns-in-Heard : goal.returns-in-Heard
+returns-in-Heard c = search rules

@@ -1,9 +1,26 @@
--- What is taken are asks and single items.
-use Rattle.daemon.proofs.ServingLemmas.{hand-single}
+-- What is taken are asks and single items, and each has room for its reply.
+use Rattle.std.proofs.Common.{rules, ◌+◌, ◌≤◌, vec_len, vec_capacity, subst, arith}
+use Rattle.broker_core.specs.Broker.{take_fault}
+use Rattle.daemon.specs.Server.{ServerState}
+use Rattle.daemon.specs.Serving.{TakesBy}
+use Rattle.daemon.proofs.BeginningLemmas.{put-single, fields-taken}
 use Rattle.daemon.proofs.server.Server.take.Goals as goal
 
-pub invariant_of-self-in-Ok : goal.invariant_of-self-in-Ok
-invariant_of-self-in-Ok c = record {
-  of_manifest = c.self.invariant.of_manifest;
-  single = hand-single c.self.inside.hand.items c.reserve.new.self.items c.put_in_hand.new.hand.items c.in-Ok.ask c.reserve.ensures.items c.put_in_hand.ensures.hand c.self.invariant.single;
-}
+pub invariant_of-self-2 : goal.invariant_of-self-2
+invariant_of-self-2 c =
+    let room : vec_len c.make_room.new.unposted + vec_len c.make_room.new.hand + 256 ≤ vec_capacity c.make_room.new.unposted = search rules in
+    record {
+      of_manifest = c.self.invariant.of_manifest;
+      single = put-single (take_fault c.args.broker.now c.args.daemon c.self.inside.generation) c.self.inside.hand.items c.make_room.new.hand.items c.args.broker.now c.take_into.new.broker c.take_into.result c.take_into.new.hand.items
+          c.make_room.ensures.same_hand c.take_into.ensures.takes c.self.invariant.single;
+      room = omega (arith, room, c.take_into.ensures.at_most);
+    }
+
+pub returns : goal.returns
+returns c =
+    let old : ServerState = record { generation = c.self.inside.generation; served = c.self.inside.served; hand = c.self.inside.hand.items; unposted = c.self.inside.unposted.items } in
+    record {
+      takes = subst (λ (s : ServerState). TakesBy (take_fault c.args.broker.now c.args.daemon s.generation) s c.args.broker.now c.take_into.result (record old { hand = c.take_into.new.hand.items; unposted = c.make_room.new.unposted.items }) c.take_into.new.broker) c.self.view_is
+          (fields-taken (take_fault c.args.broker.now c.args.daemon c.self.inside.generation) old c.args.broker.now c.take_into.new.broker c.take_into.result c.make_room.new.hand.items c.take_into.new.hand.items c.make_room.new.unposted.items
+          c.make_room.ensures.same_hand c.make_room.ensures.same_replies c.take_into.ensures.takes);
+    }

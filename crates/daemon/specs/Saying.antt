@@ -1,0 +1,28 @@
+-- What a daemon says at once, and what it is to become then. (This project's own.)
+use Rattle.std.specs.Prelude.{List, [], ◌∷◌, Option, Some, None}
+use Rattle.takeover_core.specs.Node.{NodeState}
+use Rattle.takeover_core.specs.declared.message.Message.{Message}
+use Rattle.daemon.specs.Daemon.{DaemonState}
+use Rattle.daemon.specs.Server.{ServerState}
+use Rattle.daemon.specs.declared.daemon.Reaction.{Reaction}
+use Rattle.daemon.specs.declared.daemon.Reaction.TheVariants.{Says}
+
+-- what it says, in its order
+abbrev pub what_is_said : Reaction → List Message
+what_is_said (Says said others) = said ∷ others
+what_is_said reaction = []
+
+-- its part in takeovers from then on; what it holds, if it took data over; and what it makes of the message
+pub record TurnState : Type 0 where
+  pub node : NodeState
+  pub held : Option ServerState
+  pub reaction : Reaction
+
+-- what is served from then on
+abbrev pub held_or : Option ServerState → Option ServerState → Option ServerState
+held_or (Some held) before = Some held
+held_or None before = before
+
+-- the daemon that it is to become
+abbrev pub turned : DaemonState → TurnState → DaemonState
+turned daemon turn = record { node = turn.node; server = held_or turn.held daemon.server }

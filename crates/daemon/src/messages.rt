@@ -1,0 +1,67 @@
+//! Messages one behind another.
+ghost use Rattle.std.specs.Prelude.{◌≡◌, ◌+◌, ◌^◌, ◌<◌, ◌≤◌, ◌++◌, [], length, vec_len, vec_capacity};
+
+use std::marker::Model;
+use takeover_core::Message;
+
+/// Messages in their order. Clauses see them as a list.
+#[derive(Drop)]
+pub struct Messages {
+    list: Option<Vec<Message>>,
+}
+
+impl Model for Messages {
+    ghost use Rattle.std.specs.Prelude.{List, []};
+    ghost use Rattle.std.specs.Option.{option_map_or};
+    ghost use Rattle.takeover_core.specs.declared.message.Message.{Message};
+
+    ghost Value = { List Message };
+
+    ghost view = { λ messages. option_map_or (λ list. list.items) messages.list [] };
+}
+
+impl Messages {
+    /// Returns that there is none. It takes no memory.
+    pub fn none() -> Messages
+        ensures none { result ≡ [] }
+    {
+        Messages { list: None }
+    }
+
+    /// Returns those of a list.
+    pub fn of(list: Vec<Message>) -> Messages
+        ensures of { result ≡ list.items }
+    {
+        Messages { list: Some(list) }
+    }
+
+    /// Returns how many there are.
+    pub fn len(&self) -> usize
+        ensures len { result ≡ length self.now }
+        ensures fits { result < 2 ^ 63 }
+    {
+        match &self.list {
+            Some(list) => list.len(),
+            None => 0,
+        }
+    }
+
+    /// Puts them behind others that have room for them.
+    pub fn append_to(self, others: &mut Vec<Message>)
+        requires room { vec_len others.old + length self ≤ vec_capacity others.old }
+        ensures appended { others.new.items ≡ others.old.items ++ self }
+    {
+        if let Some(list) = self.list {
+            put_behind(others, list);
+        }
+    }
+}
+
+/// Puts a list behind another that has room for it.
+fn put_behind(others: &mut Vec<Message>, list: Vec<Message>)
+    requires room { vec_len others.old + vec_len list ≤ vec_capacity others.old }
+    ensures appended { others.new.items ≡ others.old.items ++ list.items }
+{
+    let mut list = list;
+    let _has_room = others.append(&mut list);
+}
