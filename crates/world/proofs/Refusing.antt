@@ -104,7 +104,7 @@ told-worked event served task None = in_ (item_of task.what) where
 told-reaction : (event : Event) (count : ℕ) (reaction : Reaction) → MayBeTold event (told_reaction count reaction)
 told-reaction event count Ignores = tt
 told-reaction event count Heeds = tt
-told-reaction event count (Says said) = tt
+told-reaction event count (Says said others) = tt
 
 pub made-told : (old : State) (event : Event) (told : Happened) (new : State) → Makes old event told new → MayBeTold event told
 made-told old Start told new made = subst (MayBeTold Start) (sym made.0) tt
