@@ -26,24 +26,25 @@ enum Makes {
     Other,
 }
 
-/// Hears a message, and hears it once more where memory was refused.
+/// Lets a daemon hear a message, once more where memory was refused, and become what it makes of it.
 fn heard(
     alloc: Global,
     daemon: &mut Daemon,
     manifest: &Manifest,
     message: &Message,
 ) -> Result<Reaction, NoMemory> {
-    match daemon.hear(alloc, manifest, 8, message) {
-        Err(NoMemory) => daemon.hear(alloc, manifest, 8, message),
-        answer => answer,
-    }
+    let turn = match daemon.hear(alloc, manifest, 8, message) {
+        Err(NoMemory) => daemon.hear(alloc, manifest, 8, message)?,
+        Ok(turn) => turn,
+    };
+    Ok(daemon.turn(turn))
 }
 
 /// Returns what a reaction to data is.
 fn made(reaction: Result<Reaction, NoMemory>) -> Makes {
     match reaction {
         Ok(Reaction::Heeds) => Makes::Holds,
-        Ok(Reaction::Says(Message::Failed { session: 1 })) => Makes::Fails,
+        Ok(Reaction::Says(Message::Failed { session: 1 }, _)) => Makes::Fails,
         _ => Makes::Other,
     }
 }
