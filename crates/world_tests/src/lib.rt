@@ -4,6 +4,8 @@
 #[cfg(test)]
 mod daemon_tests;
 #[cfg(test)]
+mod script_lines_tests;
+#[cfg(test)]
 mod sweep_tests;
 #[cfg(test)]
 mod world_script_tests;
