@@ -61,7 +61,7 @@ fn add_file(handing: &mut Handing, file: u32) -> Result<(), AllocError> {
 /// Makes files, and hands them over.
 fn add(handing: &mut Handing, image: Image) -> Result<(), AllocError> {
     handing.lines.push_str("daemon 1\nmounted 1\n")?;
-    for file in 1..image.files() + 1 {
+    for file in 1..image.files().saturating_add(1) {
         add_file(handing, file)?;
     }
     handing.events.push_str(HANDING)?;
