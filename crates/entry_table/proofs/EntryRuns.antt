@@ -11,7 +11,7 @@ use Rattle.eden_base.proofs.NumberTests.{eq-true, eq-false}
 use Rattle.eden_base.proofs.MemberLemmas.{some-same, some-none}
 use Rattle.entry_table.specs.Entries.{stands_at, entry_of, entry_at, AreNumbers, AreEntries}
 use Rattle.entry_table.specs.Links.{is_link}
-use Rattle.entry_table.specs.Slots.{slots_of, kept_from, files_from, AreSlots, IsIndexed}
+use Rattle.entry_table.specs.Slots.{slots_of, kept_from, files_from, notes_from, AreSlots, IsIndexed}
 use Rattle.entry_table.specs.declared.kept.Kept.{Kept}
 use Rattle.entry_table.proofs.Changing.{append-extends, new_or_old}
 use Rattle.entry_table.proofs.EntryLemmas.{entry_of-first, numbers-bound, numbers-outside}
@@ -93,6 +93,10 @@ slots-kept (y ∷ es) = ap (λ (xs : List Kept). y ∷ xs) (slots-kept es)
 pub slots-files : (es : List Kept) → files_from (slots_of es) ≡ []
 slots-files [] = refl
 slots-files (y ∷ es) = slots-files es
+
+pub slots-notes : (es : List Kept) → notes_from (slots_of es) ≡ []
+slots-notes [] = refl
+slots-notes (y ∷ es) = slots-notes es
 
 pub slots-length : (es : List Kept) → length (slots_of es) ≡ length es
 slots-length [] = refl

@@ -11,7 +11,7 @@ use Rattle.entry_table.specs.declared.kept.Kept.{Kept}
 use Rattle.entry_table.proofs.EntryLemmas.{without-other}
 use Rattle.entry_table.proofs.FileLemmas.{linked-marked, linked-dir}
 
--- so many directories lie above the number
+-- how many directories lie above the number
 pub data HasHeight (es : List Kept) : ℕ → ℕ → Type 0 where
   at_root : (n h : ℕ) → n ≡ 1 → h ≡ 0 → HasHeight es n h
   in_none : (n h : ℕ) (kept : Kept) (file : FileId) → (n ≡ 1 → ⊥) → entry_of es n ≡ Some kept → kept.place ≡ Unlinked file → h ≡ 0 → HasHeight es n h

@@ -8,13 +8,13 @@ use Rattle.eden_base.specs.declared.place.Place.TheVariants.{Linked, Unlinked}
 use Rattle.entry_table.specs.Entries.{has_number, entry_of, place_of_kept}
 use Rattle.entry_table.specs.Inside.{IsTable}
 use Rattle.entry_table.specs.Links.{link_of, is_link}
-use Rattle.entry_table.specs.Slots.{kept_from, slot_at, files_from, spare_of, AreSlots, IsIndexed, IsPlaceOf}
+use Rattle.entry_table.specs.Slots.{kept_from, slot_at, file_beside, note_beside, files_from, notes_from, spare_of, AreSlots, IsIndexed, IsPlaceOf}
 use Rattle.entry_table.specs.Table.{TableState, kept_of, without_entry}
 use Rattle.entry_table.specs.declared.kept.Kept.{Kept}
 use Rattle.entry_table.specs.declared.kept.Held.{Held}
 use Rattle.entry_table.specs.declared.table.Table.TheInside.{Inside}
 use Rattle.entry_table.proofs.IndexedLemmas.{indexed-lost, indexed-left}
-use Rattle.entry_table.proofs.SlotWrites.{set-slots, emptied, emptied-kept, emptied-files}
+use Rattle.entry_table.proofs.SlotWrites.{set-slots, emptied, emptied-kept, emptied-beside}
 use Rattle.entry_table.proofs.TableLemmas.{view_of, slot-entry, found-held, written, without-loses}
 use Rattle.std.specs.Prelude.{None, if◌then◌else◌, slice_set}
 
@@ -60,5 +60,5 @@ module _ {t : Inside} {n : ℕ} {h : Held} {left : List (ℕ × Option Held)} (o
   left-place now view = rw (← view) (ap (option_map place_of_kept) (slot-entry t n h out.is out.found))
 
   pub left-view : (now : TableState) → view_of t ≡ now →
-      record { entries = kept_from left; remembered = files_from left; next = t.next; spare = spare_of t.is_reserved } ≡ without_entry now n (without_where (has_number n) now.entries)
-  left-view now view = rw (← view, out.taken, emptied-kept t.next n h t.slots.items 2 out.is.slots out.found, emptied-files t.next n h t.slots.items 2 out.is.slots out.found) refl
+      record { entries = kept_from left; remembered = files_from left; notes = notes_from left; next = t.next; spare = spare_of t.is_reserved } ≡ without_entry now n (without_where (has_number n) now.entries)
+  left-view now view = rw (← view, out.taken, emptied-kept t.next n h t.slots.items 2 out.is.slots out.found, emptied-beside file_beside t.next n h t.slots.items 2 out.is.slots out.found, emptied-beside note_beside t.next n h t.slots.items 2 out.is.slots out.found) refl

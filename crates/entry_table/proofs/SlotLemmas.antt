@@ -2,13 +2,14 @@
 use Rattle.std.proofs.Common.{◌≡◌, ℕ, ◌+◌, ◌<◌, ◌≤◌, Bool, true, false, cond, List, [], ◌∷◌, length, drop, get_or, Option, Some, None, IsSome, is_some, refl, sym, ap, ◌∙◌, inl, inr, ◌⊎◌, arith}
 use Rattle.std.specs.Prelude.{◌==◌}
 use Rattle.std.specs.Option.{option_map, option_and_then}
+use Rattle.std.specs.Map.{lookup}
 use Rattle.std.proofs.lemmas.List.{drop_more}
 use Rattle.eden_base.specs.declared.number.FileId.{FileId}
 use Rattle.eden_base.proofs.FirstLemmas.{Each-kept}
 use Rattle.eden_base.proofs.NumberTests.{eq-true, eq-false, eq-or}
 use Rattle.entry_table.proofs.IndexLemmas.{at-same, at-other}
-use Rattle.entry_table.specs.Entries.{entry_of, is_kept, file_remembered, AreNumbers}
-use Rattle.entry_table.specs.Slots.{kept_from, slot_at, file_first, files_from, AreSlots}
+use Rattle.entry_table.specs.Entries.{entry_of, is_kept, AreNumbers}
+use Rattle.entry_table.specs.Slots.{kept_from, slot_at, first_beside, all_beside, files_from, AreSlots}
 use Rattle.entry_table.specs.Table.{kept_of, AreOfKept, file_number}
 use Rattle.entry_table.specs.declared.kept.Kept.{Kept}
 use Rattle.entry_table.specs.declared.kept.Held.{Held}
@@ -72,35 +73,40 @@ some-held es low next n are some = in_ (entry_of (kept_from es) n) refl some whe
   in_ None e s = absurd (let none : ⊥ = cc in none)
   in_ (Some kept) e s = let w = entry-held es low next n kept are e in (w.0, w.1)
 
--- the file that is remembered of it
-pub files-low : (es : List (ℕ × Option Held)) (low next : ℕ) (n : ℕ) → AreSlots low next es → n < low → file_remembered (files_from es) n ≡ None
-files-low [] low next n are less = refl
-files-low ((m, Some h) ∷ es) low next n are less = in_ h.file (let a : low ≤ m = are.0 in files-low es (m + 1) next n are.1 (omega arith)) where
-  in_ : (o : Option FileId) → file_remembered (files_from es) n ≡ None → file_remembered (file_first m o (files_from es)) n ≡ None
-  in_ None rest = rest
-  in_ (Some f) rest = let a : low ≤ m = are.0 in let t : (m == n) ≡ false = eq-false m n (λ e. omega arith) in rw t rest
-files-low ((m, None) ∷ es) low next n are less = let a : low ≤ m = are.0 in files-low es (m + 1) next n are.1 (omega arith)
+-- the number is this
+abbrev pub is_number : ℕ → ℕ → Bool
+is_number n m = m == n
 
-pub held-file : (es : List (ℕ × Option Held)) (low next : ℕ) (n : ℕ) → AreSlots low next es → option_and_then (λ (h : Held). h.file) (slot_held (slot_at es n)) ≡ file_remembered (files_from es) n
-held-file [] low next n are = refl
-held-file ((m, Some h) ∷ es) low next n are = in_ (eq-or m n) (held-file es (m + 1) next n are.1) where
-  here : (o : Option FileId) → (m == n) ≡ true → m ≡ n → o ≡ file_remembered (file_first m o (files_from es)) n
-  here None t e = sym (files-low es (m + 1) next n are.1 (omega arith))
-  here (Some f) t e = rw t refl
+-- what an entry has beside it
+module _ {X : Type 0} (part : Held → Option X) where
+  pub beside-low : (es : List (ℕ × Option Held)) (low next : ℕ) (n : ℕ) → AreSlots low next es → n < low → lookup (is_number n) (all_beside part es) ≡ None
+  beside-low [] low next n are less = refl
+  beside-low ((m, Some h) ∷ es) low next n are less = in_ (part h) (let a : low ≤ m = are.0 in beside-low es (m + 1) next n are.1 (omega arith)) where
+    in_ : (o : Option X) → lookup (is_number n) (all_beside part es) ≡ None → lookup (is_number n) (first_beside m o (all_beside part es)) ≡ None
+    in_ None rest = rest
+    in_ (Some x) rest = let a : low ≤ m = are.0 in let t : (m == n) ≡ false = eq-false m n (λ e. omega arith) in rw t rest
+  beside-low ((m, None) ∷ es) low next n are less = let a : low ≤ m = are.0 in beside-low es (m + 1) next n are.1 (omega arith)
 
-  there : (o : Option FileId) → (m == n) ≡ false → file_remembered (files_from es) n ≡ file_remembered (file_first m o (files_from es)) n
-  there None t = refl
-  there (Some f) t = rw t refl
+  pub held-beside : (es : List (ℕ × Option Held)) (low next : ℕ) (n : ℕ) → AreSlots low next es → option_and_then part (slot_held (slot_at es n)) ≡ lookup (is_number n) (all_beside part es)
+  held-beside [] low next n are = refl
+  held-beside ((m, Some h) ∷ es) low next n are = in_ (eq-or m n) (held-beside es (m + 1) next n are.1) where
+    here : (o : Option X) → (m == n) ≡ true → m ≡ n → o ≡ lookup (is_number n) (first_beside m o (all_beside part es))
+    here None t e = sym (beside-low es (m + 1) next n are.1 (omega arith))
+    here (Some x) t e = rw t refl
 
-  in_ : (m ≡ n) ⊎ (m ≡ n → ⊥) → option_and_then (λ (x : Held). x.file) (slot_held (slot_at es n)) ≡ file_remembered (files_from es) n →
-      option_and_then (λ (x : Held). x.file) (slot_held (slot_at ((m, Some h) ∷ es) n)) ≡ file_remembered (files_from ((m, Some h) ∷ es)) n
-  in_ (inl same) rest = rw (at-same m n same) (here h.file (eq-true m n same) same)
-  in_ (inr other) rest = rw (at-other m n other) (rest ∙ there h.file (eq-false m n other))
-held-file ((m, None) ∷ es) low next n are = in_ (eq-or m n) (held-file es (m + 1) next n are.1) where
-  in_ : (m ≡ n) ⊎ (m ≡ n → ⊥) → option_and_then (λ (x : Held). x.file) (slot_held (slot_at es n)) ≡ file_remembered (files_from es) n →
-      option_and_then (λ (x : Held). x.file) (slot_held (slot_at ((m, None) ∷ es) n)) ≡ file_remembered (files_from es) n
-  in_ (inl same) rest = rw (at-same m n same) (sym (files-low es (m + 1) next n are.1 (omega arith)))
-  in_ (inr other) rest = rw (at-other m n other) rest
+    there : (o : Option X) → (m == n) ≡ false → lookup (is_number n) (all_beside part es) ≡ lookup (is_number n) (first_beside m o (all_beside part es))
+    there None t = refl
+    there (Some x) t = rw t refl
+
+    in_ : (m ≡ n) ⊎ (m ≡ n → ⊥) → option_and_then part (slot_held (slot_at es n)) ≡ lookup (is_number n) (all_beside part es) →
+        option_and_then part (slot_held (slot_at ((m, Some h) ∷ es) n)) ≡ lookup (is_number n) (all_beside part ((m, Some h) ∷ es))
+    in_ (inl same) rest = rw (at-same m n same) (here (part h) (eq-true m n same) same)
+    in_ (inr other) rest = rw (at-other m n other) (rest ∙ there (part h) (eq-false m n other))
+  held-beside ((m, None) ∷ es) low next n are = in_ (eq-or m n) (held-beside es (m + 1) next n are.1) where
+    in_ : (m ≡ n) ⊎ (m ≡ n → ⊥) → option_and_then part (slot_held (slot_at es n)) ≡ lookup (is_number n) (all_beside part es) →
+        option_and_then part (slot_held (slot_at ((m, None) ∷ es) n)) ≡ lookup (is_number n) (all_beside part es)
+    in_ (inl same) rest = rw (at-same m n same) (sym (beside-low es (m + 1) next n are.1 (omega arith)))
+    in_ (inr other) rest = rw (at-other m n other) rest
 
 -- a remembered file is of an entry
 kept-behind : (x : Kept) (es : List Kept) (n : ℕ) → is_kept es n ≡ true → is_kept (x ∷ es) n ≡ true
@@ -113,7 +119,7 @@ pub files-kept : (es : List (ℕ × Option Held)) → AreOfKept file_number (kep
 files-kept [] = tt
 files-kept ((m, Some h) ∷ es) = in_ h.file (Each-kept (λ (f : ℕ × FileId). is_kept (kept_from es) f.0 ≡ true) (λ (f : ℕ × FileId). is_kept (kept_of m h ∷ kept_from es) f.0 ≡ true)
     (files_from es) (files-kept es) (λ f t. kept-behind (kept_of m h) (kept_from es) f.0 t)) where
-      in_ : (o : Option FileId) → AreOfKept file_number (kept_of m h ∷ kept_from es) (files_from es) → AreOfKept file_number (kept_of m h ∷ kept_from es) (file_first m o (files_from es))
+      in_ : (o : Option FileId) → AreOfKept file_number (kept_of m h ∷ kept_from es) (files_from es) → AreOfKept file_number (kept_of m h ∷ kept_from es) (first_beside m o (files_from es))
       in_ None rest = rest
       in_ (Some f) rest = ((let t : (m == m) ≡ true = eq-true m m refl in rw t refl), rest)
 files-kept ((m, None) ∷ es) = files-kept es

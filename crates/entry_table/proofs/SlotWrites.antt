@@ -5,12 +5,11 @@ use Rattle.std.specs.List.{filter}
 use Rattle.std.specs.Map.{set_value}
 use Rattle.std.specs.Ordering.{nat_cmp}
 use Rattle.std.specs.BTreeMap.{is_at}
-use Rattle.eden_base.specs.declared.number.FileId.{FileId}
 use Rattle.eden_base.specs.First.{changed_where, without_where}
 use Rattle.eden_base.proofs.NumberTests.{eq-true, eq-false, eq-or}
 use Rattle.entry_table.proofs.IndexLemmas.{at-same, at-other}
 use Rattle.entry_table.specs.Entries.{has_number}
-use Rattle.entry_table.specs.Slots.{kept_from, slot_at, file_first, files_from, AreSlots}
+use Rattle.entry_table.specs.Slots.{kept_from, slot_at, first_beside, all_beside, AreSlots}
 use Rattle.entry_table.specs.Table.{kept_of, is_other}
 use Rattle.entry_table.specs.declared.kept.Kept.{Kept}
 use Rattle.entry_table.specs.declared.kept.Held.{Held}
@@ -54,19 +53,20 @@ module _ (next : ℕ) (n : ℕ) (h now : Held) where
     in_ (inl same) rest = absurd (let one : None ≡ Some h = found-here es n m None (Some h) same found in let none : ⊥ = cc in none)
     in_ (inr other) rest = rw (at-other m n other) (rest (found-behind es n m None (Some h) other found))
 
-  pub set-files : (es : List (ℕ × Option Held)) (low : ℕ) → now.file ≡ h.file → AreSlots low next es → slot_at es n ≡ Some (Some h) → files_from (set es) ≡ files_from es
-  set-files [] low is are found = absurd (let none : ⊥ = cc in none)
-  set-files ((m, Some g) ∷ es) low is are found = in_ (eq-or m n) (λ there. set-files es (m + 1) is are.1 there) where
-    in_ : (m ≡ n) ⊎ (m ≡ n → ⊥) → (slot_at es n ≡ Some (Some h) → files_from (set es) ≡ files_from es) → files_from (set ((m, Some g) ∷ es)) ≡ files_from ((m, Some g) ∷ es)
-    in_ (inl same) rest =
-        let one : Some g ≡ Some h = found-here es n m (Some g) (Some h) same found in
-        let it : g ≡ h = cc in
-        rw (at-same m n same) (ap (λ (o : Option FileId). file_first m o (files_from es)) (is ∙ ap (λ (x : Held). x.file) (sym it)))
-    in_ (inr other) rest = rw (at-other m n other) (ap (file_first m g.file) (rest (found-behind es n m (Some g) (Some h) other found)))
-  set-files ((m, None) ∷ es) low is are found = in_ (eq-or m n) (λ there. set-files es (m + 1) is are.1 there) where
-    in_ : (m ≡ n) ⊎ (m ≡ n → ⊥) → (slot_at es n ≡ Some (Some h) → files_from (set es) ≡ files_from es) → files_from (set ((m, None) ∷ es)) ≡ files_from es
-    in_ (inl same) rest = absurd (let one : None ≡ Some h = found-here es n m None (Some h) same found in let none : ⊥ = cc in none)
-    in_ (inr other) rest = rw (at-other m n other) (rest (found-behind es n m None (Some h) other found))
+  module _ {X : Type 0} (part : Held → Option X) where
+    pub set-beside : (es : List (ℕ × Option Held)) (low : ℕ) → part now ≡ part h → AreSlots low next es → slot_at es n ≡ Some (Some h) → all_beside part (set es) ≡ all_beside part es
+    set-beside [] low is are found = absurd (let none : ⊥ = cc in none)
+    set-beside ((m, Some g) ∷ es) low is are found = in_ (eq-or m n) (λ there. set-beside es (m + 1) is are.1 there) where
+      in_ : (m ≡ n) ⊎ (m ≡ n → ⊥) → (slot_at es n ≡ Some (Some h) → all_beside part (set es) ≡ all_beside part es) → all_beside part (set ((m, Some g) ∷ es)) ≡ all_beside part ((m, Some g) ∷ es)
+      in_ (inl same) rest =
+          let one : Some g ≡ Some h = found-here es n m (Some g) (Some h) same found in
+          let it : g ≡ h = cc in
+          rw (at-same m n same) (ap (λ (o : Option X). first_beside m o (all_beside part es)) (is ∙ ap (λ (x : Held). part x) (sym it)))
+      in_ (inr other) rest = rw (at-other m n other) (ap (first_beside m (part g)) (rest (found-behind es n m (Some g) (Some h) other found)))
+    set-beside ((m, None) ∷ es) low is are found = in_ (eq-or m n) (λ there. set-beside es (m + 1) is are.1 there) where
+      in_ : (m ≡ n) ⊎ (m ≡ n → ⊥) → (slot_at es n ≡ Some (Some h) → all_beside part (set es) ≡ all_beside part es) → all_beside part (set ((m, None) ∷ es)) ≡ all_beside part es
+      in_ (inl same) rest = absurd (let one : None ≡ Some h = found-here es n m None (Some h) same found in let none : ⊥ = cc in none)
+      in_ (inr other) rest = rw (at-other m n other) (rest (found-behind es n m None (Some h) other found))
 
 -- an entry leaves its slot
 module _ (next : ℕ) (n : ℕ) (h : Held) where
@@ -86,33 +86,47 @@ module _ (next : ℕ) (n : ℕ) (h : Held) where
     in_ (inl same) rest = absurd (let one : None ≡ Some h = found-here es n m None (Some h) same found in let none : ⊥ = cc in none)
     in_ (inr other) rest = rw (at-other m n other) (rest (found-behind es n m None (Some h) other found))
 
-  abbrev without_file : List (ℕ × FileId) → List (ℕ × FileId)
-  without_file files = filter (λ (f : ℕ × FileId). is_other n f.0) files
+-- what an entry had beside it leaves, with the entry or without it
+module _ {X : Type 0} (part : Held → Option X) (next : ℕ) (n : ℕ) (h : Held) (left : Option Held) (none : (m : ℕ) (es : List (ℕ × Option Held)) → all_beside part ((m, left) ∷ es) ≡ all_beside part es) where
+  abbrev of_others : List (ℕ × X) → List (ℕ × X)
+  of_others xs = filter (λ (x : ℕ × X). is_other n x.0) xs
 
-  -- files behind a number are of others
-  others : (es : List (ℕ × Option Held)) (low : ℕ) → AreSlots low next es → n < low → files_from es ≡ without_file (files_from es)
+  abbrev lost : List (ℕ × Option Held) → List (ℕ × Option Held)
+  lost es = set_value (is_at (nat_cmp n)) es left
+
+  -- behind a number all is of others
+  others : (es : List (ℕ × Option Held)) (low : ℕ) → AreSlots low next es → n < low → all_beside part es ≡ of_others (all_beside part es)
   others [] low are less = refl
-  others ((m, Some g) ∷ es) low are less = in_ g.file (let a : low ≤ m = are.0 in others es (m + 1) are.1 (omega arith)) where
-    in_ : (o : Option FileId) → files_from es ≡ without_file (files_from es) → file_first m o (files_from es) ≡ without_file (file_first m o (files_from es))
+  others ((m, Some g) ∷ es) low are less = in_ (part g) (let a : low ≤ m = are.0 in others es (m + 1) are.1 (omega arith)) where
+    in_ : (o : Option X) → all_beside part es ≡ of_others (all_beside part es) → first_beside m o (all_beside part es) ≡ of_others (first_beside m o (all_beside part es))
     in_ None rest = rest
-    in_ (Some f) rest = let a : low ≤ m = are.0 in let t : (m == n) ≡ false = eq-false m n (λ e. omega arith) in rw t (ap (λ (xs : List (ℕ × FileId)). (m, f) ∷ xs) rest)
+    in_ (Some x) rest = let a : low ≤ m = are.0 in let t : (m == n) ≡ false = eq-false m n (λ e. omega arith) in rw t (ap (λ (xs : List (ℕ × X)). (m, x) ∷ xs) rest)
   others ((m, None) ∷ es) low are less = let a : low ≤ m = are.0 in others es (m + 1) are.1 (omega arith)
 
-  pub emptied-files : (es : List (ℕ × Option Held)) (low : ℕ) → AreSlots low next es → slot_at es n ≡ Some (Some h) → files_from (emptied es) ≡ without_file (files_from es)
-  emptied-files [] low are found = absurd (let none : ⊥ = cc in none)
-  emptied-files ((m, Some g) ∷ es) low are found = in_ (eq-or m n) (λ there. emptied-files es (m + 1) are.1 there) where
-    here : (o : Option FileId) → (m == n) ≡ true → m ≡ n → files_from es ≡ without_file (file_first m o (files_from es))
+  pub lost-beside : (es : List (ℕ × Option Held)) (low : ℕ) → AreSlots low next es → slot_at es n ≡ Some (Some h) → all_beside part (lost es) ≡ of_others (all_beside part es)
+  lost-beside [] low are found = absurd (let no : ⊥ = cc in no)
+  lost-beside ((m, Some g) ∷ es) low are found = in_ (eq-or m n) (λ there. lost-beside es (m + 1) are.1 there) where
+    here : (o : Option X) → (m == n) ≡ true → m ≡ n → all_beside part es ≡ of_others (first_beside m o (all_beside part es))
     here None t e = others es (m + 1) are.1 (omega arith)
-    here (Some f) t e = rw t (others es (m + 1) are.1 (omega arith))
+    here (Some x) t e = rw t (others es (m + 1) are.1 (omega arith))
 
-    there : (o : Option FileId) → (m == n) ≡ false → (xs : List (ℕ × FileId)) → xs ≡ without_file (files_from es) → file_first m o xs ≡ without_file (file_first m o (files_from es))
+    there : (o : Option X) → (m == n) ≡ false → (xs : List (ℕ × X)) → xs ≡ of_others (all_beside part es) → first_beside m o xs ≡ of_others (first_beside m o (all_beside part es))
     there None t xs e = e
-    there (Some f) t xs e = rw t (ap (λ (ys : List (ℕ × FileId)). (m, f) ∷ ys) e)
+    there (Some x) t xs e = rw t (ap (λ (ys : List (ℕ × X)). (m, x) ∷ ys) e)
 
-    in_ : (m ≡ n) ⊎ (m ≡ n → ⊥) → (slot_at es n ≡ Some (Some h) → files_from (emptied es) ≡ without_file (files_from es)) → files_from (emptied ((m, Some g) ∷ es)) ≡ without_file (files_from ((m, Some g) ∷ es))
-    in_ (inl same) rest = rw (at-same m n same) (here g.file (eq-true m n same) same)
-    in_ (inr other) rest = rw (at-other m n other) (there g.file (eq-false m n other) (files_from (emptied es)) (rest (found-behind es n m (Some g) (Some h) other found)))
-  emptied-files ((m, None) ∷ es) low are found = in_ (eq-or m n) (λ there. emptied-files es (m + 1) are.1 there) where
-    in_ : (m ≡ n) ⊎ (m ≡ n → ⊥) → (slot_at es n ≡ Some (Some h) → files_from (emptied es) ≡ without_file (files_from es)) → files_from (emptied ((m, None) ∷ es)) ≡ without_file (files_from es)
-    in_ (inl same) rest = absurd (let one : None ≡ Some h = found-here es n m None (Some h) same found in let none : ⊥ = cc in none)
+    in_ : (m ≡ n) ⊎ (m ≡ n → ⊥) → (slot_at es n ≡ Some (Some h) → all_beside part (lost es) ≡ of_others (all_beside part es)) → all_beside part (lost ((m, Some g) ∷ es)) ≡ of_others (all_beside part ((m, Some g) ∷ es))
+    in_ (inl same) rest = rw (at-same m n same) (none m es ∙ here (part g) (eq-true m n same) same)
+    in_ (inr other) rest = rw (at-other m n other) (there (part g) (eq-false m n other) (all_beside part (lost es)) (rest (found-behind es n m (Some g) (Some h) other found)))
+  lost-beside ((m, None) ∷ es) low are found = in_ (eq-or m n) (λ there. lost-beside es (m + 1) are.1 there) where
+    in_ : (m ≡ n) ⊎ (m ≡ n → ⊥) → (slot_at es n ≡ Some (Some h) → all_beside part (lost es) ≡ of_others (all_beside part es)) → all_beside part (lost ((m, None) ∷ es)) ≡ of_others (all_beside part es)
+    in_ (inl same) rest = absurd (let one : None ≡ Some h = found-here es n m None (Some h) same found in let no : ⊥ = cc in no)
     in_ (inr other) rest = rw (at-other m n other) (rest (found-behind es n m None (Some h) other found))
+
+module _ {X : Type 0} (part : Held → Option X) (next n : ℕ) (h : Held) (es : List (ℕ × Option Held)) (low : ℕ) (are : AreSlots low next es) (found : slot_at es n ≡ Some (Some h)) where
+  -- with the entry
+  pub emptied-beside : all_beside part (emptied next n h es) ≡ filter (λ (x : ℕ × X). is_other n x.0) (all_beside part es)
+  emptied-beside = lost-beside part next n h None (λ m rest. refl) es low are found
+
+  -- without it
+  pub cleared-beside : (now : Held) → part now ≡ None → all_beside part (set next n h now es) ≡ filter (λ (x : ℕ × X). is_other n x.0) (all_beside part es)
+  cleared-beside now none = lost-beside part next n h (Some now) (λ m rest. ap (λ (o : Option X). first_beside m o (all_beside part rest)) none) es low are found

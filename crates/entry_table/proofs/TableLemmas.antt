@@ -10,7 +10,7 @@ use Rattle.eden_base.specs.declared.place.Place.TheVariants.{Unlinked}
 use Rattle.eden_base.specs.First.{changed_where, without_where}
 use Rattle.entry_table.specs.Entries.{has_number, entry_of, marked, IsLinked}
 use Rattle.entry_table.specs.Inside.{IsTable}
-use Rattle.entry_table.specs.Slots.{kept_from, slot_at, files_from, spare_of, AreSlots, IsPlaceOf, IsIndexed}
+use Rattle.entry_table.specs.Slots.{kept_from, slot_at, all_beside, files_from, notes_from, spare_of, AreSlots, IsPlaceOf, IsIndexed}
 use Rattle.entry_table.specs.Table.{TableState, kept_of}
 use Rattle.entry_table.specs.declared.kept.Kept.{Kept}
 use Rattle.entry_table.specs.declared.kept.Held.{Held}
@@ -21,10 +21,10 @@ use Rattle.entry_table.proofs.FileLemmas.{linked-marked}
 use Rattle.entry_table.proofs.IndexedLemmas.{Loses}
 use Rattle.entry_table.proofs.SlotLemmas.{slot_held, some-held, held-entry, slots-numbers}
 use Rattle.entry_table.proofs.SlotSearch.{place-found, place-set}
-use Rattle.entry_table.proofs.SlotWrites.{set-slots, set-kept, set-files}
+use Rattle.entry_table.proofs.SlotWrites.{set-slots, set-kept, set-beside}
 
 abbrev pub view_of : Inside → TableState
-view_of t = record { entries = kept_from t.slots.items; remembered = files_from t.slots.items; next = t.next; spare = spare_of t.is_reserved }
+view_of t = record { entries = kept_from t.slots.items; remembered = files_from t.slots.items; notes = notes_from t.slots.items; next = t.next; spare = spare_of t.is_reserved }
 
 -- what is an entry stands in a slot
 pub entry-slot : (t : Inside) (now : TableState) (n : ℕ) → view_of t ≡ now → IsTable t → IsSome (entry_of now.entries n) → (h : Held) × (slot_at t.slots.items n ≡ Some (Some h))
@@ -68,8 +68,8 @@ module _ (t : Inside) (n place : ℕ) (slot : ℕ × Option Held) (is : IsTable 
     pub written-kept : (change : Kept → Kept) → change (kept_of n h) ≡ kept_of n now → kept_from (slice_set t.slots.items place (slot.0, Some now)) ≡ changed_where (has_number n) change (kept_from t.slots.items)
     written-kept change is_so = ap kept_from (written (Some now)) ∙ set-kept t.next n h now t.slots.items 2 change is_so is.slots found-held
 
-    pub written-files : now.file ≡ h.file → files_from (slice_set t.slots.items place (slot.0, Some now)) ≡ files_from t.slots.items
-    written-files same = ap files_from (written (Some now)) ∙ set-files t.next n h now t.slots.items 2 same is.slots found-held
+    pub written-beside : {X : Type 0} (part : Held → Option X) → part now ≡ part h → all_beside part (slice_set t.slots.items place (slot.0, Some now)) ≡ all_beside part t.slots.items
+    written-beside part same = ap (all_beside part) (written (Some now)) ∙ set-beside t.next n h now part t.slots.items 2 same is.slots found-held
 
 -- an entry is taken out
 pub without-loses : (t : Inside) (n : ℕ) → IsTable t → Loses (kept_from t.slots.items) (without_where (has_number n) (kept_from t.slots.items)) n

@@ -13,15 +13,15 @@ use Rattle.entry_table.specs.Table.{kept_of}
 use Rattle.entry_table.specs.declared.kept.Kept.{Kept}
 use Rattle.entry_table.specs.declared.kept.Held.{Held}
 
--- an entry without its number, of which no file is remembered
+-- an entry without its number, of which no file is remembered and nothing is noted
 abbrev pub held_of : Kept → Held
-held_of kept = record { place = kept.place; count = kept.count; file = None }
+held_of kept = record { place = kept.place; count = kept.count; file = None; note = None }
 
 -- the slot of an entry
 abbrev pub slot_of : Kept → ℕ × Option Held
 slot_of kept = (kept.number.0, Some (held_of kept))
 
--- the slots of entries of which no file is remembered
+-- the slots of such entries
 abbrev pub slots_of : List Kept → List (ℕ × Option Held)
 slots_of entries = map slot_of entries
 
@@ -48,16 +48,30 @@ held_in slots n = option_and_then (λ (held : Option Held). held) (slot_at slots
 abbrev pub IsPlaceOf : List (ℕ × Option Held) → ℕ → ℕ → Type 0
 IsPlaceOf slots n place = (place < length slots) × HoldsAt (λ (slot : ℕ × Option Held). slot.0 ≡ n) slots place
 
--- the file of a number, if it is remembered, before others
-abbrev pub file_first : ℕ → Option FileId → List (ℕ × FileId) → List (ℕ × FileId)
-file_first n (Some file) files = (n, file) ∷ files
-file_first n None files = files
+-- what a number has, if anything, before what others have
+abbrev pub first_beside : {X : Type 0} → ℕ → Option X → List (ℕ × X) → List (ℕ × X)
+first_beside n (Some x) xs = (n, x) ∷ xs
+first_beside n None xs = xs
 
--- the files that are remembered
+-- what the entries have, each with its number
+abbrev pub all_beside : {X : Type 0} → (Held → Option X) → List (ℕ × Option Held) → List (ℕ × X)
+all_beside part [] = []
+all_beside part ((n, Some held) ∷ slots) = first_beside n (part held) (all_beside part slots)
+all_beside part ((n, None) ∷ slots) = all_beside part slots
+
+-- the file of an entry, and its note
+abbrev pub file_beside : Held → Option FileId
+file_beside held = held.file
+
+abbrev pub note_beside : Held → Option ℕ
+note_beside held = held.note
+
+-- the files that are remembered, and the notes
 abbrev pub files_from : List (ℕ × Option Held) → List (ℕ × FileId)
-files_from [] = []
-files_from ((n, Some held) ∷ slots) = file_first n held.file (files_from slots)
-files_from ((n, None) ∷ slots) = files_from slots
+files_from slots = all_beside file_beside slots
+
+abbrev pub notes_from : List (ℕ × Option Held) → List (ℕ × ℕ)
+notes_from slots = all_beside note_beside slots
 
 -- how many numbers are reserved
 abbrev pub spare_of : Bool → ℕ

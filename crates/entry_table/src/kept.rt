@@ -22,6 +22,8 @@ pub struct Held {
     pub count: u64,
     /// The file that the number names, once it was found.
     pub file: Option<FileId>,
+    /// What the table's user notes of it. The table doesn't look at it.
+    pub note: Option<u32>,
 }
 
 impl Held {

@@ -10,8 +10,8 @@ ghost use Rattle.eden_base.specs.declared.number.FileId.{FileId};
 ghost use Rattle.eden_base.specs.declared.number.Number.{Number};
 ghost use Rattle.entry_table.specs.EntryPlaces.{HasName, IsNamedEntry, is_under_name};
 ghost use Rattle.entry_table.specs.Entries.{has_number, entry_of, entry_at, is_kid_of, number_of_kept, place_of_kept, number_after, new_entry, marked, IsLinked, IsFileOf, file_remembered, remembered, AreNumbers, AreEntries, count_of, once_more, is_bad_item, lowered};
-ghost use Rattle.entry_table.specs.Slots.{slot_of, slots_of, slot_at, kept_from, files_from, first_number, held_in, AreSlots, IsSlots, IsPlaceOf};
-ghost use Rattle.entry_table.specs.Table.{IsIn, kept_of, without_entry, AreOfKept, file_number};
+ghost use Rattle.entry_table.specs.Slots.{slot_of, slots_of, slot_at, kept_from, files_from, notes_from, first_number, held_in, AreSlots, IsSlots, IsPlaceOf};
+ghost use Rattle.entry_table.specs.Table.{IsIn, kept_of, without_entry, AreOfKept, file_number, note_of, noted};
 
 use crate::index::Index;
 use crate::kept::{Held, Kept};
@@ -36,7 +36,7 @@ pub struct Table {
 }
 
 impl Model for Table {
-    ghost use Rattle.entry_table.specs.Slots.{kept_from, files_from, spare_of};
+    ghost use Rattle.entry_table.specs.Slots.{kept_from, files_from, notes_from, spare_of};
     ghost use Rattle.entry_table.specs.Table.{TableState};
 
     ghost Value = { TableState };
@@ -44,6 +44,7 @@ impl Model for Table {
     ghost view = { λ t. record {
       entries = kept_from t.slots.items;
       remembered = files_from t.slots.items;
+      notes = notes_from t.slots.items;
       next = t.next;
       spare = spare_of t.is_reserved;
     } };
@@ -56,7 +57,7 @@ impl Model for Table {
 impl Table {
     /// Returns a table without entries.
     pub fn new(alloc: Global) -> Table
-        ensures empty { result ≡ record { entries = []; remembered = []; next = 2; spare = 0 } }
+        ensures empty { result ≡ record { entries = []; remembered = []; notes = []; next = 2; spare = 0 } }
     {
         Table {
             slots: Vec::new(alloc),
@@ -67,11 +68,11 @@ impl Table {
         }
     }
 
-    /// Returns a table of these entries, of which no file is remembered.
+    /// Returns a table of these entries, of which no file is remembered and nothing is noted.
     pub fn of_entries(alloc: Global, entries: Vec<Kept>, next: u64) -> Result<Table, NoMemory>
         requires entries { AreEntries entries.items next }
         ensures table { IfOk result (λ table. table
-            ≡ record { entries = entries.items; remembered = []; next = next; spare = 0 }) }
+            ≡ record { entries = entries.items; remembered = []; notes = []; next = next; spare = 0 }) }
     {
         let given = entries.as_slice();
         let index = Index::of_entries(alloc, given)?;
@@ -99,6 +100,8 @@ impl Table {
             ≡ entry_of self.now.entries number.0 }
         ensures file { option_and_then (λ held. held.file) (option_copied result)
             ≡ file_remembered self.now.remembered number.0 }
+        ensures note { option_and_then (λ held. held.note) (option_copied result)
+            ≡ note_of self.now.notes number.0 }
         ensures kept { AreOfKept file_number self.now.entries self.now.remembered }
     {
         held_at(self.slots.as_slice(), number)
@@ -171,6 +174,7 @@ impl Table {
             place: Place::Linked { parent, name },
             count: 1,
             file: None,
+            note: None,
         };
         self.slots.push_reserved((number.0, Some(held)));
         self.next += 1;
@@ -243,6 +247,21 @@ impl Table {
         held.file = Some(file);
     }
 
+    /// Notes something of a number, in place of what was noted, or nothing.
+    pub fn note(&mut self, number: Number, note: Option<u32>)
+        requires held { IsSome (entry_of self.old.entries number.0) }
+        ensures noted { self.new ≡ record self.old { notes = noted self.old.notes number.0 note } }
+    {
+        let Some(place) = place_of(self.slots.as_slice(), number) else {
+            unreachable!()
+        };
+        let slot = &mut self.slots[place];
+        let Some(held) = &mut slot.1 else {
+            unreachable!()
+        };
+        held.note = note;
+    }
+
     /// Takes the name of a number away, and returns the directory in which it stood.
     pub fn unlink(&mut self, number: Number, file: FileId) -> Number
         requires linked { IsLinked self.old.entries number.0 }
@@ -263,6 +282,7 @@ impl Table {
             place: Place::Unlinked { file },
             count: held.count,
             file: held.file,
+            note: held.note,
         });
         let Place::Linked { parent, name } = &held.place else {
             unreachable!()
@@ -309,7 +329,7 @@ fn slots_of(alloc: Global, entries: Vec<Kept>) -> Result<Vec<Slot>, AllocError>
     entries.into_iter().map(slot_of).collect(alloc)
 }
 
-/// Returns the slot of an entry, of which no file is remembered.
+/// Returns the slot of an entry, of which no file is remembered and nothing is noted.
 fn slot_of(kept: Kept) -> Slot
     ensures { result ≡ slot_of kept }
 {
@@ -317,6 +337,7 @@ fn slot_of(kept: Kept) -> Slot
         place: kept.place,
         count: kept.count,
         file: None,
+        note: None,
     };
     (kept.number.0, Some(held))
 }
@@ -342,6 +363,7 @@ fn entries_of(alloc: Global, slots: &[Slot]) -> Result<Vec<Kept>, NoMemory>
 fn make_room(slots: &mut Vec<Slot>) -> Result<(), AllocError>
     ensures entries { kept_from slots.new.items ≡ kept_from slots.old.items }
     ensures files { files_from slots.new.items ≡ files_from slots.old.items }
+    ensures notes { notes_from slots.new.items ≡ notes_from slots.old.items }
     ensures numbers { (next : ℕ) → AreSlots 2 next slots.old.items → AreSlots 2 next slots.new.items }
     ensures len { vec_len slots.new ≤ vec_len slots.old }
     ensures struck { vec_capacity slots.old ≤ vec_len slots.old

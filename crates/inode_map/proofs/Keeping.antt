@@ -1,9 +1,9 @@
 -- What is loaded or remembered of numbers, where entries change or leave.
-use Rattle.std.proofs.Common.{◌≡◌, ℕ, zero, suc, ◌<◌, Bool, true, false, cond, List, [], ◌∷◌, ◌++◌, take, get_or, length, Option, Some, None, is_some, refl, sym, ap, ◌∙◌, subst, inl, inr, ◌⊎◌}
-use Rattle.std.specs.Prelude.{◌==◌, not}
+use Rattle.std.proofs.Common.{◌≡◌, ℕ, zero, suc, Bool, true, false, cond, List, [], ◌∷◌, ◌++◌, take, Option, Some, None, is_some, refl, sym, ap, ◌∙◌, subst, inl, inr, ◌⊎◌}
+use Rattle.std.specs.Prelude.{not}
 use Rattle.std.specs.List.{filter}
 use Rattle.std.specs.Option.{option_map, option_map_or}
-use Rattle.eden_base.proofs.FirstLemmas.{Each-kept, Each-without_where, first_where-nowhere}
+use Rattle.eden_base.proofs.FirstLemmas.{Each-kept, Each-without_where}
 use Rattle.eden_base.proofs.NumberTests.{eq-true, eq-false, eq-or}
 use Rattle.eden_base.specs.First.{first_where, changed_where, without_where}
 use Rattle.entry_table.proofs.EntryLemmas.{changed-same, changed-other, append-other, without-other, without-same}
@@ -90,7 +90,7 @@ module _ {X : Type 0} (number : X → ℕ) where
     some_in (suc i) rest = (all.0, rest i)
 
 -- what is used is loaded
-loaded-kept : (es : List Kept) (n : ℕ) (xs : List LoadedAttr) (x : LoadedAttr) → AreOfKept loaded_number es xs → first_where (is_loaded_of n) xs ≡ Some x → is_kept es (loaded_number x) ≡ true
+pub loaded-kept : (es : List Kept) (n : ℕ) (xs : List LoadedAttr) (x : LoadedAttr) → AreOfKept loaded_number es xs → first_where (is_loaded_of n) xs ≡ Some x → is_kept es (loaded_number x) ≡ true
 loaded-kept es n [] x a e = absurd (let none : ⊥ = cc in none)
 loaded-kept es n (y ∷ xs) x a e = in_ (is_loaded_of n y) e (λ there. loaded-kept es n xs x a.1 there) where
   in_ : (b : Bool) → cond b (Some y) (first_where (is_loaded_of n) xs) ≡ Some x → (first_where (is_loaded_of n) xs ≡ Some x → is_kept es (loaded_number x) ≡ true) → is_kept es (loaded_number x) ≡ true
@@ -103,31 +103,6 @@ used-kept es n loaded all = in_ (first_where (is_loaded_of n) loaded) refl where
       AreOfKept loaded_number es (option_map_or (λ (l : LoadedAttr). l ∷ without_where (is_loaded_of n) loaded) o loaded)
   in_ None e = all
   in_ (Some x) e = (loaded-kept es n loaded x all e, Each-without_where (is_loaded_of n) (λ (l : LoadedAttr). is_kept es (loaded_number l) ≡ true) loaded all)
-
--- the attributes of other numbers, where one of the number leaves
-pub others-without : (n : ℕ) (xs : List LoadedAttr) →
-    filter (λ (l : LoadedAttr). is_other n (loaded_number l)) (without_where (is_loaded_of n) xs) ≡ filter (λ (l : LoadedAttr). is_other n (loaded_number l)) xs
-others-without n [] = refl
-others-without n (x ∷ xs) = in_ (x.number.0 == n) refl (others-without n xs) where
-  others : List LoadedAttr → List LoadedAttr
-  others ys = filter (λ (l : LoadedAttr). is_other n (loaded_number l)) ys
-
-  in_ : (b : Bool) → (x.number.0 == n) ≡ b → others (without_where (is_loaded_of n) xs) ≡ others xs → others (cond b xs (x ∷ without_where (is_loaded_of n) xs)) ≡ cond (not b) (x ∷ others xs) (others xs)
-  in_ true t rest = refl
-  in_ false t rest = ap (λ b. cond (not b) (x ∷ others (without_where (is_loaded_of n) xs)) (others (without_where (is_loaded_of n) xs))) t ∙ ap (λ (ys : List LoadedAttr). x ∷ ys) rest
-
-pub others-all : (n : ℕ) (xs : List LoadedAttr) → first_where (is_loaded_of n) xs ≡ None → filter (λ (l : LoadedAttr). is_other n (loaded_number l)) xs ≡ xs
-others-all n [] e = refl
-others-all n (x ∷ xs) e = in_ (x.number.0 == n) e (λ there. others-all n xs there) where
-  in_ : (b : Bool) → cond b (Some x) (first_where (is_loaded_of n) xs) ≡ None → (first_where (is_loaded_of n) xs ≡ None → filter (λ (l : LoadedAttr). is_other n (loaded_number l)) xs ≡ xs) →
-      cond (not b) (x ∷ filter (λ (l : LoadedAttr). is_other n (loaded_number l)) xs) (filter (λ (l : LoadedAttr). is_other n (loaded_number l)) xs) ≡ x ∷ xs
-  in_ true h rest = absurd (let none : ⊥ = cc in none)
-  in_ false h rest = ap (λ (ys : List LoadedAttr). x ∷ ys) (rest h)
-
--- none passes where none of each place does
-pub nowhere : (p : LoadedAttr → Bool) (xs : List LoadedAttr) → ((j : ℕ) (d : LoadedAttr) → j < length xs → p (get_or xs j d) ≡ false) → first_where p xs ≡ None
-nowhere p [] h = refl
-nowhere p (x ∷ xs) h = first_where-nowhere p (x ∷ xs) x (λ j b. h j x b)
 
 -- of what is left with these entries nothing goes
 pub left_with-all : (es : List Kept) (map : MapState) → AreOfKept loaded_number es map.loaded → AreOfKept file_number es map.remembered → left_with es map ≡ record map { entries = es }

@@ -1,9 +1,10 @@
 pub mod Forgetting
 pub mod Giving
 pub mod Keeping
+pub mod Loading
 pub mod Lowering
+pub mod Naming
 pub mod Pruning
-pub mod Recency
 pub mod Striking
 pub mod TakingBack
 pub mod Walking

@@ -4,6 +4,7 @@ use Rattle.std.specs.List.{list_any}
 use Rattle.entry_table.specs.Entries.{is_kid_of, lowered}
 use Rattle.inode_map.specs.InodeMap.{MapState, forgotten, loaded_number}
 use Rattle.inode_map.specs.Inside.{IsConsistent}
+use Rattle.inode_map.specs.Loaded.{attrs_in}
 use Rattle.entry_table.specs.Table.{TableState, AreOfKept, file_number}
 use Rattle.inode_map.specs.declared.inode_map.InodeMap.TheInside as map
 use Rattle.entry_table.proofs.Changing.{kids-changed}
@@ -15,7 +16,7 @@ use Rattle.inode_map.proofs.Keeping.{of-changed}
 module _ (m : map.Inside) (now : MapState) (new : TableState) (n k : ℕ) where
   -- how it is seen
   abbrev pub seen : TableState → MapState
-  seen t = record { entries = t.entries; next = t.next; bad_items = m.bad_items; loaded = m.loaded.attrs; limit = m.loaded.limit; spare = t.spare; remembered = t.remembered }
+  seen t = record { entries = t.entries; next = t.next; bad_items = m.bad_items; loaded = attrs_in m.loaded; limit = m.loaded.capacity; spare = t.spare; remembered = t.remembered }
 
   -- the entries of the map, of which one is counted less
   abbrev pub IsLess : Type 0
@@ -24,8 +25,8 @@ module _ (m : map.Inside) (now : MapState) (new : TableState) (n k : ℕ) where
   pub are-kept : IsConsistent m → AreKept m.table.next m.table.entries
   are-kept is = record { numbers = is.numbers; of_use = is.of_use }
 
-  pub loaded-less : IsConsistent m → AreOfKept loaded_number (lowered m.table.entries n k) m.loaded.attrs
-  loaded-less is = of-changed loaded_number m.table.entries n (less k) m.loaded.attrs (λ x. refl) is.loaded
+  pub loaded-less : IsConsistent m → AreOfKept loaded_number (lowered m.table.entries n k) (attrs_in m.loaded)
+  loaded-less is = of-changed loaded_number m.table.entries n (less k) (attrs_in m.loaded) (λ x. refl) is.loaded
 
   -- whether something stands below it is what it was
   pub kids-less : (b : Bool) → IsLess → b ≡ list_any (is_kid_of n) new.entries → list_any (is_kid_of n) m.table.entries ≡ b
@@ -36,7 +37,7 @@ module _ (m : map.Inside) (now : MapState) (new : TableState) (n k : ℕ) where
   less-consistent is less_is told =
       let kept = lowered-kept (seen m.table) n k (are-kept is) told in
       subst (λ (t : TableState). IsConsistent (record { table = t; bad_items = m.bad_items; loaded = m.loaded })) (sym less_is)
-      (record { numbers = kept.numbers; numbers_fit = is.numbers_fit; of_use = kept.of_use; loaded = loaded-less is })
+      (record { numbers = kept.numbers; numbers_fit = is.numbers_fit; of_use = kept.of_use; loaded = loaded-less is; named = is.named })
 
   pub less-forgotten : seen m.table ≡ now → IsConsistent m → IsLess → AreOfKept file_number new.entries new.remembered → IsTold (seen m.table) n k false → seen new ≡ forgotten now n k
   less-forgotten view is less_is files told =

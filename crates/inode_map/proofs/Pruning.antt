@@ -14,49 +14,49 @@ use Rattle.eden_base.specs.First.{first_where, changed_where, without_where}
 use Rattle.entry_table.specs.EntryPlaces.{AreOfUseBut, dir_of}
 use Rattle.entry_table.specs.Entries.{has_number, entry_of, place_of_kept, is_in, is_kid_of, is_of_use, marked, AreNumbers}
 use Rattle.inode_map.specs.InodeMap.{is_useless, left_of_use, loaded_number}
-use Rattle.inode_map.specs.Recency.{LoadedState}
-use Rattle.entry_table.specs.Table.{TableState, without_entry, file_number, is_other, AreOfKept}
+use Rattle.entry_table.specs.Table.{TableState, without_entry, without_note, file_number, is_other, AreOfKept}
+use Rattle.inode_map.specs.Loaded.{attrs_in, AreNamed}
 use Rattle.inode_map.specs.Pruned.{of_kept, pruned}
 use Rattle.entry_table.specs.declared.kept.Kept.{Kept}
 use Rattle.inode_map.specs.declared.loaded.LoadedAttr.{LoadedAttr}
 use Rattle.entry_table.proofs.EntryLemmas.{entry_of-number, numbers-without, changed-same, changed-other}
+use Rattle.node_arena.specs.Arena.{Arena}
 use Rattle.inode_map.proofs.Giving.{AreKept}
 use Rattle.inode_map.proofs.Keeping.{of_kept-all, of_kept-without}
 use Rattle.inode_map.proofs.Striking.{useless-entry, left_of_use-all, left_of_use-one}
 use Rattle.inode_map.proofs.Walking.{left-of_use, struck-keeps}
 
 -- what was struck so far
-pub record Pruned (old now : TableState) (before after : LoadedState) : Type 0 where
+pub record Pruned (old now : TableState) (before after : List LoadedAttr) : Type 0 where
   pub same : left_of_use now.entries ≡ left_of_use old.entries
   pub numbers : AreNumbers 2 old.next now.entries
-  pub table : now ≡ record old { entries = now.entries; remembered = of_kept file_number now.entries old.remembered }
-  pub loaded : after ≡ record before { attrs = of_kept loaded_number now.entries before.attrs }
+  pub table : now ≡ record old { entries = now.entries; remembered = of_kept file_number now.entries old.remembered; notes = now.notes }
+  pub loaded : after ≡ of_kept loaded_number now.entries before
 
 -- nothing yet
-pub pruned-init : (table : TableState) (loaded : LoadedState) → AreNumbers 2 table.next table.entries → AreOfKept loaded_number table.entries loaded.attrs → AreOfKept file_number table.entries table.remembered → Pruned table table loaded loaded
+pub pruned-init : (table : TableState) (loaded : List LoadedAttr) → AreNumbers 2 table.next table.entries → AreOfKept loaded_number table.entries loaded → AreOfKept file_number table.entries table.remembered → Pruned table table loaded loaded
 pruned-init table loaded are attrs files = record {
   same = refl;
   numbers = are;
   table = λ i. record table { remembered = sym (of_kept-all file_number table.entries table.remembered files) i };
-  loaded = λ i. record loaded { attrs = sym (of_kept-all loaded_number table.entries loaded.attrs attrs) i };
+  loaded = sym (of_kept-all loaded_number table.entries loaded attrs);
 }
 
 -- one more
-pub pruned-step : (old now later : TableState) (before after left : LoadedState) (n : ℕ) → Pruned old now before after → AreOfUseBut (Some n) now.entries → is_useless now.entries n ≡ true →
-    later ≡ without_entry now n (without_where (has_number n) now.entries) → left ≡ record after { attrs = filter (λ (l : LoadedAttr). is_other n (loaded_number l)) after.attrs } → Pruned old later before left
-pruned-step old now later before after left n p useful useless table loaded = subst (λ (t : TableState). Pruned old t before left) (sym table) (subst (λ (l : LoadedState). Pruned old next before l) (sym loaded) (record {
+pub pruned-step : (old now later : TableState) (before after left : List LoadedAttr) (n : ℕ) → Pruned old now before after → AreOfUseBut (Some n) now.entries → is_useless now.entries n ≡ true →
+    later ≡ without_entry now n (without_where (has_number n) now.entries) → left ≡ filter (λ (l : LoadedAttr). is_other n (loaded_number l)) after → Pruned old later before left
+pruned-step old now later before after left n p useful useless table loaded = subst (λ (t : TableState). Pruned old t before left) (sym table) (subst (λ (l : List LoadedAttr). Pruned old next before l) (sym loaded) (record {
   same = sym (left_of_use-one now.entries 2 old.next n p.numbers useful useless) ∙ p.same;
   numbers = numbers-without now.entries 2 old.next (has_number n) p.numbers;
   table = ap (λ (t : TableState). without_entry t n (without_where (has_number n) now.entries)) p.table
-      ∙ ap (λ files. record old { entries = without_where (has_number n) now.entries; remembered = files }) (of_kept-without file_number now.entries 2 old.next n old.remembered p.numbers);
-  loaded = ap (λ (l : LoadedState). record l { attrs = filter (λ (x : LoadedAttr). is_other n (loaded_number x)) l.attrs }) p.loaded
-      ∙ ap (λ attrs. record before { attrs = attrs }) (of_kept-without loaded_number now.entries 2 old.next n before.attrs p.numbers);
+      ∙ ap (λ files. record old { entries = without_where (has_number n) now.entries; remembered = files; notes = without_note now.notes n }) (of_kept-without file_number now.entries 2 old.next n old.remembered p.numbers);
+  loaded = ap (λ (xs : List LoadedAttr). filter (λ (x : LoadedAttr). is_other n (loaded_number x)) xs) p.loaded ∙ of_kept-without loaded_number now.entries 2 old.next n before p.numbers;
 })) where
   next : TableState
   next = without_entry now n (without_where (has_number n) now.entries)
 
 -- its directory alone may be of no use then
-pub pruned-others : (old now later : TableState) (before after : LoadedState) (n : ℕ) (place : Place) → Pruned old now before after → AreOfUseBut (Some n) now.entries → is_useless now.entries n ≡ true →
+pub pruned-others : (old now later : TableState) (before after : List LoadedAttr) (n : ℕ) (place : Place) → Pruned old now before after → AreOfUseBut (Some n) now.entries → is_useless now.entries n ≡ true →
     option_map place_of_kept (entry_of now.entries n) ≡ Some place → later ≡ without_entry now n (without_where (has_number n) now.entries) → AreOfUseBut (dir_of place) later.entries
 pruned-others old now later before after n place p useful useless at table =
     let u = useless-entry now.entries n useless in
@@ -64,29 +64,42 @@ pruned-others old now later before after n place p useful useless at table =
     subst (λ (t : TableState). AreOfUseBut (dir_of place) t.entries) (sym table)
     (subst (λ (q : Place). AreOfUseBut (dir_of q) (without_where (has_number n) now.entries)) is (left-of_use now.entries 2 old.next n u.0 p.numbers u.1 useful))
 
--- between two steps: what was struck so far, and one number alone is of no use
-pub record Going (old now : TableState) (before after : LoadedState) (n : ℕ) : Type 0 where
-  pub pruned : Pruned old now before after
+-- between two steps: what was struck so far, one number alone is of no use, and entries and nodes name each other
+pub record Going (old now : TableState) (before after : Arena LoadedAttr) (n : ℕ) : Type 0 where
+  pub pruned : Pruned old now (attrs_in before) (attrs_in after)
   pub useless : is_useless now.entries n ≡ true
   pub others_of_use : AreOfUseBut (Some n) now.entries
+  pub named : AreNamed now.notes after
+  pub capacity : after.capacity ≡ before.capacity
 
--- its step, and what it leaves of no use
-pub going-step : (old now later : TableState) (before after left : LoadedState) (n : ℕ) → Going old now before after n →
-    later ≡ without_entry now n (without_where (has_number n) now.entries) → left ≡ record after { attrs = filter (λ (l : LoadedAttr). is_other n (loaded_number l)) after.attrs } → Pruned old later before left
-going-step old now later before after left n g table loaded = pruned-step old now later before after left n g.pruned g.others_of_use g.useless table loaded
+-- a step leaves the table and the nodes without a number
+pub record Leaves (now later : TableState) (after left : Arena LoadedAttr) (n : ℕ) (place : Place) : Type 0 where
+  pub stood : option_map place_of_kept (entry_of now.entries n) ≡ Some place
+  pub table : later ≡ without_entry now n (without_where (has_number n) now.entries)
+  pub loaded : attrs_in left ≡ filter (λ (l : LoadedAttr). is_other n (loaded_number l)) (attrs_in after)
+  pub named : AreNamed later.notes left
+  pub capacity : left.capacity ≡ after.capacity
 
-pub going-others : (old now later : TableState) (before after : LoadedState) (n : ℕ) (place q : Place) → Going old now before after n → option_map place_of_kept (entry_of now.entries n) ≡ Some place → place ≡ q →
-    later ≡ without_entry now n (without_where (has_number n) now.entries) → AreOfUseBut (dir_of q) later.entries
-going-others old now later before after n place q g at is table = pruned-others old now later before after n q g.pruned g.others_of_use g.useless (at ∙ ap Some is) table
+module _ (old now later : TableState) (before after left : Arena LoadedAttr) (n : ℕ) (place : Place) (g : Going old now before after n) (l : Leaves now later after left n place) where
+  -- what was struck then, and what may be of no use
+  pub going-step : Pruned old later (attrs_in before) (attrs_in left)
+  going-step = pruned-step old now later (attrs_in before) (attrs_in after) (attrs_in left) n g.pruned g.others_of_use g.useless l.table l.loaded
 
--- where the directory is of no use, it is the next
-pub going-on : (old now later : TableState) (before after left : LoadedState) (n : ℕ) (place : Place) (dir : Number) (name : List ℕ) → Going old now before after n → option_map place_of_kept (entry_of now.entries n) ≡ Some place → place ≡ Linked dir name →
-    later ≡ without_entry now n (without_where (has_number n) now.entries) → left ≡ record after { attrs = filter (λ (l : LoadedAttr). is_other n (loaded_number l)) after.attrs } → is_useless later.entries dir.0 ≡ true → Going old later before left dir.0
-going-on old now later before after left n place dir name g at is table loaded useless = record {
-  pruned = going-step old now later before after left n g table loaded;
-  useless = useless;
-  others_of_use = going-others old now later before after n place (Linked dir name) g at is table;
-}
+  pub going-others : (q : Place) → place ≡ q → AreOfUseBut (dir_of q) later.entries
+  going-others q is = pruned-others old now later (attrs_in before) (attrs_in after) n q g.pruned g.others_of_use g.useless (l.stood ∙ ap Some is) l.table
+
+  pub going-capacity : left.capacity ≡ before.capacity
+  going-capacity = l.capacity ∙ g.capacity
+
+  -- where the directory is of no use, it is the next
+  pub going-on : (dir : Number) (name : List ℕ) → place ≡ Linked dir name → is_useless later.entries dir.0 ≡ true → Going old later before left dir.0
+  going-on dir name is useless = record {
+    pruned = going-step;
+    useless = useless;
+    others_of_use = going-others (Linked dir name) is;
+    named = l.named;
+    capacity = going-capacity;
+  }
 
 pub pruned-shorter : (now later : TableState) (n : ℕ) → is_useless now.entries n ≡ true → later ≡ without_entry now n (without_where (has_number n) now.entries) → length later.entries < length now.entries
 pruned-shorter now later n useless table =
@@ -96,14 +109,14 @@ pruned-shorter now later n useless table =
     omega arith
 
 -- the end
-all_left : (old now : TableState) (before after : LoadedState) → Pruned old now before after → AreOfUseBut None now.entries → now.entries ≡ left_of_use old.entries
+all_left : (old now : TableState) (before after : List LoadedAttr) → Pruned old now before after → AreOfUseBut None now.entries → now.entries ≡ left_of_use old.entries
 all_left old now before after p useful = sym (left_of_use-all now.entries 2 old.next p.numbers useful) ∙ p.same
 
-pub pruned-table : (old now : TableState) (before after : LoadedState) → Pruned old now before after → AreOfUseBut None now.entries → now ≡ pruned old
-pruned-table old now before after p useful = p.table ∙ ap (λ (es : List Kept). record old { entries = es; remembered = of_kept file_number es old.remembered }) (all_left old now before after p useful)
+pub pruned-table : (old now : TableState) (before after : List LoadedAttr) → Pruned old now before after → AreOfUseBut None now.entries → now ≡ pruned old now.notes
+pruned-table old now before after p useful = p.table ∙ ap (λ (es : List Kept). record old { entries = es; remembered = of_kept file_number es old.remembered; notes = now.notes }) (all_left old now before after p useful)
 
-pub pruned-loaded : (old now : TableState) (before after : LoadedState) → Pruned old now before after → AreOfUseBut None now.entries → after ≡ record before { attrs = of_kept loaded_number (left_of_use old.entries) before.attrs }
-pruned-loaded old now before after p useful = p.loaded ∙ ap (λ (es : List Kept). record before { attrs = of_kept loaded_number es before.attrs }) (all_left old now before after p useful)
+pub pruned-loaded : (old now : TableState) (before after : List LoadedAttr) → Pruned old now before after → AreOfUseBut None now.entries → after ≡ of_kept loaded_number (left_of_use old.entries) before
+pruned-loaded old now before after p useful = p.loaded ∙ ap (λ (es : List Kept). of_kept loaded_number es before) (all_left old now before after p useful)
 
 -- what striking leaves of entries of which one may be of no use
 pub struck-left : (es : List Kept) (next n : ℕ) → AreNumbers 2 next es → AreOfUseBut (Some n) es → AreKept next (left_of_use es)

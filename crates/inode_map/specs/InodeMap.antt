@@ -36,7 +36,7 @@ is_useless entries n = option_map_or (λ (kept : Kept). not (is_of_use entries k
 abbrev pub struck_once : List Kept → List Kept
 struck_once entries = filter (is_of_use entries) entries
 
--- that so many times, since a directory may be of no use once what stood in it is struck
+-- that as often as there are entries, since a directory may be of no use once what stood in it is struck
 abbrev pub struck : ℕ → List Kept → List Kept
 struck zero entries = entries
 struck (suc rounds) entries = struck rounds (struck_once entries)
@@ -125,7 +125,7 @@ load limit loaded number attr = record { number = number; attr = attr } ∷ take
 abbrev pub without_oldest : List LoadedAttr → List LoadedAttr
 without_oldest loaded = take (length loaded - 1) loaded
 
--- after the name of a number was taken away: its directory leaves where it is of no use, and so on upwards
+-- after the name of a number was taken away: its directory leaves where it is of no use, with each above that then is
 abbrev pub unlinked : MapState → ℕ → FileId → MapState
 unlinked map n file = left_with (left_of_use (changed_where (has_number n) (marked file) map.entries)) map
 

@@ -1,5 +1,5 @@
 pub mod InodeMap
 pub mod Inside
+pub mod Loaded
 pub mod Pruned
-pub mod Recency
 pub mod Words

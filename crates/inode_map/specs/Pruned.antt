@@ -10,9 +10,10 @@ use Rattle.inode_map.specs.InodeMap.{left_of_use}
 abbrev pub of_kept : {X : Type 0} → (X → ℕ) → List Kept → List X → List X
 of_kept number entries xs = filter (λ x. is_kept entries (number x)) xs
 
--- the table with the entries of use alone
-abbrev pub pruned : TableState → TableState
-pruned table = record table {
+-- the table with the entries of use alone, and these notes
+abbrev pub pruned : TableState → List (ℕ × ℕ) → TableState
+pruned table notes = record table {
   entries = left_of_use table.entries;
   remembered = of_kept file_number (left_of_use table.entries) table.remembered;
+  notes = notes;
 }

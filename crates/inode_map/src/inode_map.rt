@@ -11,12 +11,14 @@ ghost use Rattle.entry_table.specs.EntryPlaces.{AreOfUseBut, IsNamedEntry, is_li
 ghost use Rattle.entry_table.specs.Entries.{entry_of, entry_at, count_of, number_after, number_of_kept, place_of_kept, is_known, is_kid_of, is_bad_item, lowered, IsLinked, IsFileOf, AreNumbers, AreEntries, file_remembered, remembered};
 ghost use Rattle.inode_map.specs.InodeMap.{new_map, map_of, give_fault, number_given, given, IsGiveRefusal, forgot, forgotten, unlinked, is_useless, attr_of, used, load, without_oldest, loaded_number, left_of_use};
 ghost use Rattle.entry_table.specs.Table.{AreOfKept, file_number};
+ghost use Rattle.inode_map.specs.Loaded.{attrs_in, AreNamed};
 ghost use Rattle.inode_map.specs.Pruned.{of_kept, pruned};
 
-use crate::loaded::Loaded;
+use crate::loaded::{LoadedAttr, attr_at, load_attr, nodes_of, strike, unload_oldest};
 use checkout::Tree;
 use eden_base::{Attr, END_OF_NUMBERS, FileId, Name, NoMemory, Number, Place};
 use entry_table::{Kept, Table};
+use node_arena::Nodes;
 use std::alloc::Global;
 use std::marker::Model;
 use thiserror::Error;
@@ -26,7 +28,7 @@ use thiserror::Error;
 pub enum Forgot {
     /// The number is held less often, and is of use still.
     Lowered,
-    /// The number is of no use any more, and left, with each directory above it that is of none.
+    /// The number left, with each directory above it that is of no use without it.
     Dropped,
     /// The number is unknown, or is held less often than the forget says, or the forget takes back nothing:
     /// `bad_items` counts it, and nothing else changes.
@@ -65,11 +67,12 @@ pub enum GiveFault {
 pub struct InodeMap {
     table: Table,
     bad_items: u64,
-    loaded: Loaded,
+    loaded: Nodes<LoadedAttr>,
 }
 
 impl Model for InodeMap {
     ghost use Rattle.inode_map.specs.InodeMap.{MapState};
+    ghost use Rattle.inode_map.specs.Loaded.{attrs_in};
 
     ghost Value = { MapState };
 
@@ -77,8 +80,8 @@ impl Model for InodeMap {
       entries = m.table.entries;
       next = m.table.next;
       bad_items = m.bad_items;
-      loaded = m.loaded.attrs;
-      limit = m.loaded.limit;
+      loaded = attrs_in m.loaded;
+      limit = m.loaded.capacity;
       spare = m.table.spare;
       remembered = m.table.remembered;
     } };
@@ -89,12 +92,13 @@ impl Model for InodeMap {
 }
 
 impl InodeMap {
-    /// Remembers no number yet but the root's, which is no entry. So many attributes may be loaded at once.
+    /// Remembers no number yet but the root's, which is no entry. At most `loaded_limit` attributes are
+    /// loaded at once.
     pub fn new(alloc: Global, loaded_limit: usize) -> Result<InodeMap, NoMemory>
         requires limit { 1 ≤ loaded_limit }
         ensures new { IfOk result (λ map. map ≡ new_map loaded_limit) }
     {
-        let loaded = Loaded::new(alloc, loaded_limit)?;
+        let loaded = nodes_of(alloc, loaded_limit)?;
         Ok(InodeMap {
             table: Table::new(alloc),
             bad_items: 0,
@@ -102,8 +106,8 @@ impl InodeMap {
         })
     }
 
-    /// Remembers entries that were kept before, and gives `next` as the next number. So many attributes may be loaded
-    /// at once. The entries are lost where memory is refused.
+    /// Remembers entries that were kept before, and gives `next` as the next number. At most `loaded_limit` attributes
+    /// are loaded at once. The entries are lost where memory is refused.
     pub fn of_entries(
         alloc: Global,
         entries: Vec<Kept>,
@@ -114,7 +118,7 @@ impl InodeMap {
         requires entries { AreEntries entries.items next }
         ensures map { IfOk result (λ map. map ≡ map_of entries.items next loaded_limit) }
     {
-        let loaded = Loaded::new(alloc, loaded_limit)?;
+        let loaded = nodes_of(alloc, loaded_limit)?;
         let table = Table::of_entries(alloc, entries, next)?;
         Ok(InodeMap {
             table,
@@ -304,7 +308,7 @@ impl InodeMap {
         Forgot::Dropped
     }
 
-    /// Counts a number fewer times, and drops it, and each directory above it, once it is of no use.
+    /// Lowers the count of a number. Once of no use, it is dropped, with each directory above it that then is.
     pub fn forget(&mut self, number: Number, k: u64) -> Forgot
         ensures forgot { result ≡ forgot self.old number.0 k }
         ensures forgotten { self.new ≡ forgotten self.old number.0 k }
@@ -326,8 +330,8 @@ impl InodeMap {
         Forgot::Dropped
     }
 
-    /// Takes the name of a number away: it names its file by a mark from now on. The directory is dropped once it is of
-    /// no use, and so on upwards.
+    /// Takes the name of a number away: it names its file by a mark from now on. Its directory is dropped where it is
+    /// then of no use, with each directory above it that then is.
     pub fn unlink(&mut self, number: Number, file: FileId)
         requires linked { IsLinked self.old.entries number.0 }
         requires no_kids { list_any (is_kid_of number.0) self.old.entries ≡ false }
@@ -342,7 +346,7 @@ impl InodeMap {
         ensures attr { result ≡ attr_of self.old.loaded number.0 }
         ensures used { self.new ≡ record self.old { loaded = used self.old.loaded number.0 } }
     {
-        self.loaded.get(number)
+        attr_at(&self.table, &mut self.loaded, number)
     }
 
     /// Loads the attribute of a number. At the limit the oldest is unloaded first.
@@ -352,7 +356,7 @@ impl InodeMap {
         ensures loaded { self.new
             ≡ record self.old { loaded = load self.old.limit self.old.loaded number attr } }
     {
-        self.loaded.load(number, attr);
+        load_attr(&mut self.table, &mut self.loaded, number, attr);
     }
 
     /// Unloads the oldest attribute, unless nothing is loaded.
@@ -360,7 +364,7 @@ impl InodeMap {
         ensures some { result ≡ nat_lt 0 (length self.old.loaded) }
         ensures unloaded { self.new ≡ record self.old { loaded = without_oldest self.old.loaded } }
     {
-        self.loaded.unload_oldest()
+        unload_oldest(&mut self.table, &mut self.loaded)
     }
 
     /// Remembers the file that a number names. A number never names another file.
@@ -391,7 +395,7 @@ impl InodeMap {
     }
 }
 
-/// Tells whether a number is remembered, and is of no use.
+/// Tells whether a number is remembered without use.
 fn is_useless(table: &Table, number: Number) -> bool
     ensures useless { result ≡ is_useless table.now.entries number.0 }
     ensures kept { AreOfKept file_number table.now.entries table.now.remembered }
@@ -402,35 +406,41 @@ fn is_useless(table: &Table, number: Number) -> bool
     }
 }
 
-/// Drops a number where it is of no use, and then its directory if that is of none, and so on upwards.
-fn prune(table: &mut Table, loaded: &mut Loaded, number: Number)
+/// Drops a number where it is of no use, with each directory above it that then is.
+fn prune(table: &mut Table, loaded: &mut Nodes<LoadedAttr>, number: Number)
     requires numbers { AreNumbers 2 table.old.next table.old.entries }
     requires others_of_use { AreOfUseBut (Some number.0) table.old.entries }
-    requires loaded { AreOfKept loaded_number table.old.entries loaded.old.attrs }
+    requires loaded { AreOfKept loaded_number table.old.entries (attrs_in loaded.old) }
+    requires named { AreNamed table.old.notes loaded.old }
     requires remembered { AreOfKept file_number table.old.entries table.old.remembered }
-    ensures pruned { table.new ≡ pruned table.old }
-    ensures unloaded { loaded.new ≡ record loaded.old { attrs = of_kept loaded_number (left_of_use table.old.entries) loaded.old.attrs } }
+    ensures pruned { table.new ≡ pruned table.old table.new.notes }
+    ensures unloaded { attrs_in loaded.new
+        ≡ of_kept loaded_number (left_of_use table.old.entries) (attrs_in loaded.old) }
+    ensures capacity { loaded.new.capacity ≡ loaded.old.capacity }
+    ensures still_named { AreNamed table.new.notes loaded.new }
 {
     if is_useless(table, number) {
         drop_upwards(table, loaded, number);
     }
 }
 
-/// Drops a number of no use, and then its directory if that is of none, and so on upwards.
-fn drop_upwards(table: &mut Table, loaded: &mut Loaded, number: Number)
+/// Drops a number of no use, with each directory above it that then is.
+fn drop_upwards(table: &mut Table, loaded: &mut Nodes<LoadedAttr>, number: Number)
     requires numbers { AreNumbers 2 table.old.next table.old.entries }
     requires useless { is_useless table.old.entries number.0 ≡ true }
     requires others_of_use { AreOfUseBut (Some number.0) table.old.entries }
-    requires loaded { AreOfKept loaded_number table.old.entries loaded.old.attrs }
+    requires loaded { AreOfKept loaded_number table.old.entries (attrs_in loaded.old) }
+    requires named { AreNamed table.old.notes loaded.old }
     requires remembered { AreOfKept file_number table.old.entries table.old.remembered }
-    ensures pruned { table.new ≡ pruned table.old }
-    ensures unloaded { loaded.new ≡ record loaded.old { attrs = of_kept loaded_number (left_of_use table.old.entries) loaded.old.attrs } }
+    ensures pruned { table.new ≡ pruned table.old table.new.notes }
+    ensures unloaded { attrs_in loaded.new
+        ≡ of_kept loaded_number (left_of_use table.old.entries) (attrs_in loaded.old) }
+    ensures capacity { loaded.new.capacity ≡ loaded.old.capacity }
+    ensures still_named { AreNamed table.new.notes loaded.new }
 {
     let mut number = number;
     loop {
-        let place = table.remove(number);
-        loaded.remove(number);
-        match place {
+        match strike(table, loaded, number) {
             Place::Linked { parent, .. } => number = parent,
             Place::Unlinked { .. } => return,
         }

@@ -1,14 +1,22 @@
-//! The attributes of the numbers that were asked for last.
-ghost use Rattle.std.specs.Prelude.{◌≡◌, ◌≤◌, [], None, length, nat_lt, IfOk, MatchOption};
+//! The attributes of the numbers that were asked for last, each in a node whose slot its entry notes.
+ghost use Rattle.std.specs.Prelude.{◌≡◌, ◌-◌, ◌≤◌, ◌<◌, [], None, Some, IsSome, take, length, nat_lt, IfOk, MatchOption};
 ghost use Rattle.std.specs.List.{filter};
+ghost use Rattle.std.specs.Option.{option_map};
 ghost use Rattle.inode_map.specs.declared.loaded.LoadedAttr.{LoadedAttr};
-ghost use Rattle.eden_base.specs.First.{first_where, IsFirstPlace};
-ghost use Rattle.inode_map.specs.InodeMap.{attr_of, used, load, without_oldest, loaded_number, is_loaded_of};
-ghost use Rattle.entry_table.specs.Table.{is_other};
+ghost use Rattle.eden_base.specs.First.{without_where};
+ghost use Rattle.entry_table.specs.Entries.{has_number, entry_of, place_of_kept};
+ghost use Rattle.entry_table.specs.Table.{AreOfKept, note_of, is_other, without_entry};
+ghost use Rattle.inode_map.specs.InodeMap.{attr_of, used, load, without_oldest, loaded_number};
+ghost use Rattle.inode_map.specs.Loaded.{attrs_in, AreNamed};
+ghost use Rattle.node_arena.specs.Arena.{arena, IsSound};
 
-use eden_base::{Attr, NoMemory, Number};
+use eden_base::{Attr, NoMemory, Number, Place};
+use entry_table::Table;
+use node_arena::{Nodes, Slot};
 use std::alloc::Global;
-use std::marker::Model;
+
+/// How many attributes there is ever room for.
+const MOST_LOADED: usize = 65_536;
 
 /// What the kernel was told of a number.
 #[derive(Clone, Copy)]
@@ -17,84 +25,116 @@ pub struct LoadedAttr {
     pub attr: Attr,
 }
 
-/// The loaded attributes, most recent first, in room that is taken once.
-#[derive(Drop)]
-pub(crate) struct Loaded {
-    attrs: Vec<LoadedAttr>,
-    limit: usize,
-}
-
-impl Model for Loaded {
-    ghost use Rattle.std.specs.Prelude.{◌≤◌, vec_len, vec_capacity};
-    ghost use Rattle.inode_map.specs.Recency.{LoadedState};
-
-    ghost Value = { LoadedState };
-
-    ghost view = { λ l. record { attrs = l.attrs.items; limit = l.limit } };
-
-    ghost invariant = { λ l. (1 ≤ l.limit) × (vec_len l.attrs ≤ l.limit) × (l.limit ≤ vec_capacity l.attrs) };
-}
-
-impl Loaded {
-    /// Returns an empty list, with room for as many attributes as the limit says.
-    pub fn new(alloc: Global, limit: usize) -> Result<Loaded, NoMemory>
-        requires { 1 ≤ limit }
-        ensures { IfOk result (λ loaded. loaded ≡ record { attrs = []; limit = limit }) }
-    {
-        let attrs = Vec::with_capacity(alloc, limit)?;
-        Ok(Loaded { attrs, limit })
-    }
-
-    /// Returns the attribute of a number, and makes it the most recent.
-    pub fn get(&mut self, number: Number) -> Option<Attr>
-        ensures attr { result ≡ attr_of self.old.attrs number.0 }
-        ensures used { self.new ≡ record self.old { attrs = used self.old.attrs number.0 } }
-    {
-        let place = place_of(self.attrs.as_slice(), number)?;
-        let loaded = self.attrs[place];
-        self.attrs.copy_within(0..place, 1);
-        self.attrs[0] = loaded;
-        Some(loaded.attr)
-    }
-
-    /// Makes an attribute the most recent, and unloads the oldest first where the limit is reached.
-    pub fn load(&mut self, number: Number, attr: Attr)
-        ensures { self.new ≡ record self.old { attrs = load self.old.limit self.old.attrs number attr } }
-    {
-        self.attrs.truncate(self.limit - 1);
-        self.attrs.insert(0, LoadedAttr { number, attr }).unwrap();
-    }
-
-    /// Unloads a number.
-    pub fn remove(&mut self, number: Number)
-        ensures { self.new ≡ record self.old {
-          attrs = filter (λ (loaded : LoadedAttr). is_other number.0 (loaded_number loaded)) self.old.attrs;
-        } }
-    {
-        while let Some(place) = place_of(self.attrs.as_slice(), number) {
-            self.attrs.remove(place);
-        }
-    }
-
-    /// Unloads the oldest, unless nothing is loaded.
-    pub fn unload_oldest(&mut self) -> bool
-        ensures some { result ≡ nat_lt 0 (length self.old.attrs) }
-        ensures unloaded { self.new ≡ record self.old { attrs = without_oldest self.old.attrs } }
-    {
-        self.attrs.pop().is_some()
-    }
-}
-
-/// Returns where the attribute of a number stands. Kept apart from its callers, the loop takes half the instructions.
-#[inline(never)]
-fn place_of(attrs: &[LoadedAttr], number: Number) -> Option<usize>
-    ensures { let is_it = is_loaded_of number.0 in
-        MatchOption result (first_where is_it attrs.now ≡ None) (IsFirstPlace is_it attrs.now) }
+/// Takes the memory for as many attributes as the limit says. There is none for more than 65,536.
+pub(crate) fn nodes_of(alloc: Global, limit: usize) -> Result<Nodes<LoadedAttr>, NoMemory>
+    requires { 1 ≤ limit }
+    ensures { IfOk result (λ nodes. nodes ≡ arena [] limit) }
 {
-    for (place, loaded) in attrs.iter().enumerate() {
-        if loaded.number == number {
-            return Some(place);
-        }
+    if limit > MOST_LOADED {
+        return Err(NoMemory);
     }
-    None
+    Ok(Nodes::new(alloc, limit)?)
+}
+
+/// Returns the slot that the entry of a number notes.
+fn slot_of(table: &Table, number: Number) -> Option<Slot>
+    ensures { MatchOption result (note_of table.now.notes number.0 ≡ None)
+        (λ slot. note_of table.now.notes number.0 ≡ Some slot.index) }
+{
+    let index = table.get(number)?.note?;
+    Some(Slot { index })
+}
+
+/// Returns the loaded attribute of a number, and makes it the most recent.
+pub(crate) fn attr_at(table: &Table, nodes: &mut Nodes<LoadedAttr>, number: Number) -> Option<Attr>
+    requires named { AreNamed table.now.notes nodes.old }
+    ensures attr { result ≡ attr_of (attrs_in nodes.old) number.0 }
+    ensures used { attrs_in nodes.new ≡ used (attrs_in nodes.old) number.0 }
+    ensures capacity { nodes.new.capacity ≡ nodes.old.capacity }
+    ensures still_named { AreNamed table.now.notes nodes.new }
+{
+    nodes.slots_are_apart();
+    let slot = slot_of(table, number)?;
+    let attr = nodes.get(slot).attr;
+    nodes.touch(slot);
+    Some(attr)
+}
+
+/// Unloads the oldest attribute, unless nothing is loaded, and tells whether it did.
+pub(crate) fn unload_oldest(table: &mut Table, nodes: &mut Nodes<LoadedAttr>) -> bool
+    requires entries { AreOfKept loaded_number table.old.entries (attrs_in nodes.old) }
+    requires named { AreNamed table.old.notes nodes.old }
+    ensures some { result ≡ nat_lt 0 (length (attrs_in nodes.old)) }
+    ensures unloaded { attrs_in nodes.new ≡ without_oldest (attrs_in nodes.old) }
+    ensures capacity { nodes.new.capacity ≡ nodes.old.capacity }
+    ensures table { table.new ≡ record table.old { notes = table.new.notes } }
+    ensures still_named { AreNamed table.new.notes nodes.new }
+{
+    nodes.slots_are_apart();
+    let Some(slot) = nodes.oldest() else {
+        return false;
+    };
+    let loaded = nodes.remove(slot);
+    table.note(loaded.number, None);
+    true
+}
+
+/// Unloads the oldest attribute where the limit is reached.
+fn make_room(table: &mut Table, nodes: &mut Nodes<LoadedAttr>)
+    requires entries { AreOfKept loaded_number table.old.entries (attrs_in nodes.old) }
+    requires named { AreNamed table.old.notes nodes.old }
+    ensures left { attrs_in nodes.new ≡ take (nodes.old.capacity - 1) (attrs_in nodes.old) }
+    ensures room { length nodes.new.entries < nodes.new.capacity }
+    ensures capacity { nodes.new.capacity ≡ nodes.old.capacity }
+    ensures table { table.new ≡ record table.old { notes = table.new.notes } }
+    ensures still_named { AreNamed table.new.notes nodes.new }
+{
+    nodes.slots_are_apart();
+    if nodes.len() == nodes.capacity() {
+        unload_oldest(table, nodes);
+    }
+}
+
+/// Makes an attribute the most recent, and unloads the oldest first where the limit is reached.
+pub(crate) fn load_attr(
+    table: &mut Table,
+    nodes: &mut Nodes<LoadedAttr>,
+    number: Number,
+    attr: Attr,
+)
+    requires entry { IsSome (entry_of table.old.entries number.0) }
+    requires unloaded { attr_of (attrs_in nodes.old) number.0 ≡ None }
+    requires entries { AreOfKept loaded_number table.old.entries (attrs_in nodes.old) }
+    requires named { AreNamed table.old.notes nodes.old }
+    ensures loaded { attrs_in nodes.new ≡ load nodes.old.capacity (attrs_in nodes.old) number attr }
+    ensures capacity { nodes.new.capacity ≡ nodes.old.capacity }
+    ensures table { table.new ≡ record table.old { notes = table.new.notes } }
+    ensures still_named { AreNamed table.new.notes nodes.new }
+{
+    make_room(table, nodes);
+    nodes.slots_are_apart();
+    let Ok(slot) = nodes.add(LoadedAttr { number, attr }) else {
+        unreachable!()
+    };
+    table.note(number, Some(slot.index));
+}
+
+/// Removes an entry with what is loaded of it, and returns where it stood.
+pub(crate) fn strike(table: &mut Table, nodes: &mut Nodes<LoadedAttr>, number: Number) -> Place
+    requires entry { IsSome (entry_of table.old.entries number.0) }
+    requires named { AreNamed table.old.notes nodes.old }
+    ensures place { option_map place_of_kept (entry_of table.old.entries number.0) ≡ Some result }
+    ensures removed { table.new ≡ without_entry table.old number.0
+        (without_where (has_number number.0) table.old.entries) }
+    ensures unloaded { attrs_in nodes.new
+        ≡ filter (λ (loaded : LoadedAttr). is_other number.0 (loaded_number loaded)) (attrs_in nodes.old) }
+    ensures capacity { nodes.new.capacity ≡ nodes.old.capacity }
+    ensures still_named { AreNamed table.new.notes nodes.new }
+{
+    nodes.slots_are_apart();
+    let Some(slot) = slot_of(table, number) else {
+        return table.remove(number);
+    };
+    nodes.remove(slot);
+    table.remove(number)
 }

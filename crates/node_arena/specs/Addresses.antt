@@ -4,7 +4,7 @@ use Rattle.std.specs.Vec.{vec_ptr, vec_len}
 use Rattle.std_alloc.specs.declared.vec.Vec.{Vec}
 use denote.RawPtr.{Ptr, block_ptr, null_ptr}
 
--- where the value at the index lies: each takes so many bytes, and the first is at the start
+-- where the value at the index lies: each takes a size of bytes, and the first is at the start
 abbrev pub address_of : (start : Ptr) (bytes index : ℕ) → Ptr
 address_of (block_ptr b o) bytes index = block_ptr b (index * bytes + o)
 address_of null_ptr bytes index = null_ptr
@@ -19,6 +19,6 @@ index_of null_ptr bytes to = 0
 abbrev pub IsAmong : (start : Ptr) (bytes len : ℕ) (to : Ptr) → Type 0
 IsAmong start bytes len to = (index_of start bytes to < len) × (to ≡ address_of start bytes (index_of start bytes to))
 
--- the address is that of a value in the `Vec`, where each takes so many bytes
+-- the address is that of a value in the `Vec`, where each takes a size of bytes
 abbrev pub LeadsIn : {N A : Type 0} → Vec N A → (bytes : ℕ) (to : Ptr) → Type 0
 LeadsIn v bytes to = IsAmong (vec_ptr v) bytes (vec_len v) to

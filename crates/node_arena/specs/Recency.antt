@@ -7,7 +7,7 @@ use Rattle.node_arena.specs.declared.links.Link.{Link}
 use Rattle.node_arena.specs.declared.region.Region.{Region}
 use Rattle.node_arena.specs.declared.slot.Slot.{Slot}
 
--- the indexes that the next links lead to, so many from k on
+-- the indexes that the next links lead to, a count of them from k on
 abbrev pub walked : (ℕ → ℕ) → ℕ → ℕ → List ℕ
 walked next zero k = []
 walked next (suc n) k = k ∷ walked next n (next k)

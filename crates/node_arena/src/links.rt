@@ -45,6 +45,8 @@ impl<N> Model for Stride<N> {
     ghost also_shares = { λ s _ κ. said (feq ℕ s.bytes (type_size N.row)) κ };
 }
 
+unsafe impl<N> Send for Stride<N> {}
+
 impl<N> Stride<N> {
     /// Returns the size of an `N`.
     pub(crate) fn new() -> Stride<N>

@@ -82,10 +82,10 @@ impl<T> Nodes<T> {
     pub fn is_held(&self, slot: Slot) -> bool
         ensures held { IsTrue result ↔ IsHeld self.now slot }
     {
-        if slot.index > self.capacity as usize {
+        if slot.index > self.capacity {
             return false;
         }
-        self.region.is_held(self.region.link(slot.index))
+        self.region.is_held(self.region.link(slot.index as usize))
     }
 
     /// Returns the value of the slot.
@@ -93,7 +93,7 @@ impl<T> Nodes<T> {
         requires { IsHeld self.now slot }
         ensures value { value_at self.now slot ≡ Some result.now }
     {
-        self.region.value(self.region.link(slot.index))
+        self.region.value(self.region.link(slot.index as usize))
     }
 
     /// Returns the value of the slot, to write to. The order stays.
@@ -102,7 +102,7 @@ impl<T> Nodes<T> {
         ensures* writes_back { sem 𝓛 (lends_value T.row self.entry slot result) }
         ensures value { value_at self.old slot ≡ Some result.now }
     {
-        let lent = self.region.link(slot.index);
+        let lent = self.region.link(slot.index as usize);
         self.region.value_mut(lent)
     }
 
@@ -126,7 +126,7 @@ impl<T> Nodes<T> {
         ensures first { self.new ≡ touched self.old slot }
         ensures values { (s : Slot) → value_at self.new s ≡ value_at self.old s }
     {
-        let node = self.region.link(slot.index);
+        let node = self.region.link(slot.index as usize);
         let start = self.region.link(START);
         self.region.unlink(node);
         self.region.link_after(start, node);
@@ -140,7 +140,7 @@ impl<T> Nodes<T> {
         ensures gone { value_at self.new slot ≡ None }
         ensures others { (s : Slot) → s ≢ slot → value_at self.new s ≡ value_at self.old s }
     {
-        let node = self.region.link(slot.index);
+        let node = self.region.link(slot.index as usize);
         self.region.unlink(node);
         self.region.set_next(node, self.spare);
         self.spare = node;

@@ -91,11 +91,11 @@ impl<T> Region<T> {
     }
 
     /// Returns the index of the node that `link` leads to.
-    pub(crate) fn index(&self, link: Link) -> usize
+    pub(crate) fn index(&self, link: Link) -> u32
         requires { IsLaidOut self.now × IsPlaced self.now link }
         ensures { result ≡ place_of self.now link }
     {
-        self.node(link).item.index() as usize
+        self.node(link).item.index()
     }
 
     /// Returns a link to the node after the one that `link` leads to.

@@ -89,6 +89,27 @@ fn unloads_the_oldest_attribute_at_the_limit(rt: HostRuntime) {
     assert!(rt; all_go_so(rt.alloc(), 2, &LOADED));
 }
 
+static HANDED_ON: [Deed; 13] = [
+    Deed::Give(1, b"a", 2),
+    Deed::Load(2),
+    Deed::Forget(2, 1, Forgot::Dropped),
+    Deed::Give(1, b"b", 3),
+    Deed::Size(3, 0),
+    Deed::Load(3),
+    Deed::Size(3, 3),
+    Deed::Give(1, b"c", 4),
+    Deed::Load(4),
+    Deed::Size(3, 0),
+    Deed::Size(4, 4),
+    Deed::Unload(true),
+    Deed::Unload(false),
+];
+
+#[test]
+fn gives_the_only_node_to_one_number_after_another(rt: HostRuntime) {
+    assert!(rt; all_go_so(rt.alloc(), 1, &HANDED_ON));
+}
+
 static FORGOTTEN: [Deed; 12] = [
     Deed::Give(1, b"src", 2),
     Deed::Give(1, b"src", 2),

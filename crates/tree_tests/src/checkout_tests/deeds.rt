@@ -225,7 +225,7 @@ fn goes_so(alloc: Global, tree: &mut Tree, deed: Deed) -> bool {
     }
 }
 
-/// Does each deed in turn, and returns whether all go so.
+/// Does the deeds one after another, and returns whether all go so.
 fn each_goes_so(alloc: Global, tree: &mut Tree, deeds: &[Deed]) -> bool {
     for deed in deeds {
         if !goes_so(alloc, tree, *deed) {
@@ -235,7 +235,7 @@ fn each_goes_so(alloc: Global, tree: &mut Tree, deeds: &[Deed]) -> bool {
     true
 }
 
-/// Does each deed in turn on the tree of a text, and returns whether all go so.
+/// Does the deeds one after another on the tree of a text, and returns whether all go so.
 pub(crate) fn all_go_so(alloc: Global, text: &[u8], deeds: &[Deed]) -> bool {
     match tree_of(alloc, text) {
         Some(tree) => {

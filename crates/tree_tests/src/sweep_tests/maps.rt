@@ -34,7 +34,7 @@ fn number_of(
     }
 }
 
-/// Returns whether a map tells so many entries.
+/// Returns whether a map tells `count` entries.
 fn has_entries(alloc: Global, map: &InodeMap, count: usize) -> bool {
     match entries_of(alloc, map) {
         Ok(entries) => {
@@ -96,7 +96,7 @@ pub(crate) fn are_given(alloc: Global, count: u64, deep: bool, giving: Giving) -
     }
 }
 
-/// Gives a number to a name of so many bytes, and returns whether the map tells an entry for each length up to it.
+/// Gives a number to a name of `len` bytes, and returns whether the map tells an entry for each length up to it.
 fn is_name_given(alloc: Global, map: &mut InodeMap, len: usize) -> bool {
     match parsed(alloc, &LONGEST_NAME[..len.min(255)]) {
         Some(name) => {
@@ -131,7 +131,7 @@ pub(crate) fn are_names_given(alloc: Global) -> bool {
     }
 }
 
-/// Returns whether a map is made that keeps so many attributes loaded.
+/// Returns whether a map is made that keeps `limit` attributes loaded.
 fn is_limit_taken(alloc: Global, limit: usize) -> bool
     requires { 1 ≤ limit }
 {
@@ -144,12 +144,12 @@ fn is_limit_taken(alloc: Global, limit: usize) -> bool
     }
 }
 
-/// Returns that of the limits 1, 2, 4 and so on up to 65,536.
+/// Returns that of the limits 1, 2, 4 and so on up to 65,536, and that there is no room for more.
 pub(crate) fn is_each_limit_taken(alloc: Global) -> bool {
     for shift in 0..17u32 {
         if !is_limit_taken(alloc, 1 << shift) {
             return false;
         }
     }
-    true
+    !is_limit_taken(alloc, 65_537)
 }

@@ -19,7 +19,7 @@ fn lines_shared(manifest: &Manifest) -> Option<usize> {
     }
 }
 
-/// Returns whether a text is a manifest of so many lines, which is shared.
+/// Returns whether a text is a manifest of `lines` lines, which is shared.
 fn is_read(alloc: Global, text: &[u8], lines: usize) -> bool {
     match read_again(alloc, text) {
         Ok(manifest) => {

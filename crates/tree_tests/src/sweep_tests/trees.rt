@@ -10,7 +10,7 @@ use std::alloc::Global;
 /// The first file that is made in the tree of the small manifest.
 const FIRST: u64 = 6;
 
-/// Returns whether a tree tells how it differs from its manifest, by so many files.
+/// Returns whether a tree tells how it differs from its manifest, by `files` files.
 fn differs_by(tree: &Tree, files: usize) -> bool {
     match tree.changes() {
         Ok(changes) => {
@@ -72,7 +72,7 @@ pub(crate) fn are_made(alloc: Global, count: u64, deep: bool) -> bool {
     }
 }
 
-/// Makes a directory under a name of so many bytes, and returns whether the tree tells the names up to it.
+/// Makes a directory under a name of `len` bytes, and returns whether the tree tells the names up to it.
 fn is_name_made(alloc: Global, tree: &mut Tree, len: usize) -> bool {
     match parsed(alloc, &LONGEST_NAME[..len.min(255)]) {
         Some(name) => {

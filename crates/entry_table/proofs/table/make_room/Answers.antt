@@ -1,8 +1,8 @@
 -- Without the empty slots the entries are the same.
 use Rattle.std.proofs.Common.{ap, sym, ◌∙◌, subst, length, rules}
 use Rattle.std.proofs.lemmas.Fn.{filter_same}
-use Rattle.entry_table.specs.Slots.{kept_from, files_from, AreSlots}
-use Rattle.entry_table.proofs.SlotGrowth.{is_full, full-slots, full-kept, full-length, full-files}
+use Rattle.entry_table.specs.Slots.{kept_from, file_beside, note_beside, files_from, notes_from, AreSlots}
+use Rattle.entry_table.proofs.SlotGrowth.{is_full, full-slots, full-kept, full-length, full-beside}
 use Rattle.entry_table.proofs.table.make_room.Goals as goal
 
 pub returns-clause-entries : goal.returns-clause-entries
@@ -13,7 +13,12 @@ returns-clause-entries c =
 pub returns-clause-files : goal.returns-clause-files
 returns-clause-files c =
     let left = c.try_reserve_exact.ensures.items ∙ filter_same _ is_full _ (λ x b f r. search rules) _ _ c.retain.ensures.filtered in
-    ap files_from left ∙ full-files c.args.slots.now.items
+    ap files_from left ∙ full-beside file_beside c.args.slots.now.items
+
+pub returns-clause-notes : goal.returns-clause-notes
+returns-clause-notes c =
+    let left = c.try_reserve_exact.ensures.items ∙ filter_same _ is_full _ (λ x b f r. search rules) _ _ c.retain.ensures.filtered in
+    ap notes_from left ∙ full-beside note_beside c.args.slots.now.items
 
 pub returns-clause-numbers : goal.returns-clause-numbers
 returns-clause-numbers c = λ next are.

@@ -2,13 +2,13 @@
 use Rattle.std.proofs.Common.{◌≡◌, ℕ, ◌-◌, List, Option, Some, None, refl, sym, ap, ◌∙◌, subst, arith}
 use Rattle.std.specs.Prelude.{slice_set}
 use Rattle.entry_table.specs.Links.{link_of}
-use Rattle.entry_table.specs.Slots.{slot_at, kept_from, IsIndexed, IsPlaceOf}
+use Rattle.entry_table.specs.Slots.{slot_at, kept_from, file_beside, note_beside, IsIndexed, IsPlaceOf}
 use Rattle.entry_table.specs.declared.kept.Kept.{Kept}
 use Rattle.entry_table.specs.declared.kept.Held.{Held}
 use Rattle.entry_table.proofs.Counting.{less, less-keeps, good-item, count_in, count-held, bad-in}
 use Rattle.entry_table.proofs.IndexedLemmas.{indexed-changed}
 use Rattle.entry_table.proofs.SlotLemmas.{slot_held, files-kept}
-use Rattle.entry_table.proofs.TableLemmas.{found-in, found-held, written-slots, written-kept, written-files}
+use Rattle.entry_table.proofs.TableLemmas.{found-in, found-held, written-slots, written-kept, written-beside}
 use Rattle.entry_table.proofs.table.Table.lower.Goals as goal
 
 pub returns-in_err-place-clause-bad : goal.returns-in_err-place-clause-bad
@@ -78,7 +78,7 @@ returns-clause-lowered c =
     let h = c.in-Some.held in
     let there = subst (λ (es : List (ℕ × Option Held)). IsPlaceOf es n c.in_ok-place.place) c.as_slice.ensures.value c.in_ok-place.ensures.place in
     let now : Held = record h { count = h.count - c.args.k } in
-    rw (← c.self.view_is, written-kept t n c.in_ok-place.place slot c.self.invariant there c.index_mut-slot.ensures.value h now c.in-Some.is (less c.args.k) refl, written-files t n c.in_ok-place.place slot c.self.invariant there c.index_mut-slot.ensures.value h now c.in-Some.is refl) refl
+    rw (← c.self.view_is, written-kept t n c.in_ok-place.place slot c.self.invariant there c.index_mut-slot.ensures.value h now c.in-Some.is (less c.args.k) refl, written-beside t n c.in_ok-place.place slot c.self.invariant there c.index_mut-slot.ensures.value h now c.in-Some.is file_beside refl, written-beside t n c.in_ok-place.place slot c.self.invariant there c.index_mut-slot.ensures.value h now c.in-Some.is note_beside refl) refl
 
 pub returns-clause-kept : goal.returns-clause-kept
 returns-clause-kept c =

@@ -3,7 +3,7 @@ use Rattle.std.proofs.Common.{◌≡◌, List, length, refl, sym, ap, ◌∙◌,
 use Rattle.entry_table.specs.Links.{link_of}
 use Rattle.entry_table.specs.Slots.{kept_from, IsIndexed}
 use Rattle.entry_table.specs.declared.kept.Kept.{Kept}
-use Rattle.entry_table.proofs.EntryRuns.{slots-are, slots-kept, slots-files}
+use Rattle.entry_table.proofs.EntryRuns.{slots-are, slots-kept, slots-files, slots-notes}
 use Rattle.entry_table.proofs.table.Table.of_entries.Goals as goal
 
 pub invariant_of-result : goal.invariant_of-result
@@ -25,4 +25,4 @@ invariant_of-result c =
 pub returns : goal.returns
 returns c =
     let es = c.args.entries.items in
-    record { table = rw (c.in_ok-slots.ensures.slots, slots-kept es, slots-files es) refl }
+    record { table = rw (c.in_ok-slots.ensures.slots, slots-kept es, slots-files es, slots-notes es) refl }

@@ -5,13 +5,13 @@ use Rattle.std.proofs.lemmas.Bool.Decides.{nat_tests}
 use Rattle.eden_base.specs.Limits.{greatest_count}
 use Rattle.entry_table.specs.Entries.{count_of, once_more}
 use Rattle.entry_table.specs.Links.{link_of}
-use Rattle.entry_table.specs.Slots.{slot_at, kept_from, IsIndexed, IsPlaceOf}
+use Rattle.entry_table.specs.Slots.{slot_at, kept_from, file_beside, note_beside, IsIndexed, IsPlaceOf}
 use Rattle.entry_table.specs.declared.kept.Kept.{Kept}
 use Rattle.entry_table.specs.declared.kept.Held.{Held}
 use Rattle.entry_table.proofs.Counting.{once-keeps, count_in, count-held}
 use Rattle.entry_table.proofs.IndexedLemmas.{indexed-changed}
 use Rattle.entry_table.proofs.SlotLemmas.{slot_held, files-kept}
-use Rattle.entry_table.proofs.TableLemmas.{never-none, never-empty, found-in, found-held, written-slots, written-kept, written-files}
+use Rattle.entry_table.proofs.TableLemmas.{never-none, never-empty, found-in, found-held, written-slots, written-kept, written-beside}
 use Rattle.entry_table.proofs.table.Table.raise.Goals as goal
 
 full_in : (m : ℕ) → greatest_count ≤ m → nat_lt m greatest_count ≡ false
@@ -82,7 +82,7 @@ returns-clause-raised c =
     let h = c.in-Some-1₀.held in
     let there = subst (λ (es : List (ℕ × Option Held)). IsPlaceOf es n c.in-Some.place) c.as_slice.ensures.value c.in-Some.ensures.place in
     let now : Held = record h { count = h.count + 1 } in
-    rw (← c.self.view_is, written-kept t n c.in-Some.place slot c.self.invariant there c.index_mut-slot.ensures.value h now c.in-Some-1₀.is once_more refl, written-files t n c.in-Some.place slot c.self.invariant there c.index_mut-slot.ensures.value h now c.in-Some-1₀.is refl) refl
+    rw (← c.self.view_is, written-kept t n c.in-Some.place slot c.self.invariant there c.index_mut-slot.ensures.value h now c.in-Some-1₀.is once_more refl, written-beside t n c.in-Some.place slot c.self.invariant there c.index_mut-slot.ensures.value h now c.in-Some-1₀.is file_beside refl, written-beside t n c.in-Some.place slot c.self.invariant there c.index_mut-slot.ensures.value h now c.in-Some-1₀.is note_beside refl) refl
 
 pub returns-clause-kept : goal.returns-clause-kept
 returns-clause-kept c = rw (← c.self.view_is) (files-kept c.self.inside.slots.items)

@@ -2,11 +2,11 @@
 use Rattle.std.proofs.Common.{◌≡◌, ℕ, List, Option, Some, None, refl, sym, ap, ◌∙◌, subst}
 use Rattle.entry_table.specs.Entries.{has_number}
 use Rattle.entry_table.specs.Links.{link_of}
-use Rattle.entry_table.specs.Slots.{slot_at, kept_from, files_from, IsIndexed, IsPlaceOf}
+use Rattle.entry_table.specs.Slots.{slot_at, kept_from, file_beside, note_beside, files_from, IsIndexed, IsPlaceOf}
 use Rattle.entry_table.specs.declared.kept.Kept.{Kept}
 use Rattle.entry_table.specs.declared.kept.Held.{Held}
-use Rattle.entry_table.proofs.SlotGrowth.{set-remembered}
-use Rattle.entry_table.proofs.TableLemmas.{never-none, never-empty, found-in, found-held, written, written-slots, written-kept, changed-none}
+use Rattle.entry_table.proofs.SlotGrowth.{set-put}
+use Rattle.entry_table.proofs.TableLemmas.{never-none, never-empty, found-in, found-held, written, written-slots, written-kept, written-beside, changed-none}
 use Rattle.entry_table.proofs.table.Table.remember.Goals as goal
 
 pub unreachable-requires : goal.unreachable-requires
@@ -48,5 +48,6 @@ returns c =
     let now : Held = record h { file = Some c.args.file } in
     let same = written-kept t n c.in-Some.place slot c.self.invariant there c.index_mut-slot.ensures.value h now c.in-Some-1₀.is (λ x. x) refl ∙ changed-none (kept_from t.slots.items) (has_number n) in
     let found = found-held t n c.in-Some.place slot c.self.invariant there c.index_mut-slot.ensures.value h now c.in-Some-1₀.is in
-    let files = ap files_from (written t n c.in-Some.place slot c.self.invariant there c.index_mut-slot.ensures.value (Some now)) ∙ set-remembered t.next n c.args.file h now refl t.slots.items 2 c.self.invariant.slots found in
-    record { remembered = rw (← c.self.view_is, same, files) refl }
+    let files = ap files_from (written t n c.in-Some.place slot c.self.invariant there c.index_mut-slot.ensures.value (Some now)) ∙ set-put file_beside t.next n c.args.file h now refl t.slots.items 2 c.self.invariant.slots found in
+    let notes = written-beside t n c.in-Some.place slot c.self.invariant there c.index_mut-slot.ensures.value h now c.in-Some-1₀.is note_beside refl in
+    record { remembered = rw (← c.self.view_is, same, files, notes) refl }

@@ -5,13 +5,13 @@ use Rattle.eden_base.specs.First.{changed_where}
 use Rattle.eden_base.specs.declared.place.Place.TheVariants.{Unlinked}
 use Rattle.entry_table.specs.Entries.{has_number, entry_of, marked}
 use Rattle.entry_table.specs.Links.{link_of}
-use Rattle.entry_table.specs.Slots.{slot_at, kept_from, IsIndexed, IsPlaceOf}
+use Rattle.entry_table.specs.Slots.{slot_at, kept_from, file_beside, note_beside, IsIndexed, IsPlaceOf}
 use Rattle.entry_table.specs.Table.{TableState, kept_of}
 use Rattle.entry_table.specs.declared.kept.Kept.{Kept}
 use Rattle.entry_table.specs.declared.kept.Held.{Held}
 use Rattle.entry_table.proofs.IndexedLemmas.{indexed-lost}
 use Rattle.entry_table.proofs.SlotLemmas.{files-kept}
-use Rattle.entry_table.proofs.TableLemmas.{never-none, never-empty, slot-entry, found-in, found-held, written-slots, written-kept, written-files, marked-loses, linked-some, linked-place}
+use Rattle.entry_table.proofs.TableLemmas.{never-none, never-empty, slot-entry, found-in, found-held, written-slots, written-kept, written-beside, marked-loses, linked-some, linked-place}
 use Rattle.entry_table.proofs.table.Table.unlink.Goals as goal
 
 pub unreachable-requires : goal.unreachable-requires
@@ -46,7 +46,7 @@ invariant_of-self c =
     let h = c.in-Some-take.held in
     let there = subst (λ (es : List (ℕ × Option Held)). IsPlaceOf es n c.in-Some.place) c.as_slice.ensures.value c.in-Some.ensures.place in
     let here = sym c.take.ensures.value ∙ c.in-Some-take.is in
-    let now : Held = record { place = Unlinked c.args.file; count = h.count; file = h.file } in
+    let now : Held = record { place = Unlinked c.args.file; count = h.count; file = h.file; note = h.note } in
     let entry = slot-entry t n h c.self.invariant (found-held t n c.in-Some.place slot c.self.invariant there c.index_mut-slot.ensures.value h now here) in
     let left : List Kept = changed_where (has_number n) (marked c.args.file) (kept_from t.slots.items) in
     record {
@@ -67,8 +67,8 @@ returns-clause-unlinked c =
     let h = c.in-Some-take.held in
     let there = subst (λ (es : List (ℕ × Option Held)). IsPlaceOf es n c.in-Some.place) c.as_slice.ensures.value c.in-Some.ensures.place in
     let here = sym c.take.ensures.value ∙ c.in-Some-take.is in
-    let now : Held = record { place = Unlinked c.args.file; count = h.count; file = h.file } in
-    rw (← c.self.view_is, written-kept t n c.in-Some.place slot c.self.invariant there c.index_mut-slot.ensures.value h now here (marked c.args.file) refl, written-files t n c.in-Some.place slot c.self.invariant there c.index_mut-slot.ensures.value h now here refl) refl
+    let now : Held = record { place = Unlinked c.args.file; count = h.count; file = h.file; note = h.note } in
+    rw (← c.self.view_is, written-kept t n c.in-Some.place slot c.self.invariant there c.index_mut-slot.ensures.value h now here (marked c.args.file) refl, written-beside t n c.in-Some.place slot c.self.invariant there c.index_mut-slot.ensures.value h now here file_beside refl, written-beside t n c.in-Some.place slot c.self.invariant there c.index_mut-slot.ensures.value h now here note_beside refl) refl
 
 pub returns-clause-dir : goal.returns-clause-dir
 returns-clause-dir c =
@@ -84,5 +84,5 @@ returns-clause-dir c =
 pub returns-clause-kept : goal.returns-clause-kept
 returns-clause-kept c =
     let h = c.in-Some-take.held in
-    let now : Held = record { place = Unlinked c.args.file; count = h.count; file = h.file } in
+    let now : Held = record { place = Unlinked c.args.file; count = h.count; file = h.file; note = h.note } in
     files-kept (slice_set c.self.inside.slots.items c.in-Some.place (c.index_mut-slot.result.now.0, Some now))

@@ -7,7 +7,8 @@ use Rattle.entry_table.specs.EntryPlaces.{AreOfUseBut}
 use Rattle.inode_map.specs.Inside.{IsConsistent}
 use Rattle.entry_table.specs.Entries.{count_of, is_kid_of, lowered, AreNumbers}
 use Rattle.inode_map.specs.InodeMap.{MapState, forgot, is_useless, left_of_use, loaded_number}
-use Rattle.inode_map.specs.Recency.{LoadedState}
+use Rattle.inode_map.specs.Loaded.{attrs_in, AreNamed}
+use Rattle.inode_map.specs.declared.loaded.LoadedAttr.{LoadedAttr}
 use Rattle.entry_table.specs.Table.{TableState, AreOfKept}
 use Rattle.inode_map.specs.Pruned.{of_kept, pruned}
 use Rattle.entry_table.specs.declared.kept.Kept.{Kept}
@@ -90,7 +91,10 @@ drop_upwards-requires-clause-others_of_use c =
 pub drop_upwards-requires-clause-loaded : goal.drop_upwards-requires-clause-loaded
 drop_upwards-requires-clause-loaded c =
     let m = c.self.inside in
-    subst (λ (new : TableState). AreOfKept loaded_number new.entries m.loaded.attrs) (sym c.in-Some.ensures.lowered) (loaded-less m c.args.self.now c.lower.new.self c.args.number.0 c.args.k c.self.invariant)
+    subst (λ (new : TableState). AreOfKept loaded_number new.entries (attrs_in m.loaded)) (sym c.in-Some.ensures.lowered) (loaded-less m c.args.self.now c.lower.new.self c.args.number.0 c.args.k c.self.invariant)
+
+pub drop_upwards-requires-clause-named : goal.drop_upwards-requires-clause-named
+drop_upwards-requires-clause-named c = subst (λ (new : TableState). AreNamed new.notes c.self.inside.loaded) (sym c.in-Some.ensures.lowered) c.self.invariant.named
 
 pub invariant_of-self-2 : goal.invariant_of-self-2
 invariant_of-self-2 c =
@@ -99,11 +103,15 @@ invariant_of-self-2 c =
     let less = c.in-Some.ensures.lowered in
     let es : List Kept = left_of_use (lowered t.entries c.args.number.0 c.args.k) in
     let now = struck-kept t.entries t.next c.args.number.0 c.args.k (record { numbers = c.self.invariant.numbers; of_use = c.self.invariant.of_use }) in
-    let left = c.drop_upwards.ensures.pruned ∙ ap pruned less in
-    let loaded = c.drop_upwards.ensures.unloaded ∙ ap (λ (s : TableState). record m.loaded { attrs = of_kept loaded_number (left_of_use s.entries) m.loaded.attrs }) less in
-    subst (λ (new : TableState). IsConsistent (record { table = new; bad_items = m.bad_items; loaded = c.drop_upwards.new.loaded })) (sym left)
-    (subst (λ (new : LoadedState). IsConsistent (record { table = pruned (record t { entries = lowered t.entries c.args.number.0 c.args.k }); bad_items = m.bad_items; loaded = new })) (sym loaded)
-    (record { numbers = now.numbers; numbers_fit = c.self.invariant.numbers_fit; of_use = now.of_use; loaded = of_kept-kept loaded_number es m.loaded.attrs }))
+    let left = c.drop_upwards.ensures.pruned ∙ ap (λ (s : TableState). pruned s c.drop_upwards.new.table.notes) less in
+    let loaded = c.drop_upwards.ensures.unloaded ∙ ap (λ (s : TableState). of_kept loaded_number (left_of_use s.entries) (attrs_in m.loaded)) less in
+    subst (λ (new : TableState). IsConsistent (record { table = new; bad_items = m.bad_items; loaded = c.drop_upwards.new.loaded })) (sym left) (record {
+      numbers = now.numbers;
+      numbers_fit = c.self.invariant.numbers_fit;
+      of_use = now.of_use;
+      loaded = subst (λ (xs : List LoadedAttr). AreOfKept loaded_number es xs) (sym loaded) (of_kept-kept loaded_number es (attrs_in m.loaded));
+      named = c.drop_upwards.ensures.still_named;
+    })
 
 pub returns-clause-forgot : goal.returns-clause-forgot
 returns-clause-forgot c =

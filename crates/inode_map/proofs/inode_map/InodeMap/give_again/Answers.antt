@@ -7,6 +7,7 @@ use Rattle.eden_base.specs.Limits.{greatest_count}
 use Rattle.entry_table.specs.Entries.{has_number, entry_of, count_of, once_more, entry_at, number_of_kept, AreNumbers}
 use Rattle.inode_map.specs.InodeMap.{MapState, given, loaded_number}
 use Rattle.inode_map.specs.Inside.{IsConsistent}
+use Rattle.inode_map.specs.Loaded.{attrs_in}
 use Rattle.entry_table.specs.Table.{TableState}
 use Rattle.inode_map.proofs.Giving.{has-entry, again-full, again-free, again-given, again-kept, is-full, is-free}
 use Rattle.inode_map.proofs.Keeping.{of-changed}
@@ -38,7 +39,8 @@ invariant_of-self-2 c =
       numbers = are.numbers;
       numbers_fit = c.self.invariant.numbers_fit;
       of_use = are.of_use;
-      loaded = of-changed loaded_number t.entries c.args.number.0 once_more c.self.inside.loaded.attrs (λ x. refl) c.self.invariant.loaded;
+      loaded = of-changed loaded_number t.entries c.args.number.0 once_more (attrs_in c.self.inside.loaded) (λ x. refl) c.self.invariant.loaded;
+      named = c.self.invariant.named;
     })
 
 pub returns-clause-given : goal.returns-clause-given
@@ -58,7 +60,7 @@ returns-clause-accepted c =
 pub returns-clause-taken_back : goal.returns-clause-taken_back
 returns-clause-taken_back c =
     let m = c.self.inside in
-    let map : MapState = record { entries = m.table.entries; next = m.table.next; bad_items = m.bad_items; loaded = m.loaded.attrs; limit = m.loaded.limit; spare = m.table.spare; remembered = m.table.remembered } in
+    let map : MapState = record { entries = m.table.entries; next = m.table.next; bad_items = m.bad_items; loaded = attrs_in m.loaded; limit = m.loaded.capacity; spare = m.table.spare; remembered = m.table.remembered } in
     let has = subst (λ (s : MapState). Some c.args.number ≡ option_map number_of_kept (entry_at s.entries c.args.parent.0 c.args.name.now)) (sym c.self.view_is) c.requires.has in
     let h = has-entry map.entries 2 map.next c.args.parent.0 c.args.name.now c.args.number c.self.invariant.numbers has in
     rw (c.if-not-raise.ensures.raised) (taken-back map c.args.number.0 h.kept (record { numbers = c.self.invariant.numbers; of_use = c.self.invariant.of_use }) c.self.invariant.loaded c.if-not-raise.ensures.kept h.entry ∙ c.self.view_is)

@@ -3,6 +3,7 @@ use Rattle.std.proofs.Common.{lit<, refl, sym, subst, arith, rules}
 use Rattle.entry_table.specs.Entries.{new_entry}
 use Rattle.inode_map.specs.InodeMap.{loaded_number}
 use Rattle.inode_map.specs.Inside.{IsConsistent}
+use Rattle.inode_map.specs.Loaded.{attrs_in}
 use Rattle.entry_table.specs.Table.{TableState}
 use Rattle.entry_table.specs.declared.kept.Kept.{Kept}
 use Rattle.entry_table.proofs.EntryLemmas.{next-none}
@@ -19,7 +20,8 @@ invariant_of-self c =
       numbers = are.numbers;
       numbers_fit = let f = c.if-next-ge-END_OF_NUMBERS.false in let e = c.next.ensures.next in omega arith;
       of_use = are.of_use;
-      loaded = of-added loaded_number t.entries x c.self.inside.loaded.attrs (next-none t.entries t.next c.self.invariant.numbers) c.self.invariant.loaded;
+      loaded = of-added loaded_number t.entries x (attrs_in c.self.inside.loaded) (next-none t.entries t.next c.self.invariant.numbers) c.self.invariant.loaded;
+      named = c.self.invariant.named;
     })
 
 -- What a wrong body of must-fail/ breaks; an answer makes its refusal cheap.

@@ -14,4 +14,5 @@ invariant_of-result c =
       numbers_fit = rw c.in_ok-table.ensures.table are.last;
       of_use = rw c.in_ok-table.ensures.table (λ n kept e. inl (each-entry es (λ (x : Kept). is_of_use es x ≡ true) n kept are.of_use e));
       loaded = rw c.in_ok-loaded.ensures tt;
+      named = rw (c.in_ok-table.ensures.table, c.in_ok-loaded.ensures) (record { noted = λ n note at. absurd (let none : ⊥ = cc in none); held = λ s loaded at. absurd (let none : ⊥ = cc in none) });
     }
