@@ -5,7 +5,8 @@ use Rattle.manifest.specs.Manifest.{Manifest}
 use Rattle.fuse_ops.specs.Served.{ServedState}
 use Rattle.fuse_ops.specs.Soundness.{IsSound}
 use Rattle.map_image.specs.ImageReading.{HasHeader, header_of_bytes}
-use Rattle.map_image.specs.ImageText.{IsImageText, form_of}
+use Rattle.map_image.specs.ImageText.{IsImageText}
+use Rattle.map_image.specs.Versions.{form_of}
 use Rattle.map_image.specs.declared.fault.ImageFault.{ImageFault}
 use Rattle.map_image.specs.declared.fault.ImageFault.TheVariants as reading
 use Rattle.map_image.specs.declared.fault.WriteFault.{WriteFault}

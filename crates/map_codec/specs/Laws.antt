@@ -1,9 +1,11 @@
--- What holds of the definitions alone: from what one daemon handed over the next one serves the same.
+-- What holds of the definitions alone: from what one daemon handed over the next one serves the same, and it is not too
+-- long.
 use Rattle.std.specs.Prelude.{◌≡◌, ℕ, List}
 use Rattle.manifest.specs.Manifest.{Manifest, IsManifest}
 use Rattle.manifest.specs.Tree.{IsTree}
 use Rattle.fuse_ops.specs.Served.{ServedState, plain}
 use Rattle.fuse_ops.specs.Soundness.{IsSound}
+use Rattle.map_image.specs.Versions.{IsNoLonger}
 use Rattle.map_codec.specs.Handover.{CannotBeTakenOver, IsHandedOver, IsTakenOver}
 
 -- what is taken over from the bytes of what was served over the same manifest knows the same, at whatever limit
@@ -19,3 +21,9 @@ CanBeTaken =
     (manifest : Manifest) (at version : ℕ) (bytes : List ℕ) (made : ServedState) → IsSound made →
     IsTree made.tree → IsManifest manifest → made.tree.manifest ≡ manifest → IsHandedOver made at version bytes →
     CannotBeTakenOver manifest at bytes → ⊥
+
+-- the bytes that are handed over are no longer than the longest text of their version
+abbrev pub HandedIsNoLonger : Type 0
+HandedIsNoLonger =
+    (at version : ℕ) (bytes : List ℕ) (made : ServedState) → IsHandedOver made at version bytes →
+    IsNoLonger version bytes

@@ -1,9 +1,10 @@
 -- What a daemon serves that is raised from an image over a manifest, and what stands against it. (This project's own;
 -- EdenFS's daemon takes what it is sent as it is.)
-use Rattle.std.specs.Prelude.{◌≡◌, ◌≢◌, ℕ, ◌<◌, ◌&&◌, Bool, true, false, nat_lt, nat_le, List, slice_get, Option, Some, None, is_some}
+use Rattle.std.specs.Prelude.{◌≡◌, ◌≢◌, ℕ, ◌<◌, ◌&&◌, Bool, true, false, nat_lt, nat_le, List, slice_get, Option, Some, None, is_some, Result, Ok, Err}
 use Rattle.std.specs.List.{AllByRecursion, list_all}
 use Rattle.eden_base.specs.Limits.{end_of_numbers}
 use Rattle.eden_base.specs.declared.number.FileId.{FileId}
+use Rattle.eden_base.specs.declared.memory.NoMemory.{NoMemory as Lack}
 use Rattle.eden_base.specs.declared.place.Place.{Place}
 use Rattle.eden_base.specs.declared.place.Place.TheVariants.{Linked, Unlinked}
 use Rattle.checkout.specs.BadChanges.{bad_itself, IsBadChange}
@@ -83,6 +84,11 @@ StandsAgainst tree entries next (Some NumberTooHigh) =
     (have_parents entries ≡ true) × HaveFiles tree entries × (AreOfOneFile tree entries → ⊥)
     × (is_next next entries ≡ false)
 StandsAgainst tree entries next (Some fault) = ⊥
+
+-- what is told where this was found against entries: out of memory is a cause of its own
+abbrev pub entries_told : Result (Option RaiseFault) Lack → Option RaiseFault
+entries_told (Ok found) = found
+entries_told (Err lack) = Some NoMemory
 
 -- the image is of the manifest's commit, and its changes make a tree
 pub record TellsATree (m : Manifest) (image : Image) : Type 0 where

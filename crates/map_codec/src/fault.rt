@@ -1,4 +1,4 @@
-//! Why an image could not be raised, and why nothing is handed or taken over.
+//! What stops an image from being raised, and a handover.
 use thiserror::Error;
 
 /// Why nothing that a daemon could serve is raised from an image. The first that holds is told, in this order.
@@ -21,7 +21,7 @@ pub enum RaiseFault {
     NoMemory,
 }
 
-/// Why nothing is handed or taken over.
+/// What stops a handover or a takeover.
 #[derive(Clone, Copy, Debug, PartialEq, Eq, Error)]
 pub enum HandoverFault {
     /// No memory would help: what is served, or the bytes, cannot be handed or taken over.

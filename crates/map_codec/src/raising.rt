@@ -3,7 +3,7 @@ ghost use Rattle.std.specs.Prelude.{◌≡◌, true, None, IfErr, IfOk, OnOk};
 ghost use Rattle.manifest.specs.Tree.{IsTree};
 ghost use Rattle.fuse_ops.specs.Soundness.{IsSound};
 ghost use Rattle.map_image.specs.Fit.{entry_follows, rises, CountsFit, IsFit};
-ghost use Rattle.map_codec.specs.Raising.{raised, tree_told, IsRaisable, IsRaiseRefusal, StandsAgainst, TellsATree};
+ghost use Rattle.map_codec.specs.Raising.{entries_told, raised, tree_told, IsRaisable, IsRaiseRefusal, StandsAgainst, TellsATree};
 
 use crate::RaiseFault;
 use crate::directories::directories;
@@ -64,6 +64,16 @@ fn tree_told(alloc: Global, image: &Image, manifest: &Manifest) -> Result<Tree, 
     }
 }
 
+/// Returns what stands against entries, where this was found; out of memory is a cause of its own.
+fn entries_told(found: Result<Option<RaiseFault>, NoMemory>) -> Option<RaiseFault>
+    ensures { result ≡ entries_told found }
+{
+    match found {
+        Ok(fault) => fault,
+        Err(NoMemory) => Some(RaiseFault::NoMemory),
+    }
+}
+
 /// Makes the tree that an image tells, where the image's entries may be served over it.
 fn raisable_tree(alloc: Global, image: &Image, manifest: &Manifest) -> Result<Tree, RaiseFault>
     requires fit { IsFit image.now }
@@ -73,13 +83,14 @@ fn raisable_tree(alloc: Global, image: &Image, manifest: &Manifest) -> Result<Tr
     ensures refused { IfErr result (IsRaiseRefusal manifest.now image.now) }
 {
     let tree = tree_told(alloc, image, manifest)?;
-    let fault = match entry_fault(alloc, &tree, image.entries.as_slice(), image.next_number) {
-        Ok(None) => return Ok(tree),
-        Ok(Some(fault)) => fault,
-        Err(NoMemory) => RaiseFault::NoMemory,
-    };
-    drop(tree);
-    Err(fault)
+    let found = entry_fault(alloc, &tree, image.entries.as_slice(), image.next_number);
+    match entries_told(found) {
+        None => Ok(tree),
+        Some(fault) => {
+            drop(tree);
+            Err(fault)
+        }
+    }
 }
 
 /// Returns an image's entries, and lets the rest of it go.

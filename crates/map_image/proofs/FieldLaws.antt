@@ -1,20 +1,24 @@
 -- Marks and names: what is read is spelled so, and what is spelled so is read.
-use Rattle.std.proofs.Common.{◌≡◌, ℕ, ◌^◌, ◌<◌, ◌≤◌, Bool, true, false, cond, ltb, eqb, List, length, Option, Some, None, Result, Ok, Err, refl, subst, arith}
+use Rattle.std.proofs.Common.{◌≡◌, ℕ, ◌^◌, ◌<◌, ◌≤◌, Bool, true, false, cond, ltb, eqb, nat_le, List, length, Option, Some, None, Result, Ok, Err, refl, subst, arith}
 use Rattle.std.specs.Prelude.{is_some}
 use Rattle.std.specs.Int.{w16, w32, w64}
 use Rattle.std.proofs.lemmas.Bool.{ltb-false}
 use Rattle.std.proofs.lemmas.Bool.Decides.{nat_tests}
-use Rattle.byte_codec.specs.Field.{byte_text, number_bytes}
-use Rattle.byte_codec.specs.Reading.{bytes_at, number_at}
+use Rattle.byte_codec.specs.Field.{AreBytes, byte_text, number_bytes}
+use Rattle.byte_codec.specs.Reading.{◌>>=◌, bytes_at, number_at}
 use Rattle.byte_codec.proofs.FieldLaws.{IsBelow, two, four, eight, two_back, four_back, eight_back}
-use Rattle.byte_codec.proofs.PairLaws.{HasLen, IsCodec, codec_as, of_byte, of_bytes, of_number, pair, seen}
+use Rattle.byte_codec.proofs.PairLaws.{HasLen, IsCodec, codec_as, of_byte, of_bytes, of_number, pair, seen, tested}
 use Rattle.byte_codec.proofs.StepLemmas.{guard_is}
 use Rattle.eden_base.specs.declared.name.NameFault.{NameFault}
 use Rattle.eden_base.specs.Name.{IsNameText, name_fault}
 use Rattle.map_image.specs.declared.fault.ImageFault.{ImageFault}
 use Rattle.map_image.specs.declared.fault.ImageFault.TheVariants.{Short, BadMark, BadName}
 use Rattle.map_image.specs.ImageText.{name_text}
-use Rattle.map_image.specs.ImageReading.{mark_at, counted_at, named, name_at}
+use Rattle.map_image.specs.ImageReading.{mark_at, count_at, counted_at, named, name_at}
+use Rattle.map_image.specs.Versions.{IsForm, first_form, limit_of, width_of}
+use Rattle.map_image.specs.declared.version.CountWidth.{CountWidth}
+use Rattle.map_image.specs.declared.version.CountWidth.TheVariants.{Four, Eight}
+use Rattle.map_image.specs.declared.version.VersionForm.{VersionForm}
 use Rattle.map_image.proofs.Lengths.{name_is_short}
 
 -- ---- numbers
@@ -27,6 +31,39 @@ of_four = of_number Short w32 (2 ^ 32) four four_back
 
 pub of_eight : IsCodec (number_bytes w64) (IsBelow (2 ^ 64)) (number_at Short w64)
 of_eight = of_number Short w64 (2 ^ 64) eight eight_back
+
+-- ---- counts
+
+of_width : (width : CountWidth) → IsCodec (number_bytes (width_of width)) (IsBelow (limit_of width)) (number_at Short (width_of width))
+of_width Four = of_four
+of_width Eight = of_eight
+
+abbrev pub IsAtMost : ℕ → ℕ → Type 0
+IsAtMost greatest n = n ≤ greatest
+
+at_most : (n greatest : ℕ) → nat_le n greatest ≡ true → n ≤ greatest
+at_most n greatest e = grind (arith, nat_tests)
+
+is_at_most : (n greatest : ℕ) → n ≤ greatest → nat_le n greatest ≡ true
+is_at_most n greatest le = grind (arith, nat_tests)
+
+pub of_count : (form : VersionForm) → IsForm form → IsCodec (number_bytes (width_of form.count_width)) (IsAtMost form.greatest_count) (count_at form)
+unfolding count_at
+of_count form is =
+    codec_as (number_bytes (width_of form.count_width)) (IsAtMost form.greatest_count) (tested (λ (n : ℕ). nat_le n form.greatest_count) BadMark (of_width form.count_width))
+    (λ n fits. refl)
+    (λ n fits. at_most n form.greatest_count fits.1)
+    (λ n le. let room = is.count_has_room in (omega (arith, le, room), is_at_most n form.greatest_count le))
+
+-- each whole count of version 1 is read: none is above the greatest
+pub first_count : (bytes : List ℕ) → AreBytes bytes → count_at first_form bytes ≡ number_at Short (width_of Four) bytes
+unfolding count_at
+first_count bytes are = in_ (number_at Short (width_of Four) bytes) refl where
+  in_ : (read : Result (ℕ × List ℕ) ImageFault) → number_at Short (width_of Four) bytes ≡ read → (read >>= λ count. cond (nat_le count.0 first_form.greatest_count) (Ok count) (Err BadMark)) ≡ read
+  in_ (Ok count) is =
+      let below = (of_four.found bytes count are is).good in
+      rw (is_at_most count.0 first_form.greatest_count (omega (arith, below))) refl
+  in_ (Err fault) is = refl
 
 -- ---- marks
 

@@ -5,7 +5,8 @@ use Rattle.byte_codec.proofs.StepLemmas.{bind_ok, guard_ok, ok_is, test_ok}
 use Rattle.map_image.specs.declared.fault.ImageFault.TheVariants.{Rest, ZeroUse}
 use Rattle.map_image.specs.declared.header.Header.{Header}
 use Rattle.map_image.specs.declared.image.Image.{Image}
-use Rattle.map_image.specs.ImageText.{Form, IsImageText}
+use Rattle.map_image.specs.ImageText.{IsImageText}
+use Rattle.map_image.specs.declared.version.VersionForm.{VersionForm}
 use Rattle.map_image.specs.ImageReading.{are_of_use, changes_at, entry_at, fields_at, form_at, header_at, header_of_bytes, image_of_bytes, image_with, list_at, magic_at, seen_whole}
 use Rattle.map_image.proofs.ImageLaws.{image_again}
 
@@ -17,7 +18,7 @@ pub record IsHeaded (bytes : List ℕ) (image : Image) : Type 0 where
   pub generation : header.generation ≡ image.generation
 
 -- the fields in front of the lists, one behind the other
-header_read : (bytes fields : List ℕ) (form : Form × List ℕ) (header : Header × List ℕ) → magic_at bytes ≡ Ok fields → form_at fields ≡ Ok form → header_at form.1 ≡ Ok header → header_of_bytes bytes ≡ Ok header.0
+header_read : (bytes fields : List ℕ) (form : VersionForm × List ℕ) (header : Header × List ℕ) → magic_at bytes ≡ Ok fields → form_at fields ≡ Ok form → header_at form.1 ≡ Ok header → header_of_bytes bytes ≡ Ok header.0
 unfolding header_of_bytes
 header_read bytes fields form header first second third = rw (first, second, third) refl
 
@@ -28,10 +29,10 @@ headed bytes image e =
     let g = guard_ok (ltb 0 (length b.0.1)) Rest (cond (are_of_use b.0.0.entries) (Ok b.0.0) (Err ZeroUse)) image b.2 in
     let t = test_ok (are_of_use b.0.0.entries) ZeroUse (Ok b.0.0) image g.1 in
     let same : b.0.0 ≡ image = ok_is b.0.0 image t.1 in
-    let m = bind_ok (magic_at bytes) (λ fields. form_at fields >>= λ form. header_at form.1 >>= λ header. list_at (entry_at form.0.count) header.1 >>= λ entries. changes_at header.0.next_file entries.1 >>= λ changes. Ok (image_with header.0 entries.0 changes.0, changes.1)) b.0 b.1 in
-    let f = bind_ok (form_at m.0) (λ form. header_at form.1 >>= λ header. list_at (entry_at form.0.count) header.1 >>= λ entries. changes_at header.0.next_file entries.1 >>= λ changes. Ok (image_with header.0 entries.0 changes.0, changes.1)) b.0 m.2 in
-    let h = bind_ok (header_at f.0.1) (λ header. list_at (entry_at f.0.0.count) header.1 >>= λ entries. changes_at header.0.next_file entries.1 >>= λ changes. Ok (image_with header.0 entries.0 changes.0, changes.1)) b.0 f.2 in
-    let es = bind_ok (list_at (entry_at f.0.0.count) h.0.1) (λ entries. changes_at h.0.0.next_file entries.1 >>= λ changes. Ok (image_with h.0.0 entries.0 changes.0, changes.1)) b.0 h.2 in
+    let m = bind_ok (magic_at bytes) (λ fields. form_at fields >>= λ form. header_at form.1 >>= λ header. list_at (entry_at form.0) header.1 >>= λ entries. changes_at header.0.next_file entries.1 >>= λ changes. Ok (image_with header.0 entries.0 changes.0, changes.1)) b.0 b.1 in
+    let f = bind_ok (form_at m.0) (λ form. header_at form.1 >>= λ header. list_at (entry_at form.0) header.1 >>= λ entries. changes_at header.0.next_file entries.1 >>= λ changes. Ok (image_with header.0 entries.0 changes.0, changes.1)) b.0 m.2 in
+    let h = bind_ok (header_at f.0.1) (λ header. list_at (entry_at f.0.0) header.1 >>= λ entries. changes_at header.0.next_file entries.1 >>= λ changes. Ok (image_with header.0 entries.0 changes.0, changes.1)) b.0 f.2 in
+    let es = bind_ok (list_at (entry_at f.0.0) h.0.1) (λ entries. changes_at h.0.0.next_file entries.1 >>= λ changes. Ok (image_with h.0.0 entries.0 changes.0, changes.1)) b.0 h.2 in
     let cs = bind_ok (changes_at h.0.0.next_file es.0.1) (λ changes. Ok (image_with h.0.0 es.0.0 changes.0, changes.1)) b.0 es.2 in
     let whole : (image_with h.0.0 es.0.0 cs.0.0, cs.0.1) ≡ b.0 = ok_is (image_with h.0.0 es.0.0 cs.0.0, cs.0.1) b.0 cs.2 in
     let made : image_with h.0.0 es.0.0 cs.0.0 ≡ image = ap (λ (x : Image × List ℕ). x.0) whole ∙ same in

@@ -1,6 +1,6 @@
 -- Whole images: what is read is a text of it, and what is a text is read.
-use Rattle.std.proofs.Common.{◌≡◌, ℕ, ◌^◌, ◌<◌, Bool, true, false, cond, ◌&&◌, eqb, ltb, nat_eq, List, [], ◌∷◌, ◌++◌, length, Some, None, Result, Ok, Err, refl, sym, ap, subst, ◌∙◌, append_assoc, arith}
-use Rattle.std.specs.Int.{w16, w32, w64}
+use Rattle.std.proofs.Common.{◌≡◌, ℕ, ◌^◌, ◌<◌, Bool, true, false, cond, ◌&&◌, ltb, nat_eq, List, [], ◌∷◌, ◌++◌, length, Option, Some, None, Result, Ok, Err, refl, sym, ap, subst, ◌∙◌, append_assoc, arith}
+use Rattle.std.specs.Int.{w16, w64}
 use Rattle.std.specs.List.{AllByRecursion}
 use Rattle.std.specs.Cmp.Lexicographic.{pointwise}
 use Rattle.std.proofs.lemmas.Bool.{ltb-false, eqb-true}
@@ -23,8 +23,12 @@ use Rattle.map_image.specs.declared.header.Header.{Header}
 use Rattle.map_image.specs.declared.image.Image.{Image}
 use Rattle.entry_table.specs.EntryPlaces.{HasName}
 use Rattle.map_image.specs.Fit.{entry_follows, made_follows, link_follows, IsFit}
-use Rattle.map_image.specs.ImageText.{Form, first_form, form_of, magic, entry_text, made_text, link_text, list_text, image_text, FitsEntry, FitsMade, FitsLink, FitsNumbers, FitsMembers, IsImageText}
+use Rattle.map_image.specs.ImageText.{magic, entry_text, made_text, link_text, list_text, image_text, FitsEntry, FitsMade, FitsLink, FitsNumbers, FitsMembers, IsImageText}
 use Rattle.map_image.specs.ImageReading.{entry_at, made_at, link_at, list_at, magic_at, known, form_at, header_at, changes_at, image_with, fields_at, are_of_use, seen_whole, image_of_bytes}
+use Rattle.map_image.specs.Versions.{IsForm, form_of}
+use Rattle.map_image.specs.declared.version.CountWidth.{CountWidth}
+use Rattle.map_image.specs.declared.version.VersionForm.{VersionForm}
+use Rattle.map_image.proofs.VersionLaws.{row}
 use Rattle.map_image.proofs.FieldLaws.{of_eight, of_two}
 use Rattle.map_image.proofs.Lengths.{length-magic}
 use Rattle.map_image.proofs.ListLaws.{IsGoodList, of_list}
@@ -67,27 +71,29 @@ magic_again : (rest : List ℕ) → magic_at (magic ++ rest) ≡ Ok rest
 unfolding magic_at
 magic_again rest = rw (bytes_again Short 4 magic rest length-magic, magic_same) refl
 
-known_ok : (b : Bool) (rest : List ℕ) (x : Form × List ℕ) → known (cond b (Some first_form) None) rest ≡ Ok x → (b ≡ true) × ((first_form, rest) ≡ x)
-known_ok true rest x e = (refl, ok_is (first_form, rest) x e)
-known_ok false rest x e = absurd cc
+known_ok : (form : Option VersionForm) (rest : List ℕ) (x : VersionForm × List ℕ) → known form rest ≡ Ok x → (form ≡ Some x.0) × (rest ≡ x.1)
+known_ok (Some form) rest x e =
+    subst (λ (y : VersionForm × List ℕ). (Some form ≡ Some y.0) × (rest ≡ y.1)) (ok_is (form, rest) x e) (refl, refl)
+known_ok None rest x e = absurd cc
 
--- the first version was read
-pub record FirstForm (bytes : List ℕ) (x : Form × List ℕ) : Type 0 where
-  pub form : x.0 ≡ first_form
-  pub front : Front (number_bytes w16 1) bytes x.1
+-- a version was read
+pub record IsVersion (version : ℕ) (bytes : List ℕ) (x : VersionForm × List ℕ) : Type 0 where
+  pub known : form_of version ≡ Some x.0
+  pub front : Front (number_bytes w16 version) bytes x.1
 
-form_found : (bytes : List ℕ) (x : Form × List ℕ) → AreBytes bytes → form_at bytes ≡ Ok x → FirstForm bytes x
+form_found : (bytes : List ℕ) (x : VersionForm × List ℕ) → AreBytes bytes → form_at bytes ≡ Ok x → (version : ℕ) × IsVersion version bytes x
 unfolding form_at
 form_found bytes x are e =
     let b = bind_ok (number_at Short w16 bytes) (λ version. known (form_of version.0) version.1) x e in
     let n = of_two.found bytes b.0 are b.1 in
-    let k = known_ok (eqb b.0.0 1) b.0.1 x b.2 in
-    let one : b.0.0 ≡ 1 = eqb-true b.0.0 1 k.0 in
-    subst (FirstForm bytes) k.1 (record { form = refl; front = record { parts = n.parts ∙ ap (λ (v : ℕ). number_bytes w16 v ++ b.0.1) one; rest_are = n.rest } })
+    let k = known_ok (form_of b.0.0) b.0.1 x b.2 in
+    (b.0.0, record { known = k.0; front = subst (Front (number_bytes w16 b.0.0) bytes) k.1 (record { parts = n.parts; rest_are = n.rest }) })
 
-form_again : (rest : List ℕ) → form_at (number_bytes w16 1 ++ rest) ≡ Ok (first_form, rest)
+form_again : (version : ℕ) (form : VersionForm) (rest : List ℕ) → form_of version ≡ Some form → form_at (number_bytes w16 version ++ rest) ≡ Ok (form, rest)
 unfolding form_at
-form_again rest = rw (of_two.again 1 rest (omega arith)) refl
+form_again version form rest is =
+    ap (λ (r : Result (ℕ × List ℕ) ImageFault). r >>= λ v. known (form_of v.0) v.1) (of_two.again version rest (row version form is).version_has_room)
+    ∙ ap (λ (o : Option VersionForm). known o rest) is
 
 -- ---- commit and numbers
 
@@ -151,10 +157,10 @@ of_changes file =
 
 -- ---- all fields
 
-pub record GoodImage (image : Image) : Type 0 where
+pub record GoodImage (greatest : ℕ) (image : Image) : Type 0 where
   pub commit : length image.commit ≡ 20
   pub numbers : FitsNumbers image
-  pub entries : IsGoodList GoodEntry entry_follows image.entries
+  pub entries : IsGoodList (GoodEntry greatest) entry_follows image.entries
   pub made : IsGoodList FitsMade made_follows image.changes.made
   pub links : IsGoodList GoodLink link_follows image.changes.links
 
@@ -168,11 +174,11 @@ record IsBody (h : Header) (entries : List Kept) (image : Image) : Type 0 where
   changes : GoodChanges image.changes.next_file.0 image.changes
 
 -- what stands behind the version, in a form
-abbrev behind_form : Form → List ℕ → Result (Image × List ℕ) ImageFault
-behind_form form bytes = header_at bytes >>= λ header. list_at (entry_at form.count) header.1 >>= λ entries. changes_at header.0.next_file entries.1 >>= λ changes. Ok (image_with header.0 entries.0 changes.0, changes.1)
+abbrev behind_form : VersionForm → List ℕ → Result (Image × List ℕ) ImageFault
+behind_form form bytes = header_at bytes >>= λ header. list_at (entry_at form) header.1 >>= λ entries. changes_at header.0.next_file entries.1 >>= λ changes. Ok (image_with header.0 entries.0 changes.0, changes.1)
 
-abbrev body_text : Image → List ℕ
-body_text image = text_of_header (header_of image) ++ (list_text (entry_text w32) image.entries ++ changes_text image.changes)
+abbrev body_text : CountWidth → Image → List ℕ
+body_text width image = text_of_header (header_of image) ++ (list_text (entry_text width) image.entries ++ changes_text image.changes)
 
 body_made : (h : Header) (entries : List Kept) (c : Changes) → GoodChanges h.next_file c → IsBody h entries (image_with h entries c)
 body_made h entries c good = record {
@@ -189,11 +195,11 @@ body_back h entries image is = (
   ap (λ (h : Header). image_with h entries image.changes) (sym is.header_is) ∙ ap (λ (es : List Kept). image_with (header_of image) es image.changes) (sym is.entries_are),
 )
 
-of_body : IsCodec body_text GoodImage (behind_form first_form)
-of_body =
-    codec_as body_text GoodImage (
+of_body : (form : VersionForm) → IsForm form → IsCodec (body_text form.count_width) (GoodImage form.greatest_count) (behind_form form)
+of_body form keeps =
+    codec_as (body_text form.count_width) (GoodImage form.greatest_count) (
     pair header_of _ _ _ of_header (λ h image is. is.1.header_is) (λ h.
-    pair (λ (image : Image). image.entries) _ (IsBody h) _ (of_list (entry_at w32) (entry_text w32) GoodEntry entry_follows of_entry) (λ entries image is. is.entries_are) (λ entries.
+    pair (λ (image : Image). image.entries) _ (IsBody h) _ (of_list (entry_at form) (entry_text form.count_width) (GoodEntry form.greatest_count) entry_follows (of_entry form keeps)) (λ entries image is. is.entries_are) (λ entries.
     made (IsBody h entries) (λ (image : Image). image.changes) (image_with h entries) (of_changes h.next_file)
     (λ c good. (refl, body_made h entries c good)) (body_back h entries))))
     (λ image is. refl)
@@ -209,35 +215,50 @@ of_body =
     (header, (is.entries, record { header_is = refl; entries_are = refl; changes = record { next_file = refl; made = is.made; links = is.links } })))
 
 -- the text in front of the body
-parts_of : (image : Image) → image_text w32 1 image ≡ magic ++ (number_bytes w16 1 ++ body_text image)
-parts_of image =
-    let v = number_bytes w16 1 in
+parts_of : (width : CountWidth) (version : ℕ) (image : Image) → image_text width version image ≡ magic ++ (number_bytes w16 version ++ body_text width image)
+parts_of width version image =
+    let v = number_bytes w16 version in
     let fields = text_of_header (header_of image) in
-    let lists = list_text (entry_text w32) image.entries ++ changes_text image.changes in
+    let lists = list_text (entry_text width) image.entries ++ changes_text image.changes in
     append_assoc magic (v ++ fields) lists ∙ ap (λ (t : List ℕ). magic ++ t) (append_assoc v fields lists)
 
-fields_found : (bytes : List ℕ) (x : Image × List ℕ) → AreBytes bytes → fields_at bytes ≡ Ok x → Found (image_text w32 1) GoodImage bytes x
+-- the fields of an image were read in a version
+record FoundFields (bytes : List ℕ) (x : Image × List ℕ) : Type 0 where
+  version : ℕ
+  form : VersionForm
+  known : form_of version ≡ Some form
+  found : Found (image_text form.count_width version) (GoodImage form.greatest_count) bytes x
+
+fields_found : (bytes : List ℕ) (x : Image × List ℕ) → AreBytes bytes → fields_at bytes ≡ Ok x → FoundFields bytes x
 unfolding fields_at
 fields_found bytes x are e =
     let a = bind_ok (magic_at bytes) (λ fields. form_at fields >>= λ form. behind_form form.0 form.1) x e in
     let b = bind_ok (form_at a.0) (λ form. behind_form form.0 form.1) x a.2 in
     let first = magic_found bytes a.0 are a.1 in
-    let version = form_found a.0 b.0 first.rest_are b.1 in
-    let body = of_body.found b.0.1 x version.front.rest_are (subst (λ (form : Form). behind_form form b.0.1 ≡ Ok x) version.form b.2) in
-    let v = number_bytes w16 1 in
-    let behind = both a.0 v b.0.1 (body_text x.0) x.1 version.front.parts body.parts in
+    let read = form_found a.0 b.0 first.rest_are b.1 in
+    let version = read.0 in
+    let form = b.0.0 in
+    let body = (of_body form (row version form read.1.known).keeps).found b.0.1 x read.1.front.rest_are b.2 in
+    let v = number_bytes w16 version in
+    let text = body_text form.count_width x.0 in
+    let behind = both a.0 v b.0.1 text x.1 read.1.front.parts body.parts in
     record {
-      parts = both bytes magic a.0 (v ++ body_text x.0) x.1 first.parts behind ∙ ap (λ (t : List ℕ). t ++ x.1) (sym (parts_of x.0));
-      good = body.good;
-      rest = body.rest;
+      version = version;
+      form = form;
+      known = read.1.known;
+      found = record {
+        parts = both bytes magic a.0 (v ++ text) x.1 first.parts behind ∙ ap (λ (t : List ℕ). t ++ x.1) (sym (parts_of form.count_width version x.0));
+        good = body.good;
+        rest = body.rest;
+      };
     }
 
-fields_again : (image : Image) → GoodImage image → fields_at (image_text w32 1 image) ≡ Ok (image, [])
+fields_again : (version : ℕ) (form : VersionForm) (image : Image) → form_of version ≡ Some form → GoodImage form.greatest_count image → fields_at (image_text form.count_width version image) ≡ Ok (image, [])
 unfolding fields_at
-fields_again image good =
-    let body = body_text image in
-    let ended : behind_form first_form body ≡ Ok (image, []) = ap (behind_form first_form) (sym (append-nil body)) ∙ of_body.again image [] good in
-    ap fields_at (parts_of image) ∙ rw (magic_again (number_bytes w16 1 ++ body), form_again body) ended
+fields_again version form image is good =
+    let body = body_text form.count_width image in
+    let ended : behind_form form body ≡ Ok (image, []) = ap (behind_form form) (sym (append-nil body)) ∙ (of_body form (row version form is).keeps).again image [] good in
+    ap fields_at (parts_of form.count_width version image) ∙ rw (magic_again (number_bytes w16 version ++ body), form_again version form body is) ended
 
 -- ---- the relation
 
@@ -255,13 +276,13 @@ Named kept = HasName kept.place
 abbrev NamedLink : LinkChange → Type 0
 NamedLink link = IsNameText link.name
 
-is_text : (image : Image) (bytes : List ℕ) → GoodImage image → are_of_use image.entries ≡ true → bytes ≡ image_text w32 1 image → IsImageText image 1 bytes
-is_text image bytes good of_use is = record {
-  form = first_form;
-  known = refl;
+is_text : (image : Image) (version : ℕ) (form : VersionForm) (bytes : List ℕ) → form_of version ≡ Some form → GoodImage form.greatest_count image → are_of_use image.entries ≡ true → bytes ≡ image_text form.count_width version image → IsImageText image version bytes
+is_text image version form bytes known good of_use is = record {
+  form = form;
+  known = known;
   is_fit = record {
     entries_rise = good.entries.rise;
-    entries_have_names = each_of GoodEntry Named (λ kept g. g.named) image.entries good.entries.good;
+    entries_have_names = each_of (GoodEntry form.greatest_count) Named (λ kept g. g.named) image.entries good.entries.good;
     each_of_use = of_use;
     made_rise = good.made.rise;
     links_rise = good.links.rise;
@@ -271,7 +292,7 @@ is_text image bytes good of_use is = record {
   numbers = good.numbers;
   members = record {
     entries_few = good.entries.few;
-    entries = All-from_recursion (FitsEntry (2 ^ 32)) image.entries (each_of GoodEntry (FitsEntry (2 ^ 32)) (λ kept g. g.fits) image.entries good.entries.good);
+    entries = All-from_recursion (FitsEntry form.greatest_count) image.entries (each_of (GoodEntry form.greatest_count) (FitsEntry form.greatest_count) (λ kept g. g.fits) image.entries good.entries.good);
     made_few = good.made.few;
     made = All-from_recursion FitsMade image.changes.made good.made.good;
     links_few = good.links.few;
@@ -280,13 +301,13 @@ is_text image bytes good of_use is = record {
   is = is;
 }
 
-good_image : (image : Image) → IsFit image → length image.commit ≡ 20 → FitsNumbers image → FitsMembers (2 ^ 32) image → GoodImage image
-good_image image fit commit numbers members = record {
+good_image : (greatest : ℕ) (image : Image) → IsFit image → length image.commit ≡ 20 → FitsNumbers image → FitsMembers greatest image → GoodImage greatest image
+good_image greatest image fit commit numbers members = record {
   commit = commit;
   numbers = numbers;
   entries = record {
     few = members.entries_few;
-    good = each_two (FitsEntry (2 ^ 32)) Named GoodEntry (λ kept f n. record { fits = f; named = n }) image.entries (recursion_from_All (FitsEntry (2 ^ 32)) image.entries members.entries) fit.entries_have_names;
+    good = each_two (FitsEntry greatest) Named (GoodEntry greatest) (λ kept f n. record { fits = f; named = n }) image.entries (recursion_from_All (FitsEntry greatest) image.entries members.entries) fit.entries_have_names;
     rise = fit.entries_rise;
   };
   made = record { few = members.made_few; good = recursion_from_All FitsMade image.changes.made members.made; rise = fit.made_rise };
@@ -297,36 +318,30 @@ good_image image fit commit numbers members = record {
   };
 }
 
-pub image_found : (bytes : List ℕ) (image : Image) → AreBytes bytes → image_of_bytes bytes ≡ Ok image → IsImageText image 1 bytes
+-- in which version the bytes are a text of the image
+pub record HasVersion (image : Image) (bytes : List ℕ) : Type 0 where
+  pub version : ℕ
+  pub text : IsImageText image version bytes
+
+pub image_found : (bytes : List ℕ) (image : Image) → AreBytes bytes → image_of_bytes bytes ≡ Ok image → HasVersion image bytes
 unfolding image_of_bytes
 image_found bytes image are e =
     let b = bind_ok (fields_at bytes) seen_whole image e in
-    let found = fields_found bytes b.0 are b.1 in
+    let fields = fields_found bytes b.0 are b.1 in
     let g = guard_ok (ltb 0 (length b.0.1)) Rest (cond (are_of_use b.0.0.entries) (Ok b.0.0) (Err ZeroUse)) image b.2 in
     let t = test_ok (are_of_use b.0.0.entries) ZeroUse (Ok b.0.0) image g.1 in
     let nothing : b.0.1 ≡ [] = nil_from_length b.0.1 (let le = ltb-false _ _ g.0 in omega (arith, le)) in
-    let whole : bytes ≡ image_text w32 1 b.0.0 = found.parts ∙ ap (λ (r : List ℕ). image_text w32 1 b.0.0 ++ r) nothing ∙ append-nil (image_text w32 1 b.0.0) in
-    subst (λ (i : Image). IsImageText i 1 bytes) (ok_is b.0.0 image t.1) (is_text b.0.0 bytes found.good t.0 whole)
+    let text = image_text fields.form.count_width fields.version b.0.0 in
+    let whole : bytes ≡ text = fields.found.parts ∙ ap (λ (r : List ℕ). text ++ r) nothing ∙ append-nil text in
+    record {
+      version = fields.version;
+      text = subst (λ (i : Image). IsImageText i fields.version bytes) (ok_is b.0.0 image t.1) (is_text b.0.0 fields.version fields.form bytes fields.known fields.found.good t.0 whole);
+    }
 
-first_again : (image : Image) → IsFit image → length image.commit ≡ 20 → FitsNumbers image → FitsMembers (2 ^ 32) image → image_of_bytes (image_text w32 1 image) ≡ Ok image
+text_again : (version : ℕ) (form : VersionForm) (image : Image) → form_of version ≡ Some form → IsFit image → GoodImage form.greatest_count image → image_of_bytes (image_text form.count_width version image) ≡ Ok image
 unfolding image_of_bytes
-first_again image fit commit numbers members =
-    let read = fields_again image (good_image image fit commit numbers members) in
-    rw (read, fit.each_of_use) refl
-
-form_is : (b : Bool) (form : Form) → cond b (Some first_form) None ≡ Some form → (b ≡ true) × (form ≡ first_form)
-form_is true form e = (refl, let same : form ≡ first_form = cc in same)
-form_is false form e = absurd cc
-
--- a text of the first version
-again_in : (image : Image) (version : ℕ) (form : Form) (bytes : List ℕ) → version ≡ 1 → form ≡ first_form → IsFit image → length image.commit ≡ 20 → FitsNumbers image → FitsMembers form.limit image → bytes ≡ image_text form.count version image
-    → image_of_bytes bytes ≡ Ok image
-again_in image version form bytes one first fit commit numbers members is =
-    let fits : FitsMembers (2 ^ 32) image = subst (λ (f : Form). FitsMembers f.limit image) first members in
-    let text : bytes ≡ image_text w32 1 image = is ∙ ap (λ (f : Form). image_text f.count version image) first ∙ ap (λ (v : ℕ). image_text w32 v image) one in
-    ap image_of_bytes text ∙ first_again image fit commit numbers fits
+text_again version form image is fit good = rw (fields_again version form image is good, fit.each_of_use) refl
 
 pub image_again : (image : Image) (version : ℕ) (bytes : List ℕ) → IsImageText image version bytes → image_of_bytes bytes ≡ Ok image
 image_again image version bytes is =
-    let known = form_is (eqb version 1) is.form is.known in
-    again_in image version is.form bytes (eqb-true version 1 known.0) known.1 is.is_fit is.commit is.numbers is.members is.is
+    ap image_of_bytes is.is ∙ text_again version is.form image is.known is.is_fit (good_image is.form.greatest_count image is.is_fit is.commit is.numbers is.members)

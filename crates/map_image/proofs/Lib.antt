@@ -4,10 +4,12 @@ pub mod HeaderLaws
 pub mod ImageLaws
 pub mod Lengths
 pub mod ListLaws
+pub mod LongestLaws
 pub mod Loop
 pub mod MemberLaws
 pub mod Members
 pub mod Perms
 pub mod RiseLaws
 pub mod UsageLaws
+pub mod VersionLaws
 pub mod Written

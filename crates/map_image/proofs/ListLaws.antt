@@ -1,5 +1,5 @@
 -- Lists of members: what is read is spelled so, and what is spelled so is read.
-use Rattle.std.proofs.Common.{◌≡◌, ℕ, zero, suc, ◌^◌, ◌<◌, Bool, true, false, ◌&&◌, List, [], ◌∷◌, ◌++◌, length, Option, Some, None, Ok, refl, sym, ap, subst, ◌∙◌, append_assoc}
+use Rattle.std.proofs.Common.{◌≡◌, ℕ, zero, suc, ◌<◌, Bool, true, false, ◌&&◌, List, [], ◌∷◌, ◌++◌, length, Option, Some, None, Ok, refl, sym, ap, subst, ◌∙◌, append_assoc}
 use Rattle.std.specs.List.{flat_map, AllByRecursion}
 use Rattle.std.proofs.lemmas.List.Concat.{flat_map-cons}
 use Rattle.byte_codec.specs.Field.{AreBytes}
@@ -11,6 +11,7 @@ use Rattle.byte_codec.proofs.StepLemmas.{bind_ok, ok_is}
 use Rattle.map_image.specs.Fit.{rises}
 use Rattle.map_image.specs.ImageText.{list_text}
 use Rattle.map_image.specs.ImageReading.{members_at, list_at}
+use Rattle.map_image.specs.Versions.{length_limit}
 use Rattle.map_image.proofs.FieldLaws.{of_four}
 use Rattle.map_image.proofs.Loop.{Member}
 use Rattle.map_image.proofs.MemberLaws.{Next}
@@ -19,7 +20,7 @@ use Rattle.map_image.proofs.MemberLaws.{Next}
 abbrev pub AreCodecs : {X : Type 0} → Member X → (X → List ℕ) → (X → Type 0) → (Option X → X → Bool) → Type 0
 AreCodecs {X} member text Good follows = (last : Option X) → IsCodec text (Next Good follows last) (member last)
 
--- so many good members that rise
+-- a count of good members that rise
 pub record AreMembers {X : Type 0} (Good : X → Type 0) (follows : Option X → X → Bool) (last : Option X) (n : ℕ) (xs : List X) : Type 0 where
   pub len : length xs ≡ n
   pub good : AllByRecursion Good xs
@@ -75,7 +76,7 @@ of_members member text Good follows codecs n = record {
 
 -- a list that can be counted, of good members that rise
 pub record IsGoodList {X : Type 0} (Good : X → Type 0) (follows : Option X → X → Bool) (xs : List X) : Type 0 where
-  pub few : length xs < 2 ^ 32
+  pub few : length xs < length_limit
   pub good : AllByRecursion Good xs
   pub rise : rises follows None xs ≡ true
 

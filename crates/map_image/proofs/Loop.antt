@@ -29,7 +29,7 @@ regroup : {X : Type 0} (front : List X) (x : X) (read : Result (List X × List �
 regroup {X = X} front x (Ok y) = ap (λ (xs : List X). Ok (xs, y.1)) (simp append_assoc)
 regroup front x (Err fault) = refl
 
--- what a loop over so many members keeps
+-- what a loop over a count of members keeps
 abbrev pub Goes : {X : Type 0} → Member X → List X → ℕ → ℕ → List ℕ → Result (List X × List ℕ) ImageFault → Type 0
 Goes member front count i bytes total = with_front front (members_at member (last_of front) (count - i) bytes) ≡ total
 

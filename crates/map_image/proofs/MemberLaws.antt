@@ -1,10 +1,10 @@
 -- Entries, made files and changed names: what is read is spelled so, and what is spelled so is read.
-use Rattle.std.proofs.Common.{◌≡◌, ℕ, ◌%◌, ◌^◌, ◌<◌, ◌≤◌, Bool, true, false, ltb, List, [], ◌++◌, Option, Some, None, Ok, refl, sym, ap, subst, ◌∙◌, append_assoc, arith}
-use Rattle.std.specs.Int.{w16, w32, w64}
+use Rattle.std.proofs.Common.{◌≡◌, ℕ, ◌%◌, ◌^◌, ◌<◌, ◌≤◌, Bool, true, false, ltb, List, [], ◌++◌, Option, Some, None, Ok, refl, sym, ap, subst, arith}
+use Rattle.std.specs.Int.{w16, w64}
 use Rattle.std.proofs.lemmas.Bool.{ltb-false}
 use Rattle.std.proofs.lemmas.List.{append-nil}
-use Rattle.byte_codec.specs.Field.{AreBytes, byte_text, number_bytes}
-use Rattle.byte_codec.specs.Reading.{◌>>=◌, number_at}
+use Rattle.byte_codec.specs.Field.{byte_text, number_bytes}
+use Rattle.byte_codec.specs.Reading.{◌>>=◌}
 use Rattle.byte_codec.proofs.FieldLaws.{Found}
 use Rattle.byte_codec.proofs.PairLaws.{IsCodec, codec_as, made, pair, read_as, seen, tested}
 use Rattle.byte_codec.proofs.StepLemmas.{bind_assoc, guard_is, ok_is, test_ok}
@@ -19,11 +19,13 @@ use Rattle.checkout.specs.declared.changes.Made.{Made}
 use Rattle.manifest.specs.declared.links.LinkChange.{LinkChange}
 use Rattle.entry_table.specs.declared.kept.Kept.{Kept}
 use Rattle.entry_table.specs.EntryPlaces.{HasName}
-use Rattle.map_image.specs.declared.fault.ImageFault.TheVariants.{Short, NotRising, BadMark}
+use Rattle.map_image.specs.declared.fault.ImageFault.TheVariants.{NotRising, BadMark}
 use Rattle.map_image.specs.Fit.{is_next_number, is_next_file, is_next_place, entry_follows, made_follows, link_follows}
 use Rattle.map_image.specs.ImageText.{name_text, place_mark, place_text, entry_text, kind_mark, made_text, target_text, link_text, FitsPlace, FitsEntry, FitsMade, FitsTarget, FitsLink}
-use Rattle.map_image.specs.ImageReading.{counted_at, name_at, named, place_at, rising_at, entry_at, file_at, kind_of_mark, perm_of, perm_at, made_at, rising_place, target_at, link_at}
-use Rattle.map_image.proofs.FieldLaws.{Any, IsShort, bit, bit_text, named_again, named_ok, of_counted, of_eight, of_four, of_mark, of_name, of_two, short_name}
+use Rattle.map_image.specs.ImageReading.{counted_at, named, place_at, rising_at, entry_at, file_at, kind_of_mark, perm_of, perm_at, made_at, rising_place, target_at, link_at}
+use Rattle.map_image.proofs.FieldLaws.{Any, bit, bit_text, named_again, named_ok, of_count, of_counted, of_eight, of_mark, of_name, of_two, short_name}
+use Rattle.map_image.specs.Versions.{IsForm, width_of}
+use Rattle.map_image.specs.declared.version.VersionForm.{VersionForm}
 use Rattle.map_image.proofs.Perms.{perm_seen, see_perm}
 
 -- a good member behind the last one
@@ -108,8 +110,8 @@ of_place false =
 
 -- ---- entries
 
-pub record GoodEntry (kept : Kept) : Type 0 where
-  pub fits : FitsEntry (2 ^ 32) kept
+pub record GoodEntry (greatest : ℕ) (kept : Kept) : Type 0 where
+  pub fits : FitsEntry greatest kept
   pub named : HasName kept.place
 
 -- the fields of an entry that were read
@@ -119,17 +121,17 @@ record IsEntry (number : ℕ) (mark : Bool) (count : ℕ) (kept : Kept) : Type 0
   count_is : kept.count ≡ count
   place : GoodPlace kept.place
 
-pub of_entry : (last : Option Kept) → IsCodec (entry_text w32) (Next GoodEntry entry_follows last) (entry_at w32 last)
+pub of_entry : (form : VersionForm) → IsForm form → (last : Option Kept) → IsCodec (entry_text form.count_width) (Next (GoodEntry form.greatest_count) entry_follows last) (entry_at form last)
 unfolding entry_at rising_at
-of_entry last =
-    codec_as (entry_text w32) (Next GoodEntry entry_follows last) (
+of_entry form keeps last =
+    codec_as (entry_text form.count_width) (Next (GoodEntry form.greatest_count) entry_follows last) (
     pair (λ (kept : Kept). kept.number.0) _ _ _ (tested (is_next_number last) NotRising of_eight) (λ n kept is. is.1.1.number_is) (λ number.
     pair (λ (kept : Kept). is_unlinked kept.place) _ _ _ of_mark (λ m kept is. is.1.mark_is) (λ mark.
-    pair (λ (kept : Kept). kept.count) _ (IsEntry number mark) _ of_four (λ c kept is. is.count_is) (λ count.
+    pair (λ (kept : Kept). kept.count) _ (IsEntry number mark) _ (of_count form keeps) (λ c kept is. is.count_is) (λ count.
     made (IsEntry number mark count) (λ (kept : Kept). kept.place) (λ place. record { number = record { 0 = number }; place = place; count = count }) (of_place mark)
     (λ place is. (refl, record { number_is = refl; mark_is = is.marked; count_is = refl; place = is.good }))
     (λ kept is. (record { marked = is.mark_is; good = is.place }, rw (sym is.number_is, sym is.count_is) refl))))))
-    (λ kept is. ap (λ (b : ℕ). number_bytes w64 kept.number.0 ++ (byte_text b ++ (number_bytes w32 kept.count ++ place_text kept.place))) (sym (mark_is kept.place)))
+    (λ kept is. ap (λ (b : ℕ). number_bytes w64 kept.number.0 ++ (byte_text b ++ (number_bytes (width_of form.count_width) kept.count ++ place_text kept.place))) (sym (mark_is kept.place)))
     (λ kept is. record {
       good = record { fits = record { number = is.0.0; count = is.1.1.0; place = is.1.1.1.place.fits }; named = is.1.1.1.place.named };
       rises = is.0.1;

@@ -1,9 +1,9 @@
 -- Which image the bytes are, and which fault is the first: fields from front to back, each whole before it is looked
 -- at, and after the last field what can be seen of the whole alone.
-use Rattle.std.specs.Prelude.{◌≡◌, ◌≢◌, ◌≤◌, ℕ, zero, suc, ◌-◌, ◌%◌, Bool, true, false, ◌==◌, nat_lt, List, [], ◌∷◌, length, slice_get, nat_eq, Option, Some, None, is_some, Result, Ok, Err, if◌then◌else◌}
+use Rattle.std.specs.Prelude.{◌≡◌, ◌≢◌, ◌≤◌, ℕ, zero, suc, ◌-◌, ◌%◌, Bool, true, false, ◌==◌, nat_lt, nat_le, List, [], ◌∷◌, length, slice_get, nat_eq, Option, Some, None, is_some, Result, Ok, Err, if◌then◌else◌}
 use Rattle.std.proofs.Common.{arith}
 use Rattle.std.specs.Cmp.Lexicographic.{pointwise}
-use Rattle.std.specs.Int.{Width, w16, w32, w64}
+use Rattle.std.specs.Int.{w16, w64}
 use Rattle.std.specs.List.{list_all}
 use Rattle.byte_codec.specs.Reading.{◌>>=◌, byte_at, bytes_at, number_at}
 use Rattle.eden_base.specs.declared.attr.Kind.{Kind}
@@ -23,7 +23,9 @@ use Rattle.map_image.specs.declared.fault.ImageFault.TheVariants.{BadMagic, BadV
 use Rattle.map_image.specs.declared.image.Image.{Image}
 use Rattle.map_image.specs.declared.header.Header.{Header}
 use Rattle.map_image.specs.Fit.{is_next_number, is_next_file, is_next_place}
-use Rattle.map_image.specs.ImageText.{Form, form_of, magic}
+use Rattle.map_image.specs.ImageText.{magic}
+use Rattle.map_image.specs.Versions.{form_of, length_width, width_of}
+use Rattle.map_image.specs.declared.version.VersionForm.{VersionForm}
 
 -- the fault that reading gives; memory may run out in its place
 abbrev pub Fails : {Y : Type 0} → ImageFault → Result Y ImageFault → Type 0
@@ -86,11 +88,17 @@ rising_at last bytes = do
 
 -- ---- members of the three lists, each behind the last one
 
-unfoldable pub entry_at : Width → Option Kept → List ℕ → Result (Kept × List ℕ) ImageFault
-entry_at count_width last bytes = do
+-- a count, at most the greatest of the version
+unfoldable pub count_at : VersionForm → List ℕ → Result (ℕ × List ℕ) ImageFault
+count_at form bytes = do
+  count ← number_at Short (width_of form.count_width) bytes
+  if nat_le count.0 form.greatest_count then Ok count else Err BadMark
+
+unfoldable pub entry_at : VersionForm → Option Kept → List ℕ → Result (Kept × List ℕ) ImageFault
+entry_at form last bytes = do
   number ← rising_at last bytes
   unlinked ← mark_at number.1
-  count ← number_at Short count_width unlinked.1
+  count ← count_at form unlinked.1
   place ← place_at unlinked.0 count.1
   Ok (record { number = record { 0 = number.0 }; place = place.0; count = count.0 }, place.1)
 
@@ -148,7 +156,7 @@ link_at last bytes = do
 
 -- ---- lists
 
--- so many members, each behind the last one
+-- a count of members, each behind the last one
 unfoldable pub members_at : {X : Type 0} → (Option X → List ℕ → Result (X × List ℕ) ImageFault) → Option X → ℕ → List ℕ
     → Result (List X × List ℕ) ImageFault
 members_at member last zero bytes = Ok ([], bytes)
@@ -161,7 +169,7 @@ members_at member last (suc n) bytes = do
 unfoldable pub list_at : {X : Type 0} → (Option X → List ℕ → Result (X × List ℕ) ImageFault) → List ℕ
     → Result (List X × List ℕ) ImageFault
 list_at member bytes = do
-  count ← number_at Short w32 bytes
+  count ← number_at Short length_width bytes
   members_at member None count.0 count.1
 
 -- ---- the whole
@@ -173,12 +181,12 @@ magic_at bytes = do
   if pointwise nat_eq field.0 magic then Ok field.1 else Err BadMagic
 
 -- the form of a known version
-abbrev pub known : Option Form → List ℕ → Result (Form × List ℕ) ImageFault
+abbrev pub known : Option VersionForm → List ℕ → Result (VersionForm × List ℕ) ImageFault
 known None bytes = Err BadVersion
 known (Some form) bytes = Ok (form, bytes)
 
 -- the form of the version that comes next
-unfoldable pub form_at : List ℕ → Result (Form × List ℕ) ImageFault
+unfoldable pub form_at : List ℕ → Result (VersionForm × List ℕ) ImageFault
 form_at bytes = do
   version ← number_at Short w16 bytes
   known (form_of version.0) version.1
@@ -239,7 +247,7 @@ fields_at bytes = do
   fields ← magic_at bytes
   form ← form_at fields
   header ← header_at form.1
-  entries ← list_at (entry_at form.0.count) header.1
+  entries ← list_at (entry_at form.0) header.1
   changes ← changes_at header.0.next_file entries.1
   Ok (image_with header.0 entries.0 changes.0, changes.1)
 

@@ -1,7 +1,7 @@
 -- The one spelling of an image in a version: its fields from front to back, numbers with the highest byte first. (This
 -- project's own; EdenFS serialises its inode map by Thrift.)
-use Rattle.std.specs.Prelude.{All, ◌≡◌, ℕ, ◌<◌, ◌^◌, ◌==◌, List, [], ◌∷◌, ◌++◌, length, Option, Some, None, if◌then◌else◌}
-use Rattle.std.specs.Int.{Width, w16, w32, w64}
+use Rattle.std.specs.Prelude.{All, ◌≡◌, ℕ, ◌<◌, ◌≤◌, ◌^◌, List, [], ◌∷◌, ◌++◌, length, Option, Some, None}
+use Rattle.std.specs.Int.{w16, w64}
 use Rattle.std.specs.List.{flat_map}
 use Rattle.byte_codec.specs.Field.{byte_text, number_bytes}
 use Rattle.eden_base.specs.declared.attr.Kind.{Kind}
@@ -14,21 +14,9 @@ use Rattle.manifest.specs.declared.links.LinkChange.{LinkChange}
 use Rattle.entry_table.specs.declared.kept.Kept.{Kept}
 use Rattle.map_image.specs.declared.image.Image.{Image}
 use Rattle.map_image.specs.Fit.{IsFit}
-
--- ---- versions: how wide a count is, and how long a text may be that is written
-
--- what differs from version to version
-pub record Form : Type 0 where
-  pub count : Width
-  pub limit : ℕ
-  pub longest : ℕ
-
-abbrev pub first_form : Form
-first_form = record { count = w32; limit = 2 ^ 32; longest = 65000 }
-
--- the versions that there are, a row for each
-abbrev pub form_of : ℕ → Option Form
-form_of version = if version == 1 then Some first_form else None
+use Rattle.map_image.specs.Versions.{form_of, length_limit, length_width, width_of}
+use Rattle.map_image.specs.declared.version.CountWidth.{CountWidth}
+use Rattle.map_image.specs.declared.version.VersionForm.{VersionForm}
 
 -- ---- fields
 
@@ -61,10 +49,10 @@ target_text (Some file) = byte_text 1 ++ number_bytes w64 file.0
 -- ---- members of the three lists
 
 -- number, mark, count, place
-abbrev pub entry_text : Width → Kept → List ℕ
-entry_text count kept =
+abbrev pub entry_text : CountWidth → Kept → List ℕ
+entry_text width kept =
     number_bytes w64 kept.number.0
-    ++ (byte_text (place_mark kept.place) ++ (number_bytes count kept.count ++ place_text kept.place))
+    ++ (byte_text (place_mark kept.place) ++ (number_bytes (width_of width) kept.count ++ place_text kept.place))
 
 -- file, kind, permissions
 abbrev pub made_text : Made → List ℕ
@@ -77,7 +65,7 @@ link_text link = number_bytes w64 link.dir.0 ++ (name_text link.name ++ target_t
 
 -- how many there are, and each in turn
 abbrev pub list_text : {X : Type 0} → (X → List ℕ) → List X → List ℕ
-list_text text xs = number_bytes w32 (length xs) ++ flat_map text xs
+list_text text xs = number_bytes length_width (length xs) ++ flat_map text xs
 
 -- ---- the whole
 
@@ -92,13 +80,13 @@ abbrev pub header_text : ℕ → Image → List ℕ
 header_text version image = magic ++ (number_bytes w16 version ++ (image.commit ++ numbers_text image))
 
 -- entries, made files, changed links
-abbrev pub lists_text : Width → Image → List ℕ
-lists_text count image =
-    list_text (entry_text count) image.entries
+abbrev pub lists_text : CountWidth → Image → List ℕ
+lists_text width image =
+    list_text (entry_text width) image.entries
     ++ (list_text made_text image.changes.made ++ list_text link_text image.changes.links)
 
-abbrev pub image_text : Width → ℕ → Image → List ℕ
-image_text count version image = header_text version image ++ lists_text count image
+abbrev pub image_text : CountWidth → ℕ → Image → List ℕ
+image_text width version image = header_text version image ++ lists_text width image
 
 -- ---- numbers that their fields can hold
 
@@ -106,9 +94,9 @@ abbrev pub FitsPlace : Place → Type 0
 FitsPlace (Linked parent name) = parent.0 < 2 ^ 64
 FitsPlace (Unlinked file) = file.0 < 2 ^ 64
 
-pub record FitsEntry (limit : ℕ) (kept : Kept) : Type 0 where
+pub record FitsEntry (greatest : ℕ) (kept : Kept) : Type 0 where
   pub number : kept.number.0 < 2 ^ 64
-  pub count : kept.count < limit
+  pub count : kept.count ≤ greatest
   pub place : FitsPlace kept.place
 
 abbrev pub FitsMade : Made → Type 0
@@ -129,22 +117,22 @@ pub record FitsNumbers (image : Image) : Type 0 where
   pub next_file : image.changes.next_file.0 < 2 ^ 64
 
 -- lists that can be counted, with members that fit
-pub record FitsMembers (limit : ℕ) (image : Image) : Type 0 where
-  pub entries_few : length image.entries < 2 ^ 32
-  pub entries : All (FitsEntry limit) image.entries
-  pub made_few : length image.changes.made < 2 ^ 32
+pub record FitsMembers (greatest : ℕ) (image : Image) : Type 0 where
+  pub entries_few : length image.entries < length_limit
+  pub entries : All (FitsEntry greatest) image.entries
+  pub made_few : length image.changes.made < length_limit
   pub made : All FitsMade image.changes.made
-  pub links_few : length image.changes.links < 2 ^ 32
+  pub links_few : length image.changes.links < length_limit
   pub links : All FitsLink image.changes.links
 
 -- ---- the relation
 
 -- the bytes are the text of an image in a version
 pub record IsImageText (image : Image) (version : ℕ) (bytes : List ℕ) : Type 0 where
-  pub form : Form
+  pub form : VersionForm
   pub known : form_of version ≡ Some form
   pub is_fit : IsFit image
   pub commit : length image.commit ≡ 20
   pub numbers : FitsNumbers image
-  pub members : FitsMembers form.limit image
-  pub is : bytes ≡ image_text form.count version image
+  pub members : FitsMembers form.greatest_count image
+  pub is : bytes ≡ image_text form.count_width version image

@@ -1,27 +1,29 @@
 -- Which image has no text that may be written, and the room that a text takes.
-use Rattle.std.specs.Prelude.{◌≡◌, ◌<◌, ◌≤◌, ◌^◌, ℕ, ◌+◌, nat_lt, nat_le, Bool, List, length, Option, Some, None, if◌then◌else◌}
+use Rattle.std.specs.Prelude.{◌≡◌, ◌<◌, ◌≤◌, ℕ, ◌+◌, nat_lt, Bool, length, Option, Some, None, if◌then◌else◌}
 use Rattle.std.specs.List.{list_any}
 use Rattle.entry_table.specs.declared.kept.Kept.{Kept}
 use Rattle.map_image.specs.declared.fault.WriteFault.{WriteFault}
 use Rattle.map_image.specs.declared.fault.WriteFault.TheVariants.{NoSuchVersion, CountTooLarge, TooLong, NoMemory}
 use Rattle.map_image.specs.declared.image.Image.{Image}
-use Rattle.map_image.specs.ImageText.{Form, form_of, image_text}
+use Rattle.map_image.specs.ImageText.{image_text}
+use Rattle.map_image.specs.Versions.{form_of, length_limit}
+use Rattle.map_image.specs.declared.version.VersionForm.{VersionForm}
 
 -- ---- refusals
 
--- the count is above what a field holds
+-- the count is above the greatest that is written
 abbrev pub is_too_large : ℕ → Kept → Bool
-is_too_large limit kept = nat_le limit kept.count
+is_too_large greatest kept = nat_lt greatest kept.count
 
 -- why an image is not written in a form, memory apart
-abbrev pub form_fault : Image → ℕ → Form → Option WriteFault
+abbrev pub form_fault : Image → ℕ → VersionForm → Option WriteFault
 form_fault image version form =
-    if list_any (is_too_large form.limit) image.entries then Some CountTooLarge
-    else if nat_lt form.longest (length (image_text form.count version image)) then Some TooLong
+    if list_any (is_too_large form.greatest_count) image.entries then Some CountTooLarge
+    else if nat_lt form.longest (length (image_text form.count_width version image)) then Some TooLong
     else None
 
 -- the first refusal of an image in a version, memory apart
-abbrev pub write_fault : Image → ℕ → Option Form → Option WriteFault
+abbrev pub write_fault : Image → ℕ → Option VersionForm → Option WriteFault
 write_fault image version None = Some NoSuchVersion
 write_fault image version (Some form) = form_fault image version form
 
@@ -35,7 +37,7 @@ IsWriteRefusal image version fault = refusal image version ≡ Some fault
 
 -- ---- room that is counted before anything is put
 
--- what is left of a room behind so many bytes, or nothing where they have no room
+-- what is left of a room behind a count of bytes, or none where they have no room
 abbrev pub Leaves : ℕ → ℕ → Option ℕ → Type 0
 Leaves room used None = room < used
 Leaves room used (Some left) = left + used ≡ room
@@ -45,8 +47,8 @@ abbrev pub IsLength : ℕ → ℕ → Option ℕ → Type 0
 IsLength longest len None = longest < len
 IsLength longest len (Some found) = (found ≡ len) × (found ≤ longest)
 
--- each of the three lists can be counted in four bytes
+-- each of the three lists can be counted
 pub record AreFew (image : Image) : Type 0 where
-  pub entries : length image.entries < 2 ^ 32
-  pub made : length image.changes.made < 2 ^ 32
-  pub links : length image.changes.links < 2 ^ 32
+  pub entries : length image.entries < length_limit
+  pub made : length image.changes.made < length_limit
+  pub links : length image.changes.links < length_limit

@@ -3,9 +3,8 @@ ghost use Rattle.std.specs.Prelude.{◌≡◌};
 ghost use Rattle.byte_codec.specs.Reading.{bytes_at};
 ghost use Rattle.map_image.specs.declared.fault.ImageFault.TheVariants.{Short};
 ghost use Rattle.map_image.specs.ImageReading.{Tells, magic_at, form_at, header_at, header_of_bytes};
-ghost use Rattle.map_image.specs.ImageText.{first_form};
 
-use crate::ImageFault;
+use crate::{ImageFault, VersionForm, form_of};
 use byte_codec::{u16_at, u64_at};
 
 /// What is known of an image before its lists are read.
@@ -36,16 +35,16 @@ pub(crate) fn magic_at(bytes: &[u8]) -> Result<&[u8], ImageFault>
     Ok(rest)
 }
 
-/// Takes the version, of which there is one.
+/// Takes the version, and returns its form.
 #[tactic(auto, unfolding(crate::specs::ImageReading::form_at))]
-pub(crate) fn form_at(bytes: &[u8]) -> Result<&[u8], ImageFault>
-    ensures { Tells (λ rest. (first_form, rest.now)) result (form_at bytes.now) }
+pub(crate) fn form_at(bytes: &[u8]) -> Result<(VersionForm, &[u8]), ImageFault>
+    ensures { Tells (λ x. (x.0, x.1.now)) result (form_at bytes.now) }
 {
     let (version, rest) = u16_at(bytes, ImageFault::Short)?;
-    if version != 1 {
-        return Err(ImageFault::BadVersion);
+    match form_of(version) {
+        Some(form) => Ok((form, rest)),
+        None => Err(ImageFault::BadVersion),
     }
-    Ok(rest)
 }
 
 /// Takes a commit.
@@ -86,7 +85,7 @@ pub fn read_header(bytes: &[u8]) -> Result<Header, ImageFault>
     ensures exact { Tells (λ header. header) result (header_of_bytes bytes.now) }
 {
     let rest = magic_at(bytes)?;
-    let rest = form_at(rest)?;
+    let (_form, rest) = form_at(rest)?;
     let (header, _rest) = header_at(rest)?;
     Ok(header)
 }

@@ -36,9 +36,9 @@ fn fields_at(alloc: Global, bytes: &[u8]) -> Result<(Image, &[u8]), ImageFault>
     ensures late { IfErr result (λ fault. IsLate fault bytes.now) }
 {
     let rest = magic_at(bytes)?;
-    let rest = form_at(rest)?;
+    let (form, rest) = form_at(rest)?;
     let (header, rest) = header_at(rest)?;
-    let (entries, rest) = entries_at(alloc, rest)?;
+    let (entries, rest) = entries_at(alloc, form, rest)?;
     let (changes, rest) = changes_at(alloc, header.next_file, rest)?;
     let commit = header.commit;
     let image = Image {

@@ -13,9 +13,11 @@ mod member_reader;
 mod member_writer;
 mod reader;
 mod usage;
+mod version;
 
 pub use fault::{ImageFault, WriteFault};
 pub use header::{Header, read_header};
 pub use image::{Entries, Image};
 pub use image_reader::read;
-pub use image_writer::{is_version, write};
+pub use image_writer::write;
+pub use version::{CountWidth, Sending, VersionForm, form_of, is_version};

@@ -1,24 +1,28 @@
 //! The lists of an image, taken off the front of bytes. They grow as members come.
 ghost use Rattle.std.specs.Prelude.{None};
-ghost use Rattle.std.specs.Int.{w32};
 ghost use Rattle.map_image.specs.ImageReading.{Gives, entry_at, made_at, link_at, members_at, list_at};
 
-use crate::ImageFault;
 use crate::member_reader::{entry_at, link_at, made_at};
+use crate::{ImageFault, VersionForm};
 use byte_codec::u32_at;
 use checkout::Made;
 use entry_table::Kept;
 use manifest::LinkChange;
 use std::alloc::Global;
 
-/// Takes so many entries.
-fn each_entry(alloc: Global, count: u32, bytes: &[u8]) -> Result<(Vec<Kept>, &[u8]), ImageFault>
-    ensures { Gives (λ x. (x.0.items, x.1.now)) result (members_at (entry_at w32) None count bytes.now) }
+/// Takes `count` entries.
+fn each_entry(
+    alloc: Global,
+    form: VersionForm,
+    count: u32,
+    bytes: &[u8],
+) -> Result<(Vec<Kept>, &[u8]), ImageFault>
+    ensures { Gives (λ x. (x.0.items, x.1.now)) result (members_at (entry_at form) None count bytes.now) }
 {
     let mut entries = Vec::new(alloc);
     let mut rest = bytes;
     for _ in 0..count {
-        let (entry, after) = entry_at(alloc, entries.as_slice(), rest)?;
+        let (entry, after) = entry_at(alloc, form, entries.as_slice(), rest)?;
         let Ok(()) = entries.push(entry) else {
             return Err(ImageFault::NoMemory);
         };
@@ -27,7 +31,7 @@ fn each_entry(alloc: Global, count: u32, bytes: &[u8]) -> Result<(Vec<Kept>, &[u
     Ok((entries, rest))
 }
 
-/// Takes so many made files.
+/// Takes `count` made files.
 fn each_made(alloc: Global, count: u32, bytes: &[u8]) -> Result<(Vec<Made>, &[u8]), ImageFault>
     ensures { Gives (λ x. (x.0.items, x.1.now)) result (members_at made_at None count bytes.now) }
 {
@@ -43,7 +47,7 @@ fn each_made(alloc: Global, count: u32, bytes: &[u8]) -> Result<(Vec<Made>, &[u8
     Ok((files, rest))
 }
 
-/// Takes so many changed names.
+/// Takes `count` changed names.
 fn each_link(
     alloc: Global,
     count: u32,
@@ -65,11 +69,15 @@ fn each_link(
 
 /// Takes how many entries there are, and each.
 #[tactic(auto, unfolding(crate::specs::ImageReading::list_at))]
-pub(crate) fn entries_at(alloc: Global, bytes: &[u8]) -> Result<(Vec<Kept>, &[u8]), ImageFault>
-    ensures { Gives (λ x. (x.0.items, x.1.now)) result (list_at (entry_at w32) bytes.now) }
+pub(crate) fn entries_at(
+    alloc: Global,
+    form: VersionForm,
+    bytes: &[u8],
+) -> Result<(Vec<Kept>, &[u8]), ImageFault>
+    ensures { Gives (λ x. (x.0.items, x.1.now)) result (list_at (entry_at form) bytes.now) }
 {
     let (count, rest) = u32_at(bytes, ImageFault::Short)?;
-    each_entry(alloc, count, rest)
+    each_entry(alloc, form, count, rest)
 }
 
 /// Takes how many made files there are, and each.

@@ -1,24 +1,21 @@
 //! How long a text will be, counted before anything is put.
-ghost use Rattle.std.specs.Prelude.{◌≡◌, ◌≤◌, ◌+◌, length, IfSome};
-ghost use Rattle.std.specs.Int.{w32};
+ghost use Rattle.std.specs.Prelude.{◌≡◌, ◌≤◌, ◌+◌, ℕ, length, IfSome};
 ghost use Rattle.std.specs.List.{flat_map};
 ghost use Rattle.map_image.specs.ImageText.{name_text, place_text, entry_text, made_text, target_text, link_text, image_text};
+ghost use Rattle.map_image.specs.Versions.{IsForm};
 ghost use Rattle.map_image.specs.Writing.{AreFew, IsLength, Leaves};
 
-use crate::Image;
+use crate::{CountWidth, Image, VersionForm};
 use checkout::Made;
 use eden_base::{FileId, Name, Place};
 use entry_table::Kept;
 use manifest::LinkChange;
 
-/// The longest text that is written, in bytes.
-const LONGEST: usize = 65_000;
-
 /// The fields before the lists, and a count before each of the three, in bytes.
 const FIXED_LEN: usize = 62;
 
-/// Number, mark and count of an entry, in bytes.
-const ENTRY_FIXED: usize = 13;
+/// Number and mark of an entry, in bytes.
+const ENTRY_FIXED: usize = 9;
 
 /// A made file, in bytes.
 const MADE_LEN: usize = 11;
@@ -49,11 +46,11 @@ fn place_len(place: &Place) -> usize
 
 /// Returns the length of an entry.
 #[tactic(auto, using(crate::proofs::Lengths::lengths))]
-fn entry_len(kept: &Kept) -> usize
-    ensures len { result ≡ length (entry_text w32 kept.now) }
+fn entry_len(width: CountWidth, kept: &Kept) -> usize
+    ensures len { result ≡ length (entry_text width kept.now) }
     ensures at_least { 1 ≤ result }
 {
-    ENTRY_FIXED + place_len(&kept.place)
+    ENTRY_FIXED + width.len() + place_len(&kept.place)
 }
 
 /// Returns the length of the file that a changed name gives.
@@ -78,13 +75,13 @@ fn link_len(link: &LinkChange) -> usize
 }
 
 /// Returns what is left of a room behind entries, unless they are too long for it.
-fn left_by_entries(entries: &[Kept], room: usize) -> Option<usize>
-    ensures left { Leaves room (length (flat_map (entry_text w32) entries.now)) result }
+fn left_by_entries(width: CountWidth, entries: &[Kept], room: usize) -> Option<usize>
+    ensures left { Leaves room (length (flat_map (entry_text width) entries.now)) result }
     ensures few { IfSome result (λ left. length entries.now + left ≤ room) }
 {
     let mut left = room;
     for kept in entries {
-        let Some(less) = left.checked_sub(entry_len(kept)) else {
+        let Some(less) = left.checked_sub(entry_len(width, kept)) else {
             return None;
         };
         left = less;
@@ -119,14 +116,18 @@ fn left_by_links(links: &[LinkChange], room: usize) -> Option<usize>
     Some(left)
 }
 
-/// Returns the length of an image's text, unless it is longer than the longest one that is written.
+/// Returns the length of an image's text in a version of this form, unless it is longer than the longest one that is
+/// written.
 #[tactic(auto, using(crate::proofs::Lengths::lengths))]
-pub(crate) fn text_len(image: &Image) -> Option<usize>
-    ensures len { IsLength 65000 (length (image_text w32 1 image.now)) result }
+pub(crate) fn text_len(form: VersionForm, image: &Image) -> Option<usize>
+    requires form { IsForm form }
+    ensures len { (version : ℕ) →
+        IsLength form.longest (length (image_text form.count_width version image.now)) result }
     ensures few { IfSome result (λ _. AreFew image.now) }
 {
-    let left = left_by_entries(image.entries.as_slice(), LONGEST - FIXED_LEN)?;
+    let room = form.longest - FIXED_LEN;
+    let left = left_by_entries(form.count_width, image.entries.as_slice(), room)?;
     let left = left_by_made(image.changes.made.as_slice(), left)?;
     let left = left_by_links(image.changes.links.as_slice(), left)?;
-    Some(LONGEST - left)
+    Some(form.longest - left)
 }

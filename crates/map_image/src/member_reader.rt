@@ -1,12 +1,11 @@
 //! The members of an image's lists, taken off the front of bytes, each behind those that were taken before.
 ghost use Rattle.std.specs.Prelude.{◌≡◌};
-ghost use Rattle.std.specs.Int.{w32};
 ghost use Rattle.map_image.specs.Fit.{is_next_number, is_next_file, is_next_place};
-ghost use Rattle.map_image.specs.ImageReading.{Gives, last_of, name_at, place_at, rising_at, entry_at, file_at, kind_of_mark, perm_at, made_at, rising_place, target_at, link_at};
+ghost use Rattle.map_image.specs.ImageReading.{Gives, last_of, name_at, place_at, rising_at, count_at, entry_at, file_at, kind_of_mark, perm_at, made_at, rising_place, target_at, link_at};
 
-use crate::ImageFault;
-use crate::reader::{counted_at, mark_at, named};
-use byte_codec::{u16_at, u32_at, u64_at};
+use crate::reader::{counted_at, mark_at, named, number_at};
+use crate::{ImageFault, VersionForm};
+use byte_codec::{u16_at, u64_at};
 use checkout::Made;
 use eden_base::{FileId, Kind, Name, Number, Perm, Place};
 use entry_table::Kept;
@@ -59,23 +58,36 @@ fn rising_at<'a>(done: &[Kept], bytes: &'a [u8]) -> Result<(u64, &'a [u8]), Imag
     Ok((number, rest))
 }
 
+/// Takes a count, unless it is greater than the greatest of its version.
+#[tactic(auto, unfolding(crate::specs::ImageReading::count_at))]
+fn count_at(form: VersionForm, bytes: &[u8]) -> Result<(u64, &[u8]), ImageFault>
+    ensures { Gives (λ x. (x.0, x.1.now)) result (count_at form bytes.now) }
+{
+    let (count, rest) = number_at(form.count_width, bytes)?;
+    if count > form.greatest_count {
+        return Err(ImageFault::BadMark);
+    }
+    Ok((count, rest))
+}
+
 /// Takes an entry.
 #[tactic(auto, unfolding(crate::specs::ImageReading::entry_at))]
 pub(crate) fn entry_at<'a>(
     alloc: Global,
+    form: VersionForm,
     done: &[Kept],
     bytes: &'a [u8],
 ) -> Result<(Kept, &'a [u8]), ImageFault>
-    ensures { Gives (λ x. (x.0, x.1.now)) result (entry_at w32 (last_of done.now) bytes.now) }
+    ensures { Gives (λ x. (x.0, x.1.now)) result (entry_at form (last_of done.now) bytes.now) }
 {
     let (number, rest) = rising_at(done, bytes)?;
     let (unlinked, rest) = mark_at(rest)?;
-    let (count, rest) = u32_at(rest, ImageFault::Short)?;
+    let (count, rest) = count_at(form, rest)?;
     let (place, rest) = place_at(alloc, unlinked, rest)?;
     let kept = Kept {
         number: Number(number),
         place,
-        count: u64::from(count),
+        count,
     };
     Ok((kept, rest))
 }

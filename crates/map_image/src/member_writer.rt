@@ -1,11 +1,13 @@
 //! The members of an image's lists, put into a buffer.
-ghost use Rattle.std.specs.Prelude.{All, ◌≡◌, ◌<◌, ◌^◌, false, length};
-ghost use Rattle.std.specs.Int.{w32};
+ghost use Rattle.std.specs.Prelude.{All, ◌≡◌, ◌<◌, ◌≤◌, false, length};
 ghost use Rattle.std.specs.List.{flat_map, list_any};
+ghost use Rattle.byte_codec.specs.Field.{number_bytes};
 ghost use Rattle.byte_codec.specs.Writing.{HasRoom, Puts};
 ghost use Rattle.map_image.specs.ImageText.{name_text, place_mark, place_text, entry_text, kind_mark, made_text, target_text, link_text, list_text, FitsPlace, FitsEntry, FitsMade, FitsTarget, FitsLink};
+ghost use Rattle.map_image.specs.Versions.{length_limit, limit_of, width_of, IsForm};
 ghost use Rattle.map_image.specs.Writing.{is_too_large};
 
+use crate::{CountWidth, VersionForm};
 use byte_codec::{put_byte, put_slice, put_u16, put_u32, put_u64};
 use checkout::Made;
 use eden_base::{FileId, Kind, Name, Place};
@@ -49,17 +51,31 @@ fn put_place(out: &mut Vec<u8>, place: &Place)
     }
 }
 
+/// Puts a count of a width.
+#[tactic(auto, using(crate::proofs::Written::written))]
+fn put_count(out: &mut Vec<u8>, width: CountWidth, count: u64)
+    requires room { HasRoom out.old (length (number_bytes (width_of width) count)) }
+    requires fits { count < limit_of width }
+    ensures text { Puts out.old out.new (number_bytes (width_of width) count) }
+{
+    match width {
+        CountWidth::Four => put_u32(out, count as u32),
+        CountWidth::Eight => put_u64(out, count),
+    }
+}
+
 /// Puts an entry.
 #[tactic(auto, using(crate::proofs::Written::written))]
-fn put_entry(out: &mut Vec<u8>, kept: &Kept)
-    requires room { HasRoom out.old (length (entry_text w32 kept.now)) }
-    requires count { kept.now.count < 2 ^ 32 }
-    ensures text { Puts out.old out.new (entry_text w32 kept.now) }
-    ensures fits { FitsEntry (2 ^ 32) kept.now }
+fn put_entry(out: &mut Vec<u8>, form: VersionForm, kept: &Kept)
+    requires form { IsForm form }
+    requires room { HasRoom out.old (length (entry_text form.count_width kept.now)) }
+    requires count { kept.now.count ≤ form.greatest_count }
+    ensures text { Puts out.old out.new (entry_text form.count_width kept.now) }
+    ensures fits { FitsEntry form.greatest_count kept.now }
 {
     put_u64(out, kept.number.0);
     put_byte(out, place_mark(&kept.place));
-    put_u32(out, kept.count as u32);
+    put_count(out, form.count_width, kept.count);
     put_place(out, &kept.place);
 }
 
@@ -115,28 +131,30 @@ fn put_link(out: &mut Vec<u8>, link: &LinkChange)
 
 /// Puts entries, in their order.
 #[tactic(auto, using(crate::proofs::Written::written))]
-fn put_each_entry(out: &mut Vec<u8>, entries: &[Kept])
-    requires room { HasRoom out.old (length (flat_map (entry_text w32) entries.now)) }
-    requires counts { list_any (is_too_large (2 ^ 32)) entries.now ≡ false }
-    ensures text { Puts out.old out.new (flat_map (entry_text w32) entries.now) }
-    ensures fits { All (FitsEntry (2 ^ 32)) entries.now }
+fn put_each_entry(out: &mut Vec<u8>, form: VersionForm, entries: &[Kept])
+    requires form { IsForm form }
+    requires room { HasRoom out.old (length (flat_map (entry_text form.count_width) entries.now)) }
+    requires counts { list_any (is_too_large form.greatest_count) entries.now ≡ false }
+    ensures text { Puts out.old out.new (flat_map (entry_text form.count_width) entries.now) }
+    ensures fits { All (FitsEntry form.greatest_count) entries.now }
 {
     for kept in entries {
-        put_entry(out, kept);
+        put_entry(out, form, kept);
     }
 }
 
 /// Puts how many entries there are, and each.
 #[tactic(auto, using(crate::proofs::Written::written))]
-pub(crate) fn put_entries(out: &mut Vec<u8>, entries: &[Kept])
-    requires few { length entries.now < 2 ^ 32 }
-    requires room { HasRoom out.old (length (list_text (entry_text w32) entries.now)) }
-    requires counts { list_any (is_too_large (2 ^ 32)) entries.now ≡ false }
-    ensures text { Puts out.old out.new (list_text (entry_text w32) entries.now) }
-    ensures fits { All (FitsEntry (2 ^ 32)) entries.now }
+pub(crate) fn put_entries(out: &mut Vec<u8>, form: VersionForm, entries: &[Kept])
+    requires form { IsForm form }
+    requires few { length entries.now < length_limit }
+    requires room { HasRoom out.old (length (list_text (entry_text form.count_width) entries.now)) }
+    requires counts { list_any (is_too_large form.greatest_count) entries.now ≡ false }
+    ensures text { Puts out.old out.new (list_text (entry_text form.count_width) entries.now) }
+    ensures fits { All (FitsEntry form.greatest_count) entries.now }
 {
     put_u32(out, entries.len() as u32);
-    put_each_entry(out, entries);
+    put_each_entry(out, form, entries);
 }
 
 /// Puts made files, in their order.
@@ -154,7 +172,7 @@ fn put_each_made(out: &mut Vec<u8>, files: &[Made])
 /// Puts how many made files there are, and each.
 #[tactic(auto, using(crate::proofs::Written::written))]
 pub(crate) fn put_made_files(out: &mut Vec<u8>, files: &[Made])
-    requires few { length files.now < 2 ^ 32 }
+    requires few { length files.now < length_limit }
     requires room { HasRoom out.old (length (list_text made_text files.now)) }
     ensures text { Puts out.old out.new (list_text made_text files.now) }
     ensures fits { All FitsMade files.now }
@@ -178,7 +196,7 @@ fn put_each_link(out: &mut Vec<u8>, links: &[LinkChange])
 /// Puts how many changed names there are, and each.
 #[tactic(auto, using(crate::proofs::Written::written))]
 pub(crate) fn put_links(out: &mut Vec<u8>, links: &[LinkChange])
-    requires few { length links.now < 2 ^ 32 }
+    requires few { length links.now < length_limit }
     requires room { HasRoom out.old (length (list_text link_text links.now)) }
     ensures text { Puts out.old out.new (list_text link_text links.now) }
     ensures fits { All FitsLink links.now }

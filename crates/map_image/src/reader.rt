@@ -1,9 +1,12 @@
 //! Marks and names taken off the front of bytes: a value, and what follows it.
 ghost use Rattle.std.specs.Prelude.{◌≡◌};
+ghost use Rattle.byte_codec.specs.Reading.{number_at};
 ghost use Rattle.map_image.specs.ImageReading.{Gives, counted_at, mark_at, named};
+ghost use Rattle.map_image.specs.Versions.{width_of};
+ghost use Rattle.map_image.specs.declared.fault.ImageFault.TheVariants.{Short};
 
-use crate::ImageFault;
-use byte_codec::{byte_at, bytes_at};
+use crate::{CountWidth, ImageFault};
+use byte_codec::{byte_at, bytes_at, u32_at, u64_at};
 use eden_base::{Name, NoMemory};
 use std::alloc::Global;
 
@@ -17,6 +20,22 @@ pub(crate) fn mark_at(bytes: &[u8]) -> Result<(bool, &[u8]), ImageFault>
         return Err(ImageFault::BadMark);
     }
     Ok((mark == 1, rest))
+}
+
+/// Takes a number of a width.
+pub(crate) fn number_at(width: CountWidth, bytes: &[u8]) -> Result<(u64, &[u8]), ImageFault>
+    ensures { Gives (λ x. (x.0, x.1.now)) result (number_at Short (width_of width) bytes.now) }
+{
+    match width {
+        CountWidth::Four => {
+            let (number, rest) = u32_at(bytes, ImageFault::Short)?;
+            Ok((u64::from(number), rest))
+        }
+        CountWidth::Eight => {
+            let (number, rest) = u64_at(bytes, ImageFault::Short)?;
+            Ok((number, rest))
+        }
+    }
 }
 
 /// Takes bytes behind their length.

@@ -1,4 +1,4 @@
-//! Each cause for which nothing is handed or taken over. A call that is refused memory is made once more; so where memory
+//! Each cause that stops a handover or a takeover. A call that is refused memory is made once more; so where memory
 //! is ample none of them may be told as out of memory.
 use super::deeds::{Deed, all_go_so};
 use super::images::all;

@@ -68,8 +68,8 @@ pub(crate) fn comes_to_with(
         && is_not_taken(alloc, manifest, bytes.as_slice())
 }
 
-/// The commit; the file that was made; the directory of the first entry, which is none or itself, and the end of its
-/// name; the file in the mark of the third; the next number, twice too low and once too high.
+/// One byte is changed in each: in the commit, in the made file, twice in the directory of the first entry and once in
+/// its name. Then in the mark of the third entry, and three times in the next number.
 static FAULTS: [Deed; 9] = [
     Deed::Refuse(6, 2, RaiseFault::OtherCommit),
     Deed::Refuse(139, 5, RaiseFault::BadChange(1)),

@@ -2,7 +2,7 @@ use Rattle.std.proofs.Common.{◌≡◌, ℕ, true, Result, Ok, Err, Vec, Global
 use Rattle.std.specs.Prelude.{IfErr, None, is_some}
 use Rattle.fuse_ops.specs.Served.{ServedState}
 use Rattle.map_codec.specs.Taking.{IsImageOf}
-use Rattle.map_image.specs.ImageText.{form_of}
+use Rattle.map_image.specs.Versions.{form_of}
 use Rattle.map_image.specs.Writing.{refusal}
 use Rattle.map_image.specs.declared.image.Image.{Image}
 use Rattle.map_codec.specs.Handover.{IsHandingRefusal, IsTextRefusal}

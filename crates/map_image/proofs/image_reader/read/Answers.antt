@@ -11,21 +11,21 @@ use Rattle.map_image.proofs.CountLaws.{counts_fit}
 use Rattle.map_image.proofs.image_reader.read.Goals as goal
 
 is_found : (bytes : List ℕ) (r : Result Image ImageFault) → AreBytes bytes → Gives (λ (image : Image). image) r (image_of_bytes bytes) → IfOk r (λ (image : Image). (version : ℕ) × IsImageText image version bytes)
-is_found bytes (Ok image) are given = (1, image_found bytes image are given)
+is_found bytes (Ok image) are given = let found = image_found bytes image are given in (found.version, found.text)
 is_found bytes (Err fault) are given = tt
 
 pub returns-clause-text : goal.returns-clause-text
 returns-clause-text c = is_found c.args.bytes.now c.read_image.result (λ i. omega (arith, c.type_inv.bytes i)) c.read_image.ensures.gives
 
 is_fit : (bytes : List ℕ) (r : Result Image ImageFault) → AreBytes bytes → Gives (λ (image : Image). image) r (image_of_bytes bytes) → IfOk r IsFit
-is_fit bytes (Ok image) are given = (image_found bytes image are given).is_fit
+is_fit bytes (Ok image) are given = (image_found bytes image are given).text.is_fit
 is_fit bytes (Err fault) are given = tt
 
 pub returns-clause-fit : goal.returns-clause-fit
 returns-clause-fit c = is_fit c.args.bytes.now c.read_image.result (λ i. omega (arith, c.type_inv.bytes i)) c.read_image.ensures.gives
 
 fit_counts : (bytes : List ℕ) (r : Result Image ImageFault) → AreBytes bytes → Gives (λ (image : Image). image) r (image_of_bytes bytes) → IfOk r (λ (image : Image). CountsFit image.entries)
-fit_counts bytes (Ok image) are given = counts_fit image bytes (image_found bytes image are given)
+fit_counts bytes (Ok image) are given = let found = image_found bytes image are given in counts_fit image found.version bytes found.text
 fit_counts bytes (Err fault) are given = tt
 
 pub returns-clause-counts : goal.returns-clause-counts

@@ -1,0 +1,69 @@
+//! The versions of an image.
+ghost use Rattle.std.specs.Prelude.{◌≡◌, ◌≤◌, ℕ, IfSome, is_some, length};
+ghost use Rattle.byte_codec.specs.Field.{number_bytes};
+ghost use Rattle.map_image.specs.Versions.{form_of, width_of, IsForm};
+
+/// How many bytes a count takes.
+#[derive(Clone, Copy)]
+pub enum CountWidth {
+    Four,
+    Eight,
+}
+
+/// How a text goes to the next daemon.
+#[derive(Clone, Copy)]
+pub enum Sending {
+    /// In one message.
+    Whole,
+}
+
+/// What a text of one version differs in from another's.
+#[derive(Clone, Copy)]
+pub struct VersionForm {
+    pub count_width: CountWidth,
+    /// A greater count is neither written nor read.
+    pub greatest_count: u64,
+    /// The longest text that is written, in bytes.
+    pub longest: usize,
+    pub sending: Sending,
+}
+
+/// The form of version 1.
+const FIRST: VersionForm = VersionForm {
+    count_width: CountWidth::Four,
+    greatest_count: u32::MAX as u64,
+    longest: 65_000,
+    sending: Sending::Whole,
+};
+
+/// Returns the form of `version`, if there is such a version.
+pub fn form_of(version: u16) -> Option<VersionForm>
+    ensures row { result ≡ form_of version }
+    ensures keeps { IfSome result IsForm }
+{
+    if version == 1 {
+        return Some(FIRST);
+    }
+    None
+}
+
+/// Returns whether there is such a version.
+pub fn is_version(version: u16) -> bool
+    ensures is { result ≡ is_some (form_of version) }
+{
+    form_of(version).is_some()
+}
+
+impl CountWidth {
+    /// Returns the length of a count of this width.
+    #[tactic(auto, using(crate::proofs::Lengths::lengths))]
+    pub(crate) fn len(self) -> usize
+        ensures len { (count : ℕ) → result ≡ length (number_bytes (width_of self) count) }
+        ensures at_most { result ≤ 8 }
+    {
+        match self {
+            CountWidth::Four => 4,
+            CountWidth::Eight => 8,
+        }
+    }
+}
