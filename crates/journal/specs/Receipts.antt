@@ -1,16 +1,17 @@
 -- What a worker keeps of its turns. (This project's own.)
-use Rattle.std.specs.Prelude.{◌≡◌, ℕ, List, [], ◌∷◌, map, Option, Some, None}
+use Rattle.std.specs.Prelude.{◌≡◌, ◌≤◌, ℕ, Bool, true, List, [], ◌∷◌, map, Option, Some, None}
 use Rattle.std.specs.List.{flat_map}
 use Rattle.fuse_wire.specs.declared.request.Ask.{Ask}
 use Rattle.fuse_wire.specs.declared.reply.Answer.{Answer}
 use Rattle.fuse_wire.specs.declared.reply.Reply.{Reply}
 use Rattle.journal.specs.declared.receipt.Receipt.{Receipt}
 
--- a worker's receipts in the order of its turns, how many more there is a place for, and how many more copies
+-- a worker's receipts in the order of its turns, for how many more there is a place, and whether its spare room for the
+-- copy of a request is there
 pub record ReceiptsState : Type 0 where
   pub list : List Receipt
   pub places : ℕ
-  pub copies : ℕ
+  pub spare : Bool
 
 -- the asks of some receipts
 abbrev pub asks_of : List Receipt → List Ask
@@ -26,6 +27,6 @@ abbrev pub replies_of : List Receipt → List Reply
 replies_of receipts =
     flat_map (λ (receipt : Receipt). replies_to receipt.ask.unique receipt.answer) receipts
 
--- no receipt, and room for those of so many turns
+-- no receipt, a place for those of these turns, and the spare room
 abbrev pub IsFresh : ℕ → ReceiptsState → Type 0
-IsFresh turns kept = (kept.list ≡ []) × (kept.places ≡ turns) × (kept.copies ≡ turns)
+IsFresh turns kept = (kept.list ≡ []) × (turns ≤ kept.places) × (kept.spare ≡ true)

@@ -1,5 +1,5 @@
 //! What was applied in a round, in order.
-ghost use Rattle.std.specs.Prelude.{◌≡◌, ◌+◌, ◌<◌, ◌++◌, ◌∷◌, [], length, IfOk};
+ghost use Rattle.std.specs.Prelude.{◌≡◌, ◌+◌, ◌<◌, ◌≤◌, ◌++◌, ◌∷◌, [], length, IfOk, OnOk, OnErr};
 
 use eden_base::NoMemory;
 use fuse_wire::{Answer, Request};
@@ -33,7 +33,7 @@ impl Model for Journal {
 }
 
 impl Journal {
-    /// Takes the memory for so many records.
+    /// Takes the memory for `capacity` records.
     pub fn new(alloc: Global, capacity: usize) -> Result<Journal, NoMemory>
         ensures empty { IfOk result (λ journal. journal.records ≡ []) }
         ensures room { IfOk result (λ journal. journal.room ≡ capacity) }
@@ -45,6 +45,41 @@ impl Journal {
             }),
             Err(_refused) => Err(NoMemory),
         }
+    }
+
+    /// Returns a journal without room. It takes no memory.
+    pub fn without_room(alloc: Global) -> Journal
+        ensures empty { result.records ≡ [] }
+        ensures room { result.room ≡ 0 }
+    {
+        Journal {
+            records: Vec::new(alloc),
+            room: 0,
+        }
+    }
+
+    /// Drops the records, and keeps their room for others.
+    pub fn clear(&mut self)
+        ensures records { self.new.records ≡ [] }
+        ensures room { self.old.room + length self.old.records ≤ self.new.room }
+    {
+        self.records.clear();
+        self.room = self.records.capacity();
+    }
+
+    /// Drops the records, and takes memory where there is no room for `capacity` others.
+    pub fn refill(&mut self, alloc: Global, capacity: usize) -> Result<(), NoMemory>
+        ensures records { self.new.records ≡ [] }
+        ensures room { OnOk result (capacity ≤ self.new.room) }
+        ensures needed { OnErr result (self.old.room < capacity) }
+    {
+        self.clear();
+        if capacity <= self.room {
+            return Ok(());
+        }
+        self.records = Vec::with_capacity(alloc, capacity)?;
+        self.room = capacity;
+        Ok(())
     }
 
     /// Returns how many more records there is room for.

@@ -1,5 +1,6 @@
 //! What a worker keeps of its turns.
-ghost use Rattle.std.specs.Prelude.{◌≡◌, ◌+◌, ◌<◌, ◌++◌, ◌∷◌, [], vec_len, IfOk};
+ghost use Rattle.std.specs.Prelude.{◌≡◌, ◌↔◌, ◌+◌, ◌<◌, ◌≤◌, ◌++◌, ◌∷◌, [], length, true, false, IsTrue, IfOk, OnOk, OnErr};
+ghost use Rattle.journal.specs.Receipts.{IsFresh};
 
 use eden_base::{NameRoom, NoMemory};
 use fuse_wire::{Answer, Ask, BatchRoom, Request};
@@ -23,17 +24,20 @@ struct CopyRoom {
     batch: BatchRoom,
 }
 
-/// The receipts of a worker in the order of its turns, with room for more. Contracts see it as a `ReceiptsState`: the
-/// receipts, how many more there is a place for, and of how many more requests a copy can be made.
+/// The receipts of a worker in the order of its turns, with places for more, and a spare room for the copy of one
+/// request. Contracts see it as a `ReceiptsState`: the receipts, for how many more there is a place, and whether the
+/// spare room is there.
 #[derive(Drop)]
 pub struct Receipts {
+    alloc: Global,
     receipts: Vec<Receipt>,
     places: usize,
-    copies: Vec<CopyRoom>,
+    spare: Option<CopyRoom>,
 }
 
 impl Model for Receipts {
     ghost use Rattle.std.specs.Prelude.{◌+◌, ◌≤◌, vec_len, vec_capacity};
+    ghost use Rattle.std.specs.Option.{is_some};
     ghost use Rattle.journal.specs.Receipts.{ReceiptsState};
 
     ghost Value = { ReceiptsState };
@@ -41,7 +45,7 @@ impl Model for Receipts {
     ghost view = { λ kept. record {
       list = kept.receipts.items;
       places = kept.places;
-      copies = vec_len kept.copies;
+      spare = is_some kept.spare;
     } };
 
     ghost invariant = { λ kept. vec_len kept.receipts + kept.places ≤ vec_capacity kept.receipts };
@@ -61,43 +65,110 @@ impl CopyRoom {
     }
 }
 
-/// Takes memory for the copies of so many requests.
-fn copies_of(alloc: Global, turns: usize) -> Result<Vec<CopyRoom>, NoMemory>
-    ensures copies { IfOk result (λ copies. vec_len copies ≡ turns) }
-{
-    let mut copies = Vec::with_capacity(alloc, turns)?;
-    for _turn in 0..turns {
-        let room = CopyRoom::new(alloc)?;
-        copies.push(room)?;
-    }
-    Ok(copies)
-}
-
 impl Receipts {
-    /// Takes the memory for the receipts of so many turns, with a copy of each request.
+    /// Takes the memory for the receipts of `turns` turns, and the spare room.
     pub fn new(alloc: Global, turns: usize) -> Result<Receipts, NoMemory>
         ensures empty { IfOk result (λ kept. kept.list ≡ []) }
         ensures places { IfOk result (λ kept. kept.places ≡ turns) }
-        ensures copies { IfOk result (λ kept. kept.copies ≡ turns) }
+        ensures spare { IfOk result (λ kept. kept.spare ≡ true) }
     {
-        let copies = copies_of(alloc, turns)?;
+        let spare = CopyRoom::new(alloc)?;
         let receipts = Vec::with_capacity(alloc, turns)?;
         Ok(Receipts {
+            alloc,
             receipts,
             places: turns,
-            copies,
+            spare: Some(spare),
         })
     }
 
-    /// Returns the same request, in memory that was taken before.
+    /// Returns whether there is no receipt, a place for those of `turns` turns, and the spare room.
+    pub fn is_fresh(&self, turns: usize) -> bool
+        ensures fresh { IsTrue result ↔ IsFresh turns self.now }
+    {
+        self.receipts.is_empty() && turns <= self.places && self.spare.is_some()
+    }
+
+    /// Returns whether the spare room is there.
+    pub fn has_spare(&self) -> bool
+        ensures spare { result ≡ self.now.spare }
+    {
+        self.spare.is_some()
+    }
+
+    /// Drops the receipts, and keeps their places for others.
+    pub fn clear(&mut self)
+        ensures list { self.new.list ≡ [] }
+        ensures places { self.old.places + length self.old.list ≤ self.new.places }
+        ensures spare { self.new.spare ≡ self.old.spare }
+    {
+        self.receipts.clear();
+        self.places = self.receipts.capacity();
+    }
+
+    /// Drops the receipts, and takes memory where there is no place for those of `turns` turns or no spare room.
+    pub fn refill(&mut self, turns: usize) -> Result<(), NoMemory>
+        ensures fresh { OnOk result (IsFresh turns self.new) }
+        ensures needed { OnErr result (IsFresh turns self.old → ⊥) }
+    {
+        if self.is_fresh(turns) {
+            return Ok(());
+        }
+        self.clear();
+        self.refill_places(turns)?;
+        self.refill_spare()
+    }
+
+    /// Takes memory for the receipts of `turns` turns, where there are too few places.
+    fn refill_places(&mut self, turns: usize) -> Result<(), NoMemory>
+        requires none { self.old.list ≡ [] }
+        ensures none { self.new.list ≡ [] }
+        ensures places { OnOk result (turns ≤ self.new.places) }
+        ensures spare { self.new.spare ≡ self.old.spare }
+    {
+        if turns <= self.places {
+            return Ok(());
+        }
+        self.receipts = Vec::with_capacity(self.alloc, turns)?;
+        self.places = turns;
+        Ok(())
+    }
+
+    /// Takes memory for the spare room, where it was used.
+    fn refill_spare(&mut self) -> Result<(), NoMemory>
+        ensures list { self.new.list ≡ self.old.list }
+        ensures places { self.new.places ≡ self.old.places }
+        ensures spare { OnOk result (self.new.spare ≡ true) }
+    {
+        if self.spare.is_some() {
+            return Ok(());
+        }
+        let room = CopyRoom::new(self.alloc)?;
+        self.spare = Some(room);
+        Ok(())
+    }
+
+    /// Returns the same request, in memory of its own. Where memory is refused, it is in the spare room.
     pub fn copy(&mut self, request: &Request) -> Request
-        requires room { 0 < self.old.copies }
+        requires spare { self.old.spare ≡ true }
         ensures copy { result ≡ request.now }
-        ensures copies { self.new.copies + 1 ≡ self.old.copies }
         ensures list { self.new.list ≡ self.old.list }
         ensures places { self.new.places ≡ self.old.places }
     {
-        let Some(room) = self.copies.pop() else {
+        match request.copy(self.alloc) {
+            Ok(copy) => copy,
+            Err(NoMemory) => self.copy_to_spare(request),
+        }
+    }
+
+    /// Returns the same request, in the spare room.
+    fn copy_to_spare(&mut self, request: &Request) -> Request
+        requires spare { self.old.spare ≡ true }
+        ensures copy { result ≡ request.now }
+        ensures list { self.new.list ≡ self.old.list }
+        ensures places { self.new.places ≡ self.old.places }
+    {
+        let Some(room) = self.spare.take() else {
             unreachable!()
         };
         let CopyRoom {
@@ -113,7 +184,7 @@ impl Receipts {
         requires room { 0 < self.old.places }
         ensures list { self.new.list ≡ self.old.list ++ receipt ∷ [] }
         ensures places { self.new.places + 1 ≡ self.old.places }
-        ensures copies { self.new.copies ≡ self.old.copies }
+        ensures spare { self.new.spare ≡ self.old.spare }
     {
         self.receipts.push_reserved(receipt);
         self.places -= 1;
@@ -126,16 +197,17 @@ impl Receipts {
         self.receipts.as_slice()
     }
 
-    /// Returns these receipts, without room for more.
+    /// Returns these receipts, without a place for more and without the spare room.
     pub fn of(alloc: Global, receipts: Vec<Receipt>) -> Receipts
         ensures list { result.list ≡ receipts.items }
         ensures places { result.places ≡ 0 }
-        ensures copies { result.copies ≡ 0 }
+        ensures spare { result.spare ≡ false }
     {
         Receipts {
+            alloc,
             receipts,
             places: 0,
-            copies: Vec::new(alloc),
+            spare: None,
         }
     }
 
@@ -144,9 +216,10 @@ impl Receipts {
         ensures list { result.items ≡ self.list }
     {
         let Receipts {
+            alloc: _,
             receipts,
             places: _,
-            copies: _,
+            spare: _,
         } = self;
         receipts
     }

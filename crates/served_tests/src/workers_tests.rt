@@ -2,6 +2,7 @@
 mod ending_tests;
 mod full_tests;
 mod gates;
+mod rooms_tests;
 mod rounds;
 mod scripted;
 mod shift_tests;

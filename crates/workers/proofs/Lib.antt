@@ -1,3 +1,4 @@
+pub mod Fitting
 pub mod Growing
 pub mod Replaying
 pub mod Rounds

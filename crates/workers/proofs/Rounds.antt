@@ -1,14 +1,10 @@
 -- What a round gives, by how its workers ended.
-use Rattle.std.proofs.Common.{◌≡◌, ℕ, List, Result, Ok, Err, sym, subst}
-use Rattle.std.specs.Prelude.{IfOk, IfErr, OnOk, OnErr}
-use Rattle.fuse_ops.specs.Served.{ServedState}
-use Rattle.fuse_wire.specs.declared.reply.Reply.{Reply}
-use Rattle.workers.specs.Faults.{GivesBack, IsUnserved}
-use Rattle.workers.specs.Round.{OneBreaks}
-use Rattle.workers.specs.declared.channel.Taken.{Taken}
-use Rattle.workers.specs.declared.channel.Posted.{Posted}
-use Rattle.workers.specs.declared.fault.RoundFault.{RoundFault}
-use Rattle.workers.specs.declared.fault.RoundFault.TheVariants.{Broken}
+use Rattle.std.proofs.Common.{◌≡◌, ◌+◌, ◌*◌, ◌≤◌, ℕ, List, length, Result, Ok, Err, sym, subst, ◌∙◌, arith}
+use Rattle.std.specs.Prelude.{IfOk, OnOk, OnErr}
+use Rattle.std.specs.List.{All}
+use Rattle.journal.specs.Journal.{JournalState}
+use Rattle.journal.specs.Receipts.{ReceiptsState}
+use Rattle.workers.specs.Rooms.{HasPlaces, HaveRoom, rooms_of}
 
 -- what holds of two parts of an Ok
 pub two_of_ok :
@@ -18,20 +14,23 @@ two_of_ok {R} {E} {A} {K} P (Ok x) f g a k fa gk d go =
     subst (λ (b : A). P b (g x)) (sym fa) (subst (λ (h : K). P a h) (sym gk) (go d))
 two_of_ok P (Err e) f g a k fa gk d go = tt
 
--- a round that is Broken gives nothing back
-pub gives_back :
-    {R B C : Type 0} (r : Result R (RoundFault B C)) (served : ServedState) (backing : B) (channels : List C) →
-    IfErr r (λ why. why ≡ Broken) → IfErr r (GivesBack served backing channels)
-gives_back (Ok x) served backing channels is = tt
-gives_back {R} {B} {C} (Err e) served backing channels is =
-    subst (λ (why : RoundFault B C). GivesBack served backing channels why) (sym is) tt
+-- what follows from the cause of an Err
+pub err_so : {R E D P : Type 0} (r : Result R E) → OnErr r D → (D → P) → OnErr r P
+err_so (Ok x) why so = tt
+err_so (Err e) why so = so why
 
--- a round is Broken where a worker found its channel so
-pub broken_by :
-    {R B C D : Type 0} (takes : C → Taken → C → Type 0) (posts : C → Reply → Posted → C → Type 0) (turns : ℕ)
-    (r : Result R (RoundFault B C)) (channels : List C) →
-    IfErr r (λ why. why ≡ Broken) → OnErr r D → (D → OneBreaks takes posts turns channels) →
-    IfErr r (IsUnserved takes posts turns channels)
-broken_by takes posts turns (Ok x) channels is broke go = tt
-broken_by {R} {B} {C} takes posts turns (Err e) channels is broke go =
-    subst (λ (why : RoundFault B C). IsUnserved takes posts turns channels why) (sym is) (go broke)
+-- a round that is served leaves the room that it began with
+pub room_kept :
+    {R E : Type 0} (r : Result R E) (journal : R → JournalState) (receipts : R → List ReceiptsState) (workers : R → ℕ)
+    (parts channels turns count : ℕ) (kept : List ReceiptsState) →
+    IfOk r (λ x. parts ≤ length (journal x).records + (journal x).room + 1) → IfOk r (λ x. receipts x ≡ kept) →
+    IfOk r (λ x. workers x ≡ count) → parts ≡ channels * (turns + 1) → count ≡ channels →
+    All (HasPlaces turns) kept →
+    IfOk r (λ x. HaveRoom channels turns (rooms_of (journal x) (receipts x) (workers x)))
+room_kept (Ok x) journal receipts workers parts channels turns count kept room same many parts_are count_is places =
+    record {
+      room = omega (arith, room, parts_are);
+      workers = many ∙ count_is;
+      places = subst (λ (ks : List ReceiptsState). All (HasPlaces turns) ks) (sym same) places;
+    }
+room_kept (Err e) journal receipts workers parts channels turns count kept room same many parts_are count_is places = tt

@@ -1,10 +1,10 @@
 -- What a worker makes of its channel grows by a turn.
-use Rattle.std.proofs.Common.{◌≡◌, ◌⊎◌, ℕ, List, [], ◌∷◌, ◌++◌, Option, Some, None, refl, sym, subst, inl, inr}
+use Rattle.std.proofs.Common.{◌≡◌, ◌⊎◌, ℕ, Bool, true, false, List, [], ◌∷◌, ◌++◌, Option, Some, None, refl, sym, subst, inl, inr}
 use Rattle.fuse_wire.specs.declared.request.Ask.{Ask}
 use Rattle.fuse_wire.specs.declared.reply.Answer.{Answer}
 use Rattle.fuse_wire.specs.declared.reply.Reply.{Reply}
 use Rattle.journal.specs.declared.receipt.Receipt.{Receipt}
-use Rattle.workers.specs.Shift.{Ends, Fails, Finds, Goes, GoesOrEnds, Replies, Turns}
+use Rattle.workers.specs.Shift.{Ends, Fails, Finds, Goes, GoesOrEnds, Replies, Turns, after_turn}
 use Rattle.workers.specs.declared.channel.Taken.{Taken}
 use Rattle.workers.specs.declared.channel.Taken.TheVariants as took
 use Rattle.workers.specs.declared.channel.Posted.{Posted}
@@ -33,6 +33,17 @@ pub turned_well :
 turned_well {C} takes posts start receipts later final before held after is went taken replied =
     subst (λ (rs : List Receipt). Goes takes posts start rs after) (sym is)
     (goes_more takes posts start receipts final before after went (held, taken, replied))
+
+-- a worker goes on after such a turn, or its spare room is used
+pub goes_after :
+    {C : Type 0} (takes : C → Taken → C → Type 0) (posts : C → Reply → Posted → C → Type 0)
+    (start : C) (receipts : List Receipt) (after : C) (result : Option Ending) (spare : Bool) →
+    result ≡ after_turn spare → Goes takes posts start receipts after →
+    GoesOrEnds takes posts start receipts result after
+goes_after takes posts start receipts after result true is went =
+    subst (λ (r : Option Ending). GoesOrEnds takes posts start receipts r after) (sym is) went
+goes_after takes posts start receipts after result false is went =
+    subst (λ (r : Option Ending). GoesOrEnds takes posts start receipts r after) (sym is) went
 
 -- a turn whose reply found the channel broken
 pub turned_broken :

@@ -37,7 +37,7 @@ pub record MemoryState : Type 0 where
 abbrev pub told_of : MemoryState → Told
 told_of channel = record { taken = take channel.taken channel.asks; posted = channel.replies }
 
--- what comes of a look for an ask in memory: the next one, or none where all were taken; Broken where no copy of it
+-- the result of a look for an ask in memory: the next one, or none where all were taken; Broken where no copy of it
 -- could be made, and then it is still there
 abbrev pub Takes : MemoryState → Taken → MemoryState → Type 0
 Takes old (took.Ask ask) new =
@@ -47,7 +47,7 @@ Takes old took.Empty new = (old.taken ≡ length old.asks) × (new ≡ old)
 Takes old took.Stopped new = ⊥
 Takes old took.Broken new = (old.taken < length old.asks) × (new ≡ old)
 
--- what comes of a reply: it joins the others, or is Broken where there are as many as asks
+-- the result of a reply: it joins the others, or is Broken where there are as many as asks
 abbrev pub Posts : MemoryState → Reply → Posted → MemoryState → Type 0
 Posts old reply post.Done new =
     (length old.replies < length old.asks)

@@ -5,6 +5,7 @@ use Rattle.fuse_wire.specs.declared.reply.Reply.{Reply}
 use Rattle.journal.specs.Receipts.{ReceiptsState}
 use Rattle.journal.specs.Settled.{IsSettled}
 use Rattle.journal.specs.declared.journal.Record.{Record}
+use Rattle.workers.specs.Rooms.{AreEmptied, Fit, RoomsState}
 use Rattle.workers.specs.Round.{OneBreaks}
 use Rattle.workers.specs.declared.channel.Taken.{Taken}
 use Rattle.workers.specs.declared.channel.Posted.{Posted}
@@ -31,6 +32,16 @@ abbrev pub IsUnserved :
 IsUnserved takes posts turns channels Broken = OneBreaks takes posts turns channels
 IsUnserved takes posts turns channels Unsettled = ⊥
 IsUnserved takes posts turns channels (NoMemory back) = ⊤
+
+-- where memory was refused for a round of these channels and turns, its rooms lacked some
+abbrev pub WasNeeded : {B C : Type 0} → ℕ → ℕ → RoomsState → RoundFault B C → Type 0
+WasNeeded channels turns rooms (NoMemory back) = Fit channels turns rooms → ⊥
+WasNeeded channels turns rooms why = ⊤
+
+-- where memory was refused, the rooms of the round are given back empty
+abbrev pub GivesRooms : {B C : Type 0} → RoomsState → RoundFault B C → Type 0
+GivesRooms rooms (NoMemory back) = AreEmptied rooms back.rooms
+GivesRooms rooms why = ⊤
 
 -- why a round is not drained: its receipts are not its journal, or memory was refused
 abbrev pub IsUndrained : {B C : Type 0} → List Record → List ReceiptsState → RoundFault B C → Type 0

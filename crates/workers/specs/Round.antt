@@ -5,18 +5,19 @@ use Rattle.fuse_wire.specs.declared.reply.Reply.{Reply}
 use Rattle.journal.specs.Receipts.{ReceiptsState}
 use Rattle.journal.specs.declared.receipt.Receipt.{Receipt}
 use Rattle.workers.specs.Channel.{Told, grown}
-use Rattle.workers.specs.Shift.{Ends, IsShift}
+use Rattle.workers.specs.Shift.{Ends, IsShift, ending_by}
 use Rattle.workers.specs.declared.channel.Taken.{Taken}
 use Rattle.workers.specs.declared.channel.Posted.{Posted}
-use Rattle.workers.specs.declared.worker.Ending.TheVariants.{Done, Broken}
+use Rattle.workers.specs.declared.worker.Ending.TheVariants.{Broken}
 
--- channels before and after a round, each with its worker's receipts: each worker ended well
+-- channels before and after a round, each with its worker's receipts: each worker ended well, OutOfRoom exactly where
+-- its spare room is used and else Done
 abbrev pub AreServed :
     {C : Type 0} → (C → Taken → C → Type 0) → (C → Reply → Posted → C → Type 0) → Bool → (C → Told) → ℕ
     → List C → List C → List ReceiptsState → Type 0
 AreServed takes posts tells told turns [] [] [] = ⊤
 AreServed takes posts tells told turns (before ∷ befores) (after ∷ afters) (kept ∷ rest) =
-    IsShift takes posts tells told turns before kept.list Done after
+    IsShift takes posts tells told turns before kept (ending_by kept.spare) after
     × AreServed takes posts tells told turns befores afters rest
 AreServed takes posts tells told turns befores afters kept = ⊥
 

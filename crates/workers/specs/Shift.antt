@@ -1,5 +1,5 @@
 -- What a worker makes of its channel, and how it ends. (This project's own.)
-use Rattle.std.specs.Prelude.{◌≡◌, ◌≤◌, ◌⊎◌, ℕ, Bool, true, false, List, [], ◌∷◌, ◌++◌, length, Option, Some, None}
+use Rattle.std.specs.Prelude.{◌≡◌, ◌≤◌, ◌⊎◌, ℕ, Bool, true, false, List, [], ◌∷◌, ◌++◌, length, Option, Some, None, ⊤}
 use Rattle.fuse_wire.specs.declared.reply.Answer.{Answer}
 use Rattle.fuse_wire.specs.declared.reply.Reply.{Reply}
 use Rattle.journal.specs.Receipts.{ReceiptsState}
@@ -10,11 +10,11 @@ use Rattle.workers.specs.declared.channel.Taken.TheVariants as took
 use Rattle.workers.specs.declared.channel.Posted.{Posted}
 use Rattle.workers.specs.declared.channel.Posted.TheVariants as post
 use Rattle.workers.specs.declared.worker.Ending.{Ending}
-use Rattle.workers.specs.declared.worker.Ending.TheVariants.{Done, Broken}
+use Rattle.workers.specs.declared.worker.Ending.TheVariants.{Done, OutOfRoom, Broken}
 
 -- Below, `takes` is what a look for an ask makes of a channel, and `posts` what a reply makes of it.
 
--- what comes of the reply to an ask, where it has one: without an answer there is nothing to post
+-- the result of the reply to an ask, where it has one: without an answer there is nothing to post
 abbrev pub Replies : {C : Type 0} → (C → Reply → Posted → C → Type 0) → C → ℕ → Option Answer → Posted → C → Type 0
 Replies posts before unique (Some answer) posted after =
     posts before (record { unique = unique; answer = answer }) posted after
@@ -49,13 +49,15 @@ Fails {C} takes posts before receipts after =
     × Goes takes posts before front last × Turns takes posts last final post.Broken after
 
 -- How a worker ends. Done: each reply was posted, and then it looked no more, or found that there is no ask now, or
--- that there will be none. Broken: its channel was, where it looked for an ask or where it posted a reply.
+-- that there will be none. OutOfRoom: each reply was posted, and its spare room is used. Broken: its channel was, where
+-- it looked for an ask or where it posted a reply.
 abbrev pub Ends :
     {C : Type 0} → (C → Taken → C → Type 0) → (C → Reply → Posted → C → Type 0)
     → C → List Receipt → Ending → C → Type 0
 Ends takes posts before receipts Done after =
     Goes takes posts before receipts after
     ⊎ (Finds takes posts before receipts took.Empty after ⊎ Finds takes posts before receipts took.Stopped after)
+Ends takes posts before receipts OutOfRoom after = Goes takes posts before receipts after
 Ends takes posts before receipts Broken after =
     Finds takes posts before receipts took.Broken after ⊎ Fails takes posts before receipts after
 
@@ -68,19 +70,38 @@ GoesOrEnds takes posts before receipts (Some ending) after = Ends takes posts be
 
 -- the worker goes on, or has taken and posted all that it has receipts of
 abbrev pub is_well : Option Ending → Bool
-is_well None = true
-is_well (Some Done) = true
 is_well (Some Broken) = false
+is_well ending = true
+
+-- whether the spare room is there, of a worker that goes on or ended so: it is used exactly where the worker is
+-- OutOfRoom, and may be either way where its channel is Broken
+abbrev pub LeavesSpare : Option Ending → Bool → Type 0
+LeavesSpare (Some Broken) spare = ⊤
+LeavesSpare (Some OutOfRoom) spare = spare ≡ false
+LeavesSpare ending spare = spare ≡ true
+
+-- what a worker does after a turn whose reply was posted, by whether its spare room is there: it goes on, or ends
+abbrev pub after_turn : Bool → Option Ending
+after_turn true = None
+after_turn false = Some OutOfRoom
+
+-- how a worker ended well that left its spare room so
+abbrev pub ending_by : Bool → Ending
+ending_by true = Done
+ending_by false = OutOfRoom
 
 -- where a channel tells its lists and its worker ended well, they grew by the worker's receipts
 abbrev pub Tells : Bool → Ending → Told → Told → List Receipt → Type 0
-Tells tells ending before after receipts = tells ≡ true → ending ≡ Done → after ≡ grown before receipts
+Tells tells ending before after receipts =
+    tells ≡ true → is_well (Some ending) ≡ true → after ≡ grown before receipts
 
--- what a worker makes of its channel: how it ended, what the channel tells, and how many turns it made at most
+-- what a worker makes of its channel: how it ended, what the channel tells, how many turns it made at most, and whether
+-- its spare room is there
 pub record IsShift
     {C : Type 0} (takes : C → Taken → C → Type 0) (posts : C → Reply → Posted → C → Type 0)
     (tells : Bool) (told : C → Told) (turns : ℕ)
-    (before : C) (receipts : List Receipt) (ending : Ending) (after : C) : Type 0 where
-  pub ends : Ends takes posts before receipts ending after
-  pub lists : Tells tells ending (told before) (told after) receipts
-  pub most : length receipts ≤ turns
+    (before : C) (kept : ReceiptsState) (ending : Ending) (after : C) : Type 0 where
+  pub ends : Ends takes posts before kept.list ending after
+  pub lists : Tells tells ending (told before) (told after) kept.list
+  pub most : length kept.list ≤ turns
+  pub spare : LeavesSpare (Some ending) kept.spare

@@ -10,7 +10,7 @@ ghost use Rattle.workers.specs.declared.channel.Posted.TheVariants as post;
 
 use fuse_wire::{Ask, Reply};
 
-/// What comes of a look for an ask.
+/// The result of a look for an ask.
 #[derive(Drop)]
 pub enum Taken {
     Ask(Ask),
@@ -22,7 +22,7 @@ pub enum Taken {
     Broken,
 }
 
-/// What comes of a reply.
+/// The result of a reply.
 #[derive(Clone, Copy, PartialEq, Eq)]
 pub enum Posted {
     Done,
@@ -33,10 +33,10 @@ pub enum Posted {
 /// The kernel's side of one worker. Each says what a look for an ask and a reply make of it, and so what it was where
 /// it is Broken. One that tells its lists also says what was taken from it and posted to it.
 pub trait Channel {
-    /// What a look for an ask makes of it, by what comes of the look.
+    /// What a look for an ask makes of it, by its result.
     ghost takes: { Self → TakenValue → Self → Type 0 };
 
-    /// What a reply makes of it, by what comes of the reply.
+    /// What a reply makes of it, by its result.
     ghost posts: { Self → ReplyValue → PostedValue → Self → Type 0 };
 
     /// Whether it tells its lists.

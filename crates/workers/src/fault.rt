@@ -2,12 +2,14 @@
 ghost use Rattle.std.specs.Prelude.{Some};
 ghost use Rattle.workers.specs.Faults.{fault_text};
 
+use crate::rooms::Rooms;
 use fuse_ops::Served;
 use std::fmt;
 
 /// What a round gives back for which memory was refused: all that it was handed. No request was taken.
 #[derive(Drop)]
 pub struct Returned<B: Drop, C: Drop> {
+    pub rooms: Rooms,
     pub served: Served,
     pub backing: B,
     pub channels: Vec<C>,

@@ -147,6 +147,7 @@ impl<N: Opening, B: Backing + Drop> LockedMap<N, B> {
         ensures backs { Backs (B.content result.backing) result.served.tree }
         ensures total { result.total.total ≡ length result.journal.records }
         ensures spent { result.spent.parts ≡ length result.journal.records }
+        ensures room { N.parts ≤ length result.journal.records + result.journal.room + 1 }
     {
         let LockedMap {
             alloc: _,

@@ -1,32 +1,30 @@
 //! One round of workers.
-ghost use Rattle.std.specs.Prelude.{◌≡◌, ◌+◌, ◌*◌, ◌<◌, ◌≤◌, [], length, vec_len, vec_capacity};
+ghost use Rattle.std.specs.Prelude.{◌≡◌, ◌+◌, ◌*◌, ◌≤◌, true, false, length, vec_len};
 ghost use Rattle.std.specs.Prelude.{IfOk, IfErr, OnOk, OnErr};
 ghost use Rattle.std.specs.List.{All};
 ghost use Rattle.fuse_ops.specs.Loading.{Backs};
 ghost use Rattle.workers.specs.Replays.{Replays};
 ghost use Rattle.workers.specs.Round.{AreServed, OneBreaks, receipts_in};
-ghost use Rattle.journal.specs.Receipts.{IsFresh};
-ghost use Rattle.workers.specs.Faults.{GivesBack, IsUnserved};
+ghost use Rattle.workers.specs.Rooms.{Fit, HasPlaces, HaveRoom, rooms_of};
+ghost use Rattle.workers.specs.Faults.{GivesBack, IsUnserved, WasNeeded};
 ghost use Rattle.workers.specs.declared.fault.RoundFault.TheVariants as fault;
-ghost use Rattle.workers.specs.declared.worker.Ending.TheVariants.{Done, Broken};
 
 use crate::channel::Channel;
 use crate::fault::{Returned, RoundFault};
 use crate::gate::Gate;
 use crate::locked::{LockedMap, Opened, Opening, Parts, Shared};
-use crate::running::{Joined, Running, finish_all, start_all};
+use crate::rooms::Rooms;
+use crate::running::{Crew, Joined, serve_each};
 use crate::stop::Stop;
-use crate::worker::Ending;
 use checkout::Backing;
-use eden_base::NoMemory;
 use fuse_ops::Served;
 use journal::{Journal, Receipts};
 use std::alloc::Global;
 use std::marker::Brand;
 use std::sync::Wait;
-use std::sync::ledger::{Blank, Share};
+use std::sync::ledger::Blank;
 use std::thread;
-use std::thread::{Scope, Threads};
+use std::thread::Threads;
 
 /// The most channels that a round serves.
 pub const MAX_CHANNELS: usize = 16;
@@ -45,117 +43,6 @@ pub struct Round<B: Backing + Drop, C: Channel + Drop> {
     pub receipts: Vec<Receipts>,
 }
 
-/// The memory that a round works in beside its journal, taken before a request is.
-#[derive(Drop)]
-struct Rooms<N: Opening, C: Channel + Drop> {
-    /// One for each channel.
-    receipts: Vec<Receipts>,
-    running: Vec<Running<N, C>>,
-    channels: Vec<C>,
-    kept: Vec<Receipts>,
-    ghost no_worker: { (vec_len running ≡ 0) × (running.items ≡ []) },
-    ghost no_channel: { (vec_len channels ≡ 0) × (channels.items ≡ []) },
-    ghost none_kept: { (vec_len kept ≡ 0) × (kept.items ≡ []) },
-    ghost worker_room: { vec_len receipts ≤ vec_capacity running },
-    ghost channel_room: { vec_len receipts ≤ vec_capacity channels },
-    ghost kept_room: { vec_len receipts ≤ vec_capacity kept },
-}
-
-/// The channels of a round's workers, how much each may take, and the share of the ledger that theirs are split off.
-#[derive(Drop)]
-struct Crew<N: Opening, C: Channel + Drop> {
-    channels: Vec<C>,
-    turns: usize,
-    share: Share<N>,
-    ghost named: { turns ≡ N.turns },
-    ghost most: { turns ≤ 4096 },
-    ghost parts: { share.parts ≡ vec_len channels * (N.turns + 1) },
-    ghost no_amount: { share.amount ≡ 0 },
-}
-
-/// What the workers of a round begin with, and the memory for it.
-#[derive(Drop)]
-struct Plan<N: Opening, C: Channel + Drop> {
-    crew: Crew<N, C>,
-    rooms: Rooms<N, C>,
-    ghost len: { vec_len rooms.receipts ≡ vec_len crew.channels },
-    ghost fresh: { All (IsFresh crew.turns) rooms.receipts.items },
-}
-
-/// Takes memory for the receipts of so many turns on each of so many channels.
-fn receipts_of(alloc: Global, channels: usize, turns: usize) -> Result<Vec<Receipts>, NoMemory>
-    ensures len { IfOk result (λ rooms. vec_len rooms ≡ channels) }
-    ensures fresh { IfOk result (λ rooms. All (IsFresh turns) rooms.items) }
-{
-    let mut rooms = Vec::with_capacity(alloc, channels)?;
-    for _channel in 0..channels {
-        let room = Receipts::new(alloc, turns)?;
-        rooms.push(room)?;
-    }
-    Ok(rooms)
-}
-
-impl<N: Opening, C: Channel + Drop> Rooms<N, C> {
-    /// Takes the memory of a round of so many channels and turns.
-    fn new(alloc: Global, channels: usize, turns: usize) -> Result<Rooms<N, C>, NoMemory>
-        ensures len { IfOk result (λ rooms. vec_len rooms.receipts ≡ channels) }
-        ensures fresh { IfOk result (λ rooms. All (IsFresh turns) rooms.receipts.items) }
-    {
-        let receipts = receipts_of(alloc, channels, turns)?;
-        let running = Vec::with_capacity(alloc, channels)?;
-        let served = Vec::with_capacity(alloc, channels)?;
-        let kept = Vec::with_capacity(alloc, channels)?;
-        Ok(Rooms {
-            receipts,
-            running,
-            channels: served,
-            kept,
-        })
-    }
-}
-
-/// Starts a worker for each channel, and waits until all are done.
-fn run_all<
-    's,
-    'e: 's,
-    N: Opening + Send + Sync + 's,
-    B: Backing + Drop + Send + 's,
-    C: Channel + Drop + Send + 's,
-    G: Gate + Sync + 's,
-    R: Threads + Wait + Sync + 's,
->(
-    scope: &Scope<'s, &'e ()>,
-    rt: &'e R,
-    shared: &'e Shared<N, B>,
-    plan: Plan<N, C>,
-    gate: &'e G,
-    stop: &'e Stop,
-) -> Joined<N, C>
-    ensures parts { result.share.parts + receipts_in result.receipts.items
-        ≡ vec_len plan.crew.channels * (N.turns + 1) }
-    ensures counted { result.share.amount ≡ receipts_in result.receipts.items }
-    ensures served { result.ending ≡ Done → AreServed C.takes C.posts C.tells C.told N.turns
-        plan.crew.channels.items result.channels.items result.receipts.items }
-    ensures broken { result.ending ≡ Broken → OneBreaks C.takes C.posts N.turns plan.crew.channels.items }
-{
-    let Plan { crew, rooms } = plan;
-    let Crew {
-        channels,
-        turns,
-        share,
-    } = crew;
-    let Rooms {
-        receipts,
-        running,
-        channels: after,
-        kept,
-    } = rooms;
-    let started = start_all(
-        scope, rt, shared, channels, turns, receipts, share, gate, stop, running,
-    );
-    finish_all(rt, started, after, kept)
-}
-
 /// Runs a worker for each channel, in threads that end before it returns.
 fn serve_all<
     N: Opening + Send + Sync,
@@ -163,25 +50,29 @@ fn serve_all<
     C: Channel + Drop + Send,
     G: Gate + Sync,
     R: Threads + Wait + Sync,
->(rt: &R, shared: &Shared<N, B>, plan: Plan<N, C>, gate: &G, stop: &Stop) -> Joined<N, C>
+>(rt: &R, shared: &Shared<N, B>, crew: Crew<N, C>, gate: &G, stop: &Stop) -> Joined<N, C>
     ensures parts { result.share.parts + receipts_in result.receipts.items
-        ≡ vec_len plan.crew.channels * (N.turns + 1) }
+        ≡ vec_len crew.channels * (N.turns + 1) }
     ensures counted { result.share.amount ≡ receipts_in result.receipts.items }
-    ensures served { result.ending ≡ Done → AreServed C.takes C.posts C.tells C.told N.turns
-        plan.crew.channels.items result.channels.items result.receipts.items }
-    ensures broken { result.ending ≡ Broken → OneBreaks C.takes C.posts N.turns plan.crew.channels.items }
+    ensures served { result.is_broken ≡ false → AreServed C.takes C.posts C.tells C.told N.turns
+        crew.channels.items result.channels.items result.receipts.items }
+    ensures broken { result.is_broken ≡ true → OneBreaks C.takes C.posts N.turns crew.channels.items }
+    ensures places { All (HasPlaces N.turns) result.receipts.items }
+    ensures workers { vec_len result.receipts ≡ vec_len crew.channels }
 {
     thread::scope(
         thread::scope_env(),
         rt,
         move |scope| -> Joined<N, C>
             ensures parts { result.share.parts + receipts_in result.receipts.items
-                ≡ vec_len plan.crew.channels * (N.turns + 1) }
+                ≡ vec_len crew.channels * (N.turns + 1) }
             ensures counted { result.share.amount ≡ receipts_in result.receipts.items }
-            ensures served { result.ending ≡ Done → AreServed C.takes C.posts C.tells C.told N.turns
-                plan.crew.channels.items result.channels.items result.receipts.items }
-            ensures broken { result.ending ≡ Broken → OneBreaks C.takes C.posts N.turns plan.crew.channels.items }
-        { run_all(scope, rt, shared, plan, gate, stop) },
+            ensures served { result.is_broken ≡ false → AreServed C.takes C.posts C.tells C.told N.turns
+                crew.channels.items result.channels.items result.receipts.items }
+            ensures broken { result.is_broken ≡ true → OneBreaks C.takes C.posts N.turns crew.channels.items }
+            ensures places { All (HasPlaces N.turns) result.receipts.items }
+            ensures workers { vec_len result.receipts ≡ vec_len crew.channels }
+        { serve_each(scope, rt, shared, crew, gate, stop) },
     )
 }
 
@@ -198,9 +89,9 @@ fn closed<N: Opening, B: Backing + Drop, C: Channel + Drop>(
     requires counted { joined.share.amount ≡ receipts_in joined.receipts.items }
     ensures served { result.served ≡ parts.served }
     ensures backs { Backs (B.content result.backing) result.served.tree }
-    ensures records { result.journal.records ≡ parts.journal.records }
+    ensures journal { result.journal ≡ parts.journal }
     ensures channels { result.channels.items ≡ joined.channels.items }
-    ensures receipts { result.receipts.items ≡ joined.receipts.items }
+    ensures receipts { result.receipts ≡ joined.receipts }
     ensures counted { length result.journal.records ≡ receipts_in result.receipts.items }
 {
     let Parts {
@@ -214,7 +105,7 @@ fn closed<N: Opening, B: Backing + Drop, C: Channel + Drop>(
         channels,
         receipts,
         mut share,
-        ending: _,
+        is_broken: _,
     } = joined;
     total.audit(&mut share);
     share.merge(spent);
@@ -237,6 +128,7 @@ fn left_by<N: Opening, B: Backing + Drop, C: Channel + Drop>(
     requires backs { Backs (B.content parts.backing) parts.served.tree }
     requires total { parts.total.total ≡ length parts.journal.records }
     requires spent { parts.spent.parts ≡ length parts.journal.records }
+    requires room { N.parts ≤ length parts.journal.records + parts.journal.room + 1 }
     requires all_parts { joined.share.parts + receipts_in joined.receipts.items ≡ N.parts }
     requires counted { joined.share.amount ≡ receipts_in joined.receipts.items }
     ensures replays { IfOk result (λ round. Replays N.opening round.journal.records round.served) }
@@ -244,19 +136,19 @@ fn left_by<N: Opening, B: Backing + Drop, C: Channel + Drop>(
     ensures backs { IfOk result (λ round. Backs (B.content round.backing) round.served.tree) }
     ensures channels { IfOk result (λ round. round.channels.items ≡ joined.channels.items) }
     ensures receipts { IfOk result (λ round. round.receipts.items ≡ joined.receipts.items) }
-    ensures done { OnOk result (joined.ending ≡ Done) }
+    ensures workers { IfOk result (λ round. vec_len round.receipts ≡ vec_len joined.receipts) }
+    ensures room { IfOk result (λ round. N.parts ≤ length round.journal.records + round.journal.room + 1) }
+    ensures well { OnOk result (joined.is_broken ≡ false) }
     ensures counted { IfOk result (λ round. length round.journal.records ≡ receipts_in round.receipts.items) }
-    ensures broken { OnErr result (joined.ending ≡ Broken) }
+    ensures broken { OnErr result (joined.is_broken ≡ true) }
     ensures for_good { IfErr result (λ why. why ≡ fault.Broken) }
 {
-    match joined.ending {
-        Ending::Done => Ok(closed(parts, joined)),
-        Ending::Broken => {
-            drop(joined);
-            drop(parts);
-            Err(RoundFault::Broken)
-        }
+    if joined.is_broken {
+        drop(joined);
+        drop(parts);
+        return Err(RoundFault::Broken);
     }
+    Ok(closed(parts, joined))
 }
 
 /// Serves a round under the name of its ledger and of its opening state.
@@ -270,6 +162,7 @@ fn round_of<
     rt: &R,
     alloc: Global,
     blank: Blank,
+    rooms: Rooms,
     served: Served,
     backing: B,
     channels: Vec<C>,
@@ -282,6 +175,7 @@ fn round_of<
     requires opening { served ≡ N.opening }
     requires a_part_each { blank.parts ≡ vec_len channels * (N.turns + 1) }
     requires backs { Backs (B.content backing) served.tree }
+    requires rooms { Fit (vec_len channels) turns rooms }
     requires channels { vec_len channels ≤ 16 }
     requires turns { (turns ≡ N.turns) × (turns ≤ 4096) }
     ensures replays { IfOk result (λ round. Replays N.opening round.journal.records round.served) }
@@ -290,36 +184,26 @@ fn round_of<
     ensures counted { IfOk result (λ round. length round.journal.records ≡ receipts_in round.receipts.items) }
     ensures each { IfOk result (λ round. AreServed C.takes C.posts C.tells C.told N.turns
         channels.items round.channels.items round.receipts.items) }
-    ensures broken { IfErr result (IsUnserved C.takes C.posts N.turns channels.items) }
-    ensures given_back { IfErr result (GivesBack served backing channels.items) }
+    ensures room { IfOk result (λ round. HaveRoom (vec_len channels) N.turns
+        (rooms_of round.journal round.receipts.items (vec_len round.receipts))) }
+    ensures broken { IfErr result (λ why. why ≡ fault.Broken) }
+    ensures breaks { OnErr result (OneBreaks C.takes C.posts N.turns channels.items) }
 {
-    let Ok(journal) = Journal::new(alloc, channels.len() * (turns + 1)) else {
-        return Err(RoundFault::NoMemory(Returned {
-            served,
-            backing,
-            channels,
-        }));
-    };
-    let Ok(rooms) = Rooms::<N, C>::new(alloc, channels.len(), turns) else {
-        return Err(RoundFault::NoMemory(Returned {
-            served,
-            backing,
-            channels,
-        }));
-    };
-    let Opened { shared, share } = LockedMap::open(alloc, blank, served, backing, journal);
+    let (journal, receipts) = rooms.into_parts();
+    let Opened { shared, share } = LockedMap::<N, B>::open(alloc, blank, served, backing, journal);
     let crew = Crew {
         channels,
+        receipts,
         turns,
         share,
     };
-    let plan = Plan { crew, rooms };
-    let joined = serve_all(rt, &shared, plan, gate, stop);
+    let joined = serve_all(rt, &shared, crew, gate, stop);
     left_by(shared.into_inner().into_parts(), joined)
 }
 
-/// Serves the channels, each by a worker of its own that takes at most `turns` requests, until none of them has an ask
-/// or a stop is asked for. Where memory is refused, nothing was taken and all is given back.
+/// Serves the channels, each by a worker of its own that takes at most `turns` requests. It ends where none of them has
+/// an ask, a stop is asked for, or memory is refused for a copy. It first takes what `rooms` lack. Where that is
+/// refused, no ask was taken and all is given back. `drain` gives the rooms back for the next round.
 pub fn serve_round<
     B: Backing + Drop + Send,
     C: Channel + Drop + Send,
@@ -328,6 +212,7 @@ pub fn serve_round<
 >(
     rt: &R,
     alloc: Global,
+    rooms: Rooms,
     served: Served,
     backing: B,
     channels: Vec<C>,
@@ -347,15 +232,30 @@ pub fn serve_round<
     // Each worker ended well, after at most `turns` turns. What its channel tells grew by its receipts.
     ensures each { IfOk result (λ round. AreServed C.takes C.posts C.tells C.told turns
         channels.items round.channels.items round.receipts.items) }
+    // The room for such a round is still there.
+    ensures room { IfOk result (λ round. HaveRoom (vec_len channels) turns
+        (rooms_of round.journal round.receipts.items (vec_len round.receipts))) }
     // It is Broken exactly where a worker found its channel broken, and never Unsettled.
     ensures broken { IfErr result (IsUnserved C.takes C.posts turns channels.items) }
+    // Rooms that fit need no memory.
+    ensures needed { IfErr result (WasNeeded (vec_len channels) turns rooms) }
     ensures given_back { IfErr result (GivesBack served backing channels.items) }
 {
+    let mut rooms = rooms;
+    let Ok(()) = rooms.refill(alloc, channels.len(), turns) else {
+        return Err(RoundFault::NoMemory(Returned {
+            rooms,
+            served,
+            backing,
+            channels,
+        }));
+    };
     let parts = channels.len() as u64 * (turns as u64 + 1);
     round_of::<Brand, B, C, G, R>(
         rt,
         alloc,
         Blank::new(parts),
+        rooms,
         served,
         backing,
         channels,

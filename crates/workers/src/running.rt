@@ -1,10 +1,11 @@
 //! The workers of a round while they run, each in a thread of its own where one can be made.
-ghost use Rattle.std.specs.Prelude.{◌≡◌, ◌↔◌, ◌⊎◌, ◌+◌, ◌*◌, ◌<◌, ◌≤◌, [], length, vec_len, vec_capacity};
+ghost use Rattle.std.specs.Prelude.{◌≡◌, ◌+◌, ◌*◌, ◌<◌, ◌≤◌, ◌++◌, ◌∷◌, ◌⊎◌, [], true, false, length, vec_len, vec_capacity};
 ghost use Rattle.std.specs.List.{All};
 ghost use Rattle.journal.specs.Receipts.{IsFresh};
+ghost use Rattle.workers.specs.Rooms.{HasPlaces};
 ghost use Rattle.workers.specs.Round.{AreServed, OneBreaks, receipts_in};
 ghost use Rattle.workers.specs.Shift.{IsShift};
-ghost use Rattle.workers.specs.declared.worker.Ending.TheVariants.{Done, Broken};
+ghost use Rattle.workers.specs.declared.worker.Ending.TheVariants.{Broken};
 
 use crate::channel::Channel;
 use crate::gate::Gate;
@@ -29,12 +30,14 @@ pub(crate) struct Serves<N: Opening, C: Channel + Drop> {
 
 impl<N: Opening, C: Channel + Drop> Promise<Shift<N, C>> for Serves<N, C> {
     ghost use Rattle.std.specs.Prelude.{◌≡◌, ◌+◌, length};
+    ghost use Rattle.workers.specs.Rooms.{HasPlaces};
     ghost use Rattle.workers.specs.Shift.{IsShift};
 
     ghost kept_by = { λ promise shift. (shift.share.parts + length shift.receipts.list ≡ N.turns + 1)
         × (shift.share.amount ≡ length shift.receipts.list)
+        × HasPlaces N.turns shift.receipts
         × IsShift C.takes C.posts C.tells C.told N.turns
-        promise.channel.value shift.receipts.list shift.ending shift.channel };
+        promise.channel.value shift.receipts shift.ending shift.channel };
 }
 
 /// A worker in a thread, or what it left, where no thread could be made. Contracts see it as the channel that it was
@@ -47,6 +50,7 @@ pub(crate) struct Running<N: Opening, C: Channel + Drop> {
 
 impl<N: Opening, C: Channel + Drop> Model for Running<N, C> {
     ghost use Rattle.std.specs.Prelude.{◌≡◌, ◌+◌, length, IfOk, IfErr};
+    ghost use Rattle.workers.specs.Rooms.{HasPlaces};
     ghost use Rattle.workers.specs.Shift.{IsShift};
 
     ghost Value = { C };
@@ -57,8 +61,9 @@ impl<N: Opening, C: Channel + Drop> Model for Running<N, C> {
         IfOk running.worker (λ handle. handle.promise.channel.value ≡ running.channel.value)
         × IfErr running.worker (λ shift. (shift.share.parts + length shift.receipts.list ≡ N.turns + 1)
         × (shift.share.amount ≡ length shift.receipts.list)
+        × HasPlaces N.turns shift.receipts
         × IsShift C.takes C.posts C.tells C.told N.turns
-        running.channel.value shift.receipts.list shift.ending shift.channel) };
+        running.channel.value shift.receipts shift.ending shift.channel) };
 }
 
 /// What the workers of a round left, in the order of their channels.
@@ -67,10 +72,10 @@ pub(crate) struct Joined<N: Opening, C: Channel + Drop> {
     pub channels: Vec<C>,
     pub receipts: Vec<Receipts>,
     pub share: Share<N>,
-    pub ending: Ending,
+    pub is_broken: bool,
 }
 
-/// Starts a worker in a thread of its own. Where none can be made it is run in its caller's.
+/// Starts a worker in a thread of its own. It is run in its caller's where it stands `alone` or none can be made.
 fn start<
     's,
     'e: 's,
@@ -89,13 +94,14 @@ fn start<
     share: Share<N>,
     gate: &'e G,
     stop: &'e Stop,
+    alone: bool,
 ) -> Running<N, C>
     requires turns { turns ≡ N.turns }
     requires parts { share.parts ≡ N.turns + 1 }
     requires no_amount { share.amount ≡ 0 }
     requires no_receipt { room.list ≡ [] }
     requires places { turns ≤ room.places }
-    requires copies { turns ≤ room.copies }
+    requires spare { room.spare ≡ true }
     ensures channel { result ≡ channel }
 {
     let was = Snapshot::of(&channel);
@@ -108,12 +114,19 @@ fn start<
         requires parts { share.parts ≡ N.turns + 1 }
         requires no_receipt { room.list ≡ [] }
         requires places { turns ≤ room.places }
-        requires copies { turns ≤ room.copies }
+        requires spare { room.spare ≡ true }
         ensures parts { result.share.parts + length result.receipts.list ≡ share.parts }
         ensures counted { result.share.amount ≡ share.amount + length result.receipts.list }
+        ensures places { HasPlaces N.turns result.receipts }
         ensures shift { IsShift C.takes C.posts C.tells C.told N.turns
-            channel result.receipts.list result.ending result.channel }
+            channel result.receipts result.ending result.channel }
     { serve_channel(rt, shared, channel, turns, room, share, gate, stop) };
+    if alone {
+        return Running {
+            channel: was,
+            worker: Err(work()),
+        };
+    }
     match scope.spawn_with(promise, work) {
         Ok(handle) => Running {
             channel: was,
@@ -131,8 +144,9 @@ impl<N: Opening, C: Channel + Drop> Running<N, C> {
     fn join<R: Threads>(self, rt: &R) -> Shift<N, C>
         ensures parts { result.share.parts + length result.receipts.list ≡ N.turns + 1 }
         ensures counted { result.share.amount ≡ length result.receipts.list }
+        ensures places { HasPlaces N.turns result.receipts }
         ensures shift { IsShift C.takes C.posts C.tells C.told N.turns
-            self result.receipts.list result.ending result.channel }
+            self result.receipts result.ending result.channel }
     {
         let Running { channel: _, worker } = self;
         match worker {
@@ -142,15 +156,60 @@ impl<N: Opening, C: Channel + Drop> Running<N, C> {
     }
 }
 
-/// The workers of a round, and what is left of the share of its ledger that theirs were split off: no part.
-#[derive(Drop)]
-pub(crate) struct Started<N: Opening, C: Channel + Drop> {
-    pub running: Vec<Running<N, C>>,
-    pub rest: Share<N>,
+impl<N: Opening, C: Channel + Drop> Joined<N, C> {
+    /// Returns what the workers left, with what one more left whose channel stands behind theirs.
+    fn and(self, shift: Shift<N, C>) -> Joined<N, C>
+        requires channels { vec_len self.channels < vec_capacity self.channels }
+        requires receipts { vec_len self.receipts < vec_capacity self.receipts }
+        ensures channels { result.channels.items ≡ self.channels.items ++ shift.channel ∷ [] }
+        ensures receipts { result.receipts.items ≡ self.receipts.items ++ shift.receipts ∷ [] }
+        ensures channels_len { vec_len result.channels ≡ vec_len self.channels + 1 }
+        ensures receipts_len { vec_len result.receipts ≡ vec_len self.receipts + 1 }
+        ensures channels_capacity { vec_capacity result.channels ≡ vec_capacity self.channels }
+        ensures receipts_capacity { vec_capacity result.receipts ≡ vec_capacity self.receipts }
+        ensures parts { result.share.parts ≡ self.share.parts + shift.share.parts }
+        ensures amount { result.share.amount ≡ self.share.amount + shift.share.amount }
+        ensures broken { result.is_broken ≡ true → (self.is_broken ≡ true) ⊎ (shift.ending ≡ Broken) }
+        ensures well { result.is_broken ≡ false → (self.is_broken ≡ false) × (shift.ending ≡ Broken → ⊥) }
+    {
+        let Joined {
+            mut channels,
+            mut receipts,
+            mut share,
+            is_broken,
+        } = self;
+        let broke = matches!(shift.ending, Ending::Broken);
+        channels.push_reserved(shift.channel);
+        receipts.push_reserved(shift.receipts);
+        share.merge(shift.share);
+        Joined {
+            channels,
+            receipts,
+            share,
+            is_broken: is_broken || broke,
+        }
+    }
 }
 
-/// Starts a worker for each channel.
-pub(crate) fn start_all<
+/// What the workers of a round begin with: their channels and receipts, how much each may take, and the share of the
+/// ledger that theirs are split off.
+#[derive(Drop)]
+pub(crate) struct Crew<N: Opening, C: Channel + Drop> {
+    pub channels: Vec<C>,
+    pub receipts: Vec<Receipts>,
+    pub turns: usize,
+    pub share: Share<N>,
+    ghost named: { turns ≡ N.turns },
+    ghost most: { turns ≤ 4096 },
+    ghost parts: { share.parts ≡ vec_len channels * (N.turns + 1) },
+    ghost no_amount: { share.amount ≡ 0 },
+    ghost len: { vec_len receipts ≡ vec_len channels },
+    ghost fresh: { All (IsFresh turns) receipts.items },
+}
+
+/// Runs a worker for each channel, side by side, and waits until all are done. The first channel's runs in the caller's
+/// thread. It takes no memory: each list is filled again in the order in which it was emptied.
+pub(crate) fn serve_each<
     's,
     'e: 's,
     N: Opening + Send + Sync + 's,
@@ -162,93 +221,50 @@ pub(crate) fn start_all<
     scope: &Scope<'s, &'e ()>,
     rt: &'e R,
     shared: &'e Shared<N, B>,
-    channels: Vec<C>,
-    turns: usize,
-    rooms: Vec<Receipts>,
-    share: Share<N>,
+    crew: Crew<N, C>,
     gate: &'e G,
     stop: &'e Stop,
-    room: Vec<Running<N, C>>,
-) -> Started<N, C>
-    requires turns { (turns ≡ N.turns) × (turns ≤ 4096) }
-    requires parts { share.parts ≡ vec_len channels * (N.turns + 1) }
-    requires no_amount { share.amount ≡ 0 }
-    requires rooms { vec_len rooms ≡ vec_len channels }
-    requires fresh { All (IsFresh turns) rooms.items }
-    requires none { room.items ≡ [] }
-    requires no_len { vec_len room ≡ 0 }
-    requires room { vec_len channels ≤ vec_capacity room }
-    ensures channels { result.running.items ≡ channels.items }
-    ensures len { vec_len result.running ≡ vec_len channels }
-    ensures no_part { result.rest.parts ≡ 0 }
-    ensures no_amount { result.rest.amount ≡ 0 }
-{
-    let mut rooms = rooms;
-    let mut rest = share;
-    let mut running = room;
-    for channel in channels {
-        let Some(receipts) = rooms.pop() else {
-            unreachable!()
-        };
-        let part = rest.split_off(turns as u64 + 1, 0);
-        running.push_reserved(start(
-            scope, rt, shared, channel, turns, receipts, part, gate, stop,
-        ));
-    }
-    Started { running, rest }
-}
-
-/// Returns the ending of two workers: Done where both are, and else Broken.
-fn of_both(first: Ending, second: Ending) -> Ending
-    ensures done { (result ≡ Done) ↔ (first ≡ Done) × (second ≡ Done) }
-    ensures broken { (result ≡ Broken) ↔ (first ≡ Broken) ⊎ (second ≡ Broken) }
-{
-    match first {
-        Ending::Done => second,
-        Ending::Broken => Ending::Broken,
-    }
-}
-
-/// Waits until each worker is done, and returns what they left, in the order of their channels.
-pub(crate) fn finish_all<N: Opening, C: Channel + Drop, R: Threads>(
-    rt: &R,
-    started: Started<N, C>,
-    channels: Vec<C>,
-    receipts: Vec<Receipts>,
 ) -> Joined<N, C>
-    requires no_part { started.rest.parts ≡ 0 }
-    requires no_amount { started.rest.amount ≡ 0 }
-    requires no_channel { channels.items ≡ [] }
-    requires no_receipts { receipts.items ≡ [] }
-    requires channels_len { vec_len channels ≡ 0 }
-    requires receipts_len { vec_len receipts ≡ 0 }
-    requires channels_room { vec_len started.running ≤ vec_capacity channels }
-    requires receipts_room { vec_len started.running ≤ vec_capacity receipts }
     ensures parts { result.share.parts + receipts_in result.receipts.items
-        ≡ vec_len started.running * (N.turns + 1) }
+        ≡ vec_len crew.channels * (N.turns + 1) }
     ensures counted { result.share.amount ≡ receipts_in result.receipts.items }
-    ensures served { result.ending ≡ Done → AreServed C.takes C.posts C.tells C.told N.turns
-        started.running.items result.channels.items result.receipts.items }
-    ensures broken { result.ending ≡ Broken → OneBreaks C.takes C.posts N.turns started.running.items }
+    ensures served { result.is_broken ≡ false → AreServed C.takes C.posts C.tells C.told N.turns
+        crew.channels.items result.channels.items result.receipts.items }
+    ensures broken { result.is_broken ≡ true → OneBreaks C.takes C.posts N.turns crew.channels.items }
+    ensures places { All (HasPlaces N.turns) result.receipts.items }
+    ensures channels_len { vec_len result.channels ≡ vec_len crew.channels }
+    ensures receipts_len { vec_len result.receipts ≡ vec_len crew.channels }
+    ensures channels_capacity { vec_capacity result.channels ≡ vec_capacity crew.channels }
+    ensures receipts_capacity { vec_capacity result.receipts ≡ vec_capacity crew.receipts }
 {
-    let Started {
-        running: all,
-        rest: mut share,
-    } = started;
-    let mut channels = channels;
-    let mut receipts = receipts;
-    let mut ending = Ending::Done;
-    for running in all {
-        let shift = running.join(rt);
-        ending = of_both(ending, shift.ending);
-        channels.push_reserved(shift.channel);
-        receipts.push_reserved(shift.receipts);
-        share.merge(shift.share);
-    }
-    Joined {
+    let Crew {
+        mut channels,
+        mut receipts,
+        turns,
+        mut share,
+    } = crew;
+    let Some(channel) = channels.pop() else {
+        return Joined {
+            channels,
+            receipts,
+            share,
+            is_broken: false,
+        };
+    };
+    let Some(room) = receipts.pop() else {
+        unreachable!()
+    };
+    let part = share.split_off(turns as u64 + 1, 0);
+    let alone = channels.is_empty();
+    let running = start(
+        scope, rt, shared, channel, turns, room, part, gate, stop, alone,
+    );
+    let others = Crew {
         channels,
         receipts,
+        turns,
         share,
-        ending,
-    }
+    };
+    let joined = serve_each(scope, rt, shared, others, gate, stop);
+    joined.and(running.join(rt))
 }

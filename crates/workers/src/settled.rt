@@ -1,10 +1,12 @@
 //! What a round leaves that is settled.
-ghost use Rattle.std.specs.Prelude.{◌≡◌, IfOk, IfErr, OnOk};
+ghost use Rattle.std.specs.Prelude.{◌≡◌, vec_len, IfOk, IfErr, OnOk};
 ghost use Rattle.journal.specs.Settled.{IsSettled};
-ghost use Rattle.workers.specs.Faults.{GivesBack, IsUndrained};
+ghost use Rattle.workers.specs.Faults.{GivesBack, GivesRooms, IsUndrained};
+ghost use Rattle.workers.specs.Rooms.{AreEmptied, rooms_of};
 
 use crate::channel::Channel;
 use crate::fault::{Returned, RoundFault};
+use crate::rooms::Rooms;
 use crate::round::Round;
 use checkout::Backing;
 use fuse_ops::Served;
@@ -14,13 +16,14 @@ use std::alloc::Global;
 /// What may be served on after a round: nothing is in hand, and nothing unposted.
 #[derive(Drop)]
 pub struct Settled<B: Backing + Drop, C: Channel + Drop> {
+    pub rooms: Rooms,
     pub served: Served,
     pub backing: B,
     pub channels: Vec<C>,
 }
 
-/// Compares the workers' receipts with the journal, and gives back what is served, the backing and the channels of a
-/// round whose receipts are its journal. What is Unsettled gives nothing back.
+/// Compares the workers' receipts with the journal. It gives back what is served, the backing, the channels and the
+/// emptied rooms of a round whose receipts are its journal. What is Unsettled gives nothing back.
 pub fn drain<B: Backing + Drop, C: Channel + Drop>(
     alloc: Global,
     round: Round<B, C>,
@@ -30,7 +33,11 @@ pub fn drain<B: Backing + Drop, C: Channel + Drop>(
     ensures served { IfOk result (λ settled. settled.served ≡ round.served) }
     ensures backing { IfOk result (λ settled. settled.backing ≡ round.backing) }
     ensures channels { IfOk result (λ settled. settled.channels.items ≡ round.channels.items) }
+    ensures rooms { IfOk result (λ settled. AreEmptied
+        (rooms_of round.journal round.receipts.items (vec_len round.receipts)) settled.rooms) }
     ensures given_back { IfErr result (GivesBack round.served round.backing round.channels.items) }
+    ensures rooms_back { IfErr result (GivesRooms
+        (rooms_of round.journal round.receipts.items (vec_len round.receipts))) }
 {
     match is_settled(alloc, &round.journal, round.receipts.as_slice()) {
         Ok(true) => Ok(settled_by(round)),
@@ -47,24 +54,28 @@ fn settled_by<B: Backing + Drop, C: Channel + Drop>(round: Round<B, C>) -> Settl
     ensures served { result.served ≡ round.served }
     ensures backing { result.backing ≡ round.backing }
     ensures channels { result.channels.items ≡ round.channels.items }
+    ensures rooms { AreEmptied (rooms_of round.journal round.receipts.items (vec_len round.receipts)) result.rooms }
 {
     let Returned {
+        rooms,
         served,
         backing,
         channels,
     } = served_by(round);
     Settled {
+        rooms,
         served,
         backing,
         channels,
     }
 }
 
-/// Gives back what a round served, and drops its journal and receipts.
+/// Gives back what a round served, and its rooms.
 fn served_by<B: Backing + Drop, C: Channel + Drop>(round: Round<B, C>) -> Returned<B, C>
     ensures served { result.served ≡ round.served }
     ensures backing { result.backing ≡ round.backing }
     ensures channels { result.channels.items ≡ round.channels.items }
+    ensures rooms { AreEmptied (rooms_of round.journal round.receipts.items (vec_len round.receipts)) result.rooms }
 {
     let Round {
         served,
@@ -73,9 +84,9 @@ fn served_by<B: Backing + Drop, C: Channel + Drop>(round: Round<B, C>) -> Return
         journal,
         receipts,
     } = round;
-    drop(journal);
-    drop(receipts);
+    let rooms = Rooms::emptied(journal, receipts);
     Returned {
+        rooms,
         served,
         backing,
         channels,

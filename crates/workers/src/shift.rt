@@ -1,6 +1,6 @@
 //! The turns of a worker, one after another: public for what their contract says.
-ghost use Rattle.std.specs.Prelude.{◌≡◌, ◌+◌, ◌<◌, ◌≤◌, [], length};
-ghost use Rattle.workers.specs.Shift.{Ends, Tells};
+ghost use Rattle.std.specs.Prelude.{◌≡◌, ◌+◌, ◌<◌, ◌≤◌, true, Some, [], length};
+ghost use Rattle.workers.specs.Shift.{Ends, LeavesSpare, Tells};
 
 use crate::channel::Channel;
 use crate::gate::Gate;
@@ -21,9 +21,9 @@ pub struct Shift<N: Opening, C: Channel + Drop> {
     pub ending: Ending,
 }
 
-/// Takes asks from a channel, at most `turns`, serves each under the map's lock and posts its reply, until there is
-/// none or a stop is asked for. Each turn leaves one part of `share` under the lock, and needs another one beside it.
-/// It says nothing of what stands under the lock.
+/// Takes asks from a channel, at most `turns`, serves each under the map's lock and posts its reply. It ends where
+/// there is none, a stop is asked for, or the spare room of `room` is used. Each turn leaves one part of `share` under
+/// the lock, and needs another one beside it. It says nothing of what stands under the lock.
 pub fn serve_channel<N: Opening, B: Backing + Drop, C: Channel + Drop, G: Gate, R: Wait>(
     rt: &R,
     shared: &Shared<N, B>,
@@ -37,10 +37,13 @@ pub fn serve_channel<N: Opening, B: Backing + Drop, C: Channel + Drop, G: Gate, 
     requires parts { turns < share.parts }
     requires no_receipt { room.list ≡ [] }
     requires places { turns ≤ room.places }
-    requires copies { turns ≤ room.copies }
+    requires spare { room.spare ≡ true }
     ensures parts { result.share.parts + length result.receipts.list ≡ share.parts }
     ensures most { length result.receipts.list ≤ turns }
     ensures counted { result.share.amount ≡ share.amount + length result.receipts.list }
+    ensures places { result.receipts.places + length result.receipts.list ≡ room.places }
+    // It ends OutOfRoom exactly where its spare room is used and its channel is not Broken.
+    ensures spare { LeavesSpare (Some result.ending) result.receipts.spare }
     // It ends Broken exactly where its channel was.
     ensures ends { Ends C.takes C.posts channel result.receipts.list result.ending result.channel }
     // Where it ends well, the asks that it took are those of its receipts in order, and what it posted are their

@@ -2,7 +2,7 @@
 ghost use Rattle.std.specs.Prelude.{◌≡◌, ◌+◌, ◌<◌, ◌≤◌, length, true};
 ghost use Rattle.workers.specs.Channel.{Told, grown, with_ask, with_replies};
 ghost use Rattle.journal.specs.Receipts.{replies_to};
-ghost use Rattle.workers.specs.Shift.{Goes, GoesOrEnds, Replies, is_well};
+ghost use Rattle.workers.specs.Shift.{Goes, GoesOrEnds, LeavesSpare, Replies, after_turn, is_well};
 ghost use Rattle.workers.specs.declared.channel.Taken.TheVariants as took;
 ghost use Rattle.workers.specs.declared.channel.Posted.TheVariants as post;
 
@@ -22,6 +22,8 @@ use std::sync::ledger::Share;
 pub enum Ending {
     /// It took as much as it may, or there is nothing to take, or it was asked to stop.
     Done,
+    /// Memory was refused for the copy of its last request, which is in its spare room: it has none for another.
+    OutOfRoom,
     /// Its channel was broken: the mount is over.
     Broken,
 }
@@ -70,12 +72,13 @@ impl<N: Opening, C: Channel + Drop> Worker<N, C> {
     ) -> Option<Ending>
         requires parts { 1 < self.old.share.parts }
         requires places { 0 < self.old.receipts.places }
-        requires copies { 0 < self.old.receipts.copies }
+        requires spare { self.old.receipts.spare ≡ true }
         ensures most { length self.new.receipts.list ≤ length self.old.receipts.list + 1 }
         ensures parts { self.new.share.parts + length self.new.receipts.list
             ≡ self.old.share.parts + length self.old.receipts.list }
-        ensures places { self.old.receipts.places ≤ self.new.receipts.places + 1 }
-        ensures copies { self.old.receipts.copies ≤ self.new.receipts.copies + 1 }
+        ensures places { self.new.receipts.places + length self.new.receipts.list
+            ≡ self.old.receipts.places + length self.old.receipts.list }
+        ensures spare { LeavesSpare result self.new.receipts.spare }
         ensures counted { self.new.share.amount + length self.old.receipts.list
             ≡ self.old.share.amount + length self.new.receipts.list }
         // From wherever it began.
@@ -105,10 +108,10 @@ impl<N: Opening, C: Channel + Drop> Worker<N, C> {
     ) -> Option<Ending>
         requires parts { 1 < self.old.share.parts }
         requires places { 0 < self.old.receipts.places }
-        requires copies { 0 < self.old.receipts.copies }
+        requires spare { self.old.receipts.spare ≡ true }
         ensures parts { self.new.share.parts + 1 ≡ self.old.share.parts }
         ensures places { self.new.receipts.places + 1 ≡ self.old.receipts.places }
-        ensures copies { self.new.receipts.copies + 1 ≡ self.old.receipts.copies }
+        ensures spare { LeavesSpare result self.new.receipts.spare }
         ensures one_more { length self.new.receipts.list ≡ length self.old.receipts.list + 1 }
         ensures counted { self.new.share.amount ≡ self.old.share.amount + 1 }
         ensures ends { (start before : C) → Goes C.takes C.posts start self.old.receipts.list before
@@ -130,8 +133,19 @@ impl<N: Opening, C: Channel + Drop> Worker<N, C> {
         let posted = post(&mut self.channel, unique, turn.answer);
         gate.after(unique);
         match posted {
-            Posted::Done => None,
+            Posted::Done => self.after_turn(),
             Posted::Broken => Some(Ending::Broken),
+        }
+    }
+
+    /// Returns why nothing more is to be taken after a turn whose reply was posted, where the spare room is used.
+    fn after_turn(&self) -> Option<Ending>
+        ensures after_turn { result ≡ after_turn self.now.receipts.spare }
+    {
+        if self.receipts.has_spare() {
+            None
+        } else {
+            Some(Ending::OutOfRoom)
         }
     }
 

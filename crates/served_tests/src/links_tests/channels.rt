@@ -7,7 +7,7 @@ use std::alloc::Global;
 use std::test::Fail;
 use workers::{Posted, Taken};
 
-/// What comes of a look for an ask.
+/// The answer to a look for an ask.
 enum Expected {
     /// An ask of this unique.
     Ask(u64),
@@ -16,7 +16,7 @@ enum Expected {
     Broken,
 }
 
-/// What the broker says, in parts of its bytes, and what comes of it.
+/// What the broker says, in parts of its bytes, and the outcome.
 struct Row {
     hears: &'static [&'static [u8]],
     taken: Expected,

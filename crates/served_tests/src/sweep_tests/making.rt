@@ -12,13 +12,13 @@ use std::alloc::Global;
 /// What is made in many sizes.
 #[derive(Clone, Copy)]
 pub enum Making {
-    /// So many files, of which each is handed on with those before it.
+    /// This count of files, of which each is handed on with those before it.
     Handed(u64),
-    /// So many times ten files, handed on after each ten.
+    /// This count of tens of files, handed on after each ten.
     HandedInTens(u64),
     /// A file with a name of each length, handed on.
     HandedByName,
-    /// So many files, which are not handed on.
+    /// This count of files, which are not handed on.
     Made(u64),
     /// Ever higher limits of what is loaded.
     Limits,
@@ -100,7 +100,7 @@ fn hands_on_each(
     true
 }
 
-/// Returns whether a file with a name of so many bytes is handed on by a daemon that begins.
+/// Returns whether a file with a name of `len` bytes is handed on by a daemon that begins.
 fn is_name_handed_on(alloc: Global, manifest: &Manifest, len: usize) -> bool {
     match served_of(alloc, manifest, 8) {
         Ok(mut served) => {
@@ -123,7 +123,7 @@ fn is_each_name_handed_on(alloc: Global, manifest: &Manifest) -> bool {
     true
 }
 
-/// Returns whether a daemon may begin that keeps so many attributes loaded.
+/// Returns whether a daemon may begin that keeps `limit` attributes loaded.
 fn is_limit_taken(alloc: Global, manifest: &Manifest, limit: usize) -> bool {
     match served_of(alloc, manifest, limit) {
         Ok(served) => {

@@ -19,6 +19,8 @@ pub struct SecondFirst<'a, R: Clock> {
 }
 
 impl<'a, R: Clock> SecondFirst<'a, R> {
+    /// Makes a gate at which no ask came yet.
+    /// Makes a gate at which no ask came yet.
     pub fn new(clock: &'a R) -> SecondFirst<'a, R> {
         SecondFirst {
             clock,

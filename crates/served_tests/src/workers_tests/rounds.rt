@@ -11,8 +11,8 @@ use std::alloc::Global;
 use std::sync::Wait;
 use std::thread::Threads;
 use workers::{
-    Channel, Gate, MAX_CHANNELS, MemoryChannel, OpenGate, Receipts, Round, RoundFault, Stop, drain,
-    serve_round,
+    Channel, Gate, MAX_CHANNELS, MemoryChannel, OpenGate, Receipts, Rooms, Round, RoundFault, Stop,
+    drain, serve_round,
 };
 
 /// Returns a channel that asks for the root's attributes, once by each unique.
@@ -128,7 +128,7 @@ fn told_of(
     Some(told)
 }
 
-/// Serves a round over a manifest, and what it gave back once more where memory was refused.
+/// Serves a round over a manifest in rooms of its own, and what it gave back once more where memory was refused.
 pub(crate) fn serve<'a, C: Channel + Drop + Send, G: Gate + Sync, R: Threads + Wait + Sync>(
     rt: &R,
     alloc: Global,
@@ -144,7 +144,10 @@ pub(crate) fn serve<'a, C: Channel + Drop + Send, G: Gate + Sync, R: Threads + W
     requires turns { (1 ≤ turns) × (turns ≤ 4096) }
 {
     let backing = ManifestBacking::of(manifest);
-    let back = match serve_round(rt, alloc, served, backing, channels, turns, gate, stop) {
+    let rooms = Rooms::new(alloc);
+    let back = match serve_round(
+        rt, alloc, rooms, served, backing, channels, turns, gate, stop,
+    ) {
         Err(RoundFault::NoMemory(back)) => back,
         told => return told,
     };
@@ -154,6 +157,7 @@ pub(crate) fn serve<'a, C: Channel + Drop + Send, G: Gate + Sync, R: Threads + W
     serve_round(
         rt,
         alloc,
+        back.rooms,
         back.served,
         back.backing,
         back.channels,

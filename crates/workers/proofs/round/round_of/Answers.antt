@@ -1,5 +1,8 @@
 -- what the workers left is told of the round
-use Rattle.workers.proofs.Rounds.{broken_by, gives_back, two_of_ok}
+use Rattle.std.proofs.Common.{vec_len, sym, ◌∙◌}
+use Rattle.std.proofs.lemmas.List.Elements.{All-same}
+use Rattle.journal.specs.Receipts.{IsFresh}
+use Rattle.workers.proofs.Rounds.{err_so, room_kept, two_of_ok}
 use Rattle.workers.specs.Round.{AreServed}
 use Rattle.workers.proofs.round.round_of.Goals as goal
 
@@ -9,13 +12,28 @@ returns-clause-each g c =
     let channel = g.C.Channel in
     two_of_ok (λ afters kept. AreServed channel.takes channel.posts channel.tells channel.told g.N.Opening.turns
     c.args.channels.items afters kept) c.left_by.result
-    (λ round. round.channels.items) (λ round. round.receipts.items) _ _ left.channels left.receipts left.done
+    (λ round. round.channels.items) (λ round. round.receipts.items) _ _ left.channels left.receipts left.well
     c.serve_all-joined.ensures.served
 
-pub returns-clause-broken : goal.returns-clause-broken
-returns-clause-broken g c =
-    let left = c.left_by.ensures in
-    broken_by g.C.Channel.takes g.C.Channel.posts g.N.Opening.turns c.left_by.result c.args.channels.items left.for_good left.broken c.serve_all-joined.ensures.broken
+pub returns-clause-breaks : goal.returns-clause-breaks
+returns-clause-breaks g c = err_so c.left_by.result c.left_by.ensures.broken c.serve_all-joined.ensures.broken
 
-pub returns-clause-given_back : goal.returns-clause-given_back
-returns-clause-given_back g c = gives_back c.left_by.result c.args.served c.args.backing c.args.channels.items c.left_by.ensures.for_good
+pub returns-clause-room : goal.returns-clause-room
+returns-clause-room g c =
+    let left = c.left_by.ensures in
+    room_kept c.left_by.result (λ round. round.journal) (λ round. round.receipts.items)
+    (λ round. vec_len round.receipts) g.N.Ledger.parts _ g.N.Opening.turns _ _ left.room left.receipts left.workers
+    (sym c.requires.parts ∙ c.requires.a_part_each) c.serve_all-joined.ensures.workers
+    c.serve_all-joined.ensures.places
+
+pub invariant_of-crew : goal.invariant_of-crew
+invariant_of-crew g c =
+    let parts = c.into_parts-journal.ensures in
+    record {
+      named = c.requires.turns.0;
+      most = c.requires.turns.1;
+      parts = c.open-shared.ensures.parts ∙ sym c.requires.parts ∙ c.requires.a_part_each;
+      no_amount = c.open-shared.ensures.no_amount;
+      len = parts.workers ∙ c.requires.rooms.workers;
+      fresh = All-same (IsFresh c.args.turns) _ c.args.rooms.receipts parts.receipts c.requires.rooms.fresh;
+    }

@@ -4,16 +4,18 @@ use Rattle.fuse_wire.specs.declared.request.Request.{Request}
 use Rattle.journal.specs.declared.receipt.Receipt.{Receipt}
 use Rattle.workers.specs.Shift.{Goes}
 use Rattle.workers.specs.declared.channel.Taken.TheVariants as took
-use Rattle.workers.proofs.Turning.{turned_well}
+use Rattle.workers.proofs.Turning.{goes_after, turned_well}
 use Rattle.workers.proofs.worker.Worker.serve.Goals as goal
 
 pub returns-in-Done-clause-ends : goal.returns-in-Done-clause-ends
 returns-in-Done-clause-ends g c start before went taken =
     let channel = g.C.Channel in
     let copy = c.copy-what.ensures in
-    turned_well channel.takes channel.posts start c.copy-what.new.self.list c.push.new.self.list _
+    goes_after channel.takes channel.posts start c.push.new.self.list c.post-posted.new.channel c.after_turn.result _
+    c.after_turn.ensures.after_turn
+    (turned_well channel.takes channel.posts start c.copy-what.new.self.list c.push.new.self.list _
     before c.args.self.now.channel c.post-posted.new.channel c.push.ensures.list
     (subst (λ (rs : List Receipt). Goes channel.takes channel.posts start rs before) (sym copy.list) went)
     (subst (λ (what : Request). channel.takes before (took.Ask (record { unique = c.args.ask.unique; what = what })) c.args.self.now.channel)
     (sym copy.copy) taken)
-    c.in-Done.ensures.replies
+    c.in-Done.ensures.replies)
