@@ -1,19 +1,21 @@
 -- The asks without a reply, in a list that rises by unique: the taken ones, and behind them the untaken ones.
 use Rattle.std.proofs.Common.{◌≡◌, ℕ, ◌-◌, ◌<◌, Bool, true, false, cond, List, [], ◌∷◌, ◌++◌, length, take, map, Option, Some, None, is_some, if◌then◌else◌, refl, ap, ◌∙◌, arith}
-use Rattle.std.specs.Prelude.{◌==◌, All}
-use Rattle.std.specs.List.{AllByRecursion}
+use Rattle.std.specs.Prelude.{◌==◌, ◌||◌, All}
+use Rattle.std.specs.List.{AllByRecursion, list_any}
+use Rattle.std.specs.Option.{option_map}
 use Rattle.std.specs.Map.{keys_of}
 use Rattle.std.specs.BTreeMap.{is_at}
 use Rattle.std.specs.Ordering.{nat_cmp}
 use Rattle.std.specs.declared.cmp.Ordering.TheVariants.{Less}
 use Rattle.std.proofs.lemmas.Bool.Decides.{nat_tests}
 use Rattle.std.proofs.lemmas.List.{take_all, take-append-le, length-append, length-map}
+use Rattle.std.proofs.lemmas.List.Folds.{list_any-append}
 use Rattle.std.proofs.lemmas.List.Elements.{All-nil, All-cons, All-head, All-tail, All-weaker}
 use Rattle.std.proofs.lemmas.Map.Keys.{sorted_head, sorted_tail}
 use Rattle.eden_base.specs.First.{first_where, without_where}
 use Rattle.eden_base.proofs.FirstLemmas.{first_where-append, without_where-none}
 use Rattle.fuse_wire.specs.declared.request.Ask.{Ask}
-use Rattle.broker_core.specs.Traffic.{asked_of, is_of}
+use Rattle.broker_core.specs.Traffic.{asked_of, is_of, is_ask_of}
 use Rattle.broker_core.specs.Rising.{IsRising}
 use Rattle.broker_core.specs.Roomy.{taken_among}
 use Rattle.fuse_wire.specs.declared.form.Form.{Form}
@@ -94,3 +96,23 @@ out-before k (t ∷ ts) us none = here (k == t.0) (out-before k ts us none) wher
   here : (b : Bool) → without_where (is_of k) (ts ++ us) ≡ without_where (is_of k) ts ++ us → cond b (ts ++ us) (t ∷ without_where (is_of k) (ts ++ us)) ≡ cond b ts (t ∷ without_where (is_of k) ts) ++ us
   here true rest = refl
   here false rest = ap (λ xs. t ∷ xs) rest
+
+-- a form is found just where an ask has the unique
+found-any : (k : ℕ) (es : List Asked) → is_some (option_map (λ (e : Asked). e.1) (first_where (is_of k) es)) ≡ list_any (is_of k) es
+found-any k [] = refl
+found-any k (e ∷ es) = here (k == e.0) (found-any k es) where
+  here : (b : Bool) → is_some (option_map (λ (e : Asked). e.1) (first_where (is_of k) es)) ≡ list_any (is_of k) es →
+      is_some (option_map (λ (e : Asked). e.1) (cond b (Some e) (first_where (is_of k) es))) ≡ (b || list_any (is_of k) es)
+  here true rest = refl
+  here false rest = rest
+
+-- an untaken ask has the unique just where what is kept of one has it
+any-untaken : (k : ℕ) (asks : List Ask) → list_any (is_of k) (map asked_of asks) ≡ list_any (is_ask_of k) asks
+any-untaken k [] = refl
+any-untaken k (ask ∷ asks) = ap (λ b. (k == ask.unique) || b) (any-untaken k asks)
+
+-- an ask without a reply is a taken one, or an untaken one
+pub found-either : (k : ℕ) (es ts : List Asked) (asks : List Ask) → es ≡ ts ++ map asked_of asks →
+    is_some (option_map (λ (e : Asked). e.1) (first_where (is_of k) es)) ≡ (list_any (is_of k) ts || list_any (is_ask_of k) asks)
+found-either k es ts asks is =
+    found-any k es ∙ ap (list_any (is_of k)) is ∙ list_any-append (is_of k) ts (map asked_of asks) ∙ ap (λ b. list_any (is_of k) ts || b) (any-untaken k asks)

@@ -119,7 +119,7 @@ asked broker request = record broker {
   traffic = ask_issued broker.traffic broker.next_unique request;
 }
 
--- an item's number is held so many times less at once, and the item waits
+-- an item's number is held less often at once, by its count, and the item waits
 abbrev pub forgot : BrokerState → Item → BrokerState
 forgot broker item = record broker {
   held = lowered broker.held item.node.0 item.k;
@@ -164,7 +164,7 @@ post_fault_by traffic reply (Some unseated.Ended) = Some post.Ended
 post_fault_by traffic reply (Some (unseated.Stale now)) = Some (post.Stale now)
 post_fault_by traffic reply None = if is_asked traffic reply then None else Some post.NotAsked
 
--- why a daemon's reply at a generation is not taken, if it is not
+-- what stops a daemon's reply at a generation from being taken
 abbrev pub post_fault : BrokerState → DaemonId → ℕ → Reply → Option PostFault
 post_fault broker daemon generation reply =
     post_fault_by broker.traffic reply (seat_fault broker.seat daemon generation)
@@ -211,7 +211,7 @@ claim_fault_by (Some seat) asks generation =
     else if nat_le last_generation generation then Some claim.LastGeneration
     else None
 
--- why the seat is not claimed at a generation, if it is not
+-- what stops a claim at a generation
 abbrev pub claim_fault : BrokerState → ℕ → Option ClaimFault
 claim_fault broker generation = claim_fault_by broker.seat (length broker.traffic.taken) generation
 

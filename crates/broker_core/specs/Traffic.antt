@@ -1,6 +1,7 @@
 -- What is under way at the kernel's side: the queues of a FUSE connection (linux/fuse.h), each first in first out.
 -- That forgets have a queue of their own, and when they go first, is this project's own.
 use Rattle.std.specs.Prelude.{ℕ, ◌+◌, ◌<◌, Bool, true, false, ◌||◌, ◌&&◌, ◌==◌, nat_le, nat_lt, List, [], ◌∷◌, ◌++◌, length, take, drop, map, All, sum_by, count_by, Option, Some, None, if◌then◌else◌, refl}
+use Rattle.std.specs.List.{list_any}
 use Rattle.std.specs.Option.{option_map, option_map_or}
 use Rattle.std.specs.Coded.{Coded, code_by, coded×, coded_list, coded_ℕ}
 use Rattle.eden_base.specs.First.{first_where, without_where}
@@ -151,3 +152,19 @@ gives n reply = option_map_or (λ number. number.0 == n) (given_out reply.answer
 -- how many posted replies give a number out
 abbrev pub entries_of : TrafficState → ℕ → ℕ
 entries_of traffic n = count_by (gives n) traffic.posted
+
+-- an ask has a unique, as it waits for a daemon
+abbrev pub is_ask_of : ℕ → Ask → Bool
+is_ask_of unique ask = unique == ask.unique
+
+-- a reply has a unique
+abbrev pub is_reply_of : ℕ → Reply → Bool
+is_reply_of unique reply = reply.unique == unique
+
+-- the ask of a unique has no reply: a daemon took it, or none did
+abbrev pub is_unanswered : TrafficState → ℕ → Bool
+is_unanswered traffic unique = list_any (is_of unique) traffic.taken || list_any (is_ask_of unique) traffic.untaken
+
+-- the ask of a unique is under way: it has no reply, or its reply did not reach the kernel
+abbrev pub is_under_way : TrafficState → ℕ → Bool
+is_under_way traffic unique = is_unanswered traffic unique || list_any (is_reply_of unique) traffic.posted

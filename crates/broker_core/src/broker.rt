@@ -1,9 +1,9 @@
 //! The kernel's side of a mount.
-ghost use Rattle.std.specs.Prelude.{◌≡◌, ◌+◌, ◌≤◌, Bool, true, Some, None, IfOk, IfErr, OnOk, OnErr};
+ghost use Rattle.std.specs.Prelude.{◌≡◌, ◌+◌, ◌≤◌, Bool, true, length, Some, None, IfOk, IfErr, OnOk, OnErr};
 ghost use Rattle.std.specs.List.{list_all};
 ghost use Rattle.fuse_wire.specs.Request.{is_ask};
 ghost use Rattle.broker_core.specs.Held.{held_count, IsLeastHeldAfter};
-ghost use Rattle.broker_core.specs.Traffic.{front, next_taken, forgets_on, entries_of};
+ghost use Rattle.broker_core.specs.Traffic.{front, next_taken, forgets_on, entries_of, is_under_way};
 ghost use Rattle.broker_core.specs.Broker.{mount_fault, issue_fault, ask_fault, forget_fault, may_be_asked, seat_fault, take_fault, post_fault, mounted, asked, forgot, issued, unique_of, taken, posted, delivered, claim_fault, claimed, ended, has_seat, without_daemon, last_generation, seated, new_broker, IsIssueRefusal, IsDeliverRefusal};
 
 use crate::Seat;
@@ -260,7 +260,7 @@ impl Broker {
         }
     }
 
-    /// Returns why nothing is taken by a daemon at a generation.
+    /// Returns what stops a daemon at a generation from taking.
     pub fn take_refusal(&self, daemon: DaemonId, generation: u64) -> Option<TakeFault>
         ensures fault { result ≡ take_fault self.now daemon generation }
     {
@@ -408,6 +408,27 @@ impl Broker {
         ensures count { result ≡ entries_of self.now.traffic number.0 }
     {
         self.traffic.entries_posted(number)
+    }
+
+    /// Returns whether the ask of a unique is under way, from issue to delivery. It looks through the posted replies.
+    pub fn is_under_way(&self, unique: u64) -> bool
+        ensures under_way { result ≡ is_under_way self.now.traffic unique }
+    {
+        self.traffic.is_under_way(unique)
+    }
+
+    /// Returns how many forget items no daemon took.
+    pub fn items_waiting(&self) -> usize
+        ensures len { result ≡ length self.now.traffic.items }
+    {
+        self.traffic.items_waiting()
+    }
+
+    /// Returns the reply that is delivered next.
+    pub fn next_reply(&self) -> Option<Reply>
+        ensures first { result ≡ front self.now.traffic.posted }
+    {
+        self.traffic.next_reply()
     }
 
     /// Returns who serves, if anyone.

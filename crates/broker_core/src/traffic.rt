@@ -1,7 +1,8 @@
 //! What is under way at the kernel's side of a mount.
 ghost use Rattle.std.specs.Prelude.{◌≡◌, ◌≤◌, length, count_by, is_ok, is_none, OnOk, OnErr};
+ghost use Rattle.std.specs.List.{list_any};
 ghost use Rattle.broker_core.specs.Roomy.{is_not_before};
-ghost use Rattle.broker_core.specs.Traffic.{no_traffic, front, asks_under_way, ask_refusal, item_refusal, IsLater, ask_issued, item_issued, next_taken, left_by_take, form_asked, is_asked, may_be_given, reply_posted, reply_delivered, forgets_on, gives, entries_of};
+ghost use Rattle.broker_core.specs.Traffic.{no_traffic, front, asks_under_way, ask_refusal, item_refusal, IsLater, ask_issued, item_issued, next_taken, left_by_take, form_asked, is_asked, may_be_given, reply_posted, reply_delivered, forgets_on, gives, entries_of, is_reply_of, is_unanswered, is_under_way};
 
 use crate::broker::IssueFault;
 use crate::forgets::Forgets;
@@ -55,7 +56,7 @@ impl Traffic {
     /// How many forget items may wait.
     pub(crate) const MOST_ITEMS: usize = 4096;
 
-    /// Returns queues in which nothing is.
+    /// Makes empty queues.
     pub(crate) fn new(alloc: Global) -> Traffic
         ensures none { result ≡ no_traffic }
     {
@@ -196,6 +197,34 @@ impl Traffic {
         ensures left { self.new ≡ reply_delivered self.old }
     {
         self.posted.pop_front()
+    }
+
+    /// Returns how many items wait.
+    pub(crate) fn items_waiting(&self) -> usize
+        ensures { result ≡ length self.now.items }
+    {
+        self.forgets.len()
+    }
+
+    /// Returns whether the ask of this unique is under way, from issue to delivery.
+    pub(crate) fn is_under_way(&self, unique: u64) -> bool
+        ensures { result ≡ is_under_way self.now unique }
+    {
+        self.is_unanswered(unique) || self.is_posted(unique)
+    }
+
+    /// Returns whether the ask of this unique has no reply.
+    fn is_unanswered(&self, unique: u64) -> bool
+        ensures { result ≡ is_unanswered self.now unique }
+    {
+        self.unanswered.form_of(unique).is_some()
+    }
+
+    /// Returns whether a posted reply has this unique.
+    fn is_posted(&self, unique: u64) -> bool
+        ensures { result ≡ list_any (is_reply_of unique) self.now.posted }
+    {
+        self.posted.iter().any(|reply| reply.unique == unique)
     }
 
     /// Returns how often the waiting items take a number back.
