@@ -80,14 +80,14 @@ name_again name is =
 
 -- ---- a mode and a name
 
--- so many bytes from a place on, and the rest
+-- a count of bytes from a place on, and the rest
 pub parted : (bytes : List ℕ) (n m : ℕ) → take m (drop n bytes) ++ drop (n + m) bytes ≡ drop n bytes
 parted bytes n m = ap (λ (d : List ℕ). take m (drop n bytes) ++ d) (sym (drop-drop m n bytes)) ∙ take-append-drop m (drop n bytes)
 
 abbrev pub pair : List ℕ → Perm → List ℕ × Perm
 pair name perm = (name, perm)
 
--- the parts of a body that has a mode at a place and so many bytes behind it
+-- the parts of a body that has a mode at a place and a count of bytes behind it
 made_front : (place rest : ℕ) (body : List ℕ) → AreBytes body → place + 4 + rest ≤ length body
     → (take place body ++ u32_bytes (u32_at (drop place body)) ++ take rest (drop (place + 4) body)) ++ drop (place + 4 + rest) body ≡ body
 made_front place rest body are long =

@@ -4,7 +4,7 @@ use Rattle.std.proofs.lemmas.List.{append-nil, drop-drop}
 use Rattle.fuse_wire.specs.declared.item.Item.{Item}
 use Rattle.fuse_wire.specs.RequestBody.{item_at, items_at}
 
--- so many items of all are read, and the others follow
+-- a count of the items is read, and the others follow
 pub record AreRead (items : List Item) (done count : ℕ) (lines : List ℕ) : Type 0 where
   pub many : length items ≡ done
   pub whole : items ++ items_at (count - done) (drop (16 * done) lines) ≡ items_at count lines

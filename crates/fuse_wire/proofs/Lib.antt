@@ -2,13 +2,14 @@ pub mod Bodies
 pub mod Errors
 pub mod Fields
 pub mod Forgets
+pub mod ItemLaws
+pub mod ItemsRead
 pub mod Lacking
 pub mod Lengths
-pub mod ItemsRead
+pub mod OtherLaws
 pub mod OwnTexts
 pub mod Replies
 pub mod ReplyLaws
 pub mod RequestKinds
 pub mod Requests
 pub mod Written
-pub mod ItemLaws

@@ -3,7 +3,7 @@ use Rattle.std.specs.Prelude.{ℕ, ℤ, List, replicate}
 use Rattle.std.specs.Int.{w32, cast_unsigned, cast_signed}
 use Rattle.byteorder.specs.Endian.{little_bytes, little_number}
 
--- so many bytes that are 0
+-- a count of bytes that are 0
 unfoldable pub zeros : ℕ → List ℕ
 zeros n = replicate n 0
 

@@ -10,7 +10,7 @@ use Rattle.fuse_wire.specs.declared.item.Item.{Item}
 abbrev pub same_item : Item → Item → Bool
 same_item = eq_of_both (on (λ i. i.node.0) nat_eq) (on (λ i. i.k) nat_eq)
 
--- so are the items of two lists, in turn
+-- so are the items of two lists, one after another
 abbrev pub same_items : List Item → List Item → Bool
 same_items = pointwise same_item
 

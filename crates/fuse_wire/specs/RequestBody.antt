@@ -29,7 +29,7 @@ name_text name = name ++ 0 ∷ []
 abbrev pub item_text : Item → List ℕ
 item_text item = u64_bytes item.node.0 ++ u64_bytes item.k
 
--- a fixed part, in which a mode stands at a place with so many bytes behind it, then a name
+-- a fixed part, in which a mode stands at a place with a count of bytes behind it, then a name
 abbrev pub made_body : ℕ → ℕ → ℕ → List ℕ → List ℕ
 made_body place mode rest name = (zeros place ++ u32_bytes mode ++ zeros rest) ++ name_text name
 
@@ -117,7 +117,7 @@ name_of body =
 abbrev pub named_with : Perm → List ℕ → Result (List ℕ × Perm) WireFault
 named_with perm rest = name_of rest >>= λ name. Ok (name, perm)
 
--- the permissions of the mode at a place, and the name so many bytes behind it
+-- the permissions of the mode at a place, and the name behind it, after a count of bytes
 unfoldable pub made_of : ℕ → ℕ → List ℕ → Result (List ℕ × Perm) WireFault
 made_of place rest body =
     if nat_lt (length body) (place + 4 + rest) then Err BadBody

@@ -6,7 +6,7 @@ use Rattle.fuse_wire.specs.declared.writer.Writer.{Writer}
 abbrev pub Writes : List ℕ → List ℕ → ℕ → List ℕ → Type 0
 Writes old new at bytes = new ≡ (take at old ++ bytes) ++ drop (at + length bytes) old
 
--- so many bytes have room from the next field's place on
+-- a count of bytes has room from the next field's place on
 abbrev pub HasRoom : Writer → ℕ → Type 0
 HasRoom writer count = writer.at + count ≤ length writer.bytes.now
 

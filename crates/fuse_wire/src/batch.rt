@@ -76,7 +76,7 @@ impl Batch {
         Batch { items: taken }
     }
 
-    /// Reads so many items.
+    /// Reads `count` items.
     pub(crate) fn read(alloc: Global, count: usize, bytes: &[u8]) -> Result<Batch, NoMemory>
         requires whole { length bytes.now ≡ 16 * count }
         requires at_most { count ≤ 256 }
@@ -86,7 +86,7 @@ impl Batch {
         Ok(Batch::fill(items, count, bytes))
     }
 
-    /// Reads so many items, to memory that was taken before.
+    /// Reads `count` items into `room`, memory that was taken before.
     pub(crate) fn read_to(room: BatchRoom, count: usize, bytes: &[u8]) -> Batch
         requires whole { length bytes.now ≡ 16 * count }
         requires at_most { count ≤ 256 }
@@ -95,7 +95,7 @@ impl Batch {
         Batch::fill(room.items, count, bytes)
     }
 
-    /// Reads so many items, to a list that has room for them and none in it.
+    /// Reads `count` items into an empty list that has room for them.
     fn fill(mut items: Vec<Item>, count: usize, bytes: &[u8]) -> Batch
         requires empty { vec_len items ≡ 0 }
         requires room { count ≤ vec_capacity items }
@@ -133,7 +133,7 @@ impl Batch {
         self.as_slice().is_empty()
     }
 
-    /// Returns whether the two have the same items, in turn.
+    /// Returns whether the two have the same items in the same order.
     pub(crate) fn is(&self, other: &Batch) -> bool
         ensures same { IsTrue result ↔ (self.now ≡ other.now) }
     {

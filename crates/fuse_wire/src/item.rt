@@ -92,7 +92,7 @@ impl Items {
         self.items.push(item);
     }
 
-    /// Reads so many items.
+    /// Reads `count` items.
     pub(crate) fn read(count: usize, bytes: &[u8]) -> Items
         requires whole { length bytes.now ≡ 16 * count }
         requires at_most { count ≤ 256 }

@@ -27,7 +27,7 @@ pub(crate) trait Memory: Drop {
         ensures second { IfOk result (λ names. names.1 ≡ second.now) }
         ensures lack { OnErr result (IsTrue may_lack) };
 
-    /// Reads so many items.
+    /// Reads `count` items.
     fn batch(self, count: usize, bytes: &[u8]) -> Result<Batch, NoMemory>
         requires whole { length bytes.now ≡ 16 * count }
         requires at_most { count ≤ 256 }

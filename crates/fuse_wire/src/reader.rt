@@ -46,7 +46,7 @@ impl<'a> Reader<'a> {
         value
     }
 
-    /// Skips so many bytes.
+    /// Skips `count` bytes.
     pub(crate) fn skip(&mut self, count: usize)
         requires { self.old.at + count ≤ length self.old.bytes.now }
         ensures bytes { self.new.bytes.now ≡ self.old.bytes.now }

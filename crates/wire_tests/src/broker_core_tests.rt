@@ -210,7 +210,7 @@ fn gives_what_came_first_first(rt: HostRuntime) {
     assert!(rt; all_go_so(rt.alloc(), &FIRST_FIRST));
 }
 
-/// Returns whether these come one after the other where so many items and one ask wait, and then nothing.
+/// Returns whether `first` and `second` items come one after the other where `items` items wait, and then nothing.
 fn are_taken(alloc: Global, items: u64, first: usize, second: usize) -> bool {
     let deeds = [
         SERVE,

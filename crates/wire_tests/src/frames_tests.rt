@@ -136,7 +136,7 @@ fn a_fault_is_told_and_stands(rt: HostRuntime) {
     assert!(rt; all_are_at_fault(rt.alloc(), &FAULTS));
 }
 
-/// Returns a frame of so many bytes that are all the same.
+/// Returns a frame of `len` bytes that are all the same.
 fn long_ask(alloc: Global, len: usize) -> Result<Frame, LinkFault> {
     match Vec::from_elem(alloc, 7, len) {
         Ok(bytes) => Ok(Frame::Ask(Bytes::of(bytes))),
@@ -147,7 +147,7 @@ fn long_ask(alloc: Global, len: usize) -> Result<Frame, LinkFault> {
     }
 }
 
-/// Returns whether a frame with so many bytes is written and read.
+/// Returns whether a frame with `len` bytes is written and read.
 fn goes_through(alloc: Global, len: usize) -> bool {
     let Ok(frame) = long_ask(alloc, len) else {
         return false;
@@ -160,7 +160,7 @@ fn goes_through(alloc: Global, len: usize) -> bool {
     }
 }
 
-/// Returns whether a frame with so many bytes is too long.
+/// Returns whether a frame with `len` bytes is too long.
 fn is_too_long(alloc: Global, len: usize) -> bool {
     match long_ask(alloc, len) {
         Ok(frame) => {

@@ -34,19 +34,19 @@ fn removed<T: Drop>(nodes: &mut Nodes<T>, slot: Slot) -> Option<T> {
     Some(value)
 }
 
-/// What is done with a slot, and what comes of it.
+/// What is done with a slot, and its outcome.
 #[derive(Clone, Copy)]
 enum Use {
     Touch,
     Remove(char),
     Write(char),
-    /// The slot is the oldest of so many.
+    /// The slot is the oldest of this count.
     IsOldest(usize),
     /// The slot is the one that was given in another place.
     Is(usize),
 }
 
-/// A call on an arena of characters, and what comes of it, as data, so that a test is a table.
+/// A call on an arena of characters, and its outcome, as data, so that a test is a table.
 #[derive(Clone, Copy)]
 enum Deed {
     Add(char),

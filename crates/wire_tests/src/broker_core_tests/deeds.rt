@@ -42,15 +42,15 @@ pub enum Deed {
     Mount(u64, u64),
     TryMount(u64, Result<u64, MountFault>),
     Issue(Wish, Result<Option<u64>, IssueFault>),
-    /// Issues so many times, and is taken each time.
+    /// Issues the wish this often, and is taken each time.
     IssueEach(Wish, u64),
-    /// Tells why nothing is taken.
+    /// Tells why no ask is taken.
     MayTake(Option<TakeFault>),
     /// Takes an ask with this unique.
     Take(u64),
     /// A daemon at a generation takes an ask with this unique.
     TakeAs(u64, u64, u64),
-    /// Takes so many items, none of an ask, or nothing.
+    /// Takes this count of items, none of an ask, or nothing.
     TakeItems(Option<usize>),
     /// Takes a batch of these items.
     TakeBatch(&'static [Item]),
@@ -63,7 +63,7 @@ pub enum Deed {
     /// Delivers the answer to the ask of a unique.
     Deliver(u64, Said),
     DeliverNothing(DeliverFault),
-    /// Sends a look-up its whole way so many times, and this answer reaches the kernel each time.
+    /// Sends a look-up its whole way this often, and this answer reaches the kernel each time.
     LookUpEach(u64, Said),
     /// Does it once for each number from 2 to this one.
     LookUpNumbers(u64),
@@ -74,7 +74,7 @@ pub enum Deed {
     Held(u64, u64),
     /// Tells the least held number above a number.
     HeldAfter(u64, Option<u64>),
-    /// A number is held so often, and so many posted replies and waiting items tell of it.
+    /// A number is held, and posted replies and waiting items tell of it, as often as these say.
     Stand(u64, [u64; 3]),
 }
 
@@ -149,7 +149,7 @@ fn is_issued(
     }
 }
 
-/// Issues a request so many times, and returns whether it was taken each time.
+/// Issues a request `times` times, and returns whether it was taken each time.
 fn issues(broker: &mut Broker, request: &Request, times: u64) -> bool {
     for _ in 0..times {
         if issue(broker, request).is_err() {
@@ -159,7 +159,7 @@ fn issues(broker: &mut Broker, request: &Request, times: u64) -> bool {
     true
 }
 
-/// Issues a wish so many times, and returns whether it was taken each time.
+/// Issues a wish `times` times, and returns whether it was taken each time.
 fn is_issued_each(alloc: Global, broker: &mut Broker, wish: Wish, times: u64) -> bool {
     match request(alloc, wish) {
         Some(request) => {
@@ -262,7 +262,7 @@ fn answers(broker: &mut Broker, request: &Request, said: Said) -> bool {
         && deliver(broker) == Ok(reply)
 }
 
-/// Sends an ask its whole way so many times, and returns whether this answer reached the kernel each time.
+/// Sends an ask its whole way `times` times, and returns whether this answer reached the kernel each time.
 fn answers_each(broker: &mut Broker, request: &Request, times: u64, said: Said) -> bool {
     for _ in 0..times {
         if !answers(broker, request, said) {
@@ -306,7 +306,7 @@ fn are_numbers_found(alloc: Global, broker: &mut Broker, last: u64) -> bool {
     }
 }
 
-/// Returns whether a number is held so often, and so many posted replies and waiting items tell of it.
+/// Returns whether a number is held, and posted replies and waiting items tell of it, as often as `counts` say.
 fn stands(broker: &Broker, number: Number, counts: [u64; 3]) -> bool {
     broker.held(number) == counts[0]
         && broker.entries_posted(number) == counts[1]

@@ -1,4 +1,4 @@
-//! Steps at a desk, with what comes of each. A step that was refused memory is made once more.
+//! Steps at a desk, with the outcome of each. A step that was refused memory is made once more.
 use broker_desk::{Desk, Peer, Response};
 use byte_codec::Bytes;
 use eden_base::{Attr, DaemonId, Errno, Kind, Name, NoMemory, Number, Perm};
@@ -46,7 +46,7 @@ pub enum Told {
     Other,
 }
 
-/// A step, with what comes of it.
+/// A step, with its outcome.
 #[derive(Clone, Copy)]
 pub enum Step {
     /// On a connection, counted from 0, the daemon says this and is told that.

@@ -38,7 +38,7 @@ fn frame(carrier: Carrier, bytes: Bytes) -> Frame {
     }
 }
 
-/// Makes so many bytes, and once more where memory was refused.
+/// Makes `len` bytes, and once more where memory was refused.
 fn bytes(alloc: Global, len: usize) -> Result<Vec<u8>, AllocError> {
     match Vec::from_elem(alloc, 7, len) {
         Ok(bytes) => Ok(bytes),
@@ -94,7 +94,7 @@ fn put_frames(text: &mut Vec<u8>, frames: u32) -> Result<(), AllocError> {
     Ok(())
 }
 
-/// Feeds a piece so many times, and returns whether each was taken.
+/// Feeds a piece `times` times, and returns whether each was taken.
 fn is_fed(reader: &mut FrameReader, piece: &[u8], times: u32) -> bool {
     for _ in 0..times {
         if feed(reader, piece).is_err() {
@@ -104,7 +104,7 @@ fn is_fed(reader: &mut FrameReader, piece: &[u8], times: u32) -> bool {
     true
 }
 
-/// Returns whether so many frames come out.
+/// Returns whether `frames` frames come out.
 fn come_out(reader: &mut FrameReader, frames: u64) -> bool {
     for _ in 0..frames {
         if !matches!(next(reader), Ok(Some(Frame::Posted))) {
