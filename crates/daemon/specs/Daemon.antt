@@ -1,10 +1,17 @@
 -- One daemon of the world: its part in takeovers, and what it serves. (This project's own.)
-use Rattle.std.specs.Prelude.{ℕ, Bool, true, false, List, [], ◌∷◌, length, Option, Some, None}
+use Rattle.std.specs.Prelude.{◌≡◌, ℕ, Bool, true, false, List, [], ◌∷◌, length, Option, Some, None}
+use Rattle.std.specs.List.{AllByRecursion}
 use Rattle.std.specs.Option.{option_map_or}
+use Rattle.map_image.specs.Versions.{form_of}
+use Rattle.map_image.specs.declared.version.Sending.TheVariants.{Whole}
+use Rattle.map_image.specs.declared.version.VersionForm.{VersionForm}
 use Rattle.takeover_core.specs.Node.{NodeState, new_node}
 use Rattle.takeover_core.specs.declared.phase.Phase.{Phase}
 use Rattle.takeover_core.specs.declared.phase.Phase.TheVariants.{Waiting}
+use Rattle.fuse_wire.specs.declared.reply.Reply.{Reply}
+use Rattle.fuse_wire.specs.declared.request.Ask.{Ask}
 use Rattle.daemon.specs.Server.{ServerState}
+use Rattle.daemon.specs.declared.lease.Lease.{Lease}
 
 -- its phase, with the versions that it has; and what it serves and has in hand: nothing before it mounted or took
 -- over, and nothing once it is gone
@@ -15,6 +22,15 @@ pub record DaemonState : Type 0 where
 -- the versions of the image that every daemon has
 abbrev pub versions : List ℕ
 versions = 1 ∷ []
+
+-- there is such a version, and its text goes in one message, as that of `Data`
+abbrev pub IsSentWhole : Option VersionForm → Type 0
+IsSentWhole None = ⊥
+IsSentWhole (Some form) = form.sending ≡ Whole
+
+-- so it is of each version
+abbrev pub AreSentWhole : List ℕ → Type 0
+AreSentWhole versions = AllByRecursion (λ (version : ℕ). IsSentWhole (form_of version)) versions
 
 -- a daemon that was just started
 abbrev pub new_daemon : DaemonState
@@ -44,3 +60,27 @@ in_hand daemon = option_map_or (λ (server : ServerState). length server.hand) d
 -- how many replies it did not post
 abbrev pub unposted : DaemonState → ℕ
 unposted daemon = option_map_or (λ (server : ServerState). length server.unposted) daemon.server 0
+
+-- ---- lent to workers
+
+-- what is lent, as it is served: nothing is in hand
+abbrev pub lent_server : Lease → ServerState
+lent_server lease =
+    record { generation = lease.generation; served = lease.served; hand = []; unposted = [] }
+
+-- what may be lent: a server that has nothing in hand, and everything posted
+abbrev pub lendable_with : List Ask → List Reply → ServerState → Option ServerState
+lendable_with [] [] server = Some server
+lendable_with hand unposted server = None
+
+abbrev pub lendable : Option ServerState → Option ServerState
+lendable None = None
+lendable (Some server) = lendable_with server.hand server.unposted server
+
+-- a daemon that lent it serves nothing; where nothing may be lent, nothing changes
+abbrev pub lent_from : DaemonState → Option ServerState → DaemonState
+lent_from daemon (Some server) = record daemon { server = None }
+lent_from daemon None = daemon
+
+abbrev pub with_lent : DaemonState → DaemonState
+with_lent daemon = lent_from daemon (lendable daemon.server)

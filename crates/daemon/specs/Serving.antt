@@ -30,7 +30,7 @@ pub record IsIndex (count place index : ℕ) : Type 0 where
   pub is : index ≡ place - 1
   pub within : index < count
 
--- a list of so many has no member of this place
+-- a list of this count has no member at the position
 abbrev pub HasNone : ℕ → ℕ → Type 0
 HasNone count place = (place ≡ 0) ⊎ (count ≤ place - 1)
 

@@ -1,7 +1,7 @@
 -- What a daemon makes of a message that it hears, and of its own program's calls in a takeover. What it says and
 -- becomes is the table's (`takeover_core`); what is added here is the data, which is made of what the daemon serves,
 -- and what is raised from it. (EdenFS's documents on takeover; the table is this project's own.)
-use Rattle.std.specs.Prelude.{◌≡◌, ℕ, ◌⊎◌, true, false, List, [], Option, Some, None, Result, Ok, Err}
+use Rattle.std.specs.Prelude.{◌≡◌, ℕ, ◌⊎◌, Bool, true, false, List, [], Option, Some, None, Result, Ok, Err}
 use Rattle.std.specs.Option.{option_map}
 use Rattle.eden_base.specs.declared.claim.ClaimFault.{ClaimFault}
 use Rattle.eden_base.specs.declared.claim.ClaimFault.TheVariants as claim
@@ -103,6 +103,12 @@ ReactsBy manifest limit bytes old node (answer.GotData session generation versio
     TakesOver manifest limit bytes node generation reaction new
     ⊎ CannotTakeOver old manifest bytes node generation reaction new
 ReactsBy manifest limit bytes old node other reaction new = TurnsBy old node other reaction new
+
+-- an answer that wants memory: data is to be made, or to be read and raised
+abbrev pub brings_data : Answer → Bool
+brings_data (answer.MakeData session generation version) = true
+brings_data (answer.GotData session generation version) = true
+brings_data other = false
 
 -- a daemon hears a message
 abbrev pub HearsSo : Manifest → ℕ → DaemonState → Message → Reaction → DaemonState → Type 0

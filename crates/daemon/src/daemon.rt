@@ -1,15 +1,16 @@
 //! One daemon of the world.
 ghost use Rattle.std.specs.Option.{option_copied, option_map};
-ghost use Rattle.std.specs.Prelude.{◌≡◌, ◌≤◌, ◌⊎◌, true, Some, None, length, IsTrue, IfOk, IfErr};
-ghost use Rattle.takeover_core.specs.Phases.{after, Raised, is_making, is_raising, is_holding, drain_fault, claim_wanted};
-ghost use Rattle.daemon.specs.Daemon.{new_daemon, is_waiting, in_hand, unposted};
+ghost use Rattle.std.specs.Prelude.{◌≡◌, ◌≤◌, ◌⊎◌, true, Some, None, length, IsTrue, IfOk, IfErr, OnErr};
+ghost use Rattle.takeover_core.specs.Phases.{after, heard, Hear, Raised, is_making, is_raising, is_holding, drain_fault, claim_wanted};
+ghost use Rattle.daemon.specs.Daemon.{AreSentWhole, new_daemon, is_waiting, in_hand, unposted, lendable, lent_server, with_lent, with_server};
 ghost use Rattle.daemon.specs.Saying.{turned, what_is_said};
 ghost use Rattle.daemon.specs.Beginning.{DaemonBegins, NobodyBegins};
-ghost use Rattle.daemon.specs.Serving.{DaemonTakes, DaemonWorks, DaemonPosts};
+ghost use Rattle.daemon.specs.Serving.{beginning, DaemonTakes, DaemonWorks, DaemonPosts};
 ghost use Rattle.daemon.specs.declared.daemon.Reaction.TheVariants.{Heeds};
-ghost use Rattle.daemon.specs.Talking.{MountsSo, EndsSo, HandsOver, ServesOn, TakesOver, CannotTakeOver, Loses, HearsSo, GivesUpSo, DrainsSo, ClaimsSo, HasData, HasNoData, bytes_of, at_generation};
+ghost use Rattle.daemon.specs.Talking.{MountsSo, EndsSo, HandsOver, ServesOn, TakesOver, CannotTakeOver, Loses, HearsSo, GivesUpSo, DrainsSo, ClaimsSo, HasData, HasNoData, brings_data, bytes_of, at_generation};
 
 use crate::happened::{Begun, Happened, Refusal};
+use crate::lease::Lease;
 use crate::messages::Messages;
 use crate::server::Server;
 use broker_core::Broker;
@@ -30,7 +31,7 @@ const VERSIONS: [u16; 1] = [1];
 pub enum Reaction {
     /// It is not for this phase or session.
     Ignores,
-    /// It is taken, and nothing is to be said.
+    /// It is taken, and has no answer.
     Heeds,
     /// It says this message, and the others behind it.
     Says(Message, Messages),
@@ -112,6 +113,7 @@ impl Daemon {
     /// Returns a daemon that was just started.
     pub fn new() -> Daemon
         ensures new { result ≡ new_daemon }
+        ensures whole { AreSentWhole result.node.versions }
     {
         Daemon {
             node: Node::waiting(Versions::of(&VERSIONS)),
@@ -126,6 +128,13 @@ impl Daemon {
         self.node.offer()
     }
 
+    /// Returns how far it is in a takeover.
+    pub fn phase(&self) -> Phase
+        ensures phase { result ≡ self.now.node.phase }
+    {
+        self.node.phase()
+    }
+
     /// Returns whether it has started and not yet mounted, nor taken part in a takeover.
     pub fn is_waiting(&self) -> bool
         ensures waiting { result ≡ is_waiting self.now }
@@ -138,6 +147,33 @@ impl Daemon {
         ensures server { option_copied result ≡ self.now.server }
     {
         self.server.as_ref()
+    }
+
+    /// Lends what it serves, with its share of the manifest, where nothing is in hand and everything is posted. It
+    /// serves nothing until this is taken back, in this phase or another.
+    pub fn lend(&mut self) -> Option<Lease>
+        ensures lent { option_map lent_server result ≡ lendable self.old.server }
+        ensures becomes { self.new ≡ with_lent self.old }
+    {
+        let (0, 0) = self.left() else {
+            return None;
+        };
+        let server = self.server.take()?;
+        Some(server.into_lease())
+    }
+
+    /// Takes back what was lent, and serves it on. It drops what it serves, if it does.
+    pub fn take_back(&mut self, alloc: Global, lease: Lease)
+        ensures back { self.new ≡ with_server self.old (beginning lease.generation lease.served) }
+    {
+        let Lease {
+            generation,
+            manifest,
+            served,
+        } = lease;
+        let server = Server::new(alloc, generation, manifest, served);
+        let before = self.server.replace(server);
+        drop(before);
     }
 
     /// Takes what waits first at the broker.
@@ -214,6 +250,8 @@ impl Daemon {
     ) -> Result<Turn, NoMemory>
         ensures hears { IfOk result (λ turn.
             HearsSo manifest.now limit self.now message.now turn.reaction (turned self.now turn)) }
+        ensures at_most_one { IfOk result (λ turn. length (what_is_said turn.reaction) ≤ 1) }
+        ensures memory { OnErr result (IsTrue (brings_data (heard self.now.node (Hear message.now)))) }
     {
         let mut node = self.node.copy();
         match node.hear(message) {
@@ -261,6 +299,7 @@ impl Daemon {
         ensures made { IfOk result (λ turn.
             HandsOver self.now node generation version turn.reaction (turned self.now turn)
             ⊎ ServesOn self.now node generation version turn.reaction (turned self.now turn)) }
+        ensures at_most_one { IfOk result (λ turn. length (what_is_said turn.reaction) ≤ 1) }
     {
         let mut node = node;
         match self.data(alloc, generation, version) {
@@ -302,6 +341,7 @@ impl Daemon {
         ensures taken { IfOk result (λ turn.
             TakesOver manifest.now limit bytes.now node generation turn.reaction (turned self.now turn)
             ⊎ CannotTakeOver self.now manifest.now bytes.now node generation turn.reaction (turned self.now turn)) }
+        ensures at_most_one { IfOk result (λ turn. length (what_is_said turn.reaction) ≤ 1) }
     {
         let shared = manifest.share()?;
         match take_over(alloc, bytes, manifest, limit, generation) {
@@ -321,6 +361,7 @@ impl Daemon {
     fn lose(&self, node: Node) -> Turn
         requires raising { IsTrue (is_raising node.phase) }
         ensures loses { Loses self.now node result.reaction (turned self.now result) }
+        ensures at_most_one { length (what_is_said result.reaction) ≤ 1 }
     {
         let mut node = node;
         match node.raised(false) {
@@ -329,7 +370,7 @@ impl Daemon {
         }
     }
 
-    /// Returns why it is not ready to hand over, if it is not: it does not drain, or has something left.
+    /// Returns what stops the daemon from handing over: it does not drain, or has something left.
     pub fn drain_refusal(&self) -> Option<DrainFault>
         ensures refusal { result ≡ drain_fault self.now.node.phase (in_hand self.now) (unposted self.now) }
     {
@@ -420,6 +461,7 @@ fn issue_untaken(broker: &mut Broker, request: &Request) -> Begun
 fn hold(node: Node, server: Server) -> Turn
     requires raising { IsTrue (is_raising node.phase) }
     ensures holds { result ≡ record { node = after node (Raised true); held = Some server; reaction = Heeds } }
+    ensures at_most_one { length (what_is_said result.reaction) ≤ 1 }
 {
     let mut node = node;
     drop(node.raised(true));

@@ -26,9 +26,9 @@ pub enum Refusal {
     Stale(u64),
     Empty,
     NotAsked,
-    /// So many asks that were taken have no reply yet.
+    /// This count of the asks that were taken have no reply yet.
     Unanswered(u64),
-    /// The daemon has so many requests in hand, and so many replies not posted.
+    /// The daemon has requests in hand, or replies that it did not post: these counts of them.
     Undrained { in_hand: usize, unposted: usize },
     NoMemory,
 }
@@ -69,7 +69,7 @@ pub enum Happened {
     Asked(Option<u64>),
     /// The ask of this unique is in the daemon's hand.
     Took(u64),
-    /// So many items are in the daemon's hand.
+    /// This count of items joined the daemon's hand.
     TookForgets(usize),
     /// The daemon answered.
     Made(Reply),

@@ -2,7 +2,7 @@
 ghost use Rattle.std.specs.Prelude.{MatchOption};
 ghost use Rattle.daemon.specs.Serving.{IsIndex, HasNone};
 
-/// Returns where the member of a place stands, counted from 0, in a list of so many.
+/// Converts a position, counted from 1, to an index in a list of `count`.
 pub fn index_of(place: u64, count: usize) -> Option<usize>
     ensures index { MatchOption result (HasNone count place) (IsIndex count place) }
 {

@@ -9,6 +9,7 @@ ghost use Rattle.daemon.specs.Talking.{at_generation};
 
 use crate::backing::apply;
 use crate::happened::{Begun, Happened, Refusal};
+use crate::lease::Lease;
 use crate::place::index_of;
 use broker_core::Broker;
 use eden_base::{DaemonId, NoMemory};
@@ -64,6 +65,24 @@ impl Server {
             served,
             hand: Vec::new(alloc),
             unposted: Vec::new(alloc),
+        }
+    }
+
+    /// Returns what it serves, with its share of the manifest, and drops what is in hand and what is not posted.
+    pub(crate) fn into_lease(self) -> Lease
+        ensures generation { result.generation ≡ self.generation }
+        ensures served { result.served ≡ self.served }
+    {
+        let Server {
+            generation,
+            manifest,
+            served,
+            ..
+        } = self;
+        Lease {
+            generation,
+            manifest,
+            served,
         }
     }
 

@@ -50,7 +50,7 @@ books-asked w b request asks books = record {
   used u (inl e) = omega arith
   used u (inr c) = let low : u < b.next_unique = books.uniques u c in omega arith
 
--- an item is held so many times less
+-- an item is held less often by its count
 pub books-forgot : (w : World) (b : BrokerState) (item : Item) (items : List Item) → Books w b → Books (record w { held = without_times item.k item.node.0 w.held; items = items }) (forgot b item)
 books-forgot w b item items books = record {
   seat = books.seat;

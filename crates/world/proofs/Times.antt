@@ -4,7 +4,7 @@ use Rattle.std.specs.Prelude.{◌==◌, if◌then◌else◌}
 use Rattle.eden_base.proofs.NumberTests.{true-eq, false-ne}
 use Rattle.world.specs.World.{times, without_times}
 
--- A number is taken out so many times, and each other stays
+-- A number is taken out a count of times, and each other stays
 pub times-without : (held : List ℕ) (n k j : ℕ) → times j (without_times k n held) ≡ (if n == j then times j held - k else times j held)
 times-without [] n k j = in_ (n == j) where
   in_ : (b : Bool) → 0 ≡ (if b then 0 - k else 0)

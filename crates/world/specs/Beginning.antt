@@ -10,7 +10,7 @@ use Rattle.world.specs.Step.{Carries, HasRoom}
 use Rattle.world.specs.declared.event.Event.{Event}
 use Rattle.world.specs.declared.event.Event.TheVariants.{Issue, Take}
 
--- so far all were made, and what comes of the others completes it
+-- so far all were made, and the outcomes of the others complete it
 abbrev pub Goes : State → List Event → List Happened → State → List Event → Type 0
 Goes old events told now rest =
     (outcome : List Happened) (new : State) → Carries now rest outcome new → Carries old events (told ++ outcome) new

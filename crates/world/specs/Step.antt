@@ -126,7 +126,7 @@ pub record Delivers (old : State) (told : Happened) (new : State) : Type 0 where
   pub tells : told ≡ happened.Answered reply
   pub makes : new ≡ record old { broker = delivered old.broker }
 
--- what is told of what a daemon made of a message: what it says is told by the place of its first, behind so many
+-- what is told of what a daemon made of a message: what it says is told by the position of its first
 abbrev pub told_reaction : ℕ → Reaction → Happened
 told_reaction count Ignores = happened.Ignored
 told_reaction count Heeds = happened.Heard

@@ -68,7 +68,7 @@ abbrev pub times : ℕ → List ℕ → ℕ
 times n [] = 0
 times n (m ∷ numbers) = (if m == n then 1 else 0) + times n numbers
 
--- the bag with the number taken out so many times
+-- the bag with the number taken out a count of times
 abbrev pub without_times : ℕ → ℕ → List ℕ → List ℕ
 without_times k n [] = []
 without_times k n (m ∷ numbers) =

@@ -55,7 +55,7 @@ impl World {
     /// How many daemons a world starts at most, those that ended among them.
     pub const MOST_DAEMONS: usize = 1024;
 
-    /// Returns a world without daemons, in which nothing is mounted.
+    /// Makes a world without daemons and without a mount.
     pub fn new(alloc: Global, manifest: &Manifest, limit: usize) -> Result<World, NoMemory>
         ensures new { IfOk result (λ world. world ≡ started manifest.now limit) }
         ensures matches { IfOk result (Matches (first_world manifest.now)) }

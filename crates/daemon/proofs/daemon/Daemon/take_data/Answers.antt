@@ -15,6 +15,7 @@ returns-in-Ok c = record {
     becomes = ap (turned c.args.self.now) c.hold.ensures.holds
         ∙ ap (λ (s : ServerState). record { node = table.after c.args.node (table.Raised true); server = Some s }) c.new.ensures.new;
   });
+  at_most_one = c.hold.ensures.at_most_one;
 }
 
 pub returns-in-Err-Refused : goal.returns-in-Err-Refused
@@ -23,4 +24,5 @@ returns-in-Err-Refused c = record {
     cannot = subst (IsTakingRefusal c.args.manifest.now c.args.generation c.args.bytes.now) c.in-Err-Refused.field-0-is c.in-Err-Refused.ensures.refused;
     loses = c.lose.ensures.loses;
   });
+  at_most_one = c.lose.ensures.at_most_one;
 }

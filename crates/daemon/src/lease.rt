@@ -1,0 +1,14 @@
+//! What a daemon serves, in the hands of its workers.
+ghost use Rattle.std.specs.Prelude.{◌≡◌};
+
+use fuse_ops::Served;
+use manifest::Manifest;
+
+/// What a daemon lends to workers: what it serves from a generation on, over its share of the manifest.
+#[derive(Drop)]
+pub struct Lease {
+    pub generation: u64,
+    pub manifest: Manifest,
+    pub served: Served,
+    pub ghost over: { served.tree.manifest ≡ manifest },
+}
