@@ -1,0 +1,38 @@
+-- What may be lent: all that is served, since nothing is in hand.
+use Rattle.std.proofs.Common.{◌≡◌, ℕ, Bool, true, false, List, [], Option, Some, None, IsSome, refl, sym, subst, rules}
+use Rattle.std.specs.Option.{IfSome, option_map}
+use Rattle.takeover_core.specs.Phases.{may_take}
+use Rattle.takeover_core.specs.declared.phase.Phase.{Phase}
+use Rattle.fuse_wire.specs.declared.request.Ask.{Ask}
+use Rattle.fuse_wire.specs.declared.reply.Reply.{Reply}
+use Rattle.daemon.specs.Daemon.{DaemonState, lendable, lendable_with, lent_server}
+use Rattle.daemon.specs.declared.lease.Lease.{Lease}
+use Rattle.daemon.specs.Server.{ServerState, IsIdle}
+use Rattle.daemon_desk.specs.Desk.{lendable_at, taking_at}
+use Rattle.daemon_desk.specs.Inside.{IsOrderly, knows}
+
+pub all_lendable : (server : Option ServerState) → IfSome server IsIdle → lendable server ≡ server
+all_lendable None idle = refl
+all_lendable (Some server) idle =
+    subst (λ (hand : List Ask). lendable_with hand server.unposted server ≡ Some server) (sym idle.hand)
+    (subst (λ (unposted : List Reply). lendable_with [] unposted server ≡ Some server) (sym idle.unposted) refl)
+
+pub taking_may : (phase : Phase) (generation : ℕ) → taking_at phase ≡ Some generation → may_take phase ≡ true
+taking_may phase generation is = grind rules
+
+may_take_knows : (phase : Phase) → may_take phase ≡ true → knows phase ≡ true
+may_take_knows phase may = grind rules
+
+taking : (phase : Phase) → may_take phase ≡ true → IsSome (taking_at phase)
+taking phase may = grind rules
+
+some_lent : (generation : Option ℕ) (server : Option ServerState) (lease : Option Lease) → IsSome generation → IsSome server → option_map lent_server lease ≡ lendable_at generation server → IsSome lease
+some_lent None server lease at there is = absurd (let no : ⊥ = cc in no)
+some_lent (Some generation) None lease at there is = absurd (let no : ⊥ = cc in no)
+some_lent (Some generation) (Some server) None at there is = absurd (let no : ⊥ = cc in no)
+some_lent (Some generation) (Some server) (Some lease) at there is = refl
+
+-- what is served is lent, where workers may take and it is not lent
+pub lends_it : (is_lent : Bool) (daemon : DaemonState) (lease : Option Lease) → IsOrderly is_lent daemon → may_take daemon.node.phase ≡ true → is_lent ≡ false → option_map lent_server lease ≡ lendable_at (taking_at daemon.node.phase) daemon.server → IsSome lease
+lends_it is_lent daemon lease orderly may own is =
+    some_lent (taking_at daemon.node.phase) daemon.server lease (taking daemon.node.phase may) (orderly.known (may_take_knows daemon.node.phase may) own) is

@@ -1,0 +1,6 @@
+pub mod Quiet
+pub mod Knowing
+pub mod Keeping
+pub mod Telling
+pub mod Lending
+pub mod HandoverLaws

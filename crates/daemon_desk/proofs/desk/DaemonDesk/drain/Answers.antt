@@ -1,0 +1,17 @@
+-- The daemon drains.
+use Rattle.std.proofs.Common.{None, Result, Ok, refl, sym, subst}
+use Rattle.takeover_core.specs.declared.node.DrainFault.{DrainFault}
+use Rattle.daemon.specs.declared.daemon.Reaction.{Reaction}
+use Rattle.daemon_desk.specs.Desk.{IsReadied}
+use Rattle.daemon_desk.proofs.Telling.{drains_by, readied}
+use Rattle.daemon_desk.proofs.desk.DaemonDesk.drain.Goals as goal
+
+pub returns-in_default-clause-drains : goal.returns-in_default-clause-drains
+returns-in_default-clause-drains c =
+    drains_by _ c.args.self.now _ None c.drain.result c.drain.new.self c.self.view_is c.drain.ensures.drains
+    (subst (λ (r : Result Reaction DrainFault). IsReadied r None) (sym c.in_default.is) refl) refl
+
+pub returns-clause-drains : goal.returns-clause-drains
+returns-clause-drains c =
+    drains_by _ c.args.self.now _ c.frame_of.result (Ok c.in-Ok.reaction) c.drain.new.self c.self.view_is c.in-Ok.ensures.drains
+    (readied c.self.inside.daemon c.drain.new.self c.in-Ok.reaction c.frame_of.result c.in-Ok.ensures.drains c.frame_of.ensures.said) refl

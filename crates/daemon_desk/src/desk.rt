@@ -1,0 +1,322 @@
+//! A daemon behind its links.
+ghost use Rattle.std.specs.Option.{option_map, IfSome};
+ghost use Rattle.std.specs.Prelude.{◌≡◌, ◌≤◌, ◌⊎◌, Some, None, true, false, length, is_some, IsSome, IsTrue, OnOk, OnErr};
+ghost use Rattle.fuse_ops.specs.Served.{new_served};
+ghost use Rattle.takeover_core.specs.Phases.{may_take, claim_wanted};
+ghost use Rattle.frames.specs.declared.frame.Frame.TheVariants.{Takeover};
+ghost use Rattle.daemon.specs.Daemon.{is_waiting, lent_server};
+ghost use Rattle.daemon.specs.Saying.{what_is_said};
+ghost use Rattle.daemon_desk.specs.Desk.{new_desk, taking_at, is_draining, lendable, lent, returned, ready_in, ready_of, claim_of, claim_answer, Hears, HearsMessage, LacksMemory, IsTold, IsSaid, MountsAt, Mounts, Drains, DrainsNow, GivesUp, ClaimsBy, Claims};
+
+use crate::answers::{Claiming, Hearing, Mounting};
+use daemon::{Daemon, Lease, Reaction, Server, opening};
+use eden_base::{ClaimFault, NoMemory};
+use frames::Frame;
+use fuse_ops::Served;
+use manifest::Manifest;
+use std::alloc::Global;
+use std::marker::Model;
+use takeover_core::{Message, Phase};
+
+/// What a daemon would serve if it mounted, with its share of the manifest.
+#[derive(Drop)]
+struct Prepared {
+    manifest: Manifest,
+    served: Served,
+    ghost over: { served.tree.manifest ≡ manifest },
+}
+
+/// A daemon, the manifest of its checkout, what it prepared for a mount, and whether its workers have what it serves.
+/// Contracts see it as a `DeskState`.
+#[derive(Drop)]
+pub struct DaemonDesk {
+    alloc: Global,
+    daemon: Daemon,
+    manifest: Manifest,
+    limit: usize,
+    prepared: Option<Prepared>,
+    is_lent: bool,
+}
+
+impl Model for DaemonDesk {
+    ghost use Rattle.std.specs.Coded.{codes};
+    ghost use Rattle.std.specs.Option.{option_map};
+    ghost use Rattle.manifest.specs.Codes.{manifest_code, tree_code};
+    ghost use Rattle.takeover_core.specs.Node.{node_state_code};
+    ghost use Rattle.daemon_desk.specs.Desk.{DeskState};
+    ghost use Rattle.daemon_desk.specs.Inside.{IsOrderly};
+
+    ghost Value = { DeskState };
+
+    ghost coded = { Prim.hlevel (codes, manifest_code, tree_code, node_state_code) };
+
+    ghost view = { λ desk. record {
+      daemon = desk.daemon;
+      manifest = desk.manifest;
+      limit = desk.limit;
+      prepared = option_map (λ prepared. prepared.served) desk.prepared;
+      is_lent = desk.is_lent;
+    } };
+
+    ghost invariant = { λ desk. IsOrderly desk.is_lent desk.daemon };
+}
+
+impl DaemonDesk {
+    /// Returns a daemon that was just started. It has at most `limit` attributes loaded at once.
+    pub fn new(alloc: Global, manifest: Manifest, limit: usize) -> DaemonDesk
+        ensures new { result ≡ new_desk manifest limit }
+    {
+        DaemonDesk {
+            alloc,
+            daemon: Daemon::new(),
+            manifest,
+            limit,
+            prepared: None,
+            is_lent: false,
+        }
+    }
+
+    /// Makes what the daemon would serve. So a mount that is granted wants no memory.
+    pub fn prepare(&mut self) -> Result<(), NoMemory>
+        ensures prepared { OnOk result (self.new ≡ record self.old {
+          prepared = Some (new_served self.old.manifest self.old.limit);
+        }) }
+        ensures unchanged { OnErr result (self.new ≡ self.old) }
+    {
+        let (manifest, served) = opening(self.alloc, &self.manifest, self.limit)?;
+        self.prepared = Some(Prepared { manifest, served });
+        Ok(())
+    }
+
+    /// Takes in the broker's answer to a Mount. It takes no memory.
+    pub fn take_mount(&mut self, answer: &Frame) -> Mounting
+        ensures mounts { Mounts self.old answer.now result self.new }
+    {
+        if !self.daemon.is_waiting() {
+            return Mounting::Broken;
+        }
+        if self.prepared.is_none() {
+            return Mounting::Broken;
+        }
+        match answer {
+            Frame::Mounted { generation } => self.mount(*generation),
+            Frame::Seated => Mounting::Seated,
+            Frame::LastGeneration => Mounting::LastGeneration,
+            Frame::Ended => Mounting::Ended,
+            _ => Mounting::Broken,
+        }
+    }
+
+    /// Begins to serve what was prepared.
+    fn mount(&mut self, generation: u64) -> Mounting
+        requires waiting { IsTrue (is_waiting self.old.daemon) }
+        requires prepared { IsTrue (is_some self.old.prepared) }
+        ensures mounts { IfSome self.old.prepared (λ served. MountsAt generation served self.old result self.new) }
+    {
+        let Some(prepared) = self.prepared.take() else {
+            unreachable!();
+        };
+        let Prepared { manifest, served } = prepared;
+        let server = Server::new(self.alloc, generation, manifest, served);
+        self.daemon.mount(generation, server);
+        Mounting::Serves(generation)
+    }
+
+    /// Returns the offer of the versions that the daemon has.
+    pub fn offer(&self) -> Frame
+        ensures offer { result ≡ Takeover (Message.Offer self.now.daemon.node.versions) }
+    {
+        Frame::Takeover(self.daemon.offer())
+    }
+
+    /// Hears a frame of another daemon. Data that is to be handed over is made here, and data that comes is read and
+    /// raised here.
+    pub fn hear(&mut self, frame: &Frame) -> Hearing
+        ensures hears { Hears self.old frame.now result self.new }
+    {
+        match frame {
+            Frame::Takeover(message) => self.hear_message(message),
+            _ => Hearing::Closes,
+        }
+    }
+
+    /// Hears a message.
+    fn hear_message(&mut self, message: &Message) -> Hearing
+        ensures hears { HearsMessage self.old message.now result self.new
+            ⊎ LacksMemory self.old message.now result self.new }
+    {
+        let Ok(turn) = self
+            .daemon
+            .hear(self.alloc, &self.manifest, self.limit, message)
+        else {
+            return Hearing::NoMemory;
+        };
+        let reaction = self.daemon.turn(turn);
+        hearing_of(reaction)
+    }
+
+    /// Returns how far the daemon is in a takeover.
+    pub fn phase(&self) -> Phase
+        ensures phase { result ≡ self.now.daemon.node.phase }
+        // While workers have what is served, nothing can be handed over in its place.
+        ensures lent { self.now.is_lent ≡ true → IsTrue (may_take result) }
+    {
+        self.daemon.phase()
+    }
+
+    /// Returns the generation at which workers may take, if they may: while the daemon serves, and while it drains.
+    pub fn serving(&self) -> Option<u64>
+        ensures serving { result ≡ taking_at self.now.daemon.node.phase }
+    {
+        match self.daemon.phase() {
+            Phase::Serving { generation } | Phase::Draining { generation, .. } => Some(generation),
+            _ => None,
+        }
+    }
+
+    /// Returns whether a takeover waits until nothing is in hand.
+    pub fn drains(&self) -> bool
+        ensures drains { result ≡ is_draining self.now.daemon.node.phase }
+    {
+        matches!(self.daemon.phase(), Phase::Draining { .. })
+    }
+
+    /// Lends what the daemon serves to workers, where they may take and it is not lent already.
+    #[tactic(auto, using(crate::proofs::Lending::lends_it))]
+    pub fn lend(&mut self) -> Option<Lease>
+        ensures lent { option_map lent_server result ≡ lendable self.old }
+        ensures becomes { self.new ≡ lent self.old }
+        ensures there { IsTrue (may_take self.old.daemon.node.phase) → self.old.is_lent ≡ false → IsSome result }
+    {
+        if self.serving().is_none() {
+            return None;
+        }
+        let lease = self.daemon.lend()?;
+        self.is_lent = true;
+        Some(lease)
+    }
+
+    /// Takes back what was lent, after a round that is settled. What was not lent is dropped.
+    pub fn take_back(&mut self, lease: Lease)
+        ensures returned { self.new ≡ returned self.old (lent_server lease) }
+    {
+        if !self.is_lent {
+            drop(lease);
+            return;
+        }
+        self.is_lent = false;
+        self.daemon.take_back(self.alloc, lease);
+    }
+
+    /// Says that the daemon is ready to hand over, where it drains and nothing is lent.
+    pub fn drained(&mut self) -> Option<Frame>
+        ensures drains { Drains self.old result self.new }
+        ensures ready { result ≡ ready_of self.old }
+    {
+        if self.is_lent {
+            return None;
+        }
+        self.drain()
+    }
+
+    /// Says that the daemon is ready to hand over, where it drains.
+    fn drain(&mut self) -> Option<Frame>
+        requires own { self.old.is_lent ≡ false }
+        ensures drains { DrainsNow self.old result self.new }
+        ensures ready { result ≡ ready_in false self.old.daemon.node.phase }
+    {
+        let Ok(reaction) = self.daemon.drain() else {
+            return None;
+        };
+        frame_of(reaction)
+    }
+
+    /// Ends the daemon's part in a takeover, as where the connection to the other daemon ended. Returns what that one is
+    /// to be told.
+    pub fn give_up(&mut self) -> Option<Frame>
+        ensures gives_up { GivesUp self.old result self.new }
+    {
+        frame_of(self.daemon.give_up())
+    }
+
+    /// Returns the claim that the daemon wants to make.
+    pub fn claim(&self) -> Option<Frame>
+        ensures claim { result ≡ claim_of self.now }
+    {
+        match self.daemon.claim_wanted() {
+            Some(generation) => Some(Frame::Claim { generation }),
+            None => None,
+        }
+    }
+
+    /// Takes in the broker's answer to a Claim.
+    pub fn take_claim(&mut self, answer: &Frame) -> Claiming
+        ensures claims { Claims self.old answer.now result self.new }
+    {
+        if self.daemon.claim_wanted().is_none() {
+            return Claiming::Broken;
+        }
+        match claim_answer(answer) {
+            Some(answer) => self.take_answer(answer),
+            None => Claiming::Broken,
+        }
+    }
+
+    /// Takes in the answer to a claim.
+    fn take_answer(&mut self, answer: Result<u64, ClaimFault>) -> Claiming
+        requires wanted { IsTrue (is_some (claim_wanted self.old.daemon.node.phase)) }
+        ensures claims { ClaimsBy answer self.old result self.new }
+    {
+        self.daemon.take_answer(answer);
+        match answer {
+            Ok(generation) => Claiming::Serves(generation),
+            Err(ClaimFault::Unanswered { .. }) => Claiming::Waits,
+            Err(ClaimFault::Stale { .. }) => Claiming::Stale,
+            Err(ClaimFault::Ended) => Claiming::Ended,
+            Err(ClaimFault::LastGeneration) => Claiming::LastGeneration,
+        }
+    }
+}
+
+/// Returns what is told of what a daemon makes of a message. It says one message at most.
+fn hearing_of(reaction: Reaction) -> Hearing
+    requires at_most_one { length (what_is_said reaction) ≤ 1 }
+    ensures told { IsTold reaction result }
+{
+    match reaction {
+        Reaction::Ignores => Hearing::Ignores,
+        Reaction::Heeds => Hearing::Heeds,
+        Reaction::Says(said, others) => {
+            drop(others);
+            Hearing::Tells(Frame::Takeover(said))
+        }
+    }
+}
+
+/// Returns the frame of what a daemon says, if it says something. It says one message at most.
+fn frame_of(reaction: Reaction) -> Option<Frame>
+    requires at_most_one { length (what_is_said reaction) ≤ 1 }
+    ensures said { IsSaid reaction result }
+{
+    match reaction {
+        Reaction::Ignores | Reaction::Heeds => None,
+        Reaction::Says(said, others) => {
+            drop(others);
+            Some(Frame::Takeover(said))
+        }
+    }
+}
+
+/// Returns the answer to a Claim that a frame is, if it is one.
+fn claim_answer(frame: &Frame) -> Option<Result<u64, ClaimFault>>
+    ensures answer { result ≡ claim_answer frame.now }
+{
+    match frame {
+        Frame::Claimed { generation } => Some(Ok(*generation)),
+        Frame::Unanswered { asks } => Some(Err(ClaimFault::Unanswered { asks: *asks })),
+        Frame::Stale { now } => Some(Err(ClaimFault::Stale { now: *now })),
+        Frame::Ended => Some(Err(ClaimFault::Ended)),
+        Frame::LastGeneration => Some(Err(ClaimFault::LastGeneration)),
+        _ => None,
+    }
+}
