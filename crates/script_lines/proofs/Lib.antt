@@ -1,3 +1,5 @@
+pub mod LineLaws
 pub mod NumberLemmas
 pub mod OctalLemmas
 pub mod PrintLemmas
+pub mod SendableLaws

@@ -1,7 +1,7 @@
 -- The lines of the broker's script: what the kernel asks and forgets, and what is waited for. (This project's own.)
-use Rattle.std.specs.Prelude.{ℕ, List, Option, Some, None, codes, option_map, option_and_then, if◌then◌else◌}
+use Rattle.std.specs.Prelude.{ℕ, List, Option, Some, None, ⊤, codes, option_map, option_and_then, if◌then◌else◌}
 use Rattle.eden_base.specs.Text.{cut}
-use Rattle.fuse_wire.specs.Request.{is_ask}
+use Rattle.fuse_wire.specs.Request.{is_ask, IsSendable}
 use Rattle.fuse_wire.specs.declared.request.Request.{Request}
 use Rattle.script_lines.specs.EventLine.{pair_of, request_of}
 use Rattle.script_lines.specs.Number.{number_of}
@@ -40,3 +40,8 @@ broker_line_of line =
     if is_word line (codes "idle") then Some Idle
     else if is_word line (codes "held") then Some Held
     else option_and_then (λ (parts : List ℕ × List ℕ). broker_line_by parts.0 parts.1) (cut 32 line)
+
+-- what is asked has a text of its own, by which a daemon reads it
+abbrev pub IsSendableLine : BrokerLine → Type 0
+IsSendableLine (Ask request) = IsSendable request
+IsSendableLine line = ⊤

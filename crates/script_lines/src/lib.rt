@@ -1,4 +1,4 @@
-//! The lines of scripts: what one says, and what comes of it as a line.
+//! The lines of scripts: what one says, and the line that it prints.
 #![tactic(auto)]
 
 mod broker_line;

@@ -1,0 +1,15 @@
+//! A broker's script: its lines read, and what each comes to at the broker's desk.
+#![tactic(auto)]
+
+mod awaited;
+mod fault;
+mod line;
+mod print;
+mod script;
+
+pub use awaited::{Awaited, Came, look};
+pub use fault::BrokerScriptFault;
+pub use line::{Begun, begin};
+pub use print::{print_begun, print_came, print_held};
+pub use script::read_broker_script;
+pub use script_lines::BrokerLine;

@@ -1,0 +1,49 @@
+//! A line of a broker's script, begun.
+ghost use Rattle.fuse_wire.specs.Request.{IsSendable};
+ghost use Rattle.script_lines.specs.BrokerLine.{IsSendableLine};
+ghost use Rattle.broker_script.specs.Beginning.{Begins, Issues};
+
+use crate::awaited::Awaited;
+use broker_core::IssueFault;
+use broker_desk::Desk;
+use fuse_wire::Request;
+use script_lines::BrokerLine;
+
+/// What a line comes to at once.
+#[derive(Clone, Copy, PartialEq, Eq)]
+pub enum Begun {
+    /// The line ends when this comes.
+    Waits(Awaited),
+    /// The forget waits for a daemon.
+    Forgot,
+    /// The request was not taken.
+    Refused(IssueFault),
+    /// The line tells what the kernel holds.
+    Tells,
+}
+
+/// Begins what `line` says. Only an ask or a forget that is taken changes the desk.
+pub fn begin(desk: &mut Desk, line: &BrokerLine) -> Begun
+    requires sendable { IsSendableLine line.now }
+    ensures begins { Begins desk.old line.now result desk.new }
+{
+    match line {
+        BrokerLine::Ask(request) => issue(desk, request),
+        BrokerLine::Forget(item) => issue(desk, &Request::Forget(*item)),
+        BrokerLine::Seat(generation) => Begun::Waits(Awaited::Seat(*generation)),
+        BrokerLine::Idle => Begun::Waits(Awaited::Idle),
+        BrokerLine::Held => Begun::Tells,
+    }
+}
+
+/// Asks or forgets.
+fn issue(desk: &mut Desk, request: &Request) -> Begun
+    requires { IsSendable request.now }
+    ensures { Issues desk.old request.now result desk.new }
+{
+    match desk.issue(request) {
+        Ok(Some(unique)) => Begun::Waits(Awaited::Reply(unique)),
+        Ok(None) => Begun::Forgot,
+        Err(fault) => Begun::Refused(fault),
+    }
+}
