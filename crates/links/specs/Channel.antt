@@ -61,7 +61,7 @@ pub data Unanswered : LinkState → Frame → LinkState → Type 0 where
       Writes old.outgoing new.outgoing said (Ok tt) → IsNoFrame result →
       Took old.incoming new.incoming (λ bytes. Gives bytes new.incoming result) → Unanswered old said new
 
--- what comes of a frame that is to be answered
+-- the answer to a frame
 abbrev pub Answers : LinkState → Frame → Option Frame → LinkState → Type 0
 Answers old said (Some heard) new = Exchanged old new said heard
 Answers old said None new = Unanswered old said new
@@ -81,7 +81,7 @@ posted_of heard = post.Broken
 abbrev pub IsUnposted : LinkState → Reply → LinkState → Type 0
 IsUnposted old reply new = Unanswered old (post_of old reply) new ⊎ (new ≡ old)
 
--- what comes of a reply: what the other end tells of it; or it is Broken, since nothing was told
+-- the outcome of a reply: what the other end tells of it; or it is Broken, since nothing was told
 abbrev pub Posts : LinkState → Reply → Posted → LinkState → Type 0
 Posts old reply posted new =
     ((heard : Frame) × (posted ≡ posted_of heard) × Exchanged old new (post_of old reply) heard)
@@ -106,7 +106,7 @@ Refuses old bytes fault took.Broken new =
     ⊎ ((reply : Reply) × (fault_reply_of bytes fault ≡ Some reply) × Posts old reply post.Broken new)
 Refuses old bytes fault taken new = ⊥
 
--- what comes of the request that a frame has
+-- the outcome of the request that a frame has
 abbrev pub Serves : LinkState → List ℕ → Result Ask WireFault → Taken → LinkState → Type 0
 Serves old bytes (Ok ask) taken new = (taken ≡ took.Ask ask) × (new ≡ old)
 Serves old bytes (Err fault) taken new = Refuses old bytes fault taken new
@@ -115,7 +115,7 @@ Serves old bytes (Err fault) taken new = Refuses old bytes fault taken new
 abbrev pub Stops : LinkState → TakeFault → Taken → LinkState → Type 0
 Stops old why taken new = (taken ≡ took.Stopped) × (new ≡ record old { ended = Some why })
 
--- what comes of the answer to a Take
+-- the outcome of the answer to a Take
 abbrev pub Hears : LinkState → Frame → Taken → LinkState → Type 0
 Hears old (frames.Ask bytes) taken new = Serves old bytes (request_of bytes) taken new
 Hears old frames.Empty taken new = (taken ≡ took.Empty) × (new ≡ old)
@@ -127,7 +127,7 @@ Hears old frame taken new = (taken ≡ took.Broken) × (new ≡ old)
 abbrev pub take_of : LinkState → Frame
 take_of channel = frames.Take channel.generation
 
--- What comes of a look for an ask: it is asked, and the answer decides; or the asking is not answered; or nothing is
+-- The outcome of a look for an ask: it is asked, and the answer decides; or the asking is not answered; or nothing is
 -- asked at all, since there is no room for what may come.
 pub data Takes : LinkState → Taken → LinkState → Type 0 where
   Heard : {old new : LinkState} {taken : Taken} (mid : LinkState) (answer : Frame) →

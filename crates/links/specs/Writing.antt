@@ -24,7 +24,7 @@ pub record SendsPart (old new : Option (List ℕ)) (frame : Frame) : Type 0 wher
   pub is_text : frame_text frame ≡ Some text
   pub part : Cuts old new text
 
--- what comes of writing a frame: its text behind what was written, or a part of it where a write failed; and else
+-- the outcome of writing a frame: its text behind what was written, or a part of it where a write failed; and else
 -- nothing, where it has no text or memory is refused for it
 abbrev pub Writes : Option (List ℕ) → Option (List ℕ) → Frame → Result (Unit {0}) LinkFault → Type 0
 Writes old new frame (Ok done) = Sends old new frame

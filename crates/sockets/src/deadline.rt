@@ -1,0 +1,71 @@
+//! When a wait ends.
+ghost use Rattle.std.specs.Prelude.{◌≡◌, ◌<◌};
+ghost use Rattle.std.specs.Duration.{as_nanos};
+ghost use Rattle.sockets.specs.declared.deadline.Deadline.TheVariants.{Never, Passed};
+ghost use Rattle.sockets.specs.declared.deadline.Left.TheVariants.{Forever, For, Nothing};
+
+use std::rt::Clock;
+use std::time::{Duration, Instant};
+
+/// When a wait ends.
+#[derive(Clone, Copy)]
+pub enum Deadline {
+    /// It has no end of its own.
+    Never,
+    At(Instant),
+    /// It ended before it began, as where the clock can't be read.
+    Passed,
+}
+
+/// How long a wait may last.
+#[derive(Clone, Copy)]
+pub enum Left {
+    Forever,
+    /// Longer than no time.
+    For(Duration),
+    Nothing,
+}
+
+impl Deadline {
+    /// Returns the end of a wait that begins now.
+    pub fn after<R: Clock>(clock: &R, wait: Duration) -> Deadline {
+        match Instant::now(clock) {
+            Ok(now) => match now.checked_add(wait) {
+                Some(end) => Deadline::At(end),
+                None => Deadline::Never,
+            },
+            Err(_unread) => Deadline::Passed,
+        }
+    }
+
+    /// Returns how long a wait lasts that begins now.
+    pub fn left<R: Clock>(&self, clock: &R) -> Left
+        ensures never { self.now ≡ Never → result ≡ Forever }
+        ensures passed { self.now ≡ Passed → result ≡ Nothing }
+        ensures some { (wait : _) → result ≡ For wait → 0 < as_nanos wait }
+    {
+        match self {
+            Deadline::Never => Left::Forever,
+            Deadline::Passed => Left::Nothing,
+            Deadline::At(end) => left_until(clock, *end),
+        }
+    }
+
+    /// Returns whether the wait is over.
+    pub fn is_over<R: Clock>(&self, clock: &R) -> bool {
+        matches!(self.left(clock), Left::Nothing)
+    }
+}
+
+/// Returns how long it is until an instant.
+fn left_until<R: Clock>(clock: &R, end: Instant) -> Left
+    ensures some { (wait : _) → result ≡ For wait → 0 < as_nanos wait }
+{
+    let Ok(now) = Instant::now(clock) else {
+        return Left::Nothing;
+    };
+    match end.checked_duration_since(now) {
+        Some(left) if !left.is_zero() => Left::For(left),
+        _ => Left::Nothing,
+    }
+}

@@ -1,0 +1,107 @@
+//! A socket that listens.
+use std::alloc::Global;
+use std::fs::{self, DirBuilder, Permissions};
+use std::io::{self, ErrorKind};
+use std::net::Net;
+use std::os::unix::fs::{DirBuilderExt, FileTypeExt, PermissionsExt};
+use std::os::unix::net::UnixListener;
+use std::rt::Files;
+
+/// How many folders of earlier runs may stand beside a socket.
+const MOST_FOLDERS: usize = 64;
+
+/// A socket that listens in a folder of its own, where nobody finds it yet.
+#[derive(Drop)]
+pub struct Hidden {
+    listener: UnixListener,
+    folder: String,
+    name: String,
+}
+
+/// Listens at a path, for the user alone. A socket that stands there is replaced, and no moment is without one. What is
+/// no socket is left alone, and is an error.
+pub fn listen_at<R: Files + Net>(rt: &R, alloc: Global, path: &str) -> io::Result<UnixListener> {
+    Hidden::beside(rt, alloc, path)?.show(rt, path)
+}
+
+/// Returns an error where something stands at a path that is no socket.
+fn check_place<R: Files>(rt: &R, path: &str) -> io::Result<()> {
+    match rt.symlink_metadata(path) {
+        Ok(found) if found.file_type().is_socket() => Ok(()),
+        Ok(_other) => Err(io::Error::other("no socket")),
+        Err(error) if error.kind() == ErrorKind::NotFound => Ok(()),
+        Err(error) => Err(error),
+    }
+}
+
+/// Makes a folder beside a path that the user alone may enter, and returns its name.
+fn make_folder<R: Files>(rt: &R, alloc: Global, path: &str) -> io::Result<String> {
+    for number in 1..=MOST_FOLDERS {
+        let folder = format!(in alloc; "{path}.{number}")?;
+        match DirBuilder::new().mode(0o700).create(rt, folder.as_str()) {
+            Ok(()) => return Ok(folder),
+            Err(error) if error.kind() == ErrorKind::AlreadyExists => {}
+            Err(error) => return Err(error),
+        }
+    }
+    Err(io::Error::from(ErrorKind::AlreadyExists))
+}
+
+/// Listens at a name, for the user alone.
+fn bind_private<R: Files + Net>(rt: &R, name: &str) -> io::Result<UnixListener> {
+    let listener = UnixListener::bind(rt, name)?;
+    fs::set_permissions(rt, name, Permissions::from_mode(0o600))?;
+    Ok(listener)
+}
+
+impl Hidden {
+    /// Listens in a folder beside a path, so that all that may fail has failed before it is to be found there.
+    pub fn beside<R: Files + Net>(rt: &R, alloc: Global, path: &str) -> io::Result<Hidden> {
+        check_place(rt, path)?;
+        let folder = make_folder(rt, alloc, path)?;
+        match Hidden::within(rt, alloc, folder.as_str()) {
+            Ok((name, listener)) => Ok(Hidden {
+                listener,
+                folder,
+                name,
+            }),
+            Err(error) => {
+                let _removed = fs::remove_dir(rt, folder.as_str());
+                Err(error)
+            }
+        }
+    }
+
+    /// Listens in a folder. Where that fails nothing is left in it.
+    fn within<R: Files + Net>(
+        rt: &R,
+        alloc: Global,
+        folder: &str,
+    ) -> io::Result<(String, UnixListener)> {
+        let name = format!(in alloc; "{folder}/s")?;
+        match bind_private(rt, name.as_str()) {
+            Ok(listener) => Ok((name, listener)),
+            Err(error) => {
+                let _removed = fs::remove_file(rt, name.as_str());
+                Err(error)
+            }
+        }
+    }
+
+    /// Lets the socket be found at a path, in place of the one that stands there.
+    pub fn show<R: Files>(self, rt: &R, path: &str) -> io::Result<UnixListener> {
+        let shown = fs::rename(rt, self.name.as_str(), path);
+        if shown.is_err() {
+            let _removed = fs::remove_file(rt, self.name.as_str());
+        }
+        let _removed = fs::remove_dir(rt, self.folder.as_str());
+        shown?;
+        Ok(self.listener)
+    }
+
+    /// Removes the socket that nobody found.
+    pub fn remove<R: Files>(self, rt: &R) {
+        let _removed = fs::remove_file(rt, self.name.as_str());
+        let _removed = fs::remove_dir(rt, self.folder.as_str());
+    }
+}
