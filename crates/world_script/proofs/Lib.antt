@@ -1,7 +1,5 @@
-pub mod CommandLemmas
 pub mod EndingLemmas
-pub mod LineLemmas
-pub mod PlainWords
+pub mod ErrandLemmas
 pub mod PlayLemmas
 pub mod ProcessLemmas
 pub mod ReadLemmas

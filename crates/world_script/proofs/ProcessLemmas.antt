@@ -11,7 +11,6 @@ use Rattle.clap.specs.Words.{Kinds, Text}
 use Rattle.world_script.specs.Ending.{Complains, Ends, Says, complaint, name_of, words_had}
 use Rattle.world_script.specs.FaultText.{fault_line}
 use Rattle.world_script.specs.Script.{Runs}
-use Rattle.world_script.specs.Source.{OfRead}
 use Rattle.world_script.specs.declared.ending.Ending.{Ending}
 use Rattle.world_script.specs.declared.ending.Ending.TheVariants.{Ran, Told, Untold, Shown, Refused}
 use Rattle.world_script.proofs.EndingLemmas.{Appends-from}

@@ -1,13 +1,22 @@
 -- Lemmas on the parts of a script, and on the events of its lines.
-use Rattle.std.proofs.Common.{◌≡◌, ℕ, ◌+◌, ◌-◌, ◌<◌, ◌≤◌, Bool, true, false, cond, nat_lt, suc, List, [], ◌∷◌, ◌++◌, length, map, take, drop, Option, Some, None, is_none, refl, ap, subst, sym, ◌∙◌, append_assoc, arith}
+use Rattle.std.proofs.Common.{◌≡◌, ℕ, ◌+◌, ◌-◌, ◌<◌, ◌≤◌, Bool, true, false, cond, nat_lt, suc, List, [], ◌∷◌, ◌++◌, length, map, take, drop, Option, Some, None, is_none, zero, length-drop, refl, ap, subst, sym, ◌∙◌, append_assoc, arith}
 use Rattle.std.specs.List.{before_first, after_first, position_or_len, position}
+use Rattle.std.proofs.Math.Seq.{drop-nil}
 use Rattle.std.proofs.lemmas.List.{length-take-le, map-append, drop-drop}
 use Rattle.std.proofs.lemmas.Bool.Decides.{nat_tests}
 use Rattle.world.specs.declared.event.Event.{Event}
 use Rattle.script_lines.specs.EventLine.{event_of}
 use Rattle.script_lines.specs.Lines.{is_lf, lines_of}
+use Rattle.script_lines.proofs.LineLaws.{lines_of_parts}
 use Rattle.world_script.specs.Parts.{lines_behind, is_marker, first_bad, IsSplit}
-use Rattle.world_script.proofs.LineLemmas.{lines_of_parts, drop-end}
+
+-- what is left of a list is its end
+pub drop-end : (xs : List ℕ) (n : ℕ) → drop n xs ≡ drop (length xs - length (drop n xs)) xs
+drop-end [] n = drop-nil n ∙ sym (drop-nil _)
+drop-end (x ∷ xs) zero = let e : length (x ∷ xs) - length (x ∷ xs) ≡ 0 = omega arith in ap (λ (k : ℕ). drop k (x ∷ xs)) (sym e)
+drop-end (x ∷ xs) (suc n) =
+    let e : length (x ∷ xs) - length (drop n xs) ≡ suc (length xs - length (drop n xs)) = omega (arith, length-drop n xs) in
+    drop-end xs n ∙ ap (λ (k : ℕ). drop k (x ∷ xs)) (sym e)
 
 -- the rest is an end of the script, before which no line is a marker
 pub record IsRest (script rest : List ℕ) (number : ℕ) : Type 0 where

@@ -1,16 +1,20 @@
 -- How the program ends, by the words that it is started with and by the script that they name, and what standard error
 -- gets. (This project's own; 2 for words that are refused, as `clap` has it.)
-use Rattle.std.specs.Prelude.{◌≡◌, ◌⊎◌, ℕ, true, List, [], ◌∷◌, ◌++◌, Option, Some, None, Result, Ok, Err, String, map, option_map, codes, if◌then◌else◌, string_bytes, ⊤}
+use Rattle.std.specs.Prelude.{◌≡◌, ◌⊎◌, ◌&&◌, ℕ, Bool, true, false, List, [], ◌∷◌, ◌++◌, Option, Some, None, Result, Ok, Err, String, map, option_map, codes, if◌then◌else◌, string_bytes, ⊤}
 use Rattle.std.specs.Global.{Global, Vec}
 use Rattle.std.specs.IoError.{error_kind}
 use Rattle.std.specs.Io.KnownBytes.{Appends, Keeps}
 use Rattle.std.specs.declared.io.ErrorKind.{ErrorKind as IoErrorKind}
 use Rattle.std.specs.declared.io.ErrorKind.TheVariants as io_kind
 use Rattle.std.specs.declared.io.Error.{Error as IoError}
-use Rattle.clap.specs.Words.{IsAmong, Kinds, Text, fault_of}
+use Rattle.clap.specs.Words.{IsAmong, Kinds, Row, Text}
 use Rattle.clap.specs.declared.error.kind.ErrorKind.{ErrorKind}
 use Rattle.clap.specs.declared.error.kind.ErrorKind.TheVariants as kind
-use Rattle.world_script.specs.CommandLine.{edend_app, limit_named, script_named, standard_input}
+use Rattle.command_line.specs.Asked.{IsErrand}
+use Rattle.command_line.specs.declared.asked.Asked.{Asked}
+use Rattle.command_line.specs.declared.asked.Asked.TheVariants.{World, Serve}
+use Rattle.command_line.specs.declared.errand.Errand.{Errand}
+use Rattle.command_line.specs.CommandLine.{command_of, is_errand, limit_named, script_named, standard_input, wrong_of}
 use Rattle.world_script.specs.FaultText.{fault_line}
 use Rattle.world_script.specs.Refusal.{IsRunRefusal, comes_first, is_caused}
 use Rattle.world_script.specs.Script.{Runs}
@@ -20,7 +24,7 @@ use Rattle.world_script.specs.declared.ending.Ending.TheVariants.{Ran, Told, Unt
 use Rattle.world_script.specs.declared.failure.Cause.{Cause}
 use Rattle.world_script.specs.declared.failure.Failure.{Failure}
 use Rattle.world_script.specs.declared.fault.Fault.{Fault}
-use Rattle.world_script.specs.declared.fault.Fault.TheVariants.{CannotRead, CannotWrite, NoMemory}
+use Rattle.world_script.specs.declared.fault.Fault.TheVariants.{CannotWrite, NoMemory}
 
 -- the exit status
 abbrev pub status_of : Ending → ℕ
@@ -134,7 +138,7 @@ words_had (Err error) = Err (error_kind error)
 
 -- what is wrong with the words; those that are no text are refused
 abbrev pub wrong_had : Had → Kinds
-wrong_had (Ok words) = fault_of edend_app words
+wrong_had (Ok words) = wrong_of words
 wrong_had (Err io_kind.OutOfMemory) = kind.OutOfMemory ∷ []
 wrong_had (Err _) = kind.InvalidValue ∷ []
 
@@ -148,10 +152,62 @@ abbrev pub limit_had : Had → ℕ
 limit_had (Ok words) = limit_named words
 limit_had (Err _) = 1024
 
--- how words end, by the bytes of standard input and of files that are known
-abbrev pub EndsBy : Had → Option (List ℕ) → (List ℕ → Option (List ℕ)) → Option (List ℕ) → Option (List ℕ) → Ending → Type 0
-EndsBy had input file before after ending =
-    Ends (wrong_had had) (path_had had) (script_at input file (path_had had)) (limit_had had) before after ending
+-- what is known of errands: how each may end, and what the writer holds before and after it
+abbrev pub ErrandsKnown : Type 1
+ErrandsKnown = Errand → Result (Unit {0}) Failure → Option (List ℕ) → Option (List ℕ) → Type 0
+
+-- how the program ends after an errand: a fault is told, and a last write may fail where there was none
+abbrev pub EndsAfter : Result (Unit {0}) Failure → Option (List ℕ) → Option (List ℕ) → Ending → Type 0
+EndsAfter (Ok done) before after Ran = Keeps before after
+EndsAfter (Ok done) before after (Untold failure error) = failure ≡ plain CannotWrite
+EndsAfter (Ok done) before after ending = ⊥
+EndsAfter (Err failure) before after ending = Tells failure before after ending
+
+-- The errand was run, and the program ended as it did.
+pub record RunsErrand (errand : Errand) (errands : ErrandsKnown) (before after : Option (List ℕ)) (ending : Ending) : Type 0 where
+  pub result : Result (Unit {0}) Failure
+  pub begun : Option (List ℕ)
+  pub ended : Option (List ℕ)
+  -- nothing was written before it
+  pub first : Keeps before begun
+  pub ran : errands errand result begun ended
+  pub ends : EndsAfter result ended after ending
+
+-- how it ends where this is asked for: the script is run, or the errand
+abbrev pub EndsAsked : Asked → Option (List ℕ) → (List ℕ → Option (List ℕ)) → ErrandsKnown → Option (List ℕ) → Option (List ℕ) → Ending → Type 0
+EndsAsked (World world) input file errands before after ending =
+    Ends [] world.script.now (script_at input file world.script.now) world.limit before after ending
+EndsAsked (Serve errand) input file errands before after ending = RunsErrand errand errands before after ending
+
+-- the errand that the command asks for was run
+pub record RunsNamed (command : Option (Text × List Row)) (errands : ErrandsKnown) (before after : Option (List ℕ)) (ending : Ending) : Type 0 where
+  pub errand : Errand
+  pub named : IsErrand command errand
+  pub runs : RunsErrand errand errands before after ending
+
+-- nothing is wrong
+abbrev pub is_right : Kinds → Bool
+is_right [] = true
+is_right (wrong ∷ more) = false
+
+-- nothing is wrong with the words, and they ask for an errand
+abbrev pub asks_errand : Had → Bool
+asks_errand (Ok words) = is_right (wrong_of words) && is_errand (command_of words)
+asks_errand (Err _) = false
+
+-- the command of the words that were had
+abbrev pub command_had : Had → Option (Text × List Row)
+command_had (Ok words) = command_of words
+command_had (Err _) = None
+
+-- how words end, by the bytes of standard input and of files that are known, and by what is known of errands
+pub record EndsBy (had : Had) (input : Option (List ℕ)) (file : List ℕ → Option (List ℕ)) (errands : ErrandsKnown)
+    (before after : Option (List ℕ)) (ending : Ending) : Type 0 where
+  pub script : asks_errand had ≡ false →
+      Ends (wrong_had had) (path_had had) (script_at input file (path_had had)) (limit_had had) before after ending
+  -- the errand that they ask for is run, or there is no memory to read them
+  pub errand : asks_errand had ≡ true →
+      RunsNamed (command_had had) errands before after ending ⊎ Tells (plain NoMemory) before after ending
 
 -- what was gathered is written, or the ending says that it could not be
 abbrev pub Finishes : Ending → Option (List ℕ) → Option (List ℕ) → Ending → Type 0

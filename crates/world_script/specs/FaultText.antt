@@ -3,7 +3,7 @@ use Rattle.std.specs.Prelude.{ℕ, List, [], ◌∷◌, ◌++◌, codes}
 use Rattle.std.specs.Fmt.{decimal}
 use Rattle.manifest.specs.Words.{kind_text}
 use Rattle.world_script.specs.declared.fault.Fault.{Fault}
-use Rattle.world_script.specs.declared.fault.Fault.TheVariants.{CannotRead, TooLong, NoEvents, BadManifest, BadLine, NoMemory, CannotWrite}
+use Rattle.world_script.specs.declared.fault.Fault.TheVariants.{CannotRead, TooLong, NoEvents, BadManifest, BadLine, NoMemory, CannotWrite, CannotListen, NoBroker, Seated, NoDaemon, OfferRefused, TakeoverFailed, NoThread, Broken}
 
 -- what is wrong
 abbrev pub fault_text : Fault → List ℕ
@@ -14,6 +14,14 @@ fault_text (BadManifest fault) = codes "line " ++ decimal fault.line ++ codes ":
 fault_text (BadLine line) = codes "line " ++ decimal line ++ codes ": bad line"
 fault_text NoMemory = codes "no memory"
 fault_text CannotWrite = codes "cannot write"
+fault_text CannotListen = codes "cannot listen"
+fault_text NoBroker = codes "no broker"
+fault_text Seated = codes "seated"
+fault_text NoDaemon = codes "no daemon"
+fault_text OfferRefused = codes "offer refused"
+fault_text TakeoverFailed = codes "takeover failed"
+fault_text NoThread = codes "no thread"
+fault_text Broken = codes "broken"
 
 -- `fault: TEXT`
 abbrev pub fault_line : Fault → List ℕ

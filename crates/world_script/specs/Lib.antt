@@ -1,5 +1,4 @@
 -- The definitions that the contracts of this crate cite.
-pub mod CommandLine
 pub mod Ending
 pub mod FaultText
 pub mod Input

@@ -1,6 +1,7 @@
 -- Why a script is refused: the first of no line `--`, a bad manifest, and a bad line behind it. (This project's own.)
 use Rattle.std.specs.Prelude.{◌≡◌, ℕ, ◌+◌, ◌<◌, ◌≤◌, Bool, true, false, is_some, List, length, ⊤, Some, None, Ok, Err, option_map}
 use Rattle.manifest.specs.Manifest.{Manifest}
+use Rattle.manifest.specs.ManifestText.{manifest_of}
 use Rattle.manifest.specs.declared.fault.ManifestFault.{ManifestFault}
 use Rattle.manifest.specs.declared.fault.ManifestFaultKind.{ManifestFaultKind}
 use Rattle.manifest.specs.declared.fault.ManifestFaultKind.TheVariants as kind
@@ -25,6 +26,12 @@ abbrev pub IsEventsRefusal : List (List ℕ) → ℕ → Fault → Type 0
 IsEventsRefusal lines first (BadLine line) = option_map (λ i. first + i) (first_bad lines) ≡ Some line
 IsEventsRefusal lines first NoMemory = ⊤
 IsEventsRefusal lines first _ = ⊥
+
+-- why a text was not read as a manifest
+abbrev pub IsManifestFault : List ℕ → Fault → Type 0
+IsManifestFault text (BadManifest fault) = manifest_of text ≡ Err fault
+IsManifestFault text NoMemory = ⊤
+IsManifestFault text _ = ⊥
 
 -- the text before the first marker is a manifest
 abbrev pub HasManifest : List ℕ → Type 0
@@ -73,3 +80,4 @@ IsRunRefusal script (BadManifest fault) = IsShortRefusal script (BadManifest fau
 IsRunRefusal script (BadLine line) = IsShortRefusal script (BadLine line)
 IsRunRefusal script NoMemory = ⊤
 IsRunRefusal script CannotWrite = IsGood script
+IsRunRefusal script _ = ⊥

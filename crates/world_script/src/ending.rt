@@ -10,7 +10,7 @@ use std::io::{self, Write};
 /// The end of a run of the program, with what standard error is to get.
 #[derive(Drop)]
 pub enum Ending<'a> {
-    /// The script was run, and each event's lines were written.
+    /// The script was run, and each event's lines were written; or an errand was run.
     Ran,
     /// A fault ended the program, and its line was written.
     Told(Failure<'a>),

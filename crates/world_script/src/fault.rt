@@ -12,8 +12,9 @@ use std::error::Error;
 use std::fmt;
 use std::io::{self, Write};
 
-/// A fault ends the program. All but the last come before anything of a script is run or printed; of several the one
-/// that stands first here is told, and out of memory where it comes.
+/// A fault ends the program. Those up to out of memory come before anything of a script is run or printed; of several
+/// the one that stands first here is told, and out of memory where it comes. Those behind `CannotWrite` are of processes
+/// that serve over sockets.
 #[derive(Clone, Copy, Debug, PartialEq, Eq)]
 pub enum Fault {
     /// The script's reader failed, or took too many reads.
@@ -29,6 +30,22 @@ pub enum Fault {
     NoMemory,
     /// What happened could not be printed.
     CannotWrite,
+    /// The process can't listen at its socket.
+    CannotListen,
+    /// No broker listens at the socket that a daemon reaches.
+    NoBroker,
+    /// The broker has a daemon that serves already.
+    Seated,
+    /// No daemon listens at the socket at which one is to be taken over from.
+    NoDaemon,
+    /// The daemon that serves refused the offer of a takeover.
+    OfferRefused,
+    /// A takeover began and came to nothing.
+    TakeoverFailed,
+    /// The system gave no thread.
+    NoThread,
+    /// A peer broke the protocol, or its connection broke.
+    Broken,
 }
 
 /// Writes the line that tells a fault.
@@ -55,6 +72,14 @@ impl fmt::Display for Fault {
             Fault::BadLine(line) => write!(f, "line {line}: bad line"),
             Fault::NoMemory => f.write_str("no memory"),
             Fault::CannotWrite => f.write_str("cannot write"),
+            Fault::CannotListen => f.write_str("cannot listen"),
+            Fault::NoBroker => f.write_str("no broker"),
+            Fault::Seated => f.write_str("seated"),
+            Fault::NoDaemon => f.write_str("no daemon"),
+            Fault::OfferRefused => f.write_str("offer refused"),
+            Fault::TakeoverFailed => f.write_str("takeover failed"),
+            Fault::NoThread => f.write_str("no thread"),
+            Fault::Broken => f.write_str("broken"),
         }
     }
 }

@@ -1,10 +1,12 @@
-//! A script's bytes, read whole.
-ghost use Rattle.std.specs.Prelude.{◌≡◌, ◌≤◌, ◌<◌, ◌++◌, true, length, IfOk, IfErr, IfSome};
+//! The bytes of a script or of a manifest, read whole.
+ghost use Rattle.std.specs.Prelude.{◌≡◌, ◌≤◌, ◌<◌, ◌++◌, true, length, IfOk, IfErr, IfSome, Ok};
 ghost use Rattle.std.specs.Io.KnownBytes.{IsAtEnd};
 ghost use Rattle.world_script.specs.Input.{Reads};
-ghost use Rattle.world_script.specs.Refusal.{IsCaused, IsReadRefusal};
+ghost use Rattle.manifest.specs.ManifestText.{manifest_of};
+ghost use Rattle.world_script.specs.Refusal.{IsCaused, IsManifestFault, IsReadRefusal};
 
 use crate::{Fault, RunError};
+use manifest::Manifest;
 use std::alloc::Global;
 use std::io::{self, ErrorKind, Read};
 
@@ -66,4 +68,12 @@ fn read_once<R: Read>(
         Err(error) if error.kind() == ErrorKind::Interrupted => Ok(false),
         Err(error) => Err(RunError::with_cause(Fault::CannotRead, error)),
     }
+}
+
+/// Reads the manifest that bytes write.
+pub fn read_manifest(alloc: Global, bytes: &[u8]) -> Result<Manifest, Fault>
+    ensures manifest { IfOk result (λ manifest. manifest_of bytes.now ≡ Ok manifest) }
+    ensures refused { IfErr result (IsManifestFault bytes.now) }
+{
+    Ok(Manifest::read(alloc, bytes)?)
 }

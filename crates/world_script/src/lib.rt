@@ -1,10 +1,10 @@
-//! A script of what happens to a mount and its daemons: read, run, and printed line by line; and the words of the
-//! command line that name it.
+//! A script of what happens to a mount and its daemons: read, run, and printed line by line; and the program, which does
+//! what the words of the command line ask for.
 #![tactic(auto)]
 
-mod command_line;
 mod complaint;
 mod ending;
+mod errands;
 mod failure;
 mod fault;
 mod input;
@@ -15,11 +15,14 @@ mod run_error;
 mod script;
 mod sources;
 
+pub use command_line::{BrokerWords, DEFAULT_LIMIT, DaemonWords, Errand, Start};
 pub use ending::Ending;
+pub use errands::Errands;
 pub use failure::{Cause, Failure};
 pub use fault::{Fault, write_fault};
+pub use input::read_manifest;
 pub use process::{Process, RunIn, run_process};
 pub use program::{run_program, run_words};
-pub use run::{DEFAULT_LIMIT, run_script, run_world};
+pub use run::{run_script, run_world};
 pub use run_error::RunError;
-pub use sources::{Sources, System, run_path};
+pub use sources::{Sources, System, read_path, run_path};

@@ -6,7 +6,7 @@ ghost use Rattle.world_script.specs.Ending.{EndsBy, Tells, plain, words_had};
 ghost use Rattle.world_script.specs.Process.{RunsIn};
 
 use crate::program::tell;
-use crate::{Ending, Failure, Fault, Sources, System, run_program};
+use crate::{Ending, Errands, Failure, Fault, Sources, System, run_program};
 use std::alloc::Global;
 use std::env;
 use std::io::{self, BufWriter, Write};
@@ -81,16 +81,21 @@ pub struct RunIn<W, E> {
     pub said: io::Result<()>,
 }
 
-/// Runs the program in a process. Where its standard error can't be written, the status is the same.
-pub fn run_process<P: Process>(alloc: Global, process: &P) -> RunIn<P::Output, P::Errors>
+/// Runs the program in a process, whose `errands` do what words ask for beside a script. Where its standard error can't
+/// be written, the status is the same.
+pub fn run_process<P: Process, D: Errands>(
+    alloc: Global,
+    process: &P,
+    errands: &D,
+) -> RunIn<P::Output, P::Errors>
     ensures runs { RunsIn (P.known_words process.now)
-        (P.input_bytes process.now) (P.file_bytes process.now)
+        (P.input_bytes process.now) (P.file_bytes process.now) (D.ends errands.now)
         (P.output_bytes process.now) (P.Output.contents result.output)
         (P.errors_bytes process.now) (P.Errors.contents result.errors)
         result.status result.said }
 {
     let words = process.words(alloc);
-    let (output, ending) = run_gathered(alloc, &words, process);
+    let (output, ending) = run_gathered(alloc, &words, process, errands);
     let mut errors = process.errors();
     let said = ending.say(&mut errors);
     let status = ending.status();
@@ -104,17 +109,18 @@ pub fn run_process<P: Process>(alloc: Global, process: &P) -> RunIn<P::Output, P
 }
 
 /// Runs the program, with what it prints gathered. Where there is no memory for that, it tells so at once.
-fn run_gathered<'a, P: Process>(
+fn run_gathered<'a, P: Process, D: Errands>(
     alloc: Global,
     words: &'a io::Result<Vec<String>>,
     process: &P,
+    errands: &D,
 ) -> (P::Output, Ending<'a>)
     ensures { EndsBy (words_had words.now)
-        (P.input_bytes process.now) (P.file_bytes process.now)
+        (P.input_bytes process.now) (P.file_bytes process.now) (D.ends errands.now)
         (P.output_bytes process.now) (P.Output.contents result.0) result.1 }
 {
     match BufWriter::with_capacity(alloc, process.capacity(), process.output()) {
-        Ok(lines) => run_program(alloc, words, process, lines),
+        Ok(lines) => run_program(alloc, words, process, errands, lines),
         Err(_) => tell_no_memory(process.output()),
     }
 }

@@ -1,70 +1,91 @@
-//! The program, over any words, sources of scripts and standard output.
+//! The program, over any words, sources of scripts, errands and standard output.
 ghost use Rattle.std.specs.Prelude.{Err, Ok, [], map, string_bytes};
 ghost use Rattle.std.specs.Io.Buffered.{writer_contents};
 ghost use Rattle.std.specs.IoError.{error_kind};
 ghost use Rattle.clap.specs.Words.{kind_of};
-ghost use Rattle.world_script.specs.Ending.{Answers, Ends, EndsBy, Finishes, Shows, Tells, words_had, wrong_had};
+ghost use Rattle.world_script.specs.Ending.{Answers, Ends, EndsAsked, EndsBy, Finishes, RunsErrand, Shows, Tells, words_had, wrong_had};
 ghost use Rattle.world_script.specs.Source.{script_at};
 
-use crate::command_line::{asked_of, not_text};
-use crate::{Ending, Failure, Fault, Sources, run_path, write_fault};
+use crate::{Ending, Errands, Failure, Fault, Sources, run_path, write_fault};
 use clap::Error;
 use clap::error::ErrorKind;
+use command_line::{Asked, Errand, asked_of, not_text};
 use std::alloc::Global;
 use std::io::{self, BufWriter, Write};
 
 /// Does what the words ask for, and writes out all that was gathered in `lines`. Words that the system could not give
 /// as text are refused.
-pub fn run_program<'a, S: Sources, W: Write + Drop>(
+pub fn run_program<'a, S: Sources, D: Errands, W: Write + Drop>(
     alloc: Global,
     words: &'a io::Result<Vec<String>>,
     sources: &S,
+    errands: &D,
     mut lines: BufWriter<W>,
 ) -> (W, Ending<'a>)
     ensures ends { EndsBy (words_had words.now)
-        (S.input_bytes sources.now) (S.file_bytes sources.now)
+        (S.input_bytes sources.now) (S.file_bytes sources.now) (D.ends errands.now)
         (writer_contents W.contents lines) (W.contents result.0) result.1 }
 {
-    let ending = run_had(alloc, words, sources, &mut lines);
+    let ending = run_had(alloc, words, sources, errands, &mut lines);
     finish(lines, ending)
 }
 
 /// Does what the words ask for, where they could be had.
-fn run_had<'a, S: Sources, W: Write>(
+fn run_had<'a, S: Sources, D: Errands, W: Write>(
     alloc: Global,
     words: &'a io::Result<Vec<String>>,
     sources: &S,
+    errands: &D,
     out: &mut W,
 ) -> Ending<'a>
     ensures { EndsBy (words_had words.now)
-        (S.input_bytes sources.now) (S.file_bytes sources.now)
+        (S.input_bytes sources.now) (S.file_bytes sources.now) (D.ends errands.now)
         (W.contents out.old) (W.contents out.new) result }
 {
     match words {
-        Ok(words) => run_words(alloc, words.as_slice(), sources, out),
+        Ok(words) => run_words(alloc, words.as_slice(), sources, errands, out),
         Err(error) => refuse_words(alloc, error, out),
     }
 }
 
 /// Does what the words ask for, of which the first is the program's name. What it prints goes to `out`. The ending has
 /// what is to be said on standard error.
-pub fn run_words<'a, S: Sources, W: Write>(
+pub fn run_words<'a, S: Sources, D: Errands, W: Write>(
     alloc: Global,
     words: &'a [String],
     sources: &S,
+    errands: &D,
     out: &mut W,
 ) -> Ending<'a>
     ensures ends { EndsBy (Ok (map string_bytes words.now))
-        (S.input_bytes sources.now) (S.file_bytes sources.now)
+        (S.input_bytes sources.now) (S.file_bytes sources.now) (D.ends errands.now)
         (W.contents out.old) (W.contents out.new) result }
 {
     match asked_of(alloc, words) {
-        Ok(asked) => run_named(alloc, sources, asked.script, asked.limit, out),
+        Ok(asked) => run_asked(alloc, sources, errands, &asked, out),
         Err(error) => answer(alloc, &error, out),
     }
 }
 
-/// Runs the script at a path, with so many files loaded. A fault is told.
+/// Does what is asked for.
+fn run_asked<'a, S: Sources, D: Errands, W: Write>(
+    alloc: Global,
+    sources: &S,
+    errands: &D,
+    asked: &Asked<'a>,
+    out: &mut W,
+) -> Ending<'a>
+    ensures { EndsAsked asked.now
+        (S.input_bytes sources.now) (S.file_bytes sources.now) (D.ends errands.now)
+        (W.contents out.old) (W.contents out.new) result }
+{
+    match asked {
+        Asked::World(words) => run_named(alloc, sources, words.script, words.limit, out),
+        Asked::Serve(errand) => run_errand(alloc, sources, errands, errand, out),
+    }
+}
+
+/// Runs the script at a path, with at most `limit` files loaded. A fault is told.
 fn run_named<'a, S: Sources, W: Write>(
     alloc: Global,
     sources: &S,
@@ -79,6 +100,22 @@ fn run_named<'a, S: Sources, W: Write>(
     match run_path(alloc, sources, path, limit, out) {
         Ok(()) => Ending::Ran,
         Err(error) => tell(Failure::of_run(&error, path), out),
+    }
+}
+
+/// Runs an errand. A fault is told.
+fn run_errand<'a, S: Sources, D: Errands, W: Write>(
+    alloc: Global,
+    sources: &S,
+    errands: &D,
+    errand: &Errand<'a>,
+    out: &mut W,
+) -> Ending<'a>
+    ensures { RunsErrand errand.now (D.ends errands.now) (W.contents out.old) (W.contents out.new) result }
+{
+    match errands.run(alloc, sources, errand, out) {
+        Ok(()) => Ending::Ran,
+        Err(failure) => tell(failure, out),
     }
 }
 

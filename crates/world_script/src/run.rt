@@ -13,9 +13,6 @@ use std::alloc::Global;
 use std::io::{self, Read, Write};
 use world::{Event, Outcome, World};
 
-/// How many files' attributes a daemon keeps loaded where the caller has no wish of its own.
-pub const DEFAULT_LIMIT: usize = 1024;
-
 /// Runs the script that a reader gives, and writes a line for each event that has one, in order. Nothing is run or
 /// written before the whole script is known to be good. An event that is refused is no fault: its line says so.
 /// `limit`, from 1 to 65,536, is how many files' attributes a daemon keeps loaded. It asks its backing for the others:
@@ -69,7 +66,8 @@ pub fn run_script<R: Read, W: Write>(
     }
 }
 
-/// Lets all events happen in turn, and prints each. One outcome stands for all, since each that is returned is copied.
+/// Lets all events happen, one after another, and prints each. One outcome stands for all, since each that is returned
+/// is copied.
 fn play<W: Write>(world: &mut World, events: &[Event], out: &mut W) -> io::Result<()>
     ensures { OnOk result (RunsEvents world.old events.now
         (W.contents out.old) (W.contents out.new)) }

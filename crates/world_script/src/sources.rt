@@ -1,10 +1,11 @@
 //! Where scripts come from.
-ghost use Rattle.std.specs.Prelude.{None, IfErr, IfOk, List, Option, ℕ, OnOk, true, ◌≡◌};
+ghost use Rattle.std.specs.Prelude.{None, IfErr, IfOk, IfSome, List, Option, ℕ, OnOk, length, true, ◌≡◌, ◌≤◌, ◌<◌};
 ghost use Rattle.std.specs.Io.KnownBytes.{Keeps};
-ghost use Rattle.world_script.specs.Refusal.{IsCaused, IsRunRefusal, comes_first};
+ghost use Rattle.world_script.specs.Refusal.{IsCaused, IsReadRefusal, IsRunRefusal, comes_first};
 ghost use Rattle.world_script.specs.Script.{Runs};
 ghost use Rattle.world_script.specs.Source.{OfRead, script_at, stream_at};
 
+use crate::input::{MAX_LEN, read_whole};
 use crate::{Fault, RunError, run_script};
 use std::alloc::Global;
 use std::fs;
@@ -68,6 +69,28 @@ pub fn stream_at(path: &str) -> &str
     } else {
         path
     }
+}
+
+/// Reads all bytes of the file at a path, or those of standard input at `-`.
+pub fn read_path<S: Sources>(alloc: Global, sources: &S, path: &str) -> Result<Vec<u8>, RunError>
+    ensures len { IfOk result (λ bytes. length bytes.items ≤ MAX_LEN) }
+    ensures whole { IfOk result (λ bytes. IfSome
+        (script_at (S.input_bytes sources.now) (S.file_bytes sources.now) path.now)
+        (λ all. bytes.items ≡ all)) }
+    ensures refused { IfErr result (λ error. IsReadRefusal error.fault) }
+    ensures caused { IfErr result IsCaused }
+    ensures too_long { IfErr result (λ error. error.fault ≡ Fault.TooLong → IfSome
+        (script_at (S.input_bytes sources.now) (S.file_bytes sources.now) path.now)
+        (λ all. MAX_LEN < length all)) }
+{
+    if path == STANDARD_INPUT {
+        return read_whole(alloc, &mut sources.input());
+    }
+    let mut file = match sources.open(path) {
+        Ok(file) => file,
+        Err(error) => return Err(RunError::with_cause(Fault::CannotRead, error)),
+    };
+    read_whole(alloc, &mut file)
 }
 
 /// Runs the script at a path, or that of standard input at `-`.

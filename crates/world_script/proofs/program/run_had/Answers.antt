@@ -1,13 +1,15 @@
 -- Words that could not be had are refused, whatever path they would name.
 use Rattle.std.proofs.Common.{ap, subst, sym}
-use Rattle.world_script.specs.CommandLine.{standard_input}
+use Rattle.command_line.specs.CommandLine.{standard_input}
 use Rattle.world_script.specs.Ending.{EndsBy, Had, words_had}
 use Rattle.world_script.specs.Source.{script_at}
+use Rattle.world_script.proofs.ErrandLemmas.{ends_by-unread}
 use Rattle.world_script.proofs.program.run_had.Goals as goal
 
 pub returns-in-Err : goal.returns-in-Err
 returns-in-Err g c =
     let input = g.S.Sources.input_bytes c.args.sources.now in
     let file = g.S.Sources.file_bytes c.args.sources.now in
-    subst (λ (had : Had). EndsBy had input file (g.W.Write.contents c.args.out.now) (g.W.Write.contents c.refuse_words.new.out) c.refuse_words.result) (sym (ap words_had c.in-Err.is))
-    (c.refuse_words.ensures standard_input (script_at input file standard_input) 1024)
+    let errands = g.D.Errands.ends c.args.errands.now in
+    subst (λ (had : Had). EndsBy had input file errands (g.W.Write.contents c.args.out.now) (g.W.Write.contents c.refuse_words.new.out) c.refuse_words.result) (sym (ap words_had c.in-Err.is))
+    (ends_by-unread _ input file errands _ _ _ (c.refuse_words.ensures standard_input (script_at input file standard_input) 1024))

@@ -1,13 +1,12 @@
--- What is wrong with the words is answered.
-use Rattle.std.proofs.Common.{map, rules, string_bytes}
-use Rattle.world_script.specs.CommandLine.{script_named}
-use Rattle.world_script.proofs.EndingLemmas.{ends-answered}
+-- What the words ask for is done, and what is wrong with them is answered.
+use Rattle.std.proofs.Common.{map, string_bytes}
+use Rattle.world_script.proofs.ErrandLemmas.{ends_by-answered, ends_by-asked}
 use Rattle.world_script.proofs.program.run_words.Goals as goal
 
 pub returns-in-Err : goal.returns-in-Err
 returns-in-Err g c =
-    record { ends = ends-answered _ (script_named (map string_bytes c.args.words.now)) _ _ _ _ _ _ c.in-Err.ensures.refused c.answer.ensures }
+    record { ends = ends_by-answered (map string_bytes c.args.words.now) _ _ _ _ _ _ _ c.in-Err.ensures.refused c.answer.ensures }
 
--- What a wrong body of must-fail/ breaks; an answer makes its refusal cheap.
 pub returns-in-Ok : goal.returns-in-Ok
-returns-in-Ok g c = search rules
+returns-in-Ok g c =
+    record { ends = ends_by-asked (map string_bytes c.args.words.now) _ _ _ _ _ c.in-Ok.asked _ c.in-Ok.ensures.refused c.in-Ok.ensures.asked c.run_asked.ensures }

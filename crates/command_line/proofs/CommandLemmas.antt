@@ -1,0 +1,131 @@
+-- Lemmas on the command that `clap` reads words by.
+use Rattle.std.proofs.Common.{◌≡◌, ◌||◌, Bool, true, false, List, Option, Some, None, refl, ap, ap₂, sym, [], ◌∙◌, codes, option_map, unwrap_or, if◌then◌else◌}
+use Rattle.std.specs.Str.{bytes_eq}
+use Rattle.std.proofs.lemmas.Slice.Eq.{bytes_eq-Decides}
+use Rattle.std.specs.Borrow.{Bor}
+use Rattle.clap.specs.Words.{AddsArg, AddsSubcommand, App, Row, Rule, Text, app_of, first_of, new_app, rule_of, with_rule, with_subcommand}
+use Rattle.clap.specs.Simple.{app_of_fields}
+use Rattle.clap.specs.declared.builder.arg.Arg.{Arg}
+use Rattle.clap.specs.declared.builder.command.Command.{Command, out-Command}
+use Rattle.command_line.specs.CommandLine.{IsReadAs, is_errand, limit_in, number_or, script_in, standard_input, start_fault, start_fault_in}
+
+-- a command of its own, as it is made
+pub made : (name : Text) (command : Command) → app_of command ≡ new_app name → (out-Command command).has_globals ≡ false → IsReadAs (new_app name) command
+made name command app own = (app, own)
+
+-- a text for help changes nothing that is read
+pub with_about : (app : App) (old told : Command) (about : Bor Text) → out-Command told ≡ record (out-Command old) { about = Some about } → IsReadAs app old → IsReadAs app told
+with_about app old told about is read = (ap app_of_fields is ∙ read.0, ap (λ fields. fields.has_globals) is ∙ read.1)
+
+-- nor does a text at its end
+pub with_after_help : (app : App) (old told : Command) (text : Bor Text) → out-Command told ≡ record (out-Command old) { after_help = Some text } → IsReadAs app old → IsReadAs app told
+with_after_help app old told text is read = (ap app_of_fields is ∙ read.0, ap (λ fields. fields.has_globals) is ∙ read.1)
+
+-- nor a usage that is shown in place of `clap`'s own
+pub with_usage : (app : App) (old told : Command) (text : Bor Text) → out-Command told ≡ record (out-Command old) { usage_str = Some text } → IsReadAs app old → IsReadAs app told
+with_usage app old told text is read = (ap app_of_fields is ∙ read.0, ap (λ fields. fields.has_globals) is ∙ read.1)
+
+-- an argument that belongs to the command alone is one rule more
+pub with_arg : (app : App) (rule : Rule) (old new : Command) (arg : Arg) → rule_of arg ≡ rule → arg.global ≡ false → IsReadAs app old → AddsArg old arg new → IsReadAs (with_rule app rule) new
+with_arg app rule old new arg rule_is own read adds =
+    (adds.shape own ∙ ap₂ with_rule read.0 rule_is, adds.globals ∙ ap₂ (λ (a b : Bool). a || b) read.1 own)
+
+-- a command is one more below another
+pub with_command : (app below : App) (old new sub : Command) → IsReadAs app old → IsReadAs below sub → AddsSubcommand old sub new → IsReadAs (with_subcommand app below.top) new
+with_command app below old new sub read sub_read adds = (
+  adds.shape sub_read.1 ∙ ap₂ with_subcommand read.0 (ap (λ (a : App). a.top) sub_read.0),
+  adds.globals ∙ ap₂ (λ (a b : Bool). a || b) read.1 sub_read.1,
+)
+
+-- the same command, with a version
+abbrev pub versioned : App → App
+versioned app = record { top = record app.top { has_version = true }; subs = app.subs }
+
+-- a version, and a text for help
+pub with_version : (app : App) (old new told : Command) (version about : Bor Text) →
+    out-Command new ≡ record (out-Command old) { version = Some version } → out-Command told ≡ record (out-Command new) { about = Some about } →
+    IsReadAs app old → IsReadAs (versioned app) told
+with_version app old new told version about first second read = (
+  ap app_of_fields second ∙ ap (λ fields. app_of_fields (record fields { about = Some about })) first ∙ ap versioned read.0,
+  ap (λ fields. fields.has_globals) second ∙ ap (λ fields. fields.has_globals) first ∙ read.1,
+)
+
+world_or_none : (equal : Bool) (sub : Text × List Row) → bytes_eq sub.0 (codes "world") ≡ equal → script_in (Some sub) ≡ (if equal then unwrap_or (first_of (codes "SCRIPT") sub.1) standard_input else standard_input)
+world_or_none equal sub is = ap (λ (b : Bool). if b then unwrap_or (first_of (codes "SCRIPT") sub.1) standard_input else standard_input) is
+
+-- `world` was read, with these rows
+pub script_in-world : (sub : Option (Text × List Row)) (rows : List Row) → option_map (λ (p : Text × List Row). p.0) sub ≡ Some (codes "world") → option_map (λ (p : Text × List Row). p.1) sub ≡ Some rows →
+    script_in sub ≡ unwrap_or (first_of (codes "SCRIPT") rows) standard_input
+script_in-world None rows name is = cc
+script_in-world (Some sub) rows name is =
+    let name_is : sub.0 ≡ codes "world" = cc in
+    let rows_are : sub.1 ≡ rows = cc in
+    world_or_none true sub ((bytes_eq-Decides sub.0 (codes "world")).1 name_is)
+    ∙ ap (λ (r : List Row). unwrap_or (first_of (codes "SCRIPT") r) standard_input) rows_are
+
+limit_or_none : (equal : Bool) (sub : Text × List Row) → bytes_eq sub.0 (codes "world") ≡ equal → limit_in (Some sub) ≡ (if equal then number_or 1024 (first_of (codes "limit") sub.1) else 1024)
+limit_or_none equal sub is = ap (λ (b : Bool). if b then number_or 1024 (first_of (codes "limit") sub.1) else 1024) is
+
+pub limit_in-world : (sub : Option (Text × List Row)) (rows : List Row) → option_map (λ (p : Text × List Row). p.0) sub ≡ Some (codes "world") → option_map (λ (p : Text × List Row). p.1) sub ≡ Some rows →
+    limit_in sub ≡ number_or 1024 (first_of (codes "limit") rows)
+limit_in-world None rows name is = cc
+limit_in-world (Some sub) rows name is =
+    let name_is : sub.0 ≡ codes "world" = cc in
+    let rows_are : sub.1 ≡ rows = cc in
+    limit_or_none true sub ((bytes_eq-Decides sub.0 (codes "world")).1 name_is) ∙ ap (λ (r : List Row). number_or 1024 (first_of (codes "limit") r)) rows_are
+
+-- another command or none was read
+pub script_in-other : (sub : Option (Text × List Row)) → (option_map (λ (p : Text × List Row). p.0) sub ≡ Some (codes "world") → ⊥) → script_in sub ≡ standard_input
+script_in-other None other = refl
+script_in-other (Some sub) other = go (bytes_eq sub.0 (codes "world")) refl
+  where
+    go : (equal : Bool) → bytes_eq sub.0 (codes "world") ≡ equal → script_in (Some sub) ≡ standard_input
+    go true is = absurd (other (ap (λ (t : Text). Some t) ((bytes_eq-Decides sub.0 (codes "world")).0 is)))
+    go false is = world_or_none false sub is
+
+pub limit_in-other : (sub : Option (Text × List Row)) → (option_map (λ (p : Text × List Row). p.0) sub ≡ Some (codes "world") → ⊥) → limit_in sub ≡ 1024
+limit_in-other None other = refl
+limit_in-other (Some sub) other = go (bytes_eq sub.0 (codes "world")) refl
+  where
+    go : (equal : Bool) → bytes_eq sub.0 (codes "world") ≡ equal → limit_in (Some sub) ≡ 1024
+    go true is = absurd (other (ap (λ (t : Text). Some t) ((bytes_eq-Decides sub.0 (codes "world")).0 is)))
+    go false is = limit_or_none false sub is
+
+-- two maps of an option are one
+pub option_map_twice : {A B C : Type 0} (f : B → C) (g : A → B) (o : Option A) → option_map f (option_map g o) ≡ option_map (λ x. f (g x)) o
+option_map_twice f g None = refl
+option_map_twice f g (Some x) = refl
+
+-- a text that may be there, or another
+pub text_or : (found : Option (Bor Text)) (other : Bor Text) (text : Option Text) → option_map (λ s. s.now) found ≡ text → (unwrap_or found other).now ≡ unwrap_or text other.now
+text_or None other text is = ap (λ t. unwrap_or t other.now) is
+text_or (Some s) other text is = ap (λ t. unwrap_or t other.now) is
+
+-- a command by its name and by what it was given
+pub command_is : (sub : Option (Text × List Row)) (name : Text) (rows : List Row) → option_map (λ (p : Text × List Row). p.0) sub ≡ Some name → option_map (λ (p : Text × List Row). p.1) sub ≡ Some rows → sub ≡ Some (name, rows)
+command_is None name rows name_is is = cc
+command_is (Some sub) name rows name_is is =
+    let same_name : sub.0 ≡ name = cc in
+    let same_rows : sub.1 ≡ rows = cc in
+    ap₂ (λ (n : Text) (r : List Row). Some (n, r)) same_name same_rows
+
+-- a command of another name is no errand
+pub is_errand-other : (sub : Option (Text × List Row)) → (option_map (λ (p : Text × List Row). p.0) sub ≡ Some (codes "broker") → ⊥) →
+    (option_map (λ (p : Text × List Row). p.0) sub ≡ Some (codes "daemon") → ⊥) → is_errand sub ≡ false
+is_errand-other None no_broker no_daemon = refl
+is_errand-other (Some sub) no_broker no_daemon = go (bytes_eq sub.0 (codes "broker")) (bytes_eq sub.0 (codes "daemon")) refl refl
+  where
+    go : (broker daemon : Bool) → bytes_eq sub.0 (codes "broker") ≡ broker → bytes_eq sub.0 (codes "daemon") ≡ daemon → is_errand (Some sub) ≡ false
+    go true daemon is other = absurd (no_broker (ap (λ (t : Text). Some t) ((bytes_eq-Decides sub.0 (codes "broker")).0 is)))
+    go false true is other = absurd (no_daemon (ap (λ (t : Text). Some t) ((bytes_eq-Decides sub.0 (codes "daemon")).0 other)))
+    go false false is other = ap₂ (λ (a b : Bool). a || b) is other
+
+-- and nothing is wrong with how it starts
+pub start_fault-other : (sub : Option (Text × List Row)) → is_errand sub ≡ false → start_fault_in sub ≡ []
+start_fault-other None apart = refl
+start_fault-other (Some sub) apart = go (bytes_eq sub.0 (codes "broker")) (bytes_eq sub.0 (codes "daemon")) refl refl
+  where
+    go : (broker daemon : Bool) → bytes_eq sub.0 (codes "broker") ≡ broker → bytes_eq sub.0 (codes "daemon") ≡ daemon → start_fault_in (Some sub) ≡ []
+    go true daemon is other = let bad : true ≡ false = sym (ap (λ (a : Bool). a || bytes_eq sub.0 (codes "daemon")) is) ∙ apart in cc
+    go false true is other = let bad : true ≡ false = sym (ap₂ (λ (a b : Bool). a || b) is other) ∙ apart in cc
+    go false false is other = ap (λ (b : Bool). if b then start_fault sub.1 else []) other

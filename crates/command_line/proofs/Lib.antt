@@ -1,0 +1,3 @@
+pub mod AskedLemmas
+pub mod CommandLemmas
+pub mod PlainWords

@@ -1,0 +1,14 @@
+-- What the rows of the command's matches name.
+use Rattle.std.proofs.Common.{refl, ap, sym, ◌∙◌, codes}
+use Rattle.clap.specs.Words.{found_of}
+use Rattle.clap.proofs.WalkLemmas.{first_value-rows}
+use Rattle.command_line.proofs.CommandLemmas.{limit_in-world, option_map_twice}
+use Rattle.command_line.specs.CommandLine.{number_or}
+use Rattle.command_line.proofs.asked.limit_in.Goals as goal
+
+pub returns-in-Some : goal.returns-in-Some
+returns-in-Some c =
+    let name_is = option_map_twice _ _ _ ∙ (c.in-Some.ensures.found).0 refl in
+    c.number_or.ensures
+    ∙ ap (number_or 1024) (c.get_str.ensures ∙ first_value-rows (found_of c.in-Some.world.now) (codes "limit"))
+    ∙ sym (limit_in-world _ _ name_is c.in-Some.ensures.rows)

@@ -1,0 +1,43 @@
+-- What the words ask for, by the command that they have and what it was given.
+use Rattle.std.specs.Prelude.{◌≡◌, false, List, Option, Some, codes}
+use Rattle.clap.specs.Words.{Row, Text, first_of}
+use Rattle.command_line.specs.CommandLine.{has_flag, is_errand, limit_in, number_or, script_in, start_by, word_in}
+use Rattle.command_line.specs.declared.asked.Asked.{Asked}
+use Rattle.command_line.specs.declared.asked.Asked.TheVariants.{World, Serve}
+use Rattle.command_line.specs.declared.errand.BrokerWords.{BrokerWords}
+use Rattle.command_line.specs.declared.errand.DaemonWords.{DaemonWords}
+use Rattle.command_line.specs.declared.errand.Errand.{Errand}
+use Rattle.command_line.specs.declared.errand.Errand.TheVariants.{Broker, Daemon}
+
+-- each word of `broker` is the one at its place
+pub record IsBroker (rows : List Row) (broker : BrokerWords) : Type 0 where
+  pub socket : broker.socket.now ≡ word_in (codes "SOCKET") rows
+  pub script : broker.script.now ≡ word_in (codes "SCRIPT") rows
+
+-- each word of `daemon` is the one at its place, and each number the one of its option
+pub record IsDaemon (rows : List Row) (daemon : DaemonWords) : Type 0 where
+  pub start : daemon.start ≡ start_by (has_flag (codes "mount") rows)
+  pub broker : daemon.broker.now ≡ word_in (codes "BROKER") rows
+  pub takeover : daemon.takeover.now ≡ word_in (codes "TAKEOVER") rows
+  pub manifest : daemon.manifest.now ≡ word_in (codes "MANIFEST") rows
+  pub workers : daemon.workers ≡ number_or 2 (first_of (codes "workers") rows)
+  pub limit : daemon.limit ≡ number_or 1024 (first_of (codes "limit") rows)
+  pub patience : daemon.patience ≡ number_or 2000 (first_of (codes "patience") rows)
+
+-- the command asks for this process
+abbrev pub IsErrand : Option (Text × List Row) → Errand → Type 0
+IsErrand command (Broker broker) =
+    (rows : List Row) × (command ≡ Some (codes "broker", rows)) × IsBroker rows broker
+IsErrand command (Daemon daemon) =
+    (rows : List Row) × (command ≡ Some (codes "daemon", rows)) × IsDaemon rows daemon
+
+-- the command asks for this
+abbrev pub IsAsked : Option (Text × List Row) → Asked → Type 0
+IsAsked command (World world) =
+    (is_errand command ≡ false) × (world.script.now ≡ script_in command) × (world.limit ≡ limit_in command)
+IsAsked command (Serve errand) = IsErrand command errand
+
+-- this script is asked for
+abbrev pub IsScript : Text → Asked → Type 0
+IsScript script (World world) = world.script.now ≡ script
+IsScript script (Serve errand) = ⊥

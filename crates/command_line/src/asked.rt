@@ -1,0 +1,202 @@
+//! The words that the program is started with.
+ghost use Rattle.std.specs.Prelude.{◌≡◌, map, IfOk, MatchResult, codes, string_bytes};
+ghost use Rattle.std.specs.Option.{option_map};
+ghost use Rattle.clap.specs.Words.{FailsBy, found_of, kind_of, rows_of, subcommand_rows_of};
+ghost use Rattle.command_line.specs.Asked.{IsAsked, IsBroker, IsDaemon, IsScript};
+ghost use Rattle.command_line.specs.CommandLine.{NamesPlainly, command_of, has_flag, limit_in, number_or, script_in, start_by, start_fault, start_fault_in, word_in, wrong_of};
+
+use crate::commands::{
+    BROKER, BROKER_SOCKET, DAEMON, LIMIT, LISTEN_SOCKET, MANIFEST, MOUNT, PATIENCE, SCRIPT, SOCKET,
+    TAKEOVER, WORKERS, WORLD, daemon_command, edend_command,
+};
+use crate::{BrokerWords, DaemonWords, Errand, Start};
+use clap::error::ErrorKind;
+use clap::{ArgMatches, Error};
+use script_lines::number;
+use std::alloc::{AllocError, Global};
+
+/// How many files' attributes a daemon keeps loaded where the words say no number.
+pub const DEFAULT_LIMIT: usize = 1024;
+
+/// How many threads serve where the words say no number.
+const DEFAULT_WORKERS: u64 = 2;
+
+/// For how many milliseconds a peer may be silent where the words say no number.
+const DEFAULT_PATIENCE: u64 = 2_000;
+
+/// What the words ask for.
+#[derive(Clone, Copy)]
+pub enum Asked<'a> {
+    /// A script is to be run.
+    World(WorldWords<'a>),
+    /// A process is to serve.
+    Serve(Errand<'a>),
+}
+
+/// The words of `world`.
+#[derive(Clone, Copy)]
+pub struct WorldWords<'a> {
+    /// The path of a script, or `-` for standard input.
+    pub script: &'a str,
+    /// How many files a daemon keeps loaded.
+    pub limit: usize,
+}
+
+/// Returns what the words ask for: the script of standard input where they have no command. The first word is the
+/// program's name.
+pub fn asked_of<'a>(alloc: Global, words: &'a [String]) -> Result<Asked<'a>, Error>
+    ensures asked { IfOk result (IsAsked (command_of (map string_bytes words.now))) }
+    ensures plain { (script : _) → NamesPlainly (map string_bytes words.now) script
+        → MatchResult result (IsScript script) (λ error. kind_of error ≡ ErrorKind.OutOfMemory) }
+    ensures refused { FailsBy (wrong_of (map string_bytes words.now)) result }
+{
+    let command = edend_command(alloc)?;
+    let matches = command.try_get_matches_from(words)?;
+    asked_in(alloc, &matches)
+}
+
+/// Returns what is asked for by the command that the words have.
+fn asked_in<'a>(alloc: Global, matches: &ArgMatches<'a>) -> Result<Asked<'a>, Error>
+    ensures asked { IfOk result (IsAsked (subcommand_rows_of matches.now)) }
+    ensures refused { FailsBy (start_fault_in (subcommand_rows_of matches.now)) result }
+{
+    match (
+        matches.subcommand_matches(BROKER),
+        matches.subcommand_matches(DAEMON),
+    ) {
+        (Some(broker), _) => Ok(Asked::Serve(Errand::Broker(broker_in(broker)))),
+        (None, Some(daemon)) => Ok(Asked::Serve(Errand::Daemon(daemon_in(alloc, daemon)?))),
+        (None, None) => Ok(Asked::World(world_in(matches))),
+    }
+}
+
+/// Returns the words of `world`, or those that stand for no command.
+fn world_in<'a>(matches: &ArgMatches<'a>) -> WorldWords<'a>
+    ensures script { result.script.now ≡ script_in (subcommand_rows_of matches.now) }
+    ensures limit { result.limit ≡ limit_in (subcommand_rows_of matches.now) }
+{
+    WorldWords {
+        script: script_in(matches),
+        limit: limit_in(matches),
+    }
+}
+
+/// Returns the script of the command that the words have.
+fn script_in<'a>(matches: &ArgMatches<'a>) -> &'a str
+    ensures { result.now ≡ script_in (subcommand_rows_of matches.now) }
+{
+    match matches.subcommand_matches(WORLD) {
+        Some(world) => world.get_str(SCRIPT).unwrap_or("-"),
+        None => "-",
+    }
+}
+
+/// Returns the limit of the command that the words have.
+fn limit_in(matches: &ArgMatches<'_>) -> usize
+    ensures { result ≡ limit_in (subcommand_rows_of matches.now) }
+{
+    match matches.subcommand_matches(WORLD) {
+        Some(world) => number_or(DEFAULT_LIMIT as u64, world.get_str(LIMIT)) as usize,
+        None => DEFAULT_LIMIT,
+    }
+}
+
+/// Returns the words of `broker`.
+fn broker_in<'a>(broker: &ArgMatches<'a>) -> BrokerWords<'a>
+    ensures { IsBroker (rows_of (found_of broker.now)) result }
+{
+    BrokerWords {
+        socket: word_in(broker, SOCKET),
+        script: word_in(broker, SCRIPT),
+    }
+}
+
+/// Returns the words of `daemon`. They are refused unless they say one start.
+fn daemon_in<'a>(alloc: Global, daemon: &ArgMatches<'a>) -> Result<DaemonWords<'a>, Error>
+    ensures words { IfOk result (IsDaemon (rows_of (found_of daemon.now))) }
+    ensures refused { FailsBy (start_fault (rows_of (found_of daemon.now))) result }
+{
+    let start = start_in(alloc, daemon)?;
+    Ok(DaemonWords {
+        start,
+        broker: word_in(daemon, BROKER_SOCKET),
+        takeover: word_in(daemon, LISTEN_SOCKET),
+        manifest: word_in(daemon, MANIFEST),
+        workers: number_or(DEFAULT_WORKERS, daemon.get_str(WORKERS)) as usize,
+        limit: number_or(DEFAULT_LIMIT as u64, daemon.get_str(LIMIT)) as usize,
+        patience: number_or(DEFAULT_PATIENCE, daemon.get_str(PATIENCE)),
+    })
+}
+
+/// Returns how a daemon comes to serve, where just one way is named.
+fn start_in(alloc: Global, daemon: &ArgMatches<'_>) -> Result<Start, Error>
+    ensures start { IfOk result (λ start.
+        start ≡ start_by (has_flag (codes "mount") (rows_of (found_of daemon.now)))) }
+    ensures refused { FailsBy (start_fault (rows_of (found_of daemon.now))) result }
+{
+    match (has_flag(daemon, MOUNT), has_flag(daemon, TAKEOVER)) {
+        (true, false) => Ok(Start::Mount),
+        (false, true) => Ok(Start::Takeover),
+        (true, true) => Err(refusal(alloc, ErrorKind::ArgumentConflict, BOTH_STARTS)?),
+        (false, false) => Err(refusal(alloc, ErrorKind::MissingRequiredArgument, NO_START)?),
+    }
+}
+
+/// What is wrong with words that have both ways to start.
+const BOTH_STARTS: &str = "the argument '--mount' cannot be used with '--takeover'";
+
+/// What is wrong with words that have none.
+const NO_START: &str =
+    "the following required arguments were not provided:\n  <--mount|--takeover>";
+
+/// Returns the refusal of a daemon's words, with its usage.
+fn refusal(alloc: Global, kind: ErrorKind, text: &str) -> Result<Error, AllocError>
+    ensures kind { IfOk result (λ error. kind_of error ≡ kind) }
+{
+    let mut command = daemon_command(alloc)?;
+    let refusal = command.error(kind, text);
+    drop(command);
+    refusal
+}
+
+/// Returns the word at a place of a command.
+fn word_in<'a>(matches: &ArgMatches<'a>, place: &str) -> &'a str
+    ensures { result.now ≡ word_in place.now (rows_of (found_of matches.now)) }
+{
+    matches.get_str(place).unwrap_or("")
+}
+
+/// Returns whether a flag is there. `clap` keeps the word `true` for one that is.
+fn has_flag(matches: &ArgMatches<'_>, flag: &str) -> bool
+    ensures { result ≡ has_flag flag.now (rows_of (found_of matches.now)) }
+{
+    word_in(matches, flag) == "true"
+}
+
+/// Returns the number that an option's word writes, or another where there is none. A sign may stand in front, as
+/// `clap` has it.
+fn number_or(other: u64, word: Option<&str>) -> u64
+    ensures { result ≡ number_or other (option_map (λ w. w.now) word.entry) }
+{
+    let Some(word) = word else {
+        return other;
+    };
+    let digits = match word.as_bytes() {
+        [b'+', digits @ ..] => digits,
+        digits => digits,
+    };
+    number(digits).unwrap_or(other)
+}
+
+/// What is wrong with words that are no text.
+const NOT_TEXT: &str = "a word of the command line is not UTF-8";
+
+/// Returns the refusal of words that are no text, with the program's usage.
+pub fn not_text(alloc: Global) -> Result<Error, AllocError>
+    ensures kind { IfOk result (λ error. kind_of error ≡ ErrorKind.InvalidValue) }
+{
+    let mut command = edend_command(alloc)?;
+    let refusal = command.error(ErrorKind::InvalidValue, NOT_TEXT);
+    drop(command);
+    refusal
+}

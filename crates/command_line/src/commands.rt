@@ -1,0 +1,201 @@
+//! The commands that the program has, as `clap` reads them.
+ghost use Rattle.std.specs.Prelude.{◌≡◌, false, IfOk};
+ghost use Rattle.clap.specs.Words.{app_of, rule_of};
+ghost use Rattle.command_line.specs.CommandLine.{IsReadAs, broker_app, daemon_app, edend_app, flag_rule, limit_rule, patience_rule, word_rule, workers_rule, world_app};
+
+use clap::builder::ValueParser;
+use clap::{Arg, ArgAction, Command};
+use std::alloc::{AllocError, Global};
+
+pub const WORLD: &str = "world";
+
+pub const BROKER: &str = "broker";
+
+pub const DAEMON: &str = "daemon";
+
+pub const SCRIPT: &str = "SCRIPT";
+
+pub const SOCKET: &str = "SOCKET";
+
+pub const MOUNT: &str = "mount";
+
+pub const TAKEOVER: &str = "takeover";
+
+/// The socket of the broker that a daemon reaches.
+pub const BROKER_SOCKET: &str = "BROKER";
+
+/// The socket at which a daemon listens for the next one.
+pub const LISTEN_SOCKET: &str = "TAKEOVER";
+
+pub const MANIFEST: &str = "MANIFEST";
+
+pub const WORKERS: &str = "workers";
+
+pub const LIMIT: &str = "limit";
+
+pub const PATIENCE: &str = "patience";
+
+/// What the help of `world` ends with.
+const WORLD_HELP: &str = "\
+Example:
+  printf 'commit %040d\\ndir src\\n--\\nstart\\nmount 1\\ndo lookup 1 src\\nshow\\n' 0 | edend world -
+
+Exit status:
+  0  the script was run; a refused event is no fault
+  1  a fault, told by a line 'fault: TEXT' on standard output
+  2  the command line was refused";
+
+/// What the help of `broker` ends with.
+const BROKER_HELP: &str = "\
+Example:
+  printf 'seat 1\\nask getattr 1\\n' | edend broker broker.socket -
+
+Exit status:
+  0  the script was run, and the mount has ended
+  1  a fault, told by a line 'fault: TEXT' on standard output
+  2  the command line was refused";
+
+/// The words that `daemon` takes.
+const DAEMON_USAGE: &str =
+    "edend daemon [OPTIONS] <--mount|--takeover> <BROKER> <TAKEOVER> <MANIFEST>";
+
+/// What the help of `daemon` ends with.
+const DAEMON_HELP: &str = "\
+Example:
+  printf 'commit %040d\\ndir src\\n' 0 > manifest
+  edend daemon --mount broker.socket takeover.socket manifest &
+  edend daemon --takeover broker.socket takeover.socket manifest
+
+Exit status:
+  0  the daemon has handed over, or the mount has ended
+  1  a fault, told by a line 'fault: TEXT' on standard output
+  2  the command line was refused";
+
+/// Returns the words that the program takes.
+pub fn edend_command<'a>(alloc: Global) -> Result<Command<'a>, AllocError>
+    ensures { IfOk result (λ command. app_of command ≡ edend_app) }
+{
+    let world = world_command(alloc)?;
+    let broker = broker_command(alloc)?;
+    let daemon = daemon_command(alloc)?;
+    Command::new(alloc, "edend")
+        .version("0.1.0")
+        .about(
+            "Graceful restart of a FUSE daemon, as EdenFS does it. Without a command: edend world -",
+        )
+        .subcommand(world)?
+        .subcommand(broker)?
+        .subcommand(daemon)
+}
+
+/// Returns the command that runs a script.
+fn world_command<'a>(alloc: Global) -> Result<Command<'a>, AllocError>
+    ensures { IfOk result (IsReadAs world_app) }
+{
+    Command::new(alloc, WORLD)
+        .about("Runs a script: a manifest, a line --, and lines of events")
+        .after_help(WORLD_HELP)
+        .arg(word_arg(alloc, SCRIPT, SCRIPT_HELP))?
+        .arg(limit_arg(alloc))
+}
+
+/// Returns the command that is the kernel's side.
+fn broker_command<'a>(alloc: Global) -> Result<Command<'a>, AllocError>
+    ensures { IfOk result (IsReadAs broker_app) }
+{
+    Command::new(alloc, BROKER)
+        .about("Runs the kernel's side of a mount, and asks its daemons what a script says")
+        .after_help(BROKER_HELP)
+        .arg(word_arg(alloc, SOCKET, "The socket to listen at"))?
+        .arg(word_arg(alloc, SCRIPT, SCRIPT_HELP))
+}
+
+/// Returns the command that serves a mount.
+pub fn daemon_command<'a>(alloc: Global) -> Result<Command<'a>, AllocError>
+    ensures { IfOk result (IsReadAs daemon_app) }
+{
+    Command::new(alloc, DAEMON)
+        .about("Serves a mount: mounts, or takes over from the daemon that serves")
+        .override_usage(DAEMON_USAGE)
+        .after_help(DAEMON_HELP)
+        .arg(flag_arg(alloc, MOUNT, "Mounts"))?
+        .arg(flag_arg(alloc, TAKEOVER, TAKEOVER_HELP))?
+        .arg(word_arg(alloc, BROKER_SOCKET, "The broker's socket"))?
+        .arg(word_arg(alloc, LISTEN_SOCKET, LISTEN_HELP))?
+        .arg(word_arg(alloc, MANIFEST, MANIFEST_HELP))?
+        .arg(workers_arg(alloc))?
+        .arg(limit_arg(alloc))?
+        .arg(patience_arg(alloc))
+}
+
+const SCRIPT_HELP: &str = "The script, or - for standard input";
+
+const TAKEOVER_HELP: &str = "Takes over from the daemon that listens at TAKEOVER";
+
+const LISTEN_HELP: &str = "The socket at which a daemon listens for the next one";
+
+const MANIFEST_HELP: &str = "The manifest, or - for standard input";
+
+/// Returns a word that a command can't be without.
+fn word_arg<'a>(alloc: Global, name: &'a str, help: &'a str) -> Arg<'a>
+    ensures rule { rule_of result ≡ word_rule name.now }
+    ensures own { result.global ≡ false }
+{
+    Arg::new(alloc, name)
+        .help(help)
+        .required(true)
+        .action(ArgAction::Set)
+}
+
+/// Returns an option without a value.
+fn flag_arg<'a>(alloc: Global, name: &'a str, help: &'a str) -> Arg<'a>
+    ensures rule { rule_of result ≡ flag_rule name.now }
+    ensures own { result.global ≡ false }
+{
+    Arg::new(alloc, name)
+        .long(name)
+        .help(help)
+        .action(ArgAction::SetTrue)
+}
+
+/// Returns the option of how many files are loaded.
+fn limit_arg<'a>(alloc: Global) -> Arg<'a>
+    ensures rule { rule_of result ≡ limit_rule }
+    ensures own { result.global ≡ false }
+{
+    Arg::new(alloc, LIMIT)
+        .long(LIMIT)
+        .value_name("N")
+        .help("How many files a daemon keeps loaded, from 1 to 65536")
+        .value_parser(ValueParser::unsigned(1, 65_536))
+        .default_value("1024")
+        .action(ArgAction::Set)
+}
+
+/// Returns the option of how many threads serve.
+fn workers_arg<'a>(alloc: Global) -> Arg<'a>
+    ensures rule { rule_of result ≡ workers_rule }
+    ensures own { result.global ≡ false }
+{
+    Arg::new(alloc, WORKERS)
+        .long(WORKERS)
+        .value_name("N")
+        .help("How many threads serve, from 1 to 16")
+        .value_parser(ValueParser::unsigned(1, 16))
+        .default_value("2")
+        .action(ArgAction::Set)
+}
+
+/// Returns the option of how long a peer may be silent.
+fn patience_arg<'a>(alloc: Global) -> Arg<'a>
+    ensures rule { rule_of result ≡ patience_rule }
+    ensures own { result.global ≡ false }
+{
+    Arg::new(alloc, PATIENCE)
+        .long(PATIENCE)
+        .value_name("MS")
+        .help("For how many milliseconds a peer may be silent, from 1 to 600000")
+        .value_parser(ValueParser::unsigned(1, 600_000))
+        .default_value("2000")
+        .action(ArgAction::Set)
+}

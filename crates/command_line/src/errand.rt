@@ -1,0 +1,44 @@
+//! What words may ask for beside a script: a process that serves over sockets.
+
+/// A process that serves over sockets.
+#[derive(Clone, Copy)]
+pub enum Errand<'a> {
+    Broker(BrokerWords<'a>),
+    Daemon(DaemonWords<'a>),
+}
+
+/// The words of `broker`.
+#[derive(Clone, Copy)]
+pub struct BrokerWords<'a> {
+    /// The path of the socket at which the broker listens.
+    pub socket: &'a str,
+    /// The path of a broker's script, or `-` for standard input.
+    pub script: &'a str,
+}
+
+/// How a daemon comes to serve.
+#[derive(Clone, Copy, Debug, PartialEq, Eq)]
+pub enum Start {
+    /// It mounts.
+    Mount,
+    /// It takes over from the daemon that listens.
+    Takeover,
+}
+
+/// The words of `daemon`.
+#[derive(Clone, Copy)]
+pub struct DaemonWords<'a> {
+    pub start: Start,
+    /// The path of the broker's socket.
+    pub broker: &'a str,
+    /// The path of the socket at which the daemon listens for its successor.
+    pub takeover: &'a str,
+    /// The path of a manifest, or `-` for standard input.
+    pub manifest: &'a str,
+    /// How many threads serve, from 1 to 16.
+    pub workers: usize,
+    /// How many files are kept loaded, from 1 to 65,536.
+    pub limit: usize,
+    /// For how many milliseconds a peer may be silent, from 1 to 600,000.
+    pub patience: u64,
+}

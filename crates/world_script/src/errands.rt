@@ -1,0 +1,26 @@
+//! Whoever runs what words ask for beside a script.
+ghost use Rattle.std.specs.Prelude.{List, Option, Result, ℕ, ⊤};
+ghost use Rattle.command_line.specs.declared.errand.Errand.{Errand as ErrandValue};
+ghost use Rattle.world_script.specs.declared.failure.Failure.{Failure as FailureValue};
+
+use crate::{Failure, Sources};
+use command_line::Errand;
+use std::alloc::Global;
+use std::io::Write;
+
+/// Those who run errands: the real ones by sockets and threads, those of a test by what it likes.
+pub trait Errands {
+    /// How an errand may end, and what `out` held before it and holds after it, where that is known.
+    ghost ends: { Self → ErrandValue → Result (Unit {0}) FailureValue
+        → Option (List ℕ) → Option (List ℕ) → Type 0 } = { λ _ _ _ _ _. ⊤ };
+
+    /// Runs an errand to its end. It reads scripts and manifests from `sources`, and flushes `out` after each line.
+    fn run<'a, S: Sources, W: Write>(
+        &self,
+        alloc: Global,
+        sources: &S,
+        errand: &Errand<'a>,
+        out: &mut W,
+    ) -> Result<(), Failure<'a>>
+        ensures ends { ends self.now errand.now result (W.contents out.old) (W.contents out.new) };
+}
