@@ -1,0 +1,354 @@
+//! What the connections of a broker share with its script.
+ghost use Rattle.std.specs.Prelude.{◌≡◌, false};
+ghost use Rattle.std.specs.Option.{option_map_or};
+ghost use Rattle.broker_desk.specs.Desk.{told_by};
+ghost use Rattle.broker_process.specs.Hall.{wakes};
+ghost use Rattle.script_lines.specs.BrokerLine.{IsSendableLine};
+
+use crate::visitors::Visitors;
+use broker_desk::{Desk, Peer, Response};
+use broker_script::{Awaited, Begun, BrokerLine, Came, begin, look, print_begun};
+use eden_base::NoMemory;
+use links::Frame;
+use sockets::{Deadline, Left};
+use std::alloc::Global;
+use std::io::{self, Write};
+use std::os::unix::net::UnixStream;
+use std::rt::Clock;
+use std::sync::{Condvar, Mutex, Wait};
+use std::thread;
+use std::time::{Duration, Instant};
+
+/// How long a Take is held that finds nothing, where the kernel asked a moment ago.
+const BUSY_HOLD: u64 = 1;
+
+/// How long it is held else.
+const IDLE_HOLD: u64 = 20;
+
+/// How long a moment is.
+const MOMENT: u64 = 1000;
+
+/// How long a script waits that was refused memory, before it looks again.
+const PAUSE: u64 = 1;
+
+/// How long nothing wakes a script that waits.
+const LONGEST_SLEEP: u64 = 60_000;
+
+/// What the script waits for.
+#[derive(Clone, Copy, PartialEq, Eq)]
+pub(crate) enum Waiting {
+    Nothing,
+    /// A reply, or the end of the mount.
+    Reply,
+    /// Another seat.
+    Seat,
+    /// Fewer forgets.
+    Idle,
+}
+
+/// What stands under the lock.
+#[derive(Drop)]
+struct State {
+    desk: Desk,
+    visitors: Visitors,
+    /// When the kernel asked last.
+    asked: Option<Instant>,
+    waiting: Waiting,
+    is_over: bool,
+}
+
+/// One connection: its number, and who the desk knows at its other end.
+#[derive(Clone, Copy)]
+pub(crate) struct Visit {
+    number: u64,
+    peer: Peer,
+}
+
+impl Visit {
+    /// Returns whether nobody attached by this connection.
+    pub(crate) fn is_strange(&self) -> bool {
+        self.peer == Peer::Stranger
+    }
+}
+
+/// The desk and the connections, under a lock; what wakes a held Take, and what wakes the script.
+#[derive(Drop)]
+pub(crate) struct Hall {
+    state: Mutex<State>,
+    asks: Condvar,
+    events: Condvar,
+}
+
+impl State {
+    /// Answers a frame of a connection, and says whether the script waits for that.
+    fn answer(&mut self, visit: &mut Visit, frame: &Frame) -> (Response, bool) {
+        if visit.is_strange() && !self.has_place(frame) {
+            return (Response::Closes, false);
+        }
+        let before = visit.peer;
+        let response = self.desk.answer(&mut visit.peer, frame);
+        if visit.peer != before {
+            self.visitors.name(visit.number, visit.peer);
+        }
+        let wakes = is_waited_for(self.waiting, &response);
+        (response, wakes)
+    }
+
+    /// Returns whether a stranger that sends a frame may have another connection for that.
+    fn has_place(&self, frame: &Frame) -> bool {
+        match frame {
+            Frame::Attach(daemon) => daemon.0 == 0 || self.visitors.has_place(*daemon),
+            _ => true,
+        }
+    }
+
+    /// Begins what a line says, and notes what the script waits for from then on.
+    fn begin(&mut self, line: &BrokerLine, now: Option<Instant>) -> Begun
+        requires sendable { IsSendableLine line.now }
+    {
+        let begun = begin(&mut self.desk, line);
+        if let BrokerLine::Ask(_) = line {
+            self.asked = now;
+        }
+        if let Begun::Waits(awaited) = begun {
+            self.waiting = waiting_for(awaited);
+        }
+        begun
+    }
+
+    /// Returns how many daemons have their first connection open, the holder of the seat apart.
+    fn others(&self) -> usize {
+        let running = self.desk.running();
+        match self.desk.broker().seat() {
+            Some(_holder) => running.saturating_sub(1),
+            None => running,
+        }
+    }
+}
+
+/// Returns what wakes a script that waits for this.
+fn waiting_for(awaited: Awaited) -> Waiting {
+    match awaited {
+        Awaited::Reply(_) => Waiting::Reply,
+        Awaited::Seat(_) => Waiting::Seat,
+        Awaited::Idle => Waiting::Idle,
+    }
+}
+
+/// Returns whether a script waits for what was just answered.
+fn is_waited_for(waiting: Waiting, response: &Response) -> bool
+    ensures wakes { result ≡ option_map_or (wakes waiting) (told_by response.now) false }
+{
+    match response {
+        Response::Tells(told) => wakes(waiting, told),
+        Response::Closes => false,
+    }
+}
+
+/// Returns whether a script that waits is woken where a daemon is told something.
+fn wakes(waiting: Waiting, told: &Frame) -> bool
+    ensures wakes { result ≡ wakes waiting told.now }
+{
+    match waiting {
+        Waiting::Reply => matches!(told, Frame::Posted),
+        Waiting::Seat => matches!(told, Frame::Mounted { .. } | Frame::Claimed { .. }),
+        Waiting::Idle => matches!(told, Frame::Ask(_)),
+        Waiting::Nothing => false,
+    }
+}
+
+/// Returns whether memory was refused for what came.
+fn is_lacking(came: &Came) -> bool {
+    matches!(came, Came::Lacks)
+}
+
+/// Returns whether a Take found nothing.
+fn finds_nothing(response: &Response) -> bool {
+    matches!(response, Response::Tells(Frame::Empty))
+}
+
+impl Hall {
+    /// Opens a hall where nobody is.
+    pub(crate) fn new(alloc: Global) -> Result<Hall, NoMemory> {
+        let desk = Desk::new(alloc)?;
+        Ok(Hall {
+            state: Mutex::new(State {
+                desk,
+                visitors: Visitors::new(alloc),
+                asked: None,
+                waiting: Waiting::Nothing,
+                is_over: false,
+            }),
+            asks: Condvar::new(),
+            events: Condvar::new(),
+        })
+    }
+
+    /// Lets a connection in, by a handle of it. There is none where no more may come.
+    pub(crate) fn enter<R: Wait>(&self, rt: &R, stream: UnixStream) -> Option<Visit> {
+        let mut state = self.state.lock(rt);
+        if state.is_over {
+            return None;
+        }
+        let number = state.visitors.enter(stream)?;
+        Some(Visit {
+            number,
+            peer: Peer::Stranger,
+        })
+    }
+
+    /// Notes that a connection ended.
+    pub(crate) fn leave<R: Wait>(&self, rt: &R, visit: Visit) {
+        let mut state = self.state.lock(rt);
+        state.visitors.leave(visit.number);
+        state.desk.leave(visit.peer);
+        drop(state);
+        self.asks.notify_all();
+        self.events.notify_all();
+    }
+
+    /// Answers a frame of a connection. A Take that finds nothing is held for a while.
+    pub(crate) fn answer<R: Wait + Clock>(
+        &self,
+        rt: &R,
+        visit: &mut Visit,
+        frame: &Frame,
+    ) -> Response {
+        let response = self.hear(rt, visit, frame);
+        if !finds_nothing(&response) {
+            return response;
+        }
+        let hold = self.hold(rt);
+        self.answer_by(rt, visit, frame, hold)
+    }
+
+    /// Answers a Take that found nothing as soon as it finds something, or at a deadline.
+    fn answer_by<R: Wait + Clock>(
+        &self,
+        rt: &R,
+        visit: &mut Visit,
+        frame: &Frame,
+        hold: Deadline,
+    ) -> Response {
+        for _ in rt.forever() {
+            let seen = self.asks.notifications();
+            let response = self.hear(rt, visit, frame);
+            if !finds_nothing(&response) {
+                return response;
+            }
+            match hold.left(rt) {
+                Left::For(left) => self.asks.sleep(rt, seen, left),
+                Left::Forever | Left::Nothing => return response,
+            }
+        }
+        unreachable!()
+    }
+
+    /// Answers a frame at once, and wakes the script that waits for it.
+    fn hear<R: Wait>(&self, rt: &R, visit: &mut Visit, frame: &Frame) -> Response {
+        let (response, wakes) = self.state.lock(rt).answer(visit, frame);
+        if wakes {
+            self.events.notify_one();
+        }
+        response
+    }
+
+    /// Returns until when a Take is held that finds nothing now.
+    fn hold<R: Wait + Clock>(&self, rt: &R) -> Deadline {
+        let asked = self.state.lock(rt).asked;
+        let Some(asked) = asked else {
+            return Deadline::after(rt, Duration::from_millis(IDLE_HOLD));
+        };
+        match asked.elapsed(rt) {
+            Ok(ago) if ago < Duration::from_millis(MOMENT) => Deadline::after(
+                rt,
+                Duration::from_millis(BUSY_HOLD),
+            ),
+            _ => Deadline::after(rt, Duration::from_millis(IDLE_HOLD)),
+        }
+    }
+
+    /// Begins what a line of the script says.
+    pub(crate) fn begin<R: Wait + Clock>(&self, rt: &R, line: &BrokerLine) -> Begun
+        requires sendable { IsSendableLine line.now }
+    {
+        let now = Instant::now(rt).ok();
+        let begun = self.state.lock(rt).begin(line, now);
+        self.asks.notify_one();
+        begun
+    }
+
+    /// Waits until what the script waits for came.
+    pub(crate) fn wait_for<R: Wait + Clock>(&self, rt: &R, awaited: &Awaited) -> Came {
+        for _ in rt.forever() {
+            let seen = self.events.notifications();
+            let looked = look(&mut self.state.lock(rt).desk, awaited);
+            match looked {
+                Some(came) => {
+                    if !is_lacking(&came) {
+                        return came;
+                    }
+                    thread::sleep(rt, Duration::from_millis(PAUSE));
+                }
+                None => self
+                    .events
+                    .sleep(rt, seen, Duration::from_millis(LONGEST_SLEEP)),
+            }
+        }
+        unreachable!()
+    }
+
+    /// Prints what a line came to at once.
+    pub(crate) fn print_begun<R: Wait, W: Write>(
+        &self,
+        rt: &R,
+        out: &mut W,
+        begun: &Begun,
+    ) -> io::Result<()> {
+        print_begun(out, self.state.lock(rt).desk.broker(), begun)
+    }
+
+    /// Waits until no daemon has its first connection open but the one of the seat, if one has it.
+    pub(crate) fn wait_for_others<R: Wait>(&self, rt: &R) {
+        for _ in rt.forever() {
+            let seen = self.events.notifications();
+            if self.state.lock(rt).others() == 0 {
+                return;
+            }
+            self.events
+                .sleep(rt, seen, Duration::from_millis(LONGEST_SLEEP));
+        }
+    }
+
+    /// Tells every daemon from now on that the mount is over.
+    pub(crate) fn close<R: Wait>(&self, rt: &R) {
+        self.state.lock(rt).desk.close();
+        self.asks.notify_all();
+    }
+
+    /// Waits until every daemon closed its first connection.
+    pub(crate) fn wait_for_all<R: Wait>(&self, rt: &R) {
+        for _ in rt.forever() {
+            let seen = self.events.notifications();
+            if self.state.lock(rt).desk.running() == 0 {
+                return;
+            }
+            self.events
+                .sleep(rt, seen, Duration::from_millis(LONGEST_SLEEP));
+        }
+    }
+
+    /// Ends all connections, and lets none in any more.
+    pub(crate) fn end<R: Wait>(&self, rt: &R) {
+        let mut state = self.state.lock(rt);
+        state.is_over = true;
+        state.visitors.end_all();
+        drop(state);
+        self.asks.notify_all();
+    }
+
+    /// Returns whether no connection is let in any more.
+    pub(crate) fn is_over<R: Wait>(&self, rt: &R) -> bool {
+        self.state.lock(rt).is_over
+    }
+}

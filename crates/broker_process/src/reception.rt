@@ -1,0 +1,105 @@
+//! The connections of a broker, each in a thread of its own.
+use crate::hall::{Hall, Visit};
+use broker_desk::Response;
+use sockets::{Deadline, Link};
+use std::alloc::Global;
+use std::os::unix::net::{UnixListener, UnixStream};
+use std::rt::Clock;
+use std::sync::Wait;
+use std::thread;
+use std::thread::{Scope, Threads};
+use std::time::Duration;
+
+/// How long a connection may take until it attached, and for each answer until it is read.
+const PATIENCE: u64 = 2000;
+
+/// How long no connection is taken after one could not be.
+const PAUSE: u64 = 10;
+
+/// Takes connections until the hall is over, and returns when each of them ended.
+pub(crate) fn receive_all<R: Threads + Wait + Clock + Sync>(
+    rt: &R,
+    alloc: Global,
+    hall: &Hall,
+    listener: &UnixListener,
+) {
+    thread::scope(thread::scope_env(), rt, |scope| {
+        receive(scope, rt, alloc, hall, listener)
+    })
+}
+
+/// Takes connections until the hall is over.
+fn receive<'s, 'e: 's, R: Threads + Wait + Clock + Sync + 's>(
+    scope: &Scope<'s, &'e ()>,
+    rt: &'e R,
+    alloc: Global,
+    hall: &'e Hall,
+    listener: &UnixListener,
+) {
+    for stream in listener.incoming() {
+        if hall.is_over(rt) {
+            return;
+        }
+        match stream {
+            Ok(stream) => admit(scope, rt, alloc, hall, stream),
+            Err(_failed) => thread::sleep(rt, Duration::from_millis(PAUSE)),
+        }
+    }
+}
+
+/// Lets a connection in, and attends to it in a thread of its own. It is closed where no more may come, or no thread can
+/// be made.
+fn admit<'s, 'e: 's, R: Threads + Wait + Clock + Sync + 's>(
+    scope: &Scope<'s, &'e ()>,
+    rt: &'e R,
+    alloc: Global,
+    hall: &'e Hall,
+    stream: UnixStream,
+) {
+    let Ok(handle) = stream.try_clone() else {
+        return;
+    };
+    let Some(visit) = hall.enter(rt, handle) else {
+        return;
+    };
+    let attending = move || attend(rt, alloc, hall, visit, stream);
+    if scope.spawn(attending).is_err() {
+        hall.leave(rt, visit);
+    }
+}
+
+/// Answers the frames of a connection until it ends.
+fn attend<R: Wait + Clock>(rt: &R, alloc: Global, hall: &Hall, visit: Visit, stream: UnixStream) {
+    let mut visit = visit;
+    if let Ok(mut link) = Link::over(alloc, rt, stream, Some(Duration::from_millis(PATIENCE))) {
+        let deadline = Deadline::after(rt, Duration::from_millis(PATIENCE));
+        for _ in rt.forever() {
+            if !answer_one(rt, hall, &mut visit, &mut link, deadline) {
+                break;
+            }
+        }
+    }
+    hall.leave(rt, visit);
+}
+
+/// Answers the next frame of a connection, which has to attach by a deadline. Returns whether it goes on.
+fn answer_one<R: Wait + Clock>(
+    rt: &R,
+    hall: &Hall,
+    visit: &mut Visit,
+    link: &mut Link<'_, R>,
+    deadline: Deadline,
+) -> bool {
+    let by = if visit.is_strange() {
+        deadline
+    } else {
+        Deadline::Never
+    };
+    let Ok(Some(frame)) = link.read(by) else {
+        return false;
+    };
+    match hall.answer(rt, visit, &frame) {
+        Response::Tells(told) => link.write(&told).is_ok(),
+        Response::Closes => false,
+    }
+}

@@ -1,0 +1,48 @@
+//! A script that plays the kernel.
+ghost use Rattle.std.specs.Prelude.{All};
+ghost use Rattle.script_lines.specs.BrokerLine.{IsSendableLine};
+
+use crate::hall::Hall;
+use broker_script::{Begun, BrokerLine, print_came};
+use std::io::{self, Write};
+use std::rt::Clock;
+use std::sync::Wait;
+
+/// Does what a script says, and writes out each line that it prints at once. At its end it waits for all daemons but
+/// the one of the seat, tells that the mount is over, and waits until each daemon left.
+pub(crate) fn play<R: Wait + Clock, W: Write>(
+    rt: &R,
+    hall: &Hall,
+    script: &[BrokerLine],
+    out: &mut W,
+) -> io::Result<()>
+    requires sendable { All IsSendableLine script.now }
+{
+    for line in script {
+        play_line(rt, hall, line, out)?;
+        out.flush()?;
+    }
+    hall.wait_for_others(rt);
+    out.write_all(b"ended\n")?;
+    out.flush()?;
+    hall.close(rt);
+    hall.wait_for_all(rt);
+    Ok(())
+}
+
+/// Does what a line says, and prints what comes of it.
+fn play_line<R: Wait + Clock, W: Write>(
+    rt: &R,
+    hall: &Hall,
+    line: &BrokerLine,
+    out: &mut W,
+) -> io::Result<()>
+    requires sendable { IsSendableLine line.now }
+{
+    let begun = hall.begin(rt, line);
+    hall.print_begun(rt, out, &begun)?;
+    match begun {
+        Begun::Waits(awaited) => print_came(out, &hall.wait_for(rt, &awaited)),
+        Begun::Forgot | Begun::Refused(_) | Begun::Tells => Ok(()),
+    }
+}

@@ -1,0 +1,47 @@
+//! A claim of the seat.
+use crate::arrival::answer_by;
+use crate::shared::Shared;
+use daemon_desk::Claiming;
+use sockets::{Deadline, Link};
+use std::rt::Clock;
+use std::sync::Wait;
+use std::thread;
+use std::time::Duration;
+
+/// How long a daemon waits before it claims again, in milliseconds.
+const PAUSE: u64 = 1;
+
+/// Claims the seat as the daemon wants to, and again while asks that were taken have no reply, until the broker took too
+/// long.
+pub(crate) fn claim<R: Wait + Clock>(
+    rt: &R,
+    shared: &Shared,
+    broker: &mut Link<'_, R>,
+) -> Claiming {
+    let deadline = answer_by(rt);
+    for _ in rt.forever() {
+        match claim_once(rt, shared, broker, deadline) {
+            Claiming::Waits if !deadline.is_over(rt) => {
+                thread::sleep(rt, Duration::from_millis(PAUSE));
+            }
+            claiming => return claiming,
+        }
+    }
+    unreachable!()
+}
+
+/// Claims the seat, if the daemon wants to.
+fn claim_once<R: Wait + Clock>(
+    rt: &R,
+    shared: &Shared,
+    broker: &mut Link<'_, R>,
+    deadline: Deadline,
+) -> Claiming {
+    let Some(frame) = shared.claim(rt) else {
+        return Claiming::Broken;
+    };
+    match broker.ask(&frame, deadline) {
+        Some(answer) => shared.take_claim(rt, &answer),
+        None => Claiming::Broken,
+    }
+}

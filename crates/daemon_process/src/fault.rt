@@ -1,0 +1,33 @@
+//! Why a daemon ended that neither handed over nor saw the mount end.
+use eden_base::NoMemory;
+use std::io;
+
+/// Why a daemon ended that neither handed over nor saw the mount end, with the system's error behind it.
+#[derive(Clone, Copy)]
+pub enum DaemonFault {
+    /// The broker's socket can't be connected to.
+    NoBroker(io::Error),
+    /// Another daemon has the seat.
+    Seated,
+    /// The other daemon's socket can't be connected to.
+    NoDaemon(io::Error),
+    /// The other daemon reads or writes no version in common, or takes no offer now.
+    OfferRefused,
+    /// The takeover ended without the seat.
+    TakeoverFailed,
+    /// The daemon's own socket can't be listened at.
+    CannotListen(io::Error),
+    NoMemory,
+    /// No thread could be made in which takeovers are served.
+    NoThread,
+    /// The broker closed a connection, or said what no broker says there.
+    Broken,
+    /// What happened could not be printed.
+    CannotWrite(io::Error),
+}
+
+impl From<NoMemory> for DaemonFault {
+    fn from(_refused: NoMemory) -> DaemonFault {
+        DaemonFault::NoMemory
+    }
+}

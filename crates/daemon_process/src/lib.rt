@@ -1,0 +1,20 @@
+//! A daemon as a process: it mounts or takes over, serves by rounds of workers, and hands over.
+#![tactic(auto)]
+
+mod arrival;
+mod beginning;
+mod claiming;
+mod exit;
+mod fault;
+mod handover;
+mod lobby;
+mod orders;
+mod process;
+mod rounds;
+mod serving;
+mod shared;
+mod takeover;
+
+pub use fault::DaemonFault;
+pub use orders::{Orders, Start};
+pub use process::run_daemon;

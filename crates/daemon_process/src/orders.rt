@@ -1,0 +1,27 @@
+//! What a daemon is started for.
+use std::time::Duration;
+
+/// How a daemon begins.
+#[derive(Clone, Copy, PartialEq, Eq)]
+pub enum Start {
+    /// It mounts.
+    Mount,
+    /// It takes over from the daemon at its own socket's path.
+    Takeover,
+}
+
+/// What a daemon is started for.
+#[derive(Clone, Copy)]
+pub struct Orders<'a> {
+    pub start: Start,
+    /// The path of the broker's socket.
+    pub broker: &'a str,
+    /// The path of the socket at which it is taken over from.
+    pub takeover: &'a str,
+    /// How many workers serve, from 1 to 16.
+    pub workers: usize,
+    /// How many files it keeps loaded, at least 1.
+    pub limit: usize,
+    /// How long another daemon may be silent in a takeover. Once the data is out it is ten times that.
+    pub patience: Duration,
+}

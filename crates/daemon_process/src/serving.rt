@@ -1,0 +1,101 @@
+//! A daemon while it serves.
+use crate::arrival::{Worker, channels};
+use crate::exit::Exit;
+use crate::fault::DaemonFault;
+use crate::rounds::{exit_of, serve_one};
+use crate::shared::{Next, Shared};
+use daemon::Lease;
+use std::alloc::Global;
+use std::io::{self, Write};
+use std::os::unix::net::UnixStream;
+use std::rt::Clock;
+use std::sync::Wait;
+use std::thread::Threads;
+use std::time::Duration;
+use std::{mem, thread};
+use workers::{Rooms, Stop};
+
+/// How long a daemon waits that was refused memory, in milliseconds.
+const PAUSE: u64 = 1;
+
+/// The channels of a daemon's workers with their generation, and the rooms that rounds work in. There are none before it
+/// served.
+#[derive(Drop)]
+struct Crew<'a, R: Clock> {
+    generation: u64,
+    channels: Vec<Worker<'a, R>>,
+    rooms: Rooms,
+}
+
+/// Serves by rounds of workers whenever the daemon may, until it ends.
+pub(crate) fn serve<R: Threads + Wait + Clock + Sync, W: Write>(
+    rt: &R,
+    alloc: Global,
+    shared: &Shared,
+    workers: &[UnixStream],
+    out: &mut W,
+) -> Exit {
+    let mut crew = Crew {
+        generation: 0,
+        channels: Vec::new(alloc),
+        rooms: Rooms::new(alloc),
+    };
+    for _ in rt.forever() {
+        let seen = shared.changes();
+        match shared.next(rt, alloc) {
+            Next::Serve(lease, stop) => {
+                if let Some(exit) = serve_lease(
+                    rt, alloc, shared, workers, &mut crew, lease, &stop, out,
+                ) {
+                    return exit;
+                }
+            }
+            Next::Wait => shared.sleep(rt, seen),
+            Next::Pause => thread::sleep(rt, Duration::from_millis(PAUSE)),
+            Next::Exit(exit) => return exit,
+        }
+    }
+    unreachable!()
+}
+
+/// Serves a round over what was lent, and gives it back. Returns how the daemon ends, if it does.
+fn serve_lease<'a, R: Threads + Wait + Clock + Sync, W: Write>(
+    rt: &'a R,
+    alloc: Global,
+    shared: &Shared,
+    workers: &[UnixStream],
+    crew: &mut Crew<'a, R>,
+    lease: Lease,
+    stop: &Stop,
+    out: &mut W,
+) -> Option<Exit> {
+    if crew.generation != lease.generation {
+        let Ok(made) = channels(rt, alloc, workers, lease.generation) else {
+            shared.take_back(rt, lease);
+            thread::sleep(rt, Duration::from_millis(PAUSE));
+            return None;
+        };
+        crew.channels = made;
+        crew.generation = lease.generation;
+        if let Err(error) = print_serving(out, lease.generation) {
+            return Some(Exit::Faulty(DaemonFault::CannotWrite(error)));
+        }
+    }
+    let channels = mem::replace(&mut crew.channels, Vec::new(alloc));
+    let rooms = mem::replace(&mut crew.rooms, Rooms::new(alloc));
+    match serve_one(rt, alloc, lease, channels, rooms, stop) {
+        Ok(left) => {
+            crew.channels = left.channels;
+            crew.rooms = left.rooms;
+            shared.take_back(rt, left.lease);
+            exit_of(crew.channels.as_slice())
+        }
+        Err(exit) => Some(exit),
+    }
+}
+
+/// Prints that the daemon serves at a generation.
+fn print_serving<W: Write>(out: &mut W, generation: u64) -> io::Result<()> {
+    writeln!(out, "serving {generation}")?;
+    out.flush()
+}

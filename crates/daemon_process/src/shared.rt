@@ -1,0 +1,198 @@
+//! What the threads of a daemon share.
+use crate::exit::Exit;
+use daemon::Lease;
+use daemon_desk::{Claiming, DaemonDesk, Hearing, Mounting};
+use eden_base::NoMemory;
+use links::Frame;
+use std::alloc::Global;
+use std::sync::{Arc, Condvar, Mutex, Wait};
+use std::time::Duration;
+use takeover_core::Phase;
+use workers::Stop;
+
+/// How long nothing wakes a thread that waits.
+const LONGEST_SLEEP: u64 = 60_000;
+
+/// What stands under the lock.
+#[derive(Drop)]
+struct State {
+    desk: DaemonDesk,
+    /// By which the round is asked to stop that runs now.
+    stop: Option<Arc<Stop>>,
+    exit: Option<Exit>,
+}
+
+/// What a daemon's main thread does next.
+#[derive(Drop)]
+pub(crate) enum Next {
+    /// It serves a round, until it is asked to stop.
+    Serve(Lease, Arc<Stop>),
+    /// It waits for a change.
+    Wait,
+    /// It waits a moment, since memory was refused.
+    Pause,
+    Exit(Exit),
+}
+
+/// A daemon's desk under a lock, and what tells its threads that something changed.
+#[derive(Drop)]
+pub(crate) struct Shared {
+    state: Mutex<State>,
+    changes: Condvar,
+}
+
+impl State {
+    /// Returns what the main thread does next.
+    fn next(&mut self, alloc: Global) -> Next {
+        if let Some(exit) = self.exit {
+            return Next::Exit(exit);
+        }
+        if self.desk.drains() {
+            return Next::Wait;
+        }
+        let Ok(stop) = self.stop_of_round(alloc) else {
+            return Next::Pause;
+        };
+        match self.desk.lend() {
+            Some(lease) => Next::Serve(lease, stop),
+            None => Next::Wait,
+        }
+    }
+
+    /// Returns by what a round is asked to stop: what the last one had, unless that was asked.
+    fn stop_of_round(&mut self, alloc: Global) -> Result<Arc<Stop>, NoMemory> {
+        if let Some(stop) = &self.stop {
+            return Ok(Arc::try_clone(stop)?);
+        }
+        let stop = Arc::new(alloc, Stop::new())?;
+        let again = Arc::try_clone(&stop)?;
+        self.stop = Some(stop);
+        Ok(again)
+    }
+
+    /// Hears a frame of another daemon, and asks the round to stop where the daemon serves no more.
+    fn hear(&mut self, frame: &Frame) -> Hearing {
+        let heard = self.desk.hear(frame);
+        if !matches!(self.desk.phase(), Phase::Serving { .. }) {
+            if let Some(stop) = self.stop.take() {
+                stop.ask();
+            }
+        }
+        heard
+    }
+}
+
+impl Shared {
+    /// Puts a desk under a lock.
+    pub(crate) fn new(desk: DaemonDesk) -> Shared {
+        Shared {
+            state: Mutex::new(State {
+                desk,
+                stop: None,
+                exit: None,
+            }),
+            changes: Condvar::new(),
+        }
+    }
+
+    /// Returns how often something changed.
+    pub(crate) fn changes(&self) -> u64 {
+        self.changes.notifications()
+    }
+
+    /// Waits until more changed than was `seen`.
+    pub(crate) fn sleep<R: Wait>(&self, rt: &R, seen: u64) {
+        self.changes
+            .sleep(rt, seen, Duration::from_millis(LONGEST_SLEEP));
+    }
+
+    /// Makes what a daemon serves that mounts.
+    pub(crate) fn prepare<R: Wait>(&self, rt: &R) -> Result<(), NoMemory> {
+        self.state.lock(rt).desk.prepare()
+    }
+
+    /// Takes in the broker's answer to a Mount.
+    pub(crate) fn take_mount<R: Wait>(&self, rt: &R, answer: &Frame) -> Mounting {
+        self.state.lock(rt).desk.take_mount(answer)
+    }
+
+    /// Returns what a new daemon offers.
+    pub(crate) fn offer<R: Wait>(&self, rt: &R) -> Frame {
+        self.state.lock(rt).desk.offer()
+    }
+
+    /// Returns how far the daemon is in a takeover.
+    pub(crate) fn phase<R: Wait>(&self, rt: &R) -> Phase {
+        self.state.lock(rt).desk.phase()
+    }
+
+    /// Hears a frame of another daemon.
+    pub(crate) fn hear<R: Wait>(&self, rt: &R, frame: &Frame) -> Hearing {
+        let heard = self.state.lock(rt).hear(frame);
+        self.changes.notify_all();
+        heard
+    }
+
+    /// Ends the daemon's part in a takeover, and returns what the other daemon is to be told.
+    pub(crate) fn give_up<R: Wait>(&self, rt: &R) -> Option<Frame> {
+        let told = self.state.lock(rt).desk.give_up();
+        self.changes.notify_all();
+        told
+    }
+
+    /// Returns the claim that the daemon wants to make.
+    pub(crate) fn claim<R: Wait>(&self, rt: &R) -> Option<Frame> {
+        self.state.lock(rt).desk.claim()
+    }
+
+    /// Takes in the broker's answer to a Claim.
+    pub(crate) fn take_claim<R: Wait>(&self, rt: &R, answer: &Frame) -> Claiming {
+        let claiming = self.state.lock(rt).desk.take_claim(answer);
+        self.changes.notify_all();
+        claiming
+    }
+
+    /// Returns what the main thread does next.
+    pub(crate) fn next<R: Wait>(&self, rt: &R, alloc: Global) -> Next {
+        self.state.lock(rt).next(alloc)
+    }
+
+    /// Takes back what was lent for a round.
+    pub(crate) fn take_back<R: Wait>(&self, rt: &R, lease: Lease) {
+        self.state.lock(rt).desk.take_back(lease);
+        self.changes.notify_all();
+    }
+
+    /// Waits until the workers gave back what they serve, and returns what the other daemon is told then. It is nothing
+    /// where the daemon ends before.
+    pub(crate) fn drain<R: Wait>(&self, rt: &R) -> Option<Frame> {
+        for _ in rt.forever() {
+            let seen = self.changes();
+            let mut state = self.state.lock(rt);
+            if state.exit.is_some() {
+                return None;
+            }
+            if let Some(ready) = state.desk.drained() {
+                return Some(ready);
+            }
+            drop(state);
+            self.sleep(rt, seen);
+        }
+        unreachable!()
+    }
+
+    /// Notes how the daemon ends, unless it ends already.
+    pub(crate) fn end<R: Wait>(&self, rt: &R, exit: Exit) {
+        let mut state = self.state.lock(rt);
+        if state.exit.is_none() {
+            state.exit = Some(exit);
+        }
+        drop(state);
+        self.changes.notify_all();
+    }
+
+    /// Returns whether the daemon ends.
+    pub(crate) fn is_over<R: Wait>(&self, rt: &R) -> bool {
+        self.state.lock(rt).exit.is_some()
+    }
+}

@@ -1,0 +1,114 @@
+//! A new daemon's part in a takeover.
+ghost use Rattle.std.specs.Prelude.{◌≡◌};
+ghost use Rattle.daemon_process.specs.Takeovers.{exit_by};
+
+use crate::claiming::claim;
+use crate::exit::Exit;
+use crate::fault::DaemonFault;
+use crate::shared::Shared;
+use daemon_desk::{Claiming, Hearing};
+use links::Frame;
+use sockets::{Deadline, Link};
+use std::rt::Clock;
+use std::sync::Wait;
+use std::time::Duration;
+use takeover_core::{Message, Phase};
+
+/// How many times longer than a silence the data and the claim may take.
+const LONGER: u32 = 10;
+
+/// The exit of a daemon whose takeover ended without the seat.
+const FAILED: Exit = Exit::Faulty(DaemonFault::TakeoverFailed);
+
+/// Takes over from the daemon at the other end of `old`, and claims the seat.
+pub(crate) fn take_over<R: Wait + Clock>(
+    rt: &R,
+    shared: &Shared,
+    broker: &mut Link<'_, R>,
+    old: &mut Link<'_, R>,
+    patience: Duration,
+) -> Result<(), Exit> {
+    if let Err(exit) = get_data(rt, shared, old, patience) {
+        if let Some(told) = shared.give_up(rt) {
+            let _told = old.write(&told);
+        }
+        return Err(exit);
+    }
+    match claim(rt, shared, broker) {
+        Claiming::Serves(_) => Ok(()),
+        Claiming::Ended => Err(Exit::Ended),
+        _ => Err(FAILED),
+    }
+}
+
+/// Offers, and answers what the other daemon says until its data is raised.
+fn get_data<R: Wait + Clock>(
+    rt: &R,
+    shared: &Shared,
+    old: &mut Link<'_, R>,
+    patience: Duration,
+) -> Result<(), Exit> {
+    let mut deadline = Deadline::after(rt, patience);
+    if old.write(&shared.offer(rt)).is_err() {
+        return Err(FAILED);
+    }
+    for _ in rt.forever() {
+        let Ok(Some(frame)) = old.read(deadline) else {
+            return Err(FAILED);
+        };
+        match hear(rt, shared, old, &frame)? {
+            Step::Holds => return Ok(()),
+            Step::Ponged => deadline = Deadline::after(rt, patience.saturating_mul(LONGER)),
+            Step::Waits => {}
+        }
+    }
+    unreachable!()
+}
+
+/// How far a new daemon is after a frame of the other one.
+#[derive(Clone, Copy)]
+enum Step {
+    /// It waits for the next one.
+    Waits,
+    /// It said that it is still there, and waits for the data.
+    Ponged,
+    /// It holds what was handed over.
+    Holds,
+}
+
+/// Hears a frame of the other daemon, and tells it what it is to be told.
+fn hear<R: Wait + Clock>(
+    rt: &R,
+    shared: &Shared,
+    old: &mut Link<'_, R>,
+    frame: &Frame,
+) -> Result<Step, Exit> {
+    let mut step = Step::Waits;
+    match shared.hear(rt, frame) {
+        Hearing::Tells(told) => {
+            if old.write(&told).is_err() {
+                return Err(FAILED);
+            }
+            step = Step::Ponged;
+        }
+        Hearing::Heeds | Hearing::Ignores => {}
+        Hearing::Closes | Hearing::NoMemory => return Err(FAILED),
+    }
+    match shared.phase(rt) {
+        Phase::Holding { .. } => Ok(Step::Holds),
+        Phase::Gone => Err(gone_by(frame)),
+        _ => Ok(step),
+    }
+}
+
+/// Returns the exit of a daemon that is gone by a frame of the other one.
+fn gone_by(frame: &Frame) -> Exit
+    ensures exit { result ≡ exit_by frame.now }
+{
+    match frame {
+        Frame::Takeover(Message::NoCommon | Message::Busy) => {
+            Exit::Faulty(DaemonFault::OfferRefused)
+        }
+        _ => FAILED,
+    }
+}
