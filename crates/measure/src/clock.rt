@@ -6,7 +6,7 @@ pub(crate) fn moment(rt: &impl CpuClock) -> Duration {
     rt.thread_cpu_time().unwrap_or(Duration::ZERO)
 }
 
-/// Returns the nanoseconds since then, for each of so many calls.
+/// Returns the nanoseconds since `started`, for each of `calls` calls.
 pub(crate) fn each_since(rt: &impl CpuClock, started: Duration, calls: u64) -> u64 {
     let spent = moment(rt).saturating_sub(started);
     let nanos = spent

@@ -1,6 +1,6 @@
 //! What an image costs: it is read, raised to what a daemon serves, made of that again and written, once each, so that
-//! the instructions of a call can be counted. `measure image ENTRIES UNLINKED` does so for so many entries, of which
-//! so many are unlinked, and with the word `times` it tells the nanoseconds of each call for an entry. An image that is
+//! the instructions of a call can be counted. `measure image ENTRIES UNLINKED` does so for ENTRIES entries, of which
+//! UNLINKED are unlinked, and with the word `times` it tells the nanoseconds of each call for an entry. An image that is
 //! too long is not written.
 ghost use Rattle.std.specs.Prelude.{IfOk};
 ghost use Rattle.map_image.specs.Fit.{CountsFit, IsFit};
@@ -138,7 +138,7 @@ fn put_made(text: &mut Vec<u8>, entries: u64, unlinked: u64) -> Result<(), Alloc
     Ok(())
 }
 
-/// Spells an image of so many entries, of which the last ones are unlinked. No link was changed.
+/// Spells an image of `entries` entries, of which the last `unlinked` are unlinked. No link was changed.
 fn image_text(alloc: Global, entries: u64, unlinked: u64) -> Result<Vec<u8>, AllocError> {
     let mut text = Vec::new(alloc);
     put_head(&mut text, entries, unlinked)?;

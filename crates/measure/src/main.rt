@@ -9,8 +9,10 @@ mod image;
 mod lines;
 mod map;
 mod names;
+mod random;
 mod requests;
 mod round;
+mod rounds;
 mod stream;
 mod told;
 mod tree;
@@ -20,11 +22,14 @@ mod words;
 use eden_base::NoMemory;
 use std::env;
 use std::io::{self, Error, ErrorKind};
+use std::rt::Clock;
+use std::sync::Wait;
+use std::thread::Threads;
 use told::Told;
 use words::refuse;
 
 /// The small runs: words, as the program may be started with.
-static RUNS: [&str; 47] = [
+static RUNS: [&str; 55] = [
     "arena 1",
     "arena 1024",
     "arena 65536",
@@ -43,9 +48,13 @@ static RUNS: [&str; 47] = [
     "map 1000 given",
     "map 8000 given",
     "map 65536 given",
+    "map 1000 random",
+    "map 64000 random",
     "requests 1000 1",
     "requests 8000 16",
     "requests 40000 700",
+    "requests 1000 random",
+    "requests 64000 random",
     "wire lookup 10",
     "wire getattr 10",
     "wire forget 10",
@@ -72,10 +81,20 @@ static RUNS: [&str; 47] = [
     "journal 1000 16 2",
     "journal 10000 1 2",
     "journal 10000 16 2",
+    "rounds 1 0 2",
+    "rounds 1 64 2",
+    "rounds 4 64 2",
+    "rounds 16 64 2",
 ];
 
 /// Makes the calls of a subject, as the words behind it say. There is nothing to tell where they are not its words.
-fn told_of(rt: &HostRuntime, subject: &str, words: &[&str]) -> Result<Option<Told>, NoMemory> {
+/// `threads` is the handle by which rounds start their workers.
+fn told_of<R: Threads + Wait + Clock + Sync>(
+    rt: &HostRuntime,
+    threads: &R,
+    subject: &str,
+    words: &[&str],
+) -> Result<Option<Told>, NoMemory> {
     match subject {
         "arena" => arena::measure(rt, words),
         "checkout" => tree::measure(rt, words),
@@ -85,16 +104,21 @@ fn told_of(rt: &HostRuntime, subject: &str, words: &[&str]) -> Result<Option<Tol
         "wire" => wire::measure(rt.alloc(), words),
         "frames" => stream::measure(rt.alloc(), words),
         "journal" => round::measure(rt.alloc(), words),
+        "rounds" => rounds::measure(threads, rt.alloc(), words),
         _ => Ok(None),
     }
 }
 
 /// Makes the calls that a line of words is for, and prints what came of them.
-fn measure(rt: &HostRuntime, line: &str) -> io::Result<()> {
+fn measure<R: Threads + Wait + Clock + Sync>(
+    rt: &HostRuntime,
+    threads: &R,
+    line: &str,
+) -> io::Result<()> {
     let words: Vec<&str> = line.split_whitespace().collect(rt.alloc())?;
     let told = match words.as_slice() {
         [] => Ok(None),
-        [subject, rest @ ..] => told_of(rt, subject, rest),
+        [subject, rest @ ..] => told_of(rt, threads, subject, rest),
     };
     drop(words);
     match told {
@@ -105,9 +129,9 @@ fn measure(rt: &HostRuntime, line: &str) -> io::Result<()> {
 }
 
 /// Makes the small runs.
-fn measure_each(rt: &HostRuntime) -> io::Result<()> {
+fn measure_each<R: Threads + Wait + Clock + Sync>(rt: &HostRuntime, threads: &R) -> io::Result<()> {
     for line in &RUNS {
-        measure(rt, line)?;
+        measure(rt, threads, line)?;
     }
     Ok(())
 }
@@ -125,7 +149,7 @@ fn line_of(rt: &HostRuntime) -> io::Result<String> {
 fn main(rt: HostRuntime) -> io::Result<()> {
     let line = line_of(&rt)?;
     if line.is_empty() {
-        return measure_each(&rt);
+        return measure_each(&rt, &rt);
     }
-    measure(&rt, line.as_str().trim_end())
+    measure(&rt, &rt, line.as_str().trim_end())
 }

@@ -1,6 +1,7 @@
 //! Makes a map and each call on a thousand of its numbers, so that the instructions of a call can be counted:
 //! `measure map ENTRIES`. `measure map ENTRIES holes` does so with a map in which every second number was forgotten;
-//! `measure map ENTRIES given` makes a map of so many given entries in place of that.
+//! `measure map ENTRIES given` makes a map of given entries in place of that. `measure map ENTRIES random` asks
+//! for the attributes of random numbers, at the limit that the program has by itself.
 ghost use Rattle.std.specs.Prelude.{◌≡◌, ◌<◌, IfOk, None, IsSome, false, length};
 ghost use Rattle.std.specs.List.{list_any};
 ghost use Rattle.entry_table.specs.Entries.{entry_of, is_kid_of, AreEntries, IsLinked};
@@ -8,6 +9,7 @@ ghost use Rattle.inode_map.specs.InodeMap.{attr_of};
 ghost use Rattle.measure.specs.Chain.{IsChain};
 
 use crate::names::{fresh_name, name_of, parent_of};
+use crate::random::{ASKED, DEFAULT_LIMIT, Random};
 use crate::told::Told;
 use crate::words::number_at;
 use eden_base::{Attr, FileId, Kind, Name, NoMemory, Number, Perm, Place};
@@ -28,7 +30,7 @@ struct Sought {
     fresh: Name,
 }
 
-/// Gives an entry, by its place, a number, and forgets it where it is none of every so many.
+/// Gives the entry at position `i` a number. All but one of `every` are forgotten again.
 fn give_entry(alloc: Global, map: &mut InodeMap, i: u64, every: u64) -> Result<(), NoMemory> {
     let name = name_of(alloc, i)?;
     let given = map.give(alloc, Number(parent_of(i)), &name);
@@ -42,7 +44,7 @@ fn give_entry(alloc: Global, map: &mut InodeMap, i: u64, every: u64) -> Result<(
     Ok(())
 }
 
-/// Gives entries numbers, in directories of 63 files each, until so many of them are left.
+/// Gives entries numbers, in directories of 63 files each, until `entries` of them are left.
 fn fill(alloc: Global, map: &mut InodeMap, entries: u64, every: u64) -> Result<(), NoMemory> {
     for i in 0..entries.wrapping_mul(every) {
         give_entry(alloc, map, i, every)?;
@@ -174,6 +176,21 @@ fn read_all(map: &InodeMap, list: &[Sought]) -> u64 {
     sum
 }
 
+/// Loads an attribute of a number, unless the number is unknown or has one. Tells whether it did.
+fn load_where_none(map: &mut InodeMap, number: Number) -> bool {
+    if map.entry(number).is_some() && attr(map, number).is_none() {
+        let attr = Attr {
+            kind: Kind::File,
+            perm: Perm::DIRECTORY,
+            size: 0,
+            nlink: 1,
+        };
+        load(map, number, attr);
+        return true;
+    }
+    false
+}
+
 /// Remembers a file of each number, and loads an attribute of it.
 fn remember_all(map: &mut InodeMap, list: &[Sought]) -> u64 {
     let mut loaded = 0u64;
@@ -181,14 +198,7 @@ fn remember_all(map: &mut InodeMap, list: &[Sought]) -> u64 {
         if map.entry(sought.number).is_some() {
             remember(map, sought.number, FileId(sought.number.0));
         }
-        if map.entry(sought.number).is_some() && attr(map, sought.number).is_none() {
-            let attr = Attr {
-                kind: Kind::File,
-                perm: Perm::DIRECTORY,
-                size: 0,
-                nlink: 1,
-            };
-            load(map, sought.number, attr);
+        if load_where_none(map, sought.number) {
             loaded = loaded.wrapping_add(1);
         }
     }
@@ -262,10 +272,37 @@ fn fill_and_call(
     told
 }
 
-/// Makes a map of so many entries, and each call on it.
+/// Makes a map of `entries` entries, and each call on it.
 fn told_of(alloc: Global, entries: u64, every: u64) -> Result<Told, NoMemory> {
     let mut map = InodeMap::new(alloc, LOADED_LIMIT)?;
     let told = fill_and_call(alloc, &mut map, entries, every);
+    drop(map);
+    told
+}
+
+/// Asks for the attributes of random numbers, and loads those that aren't loaded. Counts these.
+fn ask_random(map: &mut InodeMap, entries: u64) -> u64 {
+    let mut random = Random::new();
+    let mut loaded = 0u64;
+    for _ in 0..ASKED {
+        if load_where_none(map, random.number(entries)) {
+            loaded = loaded.wrapping_add(1);
+        }
+    }
+    loaded
+}
+
+/// Fills a map, and asks for the attributes of random numbers.
+fn fill_and_ask(alloc: Global, map: &mut InodeMap, entries: u64) -> Result<Told, NoMemory> {
+    fill(alloc, map, entries, 1)?;
+    let loaded = ask_random(map, entries);
+    Ok(Told::of(&["loaded"], &[loaded]))
+}
+
+/// Makes a map of `entries` entries, and asks for the attributes of random numbers.
+fn told_of_random(alloc: Global, entries: u64) -> Result<Told, NoMemory> {
+    let mut map = InodeMap::new(alloc, DEFAULT_LIMIT)?;
+    let told = fill_and_ask(alloc, &mut map, entries);
     drop(map);
     told
 }
@@ -309,7 +346,7 @@ fn knows_last(alloc: Global, entries: Vec<Kept>, next: u64) -> Result<bool, NoMe
     Ok(known)
 }
 
-/// Makes that of so many entries.
+/// Makes that of `entries` entries.
 fn knows_last_of(alloc: Global, entries: u32) -> Result<bool, NoMemory> {
     let list = list_chain(alloc, entries)?;
     let next = entries as u64 + 2;
@@ -331,6 +368,7 @@ pub(crate) fn measure(alloc: Global, words: &[&str]) -> Result<Option<Told>, NoM
         [_] => told_of(alloc, u64::from(entries), 1).map(Some),
         [_, "holes"] => told_of(alloc, u64::from(entries), 2).map(Some),
         [_, "given"] => told_of_given(alloc, entries).map(Some),
+        [_, "random"] => told_of_random(alloc, u64::from(entries)).map(Some),
         _ => Ok(None),
     }
 }

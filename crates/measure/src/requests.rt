@@ -1,7 +1,10 @@
 //! Makes what a daemon serves and asks it a thousand requests of each kind, so that the instructions of one can be
-//! counted: `measure requests LINES DEPTH`, for a manifest of so many lines and a directory so deep.
+//! counted: `measure requests LINES DEPTH`, for a manifest of LINES lines and a directory at DEPTH.
+//! `measure requests LINES random` asks for the attributes of random files of it, at the limit that the program has by
+//! itself.
 use crate::lines::{manifest_from, manifest_text};
 use crate::names::{EACH, named};
+use crate::random::{ASKED as ASKED_RANDOMLY, DEFAULT_LIMIT, Random};
 use crate::told::Told;
 use crate::words::number_at;
 use checkout::ManifestBacking;
@@ -40,9 +43,9 @@ impl Model for Hosted {
 }
 
 impl Hosted {
-    /// Begins to serve a manifest.
-    fn of(alloc: Global, manifest: Manifest) -> Result<Hosted, NoMemory> {
-        let served = Served::new(alloc, &manifest, LOADED_LIMIT)?;
+    /// Begins to serve a manifest, with at most `limit` attributes loaded.
+    fn of(alloc: Global, manifest: Manifest, limit: usize) -> Result<Hosted, NoMemory> {
+        let served = Served::new(alloc, &manifest, limit)?;
         Ok(Hosted { served, manifest })
     }
 
@@ -58,9 +61,9 @@ fn manifest_of(alloc: Global, lines: u64) -> Result<Manifest, NoMemory> {
     manifest_from(alloc, manifest_text(alloc, 1, lines)?)
 }
 
-/// Begins to serve a manifest of this many lines.
-fn begin(alloc: Global, lines: u64) -> Result<Hosted, NoMemory> {
-    Hosted::of(alloc, manifest_of(alloc, lines)?)
+/// Begins to serve a manifest of `lines` lines, with at most `limit` attributes loaded.
+fn begin(alloc: Global, lines: u64, limit: usize) -> Result<Hosted, NoMemory> {
+    Hosted::of(alloc, manifest_of(alloc, lines)?, limit)
 }
 
 /// Returns the name of a line of the manifest, as text.
@@ -123,7 +126,7 @@ fn make_dir(alloc: Global, served: &mut Hosted, dir: Number, name: Name) -> Numb
     number
 }
 
-/// Makes a directory in a directory, so many times, and returns the number of the last.
+/// Makes directories in one another, `depth` of them, and returns the number of the last.
 fn make_deep(alloc: Global, served: &mut Hosted, depth: u64) -> Result<Number, NoMemory> {
     let mut dir = Number::ROOT;
     for _ in 0..depth {
@@ -384,15 +387,58 @@ fn ask_all(alloc: Global, served: &mut Hosted, lines: u64, depth: u64) -> Result
 
 /// Makes all requests of a daemon that begins.
 fn ask_begun(alloc: Global, lines: u64, depth: u64) -> Result<Told, NoMemory> {
-    let mut served = begin(alloc, lines)?;
+    let mut served = begin(alloc, lines, LOADED_LIMIT)?;
     let told = ask_all(alloc, &mut served, lines, depth);
+    drop(served);
+    told
+}
+
+/// Looks each name up once.
+fn look_all_up(alloc: Global, served: &mut Hosted, lines: u64) -> Result<(), NoMemory> {
+    let mut parent = Number::ROOT;
+    for i in 0..lines {
+        let name = name_of(alloc, i)?;
+        let dir = if i % EACH == 0 { Number::ROOT } else { parent };
+        let request = Request::Lookup { dir, name };
+        let number = number_told(served.apply(alloc, &request));
+        drop(request);
+        if i % EACH == 0 {
+            parent = number;
+        }
+    }
+    Ok(())
+}
+
+/// Asks for the attributes of random numbers. Counts those that have some.
+fn ask_random(alloc: Global, served: &mut Hosted, lines: u64) -> Result<Told, NoMemory> {
+    look_all_up(alloc, served, lines)?;
+    let mut random = Random::new();
+    let mut shown = 0u64;
+    for _ in 0..ASKED_RANDOMLY {
+        if is_shown(alloc, served, random.number(lines)) {
+            shown = shown.wrapping_add(1);
+        }
+    }
+    Ok(Told::of(&["shown"], &[shown]))
+}
+
+/// Asks a daemon that begins for the attributes of random numbers.
+fn ask_begun_random(alloc: Global, lines: u64) -> Result<Told, NoMemory> {
+    let mut served = begin(alloc, lines, DEFAULT_LIMIT)?;
+    let told = ask_random(alloc, &mut served, lines);
     drop(served);
     told
 }
 
 /// Makes all requests, as words say.
 pub(crate) fn measure(alloc: Global, words: &[&str]) -> Result<Option<Told>, NoMemory> {
-    let (Some(lines), Some(depth)) = (number_at(words, 0), number_at(words, 1)) else {
+    let Some(lines) = number_at(words, 0) else {
+        return Ok(None);
+    };
+    if let [_, "random"] = words {
+        return ask_begun_random(alloc, u64::from(lines)).map(Some);
+    }
+    let Some(depth) = number_at(words, 1) else {
         return Ok(None);
     };
     ask_begun(alloc, u64::from(lines), u64::from(depth)).map(Some)

@@ -1,4 +1,4 @@
-//! Makes a round of so many records, each with its receipt, and asks whether it is settled, so that the instructions of
+//! Makes a round of RECORDS records, each with its receipt, and asks whether it is settled, so that the instructions of
 //! that can be counted: `measure journal RECORDS WORKERS ROUNDS`.
 use crate::names::file_name;
 use crate::told::Told;
@@ -13,7 +13,7 @@ fn number_of(i: u32) -> Number {
     Number(u64::from(i).wrapping_add(2))
 }
 
-/// Returns a request: of four kinds in turn, two of which carry a name.
+/// Returns a request: the kinds rotate among four, two of which carry a name.
 fn request_of(alloc: Global, i: u32) -> Result<Request, NoMemory> {
     let dir = Number::ROOT;
     let node = number_of(i);
@@ -49,7 +49,7 @@ fn answer_of(i: u32) -> Option<Answer> {
     }
 }
 
-/// Writes so many records down, as far as there is room.
+/// Writes `records` records down, as far as there is room.
 fn fill(alloc: Global, journal: &mut Journal, records: u32) -> Result<(), NoMemory> {
     for i in 0..records {
         let request = request_of(alloc, i)?;
@@ -74,7 +74,7 @@ fn receipt_of(alloc: Global, i: u32) -> Result<Receipt, NoMemory> {
     })
 }
 
-/// Returns a worker's receipts: those of every so many records, from its own on.
+/// Returns a worker's receipts: one of `workers` records, from its own on.
 fn receipts_of(
     alloc: Global,
     worker: u32,

@@ -1,6 +1,6 @@
 //! What frames cost, so that the instructions of a call can be counted: `measure frames FORM ROUNDS` writes a frame,
-//! feeds its text to a reader in one piece, and takes the first frame off, so many times. With `behind FRAMES` so many
-//! more frames are unread. With `pieces BYTES` the texts of so many frames are fed in pieces of so many bytes, and
+//! feeds its text to a reader in one piece, and takes the first frame off, once a round. With `behind FRAMES` that many
+//! more frames are unread. With `pieces BYTES` the text of a frame for each round is fed in pieces of BYTES bytes, and
 //! after each piece all whole frames are taken.
 use crate::told::Told;
 use crate::words::number_at;
@@ -68,14 +68,14 @@ fn has_fed(alloc: Global, reader: &mut FrameReader, frame: &Frame) -> bool {
     fed
 }
 
-/// Feeds a frame so many times.
+/// Feeds a frame `frames` times.
 fn feed_frames(alloc: Global, reader: &mut FrameReader, frame: &Frame, frames: u32) {
     for _ in 0..frames {
         has_fed(alloc, reader, frame);
     }
 }
 
-/// Feeds a frame so many times, takes the first one each time, and counts those that were taken.
+/// Feeds a frame `rounds` times, takes the first one each time, and counts those that were taken.
 fn take_each(alloc: Global, reader: &mut FrameReader, frame: &Frame, rounds: u32) -> u32 {
     let mut taken = 0u32;
     for _ in 0..rounds {
@@ -86,7 +86,7 @@ fn take_each(alloc: Global, reader: &mut FrameReader, frame: &Frame, rounds: u32
     taken
 }
 
-/// Feeds a frame so many times, behind others, and counts the frames that were taken.
+/// Feeds a frame `rounds` times behind `behind` others, and counts the frames that were taken.
 fn take_behind(alloc: Global, frame: &Frame, rounds: u32, behind: u32) -> u32 {
     let mut reader = FrameReader::new(alloc);
     feed_frames(alloc, &mut reader, frame, behind);
@@ -95,7 +95,7 @@ fn take_behind(alloc: Global, frame: &Frame, rounds: u32, behind: u32) -> u32 {
     taken
 }
 
-/// Puts a text behind itself until it stands there so many times.
+/// Puts a text behind itself until it stands there `rounds` times.
 fn repeated(alloc: Global, text: &[u8], rounds: u32) -> Result<Vec<u8>, AllocError> {
     let mut texts = Vec::new(alloc);
     for _ in 0..rounds {
@@ -104,7 +104,7 @@ fn repeated(alloc: Global, text: &[u8], rounds: u32) -> Result<Vec<u8>, AllocErr
     Ok(texts)
 }
 
-/// Writes a frame so many times, one text behind the other.
+/// Writes a frame `rounds` times, one text behind the other.
 fn text_of(alloc: Global, frame: &Frame, rounds: u32) -> Result<Vec<u8>, NoMemory> {
     let Ok(text) = write(alloc, frame) else {
         return Err(NoMemory);
@@ -126,7 +126,7 @@ fn take_whole(reader: &mut FrameReader, piece: &[u8]) -> u32 {
     taken
 }
 
-/// Feeds a text in pieces of so many bytes, and counts the frames that were taken.
+/// Feeds a text in pieces of `bytes` bytes, and counts the frames that were taken.
 fn take_pieces(alloc: Global, text: &[u8], bytes: u32) -> u32 {
     let mut reader = FrameReader::new(alloc);
     let mut taken = 0u32;
@@ -139,7 +139,7 @@ fn take_pieces(alloc: Global, text: &[u8], bytes: u32) -> u32 {
     taken
 }
 
-/// Takes so many frames in pieces of so many bytes, and counts those that were taken.
+/// Takes `rounds` frames in pieces of `bytes` bytes, and counts those that were taken.
 fn take_in_pieces(alloc: Global, frame: &Frame, rounds: u32, bytes: u32) -> Result<u32, NoMemory> {
     let text = text_of(alloc, frame, rounds)?;
     let taken = take_pieces(alloc, text.as_slice(), bytes);
@@ -147,7 +147,7 @@ fn take_in_pieces(alloc: Global, frame: &Frame, rounds: u32, bytes: u32) -> Resu
     Ok(taken)
 }
 
-/// Takes so many frames in pieces or whole, as words say, and counts those that were taken.
+/// Takes `rounds` frames in pieces or whole, as words say, and counts those that were taken.
 fn take_frames(
     alloc: Global,
     frame: &Frame,

@@ -47,7 +47,7 @@ fn body_of(alloc: Global, form: &str) -> Result<Vec<u8>, AllocError> {
     }
 }
 
-/// Writes the body of a BATCH_FORGET of 256 items, which tells so many more.
+/// Writes the body of a BATCH_FORGET of 256 items, which tells `excess` more.
 fn batch(alloc: Global, excess: u8) -> Result<Vec<u8>, AllocError> {
     let mut body = Vec::from_slice(alloc, &[excess, 1, 0, 0, 0, 0, 0, 0])?;
     for i in 0..256u64 {
@@ -152,7 +152,7 @@ fn round(
     Ok(told)
 }
 
-/// Reads messages so many times.
+/// Reads messages `rounds` times.
 fn read_rounds(
     alloc: Global,
     form: &str,
@@ -170,7 +170,7 @@ fn read_rounds(
     Ok((read, sum))
 }
 
-/// Reads the messages of a form so many times.
+/// Reads the messages of a form `rounds` times.
 fn read_form(alloc: Global, form: &str, rounds: u32) -> Result<(usize, u64), AllocError> {
     let texts = messages(alloc, form)?;
     let told = read_rounds(alloc, form, texts.as_slice(), rounds);

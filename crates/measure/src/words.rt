@@ -5,11 +5,12 @@ const USAGE: &str = "usage: measure [SUBJECT WORD..]
   arena CAPACITY [times]
   checkout LINES [times]
   image ENTRIES UNLINKED [times]
-  map ENTRIES [holes | given]
-  requests LINES DEPTH
+  map ENTRIES [holes | given | random]
+  requests LINES DEPTH | random
   wire FORM ROUNDS
   frames FORM ROUNDS [behind FRAMES | pieces BYTES]
   journal RECORDS WORKERS ROUNDS
+  rounds WORKERS ASKS ROUNDS [times]
 The forms of wire are lookup, getattr, forget, batch, forget-items, batch-items, short, bad-length, bad-body, bad-count
 and bad-name; those of frames are claim, ask and data. Without words a small run of each is made.";
 

@@ -1,0 +1,30 @@
+//! Random numbers, the same in each run, and the limit at which they are asked for.
+use eden_base::Number;
+
+/// How many attributes the program keeps loaded where its words don't say.
+pub(crate) const DEFAULT_LIMIT: usize = 1024;
+
+/// How many random numbers are asked for.
+pub(crate) const ASKED: u64 = 20_000;
+
+/// The last word of a linear congruential sequence (Knuth's MMIX).
+#[derive(Drop)]
+pub(crate) struct Random {
+    word: u64,
+}
+
+impl Random {
+    /// Begins the sequence.
+    pub(crate) fn new() -> Random {
+        Random { word: 1 }
+    }
+
+    /// Returns one of the numbers that were given, which begin with 2.
+    pub(crate) fn number(&mut self, given: u64) -> Number {
+        self.word = self
+            .word
+            .wrapping_mul(6_364_136_223_846_793_005)
+            .wrapping_add(1_442_695_040_888_963_407);
+        Number(((self.word >> 33) % given.max(1)).wrapping_add(2))
+    }
+}

@@ -1,0 +1,217 @@
+//! Serves rounds of workers one after another, so that the instructions and the time of one can be counted:
+//! `measure rounds WORKERS ASKS ROUNDS [times]`. Each worker may take 64 requests a round, and finds ASKS.
+ghost use Rattle.std.specs.Prelude.{◌≡◌, vec_len, IfOk, IfSome};
+
+use crate::lines::{manifest_from, manifest_text};
+use crate::told::Told;
+use crate::words::number_at;
+use checkout::ManifestBacking;
+use eden_base::{NoMemory, Number};
+use fuse_ops::Served;
+use fuse_wire::{Ask, Reply, Request};
+use manifest::Manifest;
+use std::alloc::Global;
+use std::rt::Clock;
+use std::sync::Wait;
+use std::thread::Threads;
+use std::time::Duration;
+use workers::{
+    Channel, MAX_CHANNELS, OpenGate, Posted, Rooms, Round, Settled, Stop, Taken, drain, serve_round,
+};
+
+/// The most requests that a worker takes in a round.
+const TURNS: usize = 64;
+
+const LOADED_LIMIT: usize = 64;
+
+/// A channel that asks for the root's attributes until none is left, and takes no memory.
+#[derive(Drop)]
+struct Rooted {
+    left: u64,
+    posted: u64,
+}
+
+impl Channel for Rooted {
+    ghost use Rattle.std.specs.Prelude.{false, [], ⊤};
+
+    ghost takes = { λ _ _ _. ⊤ };
+
+    ghost posts = { λ _ _ _ _. ⊤ };
+
+    ghost tells = { false };
+
+    ghost told = { λ channel. record { taken = []; posted = [] } };
+
+    fn take(&mut self) -> Taken {
+        if self.left == 0 {
+            return Taken::Empty;
+        }
+        self.left -= 1;
+        Taken::Ask(Ask {
+            unique: self.left,
+            what: Request::Getattr { node: Number::ROOT },
+        })
+    }
+
+    fn post(&mut self, _reply: Reply) -> Posted {
+        self.posted = self.posted.wrapping_add(1);
+        Posted::Done
+    }
+}
+
+/// What stands between two rounds.
+type Between<'a> = Settled<ManifestBacking<'a>, Rooted>;
+
+/// Returns a channel for each worker.
+fn channels_of(alloc: Global, workers: usize) -> Result<Vec<Rooted>, NoMemory> {
+    let mut channels = Vec::new(alloc);
+    for _worker in 0..workers {
+        channels.push(Rooted { left: 0, posted: 0 })?;
+    }
+    Ok(channels)
+}
+
+/// Begins to serve a manifest.
+fn begin<'a>(alloc: Global, manifest: &'a Manifest, workers: usize) -> Result<Between<'a>, NoMemory>
+    ensures over { IfOk result (λ between. between.served.tree.manifest ≡ manifest.now) }
+{
+    let channels = channels_of(alloc, workers)?;
+    let served = Served::new(alloc, manifest, LOADED_LIMIT)?;
+    Ok(Settled {
+        rooms: Rooms::new(alloc),
+        served,
+        backing: ManifestBacking::of(manifest),
+        channels,
+    })
+}
+
+/// Gives each channel `asks` asks.
+fn ask(channels: &mut Vec<Rooted>, asks: u64) {
+    for channel in channels.iter_mut() {
+        channel.left = asks;
+    }
+}
+
+/// Drains a round. There is nothing to tell where it is not settled.
+fn drained(alloc: Global, round: Round<ManifestBacking<'_>, Rooted>) -> Option<Between<'_>>
+    ensures served { IfSome result (λ between. between.served ≡ round.entry.served) }
+{
+    match drain(alloc, round) {
+        Ok(settled) => Some(settled),
+        Err(_fault) => None,
+    }
+}
+
+/// Serves a round and drains it. There is nothing to tell where it is not settled.
+fn next<'a, R: Threads + Wait + Sync>(
+    rt: &R,
+    alloc: Global,
+    manifest: &'a Manifest,
+    between: Between<'a>,
+    asks: u64,
+) -> Option<Between<'a>>
+    requires over { between.served.tree.manifest ≡ manifest.now }
+    ensures over { IfSome result (λ after. after.served.tree.manifest ≡ manifest.now) }
+{
+    let Settled {
+        rooms,
+        served,
+        backing,
+        mut channels,
+    } = between;
+    drop(backing);
+    let backing = ManifestBacking::of(manifest);
+    ask(&mut channels, asks);
+    if channels.is_empty() || channels.len() > MAX_CHANNELS {
+        drop(rooms);
+        drop(served);
+        drop(channels);
+        return None;
+    }
+    let stop = Stop::new();
+    match serve_round(
+        rt, alloc, rooms, served, backing, channels, TURNS, &OpenGate, &stop,
+    ) {
+        Ok(round) => drained(alloc, round),
+        Err(_fault) => None,
+    }
+}
+
+/// Serves `rounds` rounds one after another, each with as many asks.
+fn serve_rounds<'a, R: Threads + Wait + Sync>(
+    rt: &R,
+    alloc: Global,
+    manifest: &'a Manifest,
+    begun: Between<'a>,
+    asks: u64,
+    rounds: u32,
+) -> Option<Between<'a>>
+    requires over { begun.served.tree.manifest ≡ manifest.now }
+{
+    let mut between = begun;
+    for _round in 0..rounds {
+        between = next(rt, alloc, manifest, between, asks)?;
+    }
+    Some(between)
+}
+
+/// Returns how many replies were posted to all channels.
+fn posted(channels: &[Rooted]) -> u64 {
+    let mut all = 0u64;
+    for channel in channels {
+        all = all.wrapping_add(channel.posted);
+    }
+    all
+}
+
+/// Returns the nanoseconds between two moments, for each of `rounds` rounds.
+fn each_between(started: Duration, ended: Duration, rounds: u32) -> u64 {
+    let spent = ended.saturating_sub(started);
+    let nanos = spent
+        .as_secs()
+        .saturating_mul(1_000_000_000)
+        .saturating_add(u64::from(spent.subsec_nanos()));
+    nanos / u64::from(rounds.max(1))
+}
+
+/// Serves rounds of these workers over a manifest, and tells how many replies were posted and the time of a round.
+fn told_of<R: Threads + Wait + Clock + Sync>(
+    rt: &R,
+    alloc: Global,
+    manifest: &Manifest,
+    words: (u32, u32, u32),
+) -> Result<Option<(u64, u64)>, NoMemory> {
+    let (workers, asks, rounds) = words;
+    let begun = begin(alloc, manifest, workers as usize)?;
+    let started = rt.monotonic().unwrap_or(Duration::ZERO);
+    let Some(ended) = serve_rounds(rt, alloc, manifest, begun, u64::from(asks), rounds) else {
+        return Ok(None);
+    };
+    let now = rt.monotonic().unwrap_or(Duration::ZERO);
+    let replies = posted(ended.channels.as_slice());
+    drop(ended);
+    Ok(Some((replies, each_between(started, now, rounds))))
+}
+
+/// Serves rounds as words say.
+pub(crate) fn measure<R: Threads + Wait + Clock + Sync>(
+    rt: &R,
+    alloc: Global,
+    words: &[&str],
+) -> Result<Option<Told>, NoMemory> {
+    let (Some(workers), Some(asks)) = (number_at(words, 0), number_at(words, 1)) else {
+        return Ok(None);
+    };
+    let Some(rounds) = number_at(words, 2) else {
+        return Ok(None);
+    };
+    let times = matches!(words.get(3), Some(&"times"));
+    let manifest = manifest_from(alloc, manifest_text(alloc, 1, 10)?)?;
+    let told = told_of(rt, alloc, &manifest, (workers, asks, rounds));
+    drop(manifest);
+    Ok(match told? {
+        None => None,
+        Some((replies, _nanos)) if !times => Some(Told::of(&["replies"], &[replies])),
+        Some((replies, nanos)) => Some(Told::of(&["replies", "round"], &[replies, nanos])),
+    })
+}
