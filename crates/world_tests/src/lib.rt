@@ -1,6 +1,10 @@
-//! Tests of `daemon`, `world`, `script_lines` and `world_script` by their public calls.
+//! Tests of `daemon`, `daemon_desk`, `world`, `script_lines`, `world_script` and `broker_script` by their public calls.
 #![tactic(auto)]
 
+#[cfg(test)]
+mod broker_script_tests;
+#[cfg(test)]
+mod daemon_desk_tests;
 #[cfg(test)]
 mod daemon_tests;
 #[cfg(test)]

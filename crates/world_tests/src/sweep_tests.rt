@@ -6,7 +6,7 @@ use crate::sweep_tests::long::{are_handed_on, goes_on, is_run};
 use crate::world_tests::deeds::{Deed, LOOK_UP_SRC, Wish};
 use std::alloc::Global;
 
-/// Deeds that are done in turn so many times.
+/// A count of rounds, and the deeds of each.
 pub type Round = (u32, &'static [Deed]);
 
 /// What is made in many sizes.
@@ -14,9 +14,9 @@ pub type Round = (u32, &'static [Deed]);
 enum Sweep {
     /// Rounds, of which no deed is refused.
     Rounds(&'static [Round]),
-    /// A seat that goes from daemon to daemon so many times.
+    /// A seat that goes from daemon to daemon this often.
     Takeovers(u64),
-    /// A list of so many events.
+    /// A list of this count of events.
     Run(usize),
 }
 

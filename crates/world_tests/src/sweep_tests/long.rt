@@ -31,7 +31,7 @@ fn are_done(alloc: Global, world: &mut World, deeds: &[Deed]) -> bool {
     true
 }
 
-/// Does the deeds of a round so many times as it says.
+/// Does the deeds of a round as often as it says.
 fn is_round_done(alloc: Global, world: &mut World, round: Round) -> bool {
     let (times, deeds) = round;
     for _ in 0..times {
@@ -82,7 +82,7 @@ fn is_handed_on(alloc: Global, world: &mut World, old: u64, offer: u64) -> bool 
     are_done(alloc, world, &deeds)
 }
 
-/// Hands the seat on so many times, from the first daemon to the second and so on. A takeover has five messages.
+/// Hands the seat on `times` times, from each daemon to the next. A takeover has five messages.
 fn hands_on(alloc: Global, world: &mut World, times: u64) -> bool {
     if !are_done(alloc, world, &[Deed::Start, Deed::Mount(1)]) {
         return false;
@@ -123,7 +123,7 @@ fn has_outcomes(alloc: Global, manifest: &Manifest, events: &[Event]) -> bool {
     }
 }
 
-/// Puts so many lookups, and returns whether all were put.
+/// Puts `count` lookups, and returns whether all were put.
 fn are_put(alloc: Global, events: &mut Vec<Event>, count: usize) -> bool {
     for _ in 0..count {
         if !is_put(alloc, events, Deed::Issue(Wish::LookUp(1, b"src"))) {
@@ -133,7 +133,7 @@ fn are_put(alloc: Global, events: &mut Vec<Event>, count: usize) -> bool {
     true
 }
 
-/// Returns whether a list of so many events is run.
+/// Returns whether a list of `count` events is run.
 fn are_run(alloc: Global, events: &mut Vec<Event>, count: usize) -> bool {
     if !are_put(alloc, events, count) {
         return false;

@@ -2,7 +2,7 @@
 use super::prints;
 use std::alloc::{AllocError, Global};
 
-/// Adds the lines of a manifest of so many, the commit's with them.
+/// Adds a manifest of `lines` lines, the commit's with them.
 fn add_manifest(text: &mut String, lines: u32) -> Result<(), AllocError> {
     text.push_str("commit 0123456789abcdef0123456789abcdef01234567\n")?;
     for number in 1..lines {
@@ -11,7 +11,7 @@ fn add_manifest(text: &mut String, lines: u32) -> Result<(), AllocError> {
     Ok(())
 }
 
-/// Returns whether this is printed for a daemon that starts behind a manifest of so many lines. It is run again where
+/// Returns whether this is printed for a daemon that starts behind a manifest of `lines` lines. It is run again where
 /// an allocation may have been refused.
 fn starts_behind(alloc: Global, lines: u32, printed: &[u8]) -> bool {
     starts_once(alloc, lines, printed) || starts_once(alloc, lines, printed)
@@ -31,7 +31,7 @@ fn takes_65536_lines_of_a_manifest_and_no_more(rt: HostRuntime) {
     assert!(rt; starts_behind(rt.alloc(), 65_537, b"fault: line 65537: TooManyLines\n"));
 }
 
-/// Adds a line so many times.
+/// Adds a line `count` times.
 fn add_times(text: &mut String, line: &str, count: u32) -> Result<(), AllocError> {
     for _ in 0..count {
         text.push_str(line)?;
@@ -39,8 +39,8 @@ fn add_times(text: &mut String, line: &str, count: u32) -> Result<(), AllocError
     Ok(())
 }
 
-/// Returns whether a script of so many bytes in all, with so many lines `show` behind its 51 first, prints this line so
-/// many times. It is run again where an allocation may have been refused.
+/// Returns whether a script of `bytes` bytes prints `line` `printed` times, where `count` lines `show` stand behind its
+/// first 51. It is run again where an allocation may have been refused.
 fn shows(alloc: Global, bytes: usize, count: u32, line: &str, printed: u32) -> bool {
     shows_once(alloc, bytes, count, line, printed) || shows_once(alloc, bytes, count, line, printed)
 }

@@ -1,7 +1,10 @@
 //! The program in processes in memory: their words and streams, what the streams get, and the status.
 use std::alloc::Global;
 use std::io::{self, ErrorKind, Write};
-use world_script::{Process, Sources, run_process};
+use world_script::{
+    BrokerWords, Cause, DaemonWords, Errand, Errands, Failure, Fault, Process, Sources, Start,
+    run_process,
+};
 
 /// A script on standard input, and two in files.
 const INPUT: &[u8] = b"commit 0123456789abcdef0123456789abcdef01234567\n--\nstart\n";
@@ -64,7 +67,69 @@ impl Process for InMemory {
     }
 }
 
-/// A writer that takes so many bytes.
+/// Errands that print their words. A broker can't listen at `taken`.
+struct Printed;
+
+impl Errands for Printed {
+    fn run<'a, S: Sources, W: Write>(
+        &self,
+        _alloc: Global,
+        _sources: &S,
+        errand: &Errand<'a>,
+        out: &mut W,
+    ) -> Result<(), Failure<'a>> {
+        let printed = match errand {
+            Errand::Broker(words) if words.socket == "taken" => return Err(not_free(words)),
+            Errand::Broker(words) => print_broker(words, out),
+            Errand::Daemon(words) => print_daemon(words, out),
+        };
+        match printed {
+            Ok(()) => Ok(()),
+            Err(error) => Err(not_printed(error)),
+        }
+    }
+}
+
+fn not_free<'a>(words: &BrokerWords<'a>) -> Failure<'a> {
+    Failure {
+        fault: Fault::CannotListen,
+        cause: Some(Cause {
+            name: words.socket,
+            error: io::Error::from(ErrorKind::AddrInUse),
+        }),
+    }
+}
+
+fn not_printed(error: io::Error) -> Failure<'static> {
+    Failure {
+        fault: Fault::CannotWrite,
+        cause: Some(Cause {
+            name: "standard output",
+            error,
+        }),
+    }
+}
+
+fn print_broker<W: Write>(words: &BrokerWords<'_>, out: &mut W) -> io::Result<()> {
+    writeln!(out, "broker {} {}", words.socket, words.script)?;
+    out.flush()
+}
+
+fn print_daemon<W: Write>(words: &DaemonWords<'_>, out: &mut W) -> io::Result<()> {
+    let start = match words.start {
+        Start::Mount => "mount",
+        Start::Takeover => "takeover",
+    };
+    writeln!(
+        out,
+        "{start} {} {} {}",
+        words.broker, words.takeover, words.manifest
+    )?;
+    writeln!(out, "{} {} {}", words.workers, words.limit, words.patience)?;
+    out.flush()
+}
+
+/// A writer that takes `room` bytes.
 #[derive(Drop)]
 struct Room {
     text: Vec<u8>,
@@ -105,7 +170,7 @@ const AMPLE: Rooms = [4096, 4096, 4096];
 /// A buffer for which there is no memory.
 const NONE: usize = usize::MAX;
 
-static ROWS: [Row; 20] = [
+static ROWS: [Row; 35] = [
     (Some(&[]), AMPLE, 0, b"daemon 1\n", b"", true),
     (Some(&["world", "-"]), AMPLE, 0, b"daemon 1\n", b"", true),
     (
@@ -165,6 +230,144 @@ static ROWS: [Row; 20] = [
         2,
         b"",
         b"error: a word of the command line is not UTF-8\n\nUsage: edend [COMMAND]\n\nFor more information, try '--help'.\n",
+        true,
+    ),
+    // Errands: each part is the word at its place, or the number of its option.
+    (
+        Some(&["broker", "s", "-"]),
+        AMPLE,
+        0,
+        b"broker s -\n",
+        b"",
+        true,
+    ),
+    (
+        Some(&["broker", "taken", "t"]),
+        AMPLE,
+        1,
+        b"fault: cannot listen\n",
+        b"edend: taken: address in use\n",
+        true,
+    ),
+    (
+        Some(&["daemon", "--mount", "b", "t", "m"]),
+        AMPLE,
+        0,
+        b"mount b t m\n2 1024 2000\n",
+        b"",
+        true,
+    ),
+    (
+        Some(&["daemon", "--takeover", "b", "t", "m"]),
+        AMPLE,
+        0,
+        b"takeover b t m\n2 1024 2000\n",
+        b"",
+        true,
+    ),
+    (
+        Some(&[
+            "daemon",
+            "b",
+            "--workers",
+            "16",
+            "t",
+            "--limit=65536",
+            "m",
+            "--patience",
+            "600000",
+            "--mount",
+        ]),
+        AMPLE,
+        0,
+        b"mount b t m\n16 65536 600000\n",
+        b"",
+        true,
+    ),
+    (
+        Some(&[
+            "daemon",
+            "--takeover",
+            "--workers",
+            "+1",
+            "--limit",
+            "1",
+            "--patience",
+            "1",
+            "b",
+            "t",
+            "-",
+        ]),
+        AMPLE,
+        0,
+        b"takeover b t -\n1 1 1\n",
+        b"",
+        true,
+    ),
+    (
+        Some(&["daemon", "b", "t", "m"]),
+        AMPLE,
+        2,
+        b"",
+        b"error: ",
+        true,
+    ),
+    (
+        Some(&["daemon", "--mount", "--takeover", "b", "t", "m"]),
+        AMPLE,
+        2,
+        b"",
+        b"error: the argument '--mount' cannot be used with '--takeover'\n\nUsage: edend daemon [OPTIONS] <--mount|--takeover> <BROKER> <TAKEOVER> <MANIFEST>\n\nFor more information, try '--help'.\n",
+        true,
+    ),
+    (
+        Some(&["daemon", "--mount", "b", "t"]),
+        AMPLE,
+        2,
+        b"",
+        b"error: ",
+        true,
+    ),
+    (
+        Some(&["daemon", "--mount", "b", "t", "m", "--workers", "0"]),
+        AMPLE,
+        2,
+        b"",
+        b"error: ",
+        true,
+    ),
+    (
+        Some(&["daemon", "--mount", "b", "t", "m", "--workers", "17"]),
+        AMPLE,
+        2,
+        b"",
+        b"error: ",
+        true,
+    ),
+    (
+        Some(&["daemon", "--mount", "b", "t", "m", "--patience", "0"]),
+        AMPLE,
+        2,
+        b"",
+        b"error: ",
+        true,
+    ),
+    (
+        Some(&["daemon", "--mount=yes", "b", "t", "m"]),
+        AMPLE,
+        2,
+        b"",
+        b"error: ",
+        true,
+    ),
+    (Some(&["broker", "s"]), AMPLE, 2, b"", b"error: ", true),
+    // An errand whose line can't be written tells so itself; one that can be is gathered no further.
+    (
+        Some(&["broker", "s", "t"]),
+        [4096, 3, 4096],
+        1,
+        b"",
+        b"edend: standard output: no storage space\n",
         true,
     ),
     // Output that can't be written: lines of events, the version, and a fault beside which a file can't be read.
@@ -264,7 +467,7 @@ fn ends_so(alloc: Global, row: &Row) -> bool {
         words: row.0,
         rooms: row.1,
     };
-    let ran = run_process(alloc, &process);
+    let ran = run_process(alloc, &process, &Printed);
     let is_so = ran.status == row.2
         && is_text(ran.output.text.as_slice(), row.3)
         && is_text(ran.errors.text.as_slice(), row.4)

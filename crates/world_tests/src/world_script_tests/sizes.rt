@@ -100,7 +100,7 @@ fn add_directories(long: &mut Long) -> Result<(), AllocError> {
     long.lines.push_str("forgot Dropped\nseat 1 1 next 302\n")
 }
 
-/// Looks the directory at a depth up, whose path is `d` so many times.
+/// Looks the directory at a depth up, whose path is `depth` names `d`.
 fn add_directory(long: &mut Long, depth: u32) -> Result<(), AllocError> {
     long.manifest.push_str("dir d")?;
     for _ in 1..depth {

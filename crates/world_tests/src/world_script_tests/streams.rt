@@ -53,7 +53,7 @@ fn after_text(after: AfterText, buf: &mut [u8]) -> io::Result<usize>
     }
 }
 
-/// Returns whether this comes of a reader that goes on so, after so many reads, with nothing written. It is run again
+/// Returns whether this comes of a reader that goes on so, after `reads` reads, with no byte written. It is run again
 /// where an allocation may have been refused.
 fn reads_so(alloc: Global, after: AfterText, want: Result<(), Fault>, reads: usize) -> bool {
     reads_once(alloc, after, want, reads) || reads_once(alloc, after, want, reads)
@@ -80,7 +80,7 @@ fn reads_to_the_end_and_no_further(rt: HostRuntime) {
     assert!(rt; reads_so(rt.alloc(), AfterText::IsInterrupted, unread, 2_097_152));
 }
 
-/// A writer that takes so many bytes, and counts its writes.
+/// A writer that takes `room` bytes, and counts its writes.
 #[derive(Drop)]
 struct Full {
     room: usize,
@@ -107,7 +107,7 @@ impl Write for Full {
 const THREE_LINES: &[u8] =
     b"commit 0123456789abcdef0123456789abcdef01234567\n--\nstart\nmount 1\nshow\n";
 
-/// Returns whether this comes of a writer that takes so many bytes, after so many writes. It is run again where an
+/// Returns whether this comes of a writer that takes `room` bytes, after `writes` writes. It is run again where an
 /// allocation may have been refused.
 fn writes_so(alloc: Global, room: usize, want: Result<(), Fault>, writes: u32) -> bool {
     writes_once(alloc, room, want, writes) || writes_once(alloc, room, want, writes)

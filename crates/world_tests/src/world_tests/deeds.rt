@@ -1,4 +1,4 @@
-//! What happens to a world in a test and what comes of it, as data, so that a test is a table.
+//! What happens to a world in a test and its outcome, as data, so that a test is a table.
 use eden_base::Errno;
 use inode_map::Forgot;
 use world::Refusal;
@@ -95,7 +95,7 @@ pub enum Found {
     Alone(u64, u64),
     /// Who has the seat at which generation.
     Seat(u64, u64),
-    /// Nothing is served by a daemon.
+    /// A daemon serves nothing.
     NotServed(u64),
     /// A daemon has this many messages in hand, and this many replies that it did not post.
     UnderWay(u64, usize, usize),

@@ -1,0 +1,271 @@
+//! Steps of a broker's script and of the daemons between its lines. One that was refused memory is made once more.
+ghost use Rattle.std.specs.Prelude.{All};
+ghost use Rattle.script_lines.specs.BrokerLine.{IsSendableLine};
+
+use broker_core::IssueFault;
+use broker_desk::{Desk, Peer, Response};
+use broker_script::{
+    Awaited, Begun, BrokerScriptFault, Came, begin, look, print_begun, print_came,
+    read_broker_script,
+};
+use byte_codec::Bytes;
+use eden_base::{Attr, DaemonId, Errno, Kind, NoMemory, Number, Perm};
+use frames::Frame;
+use fuse_wire::{Answer, MAX_REPLY_LEN, Reply, write_reply};
+use script_lines::BrokerLine;
+use std::alloc::Global;
+
+/// What a daemon does, which has to succeed.
+#[derive(Clone, Copy)]
+pub enum Deed {
+    Attaches,
+    Mounts,
+    /// It takes what waits first, at a generation.
+    Takes(u64),
+    /// It posts at a generation that a name isn't there, for a unique.
+    PostsError(u64, u64),
+    /// It posts at a generation an entry for a unique, of a number.
+    PostsEntry(u64, u64, u64),
+    /// It claims the seat of a generation.
+    Claims(u64),
+}
+
+/// What happens, and what is printed then.
+#[derive(Clone, Copy)]
+pub enum Step {
+    /// The next line of the script is begun, and prints this.
+    Begins(&'static [u8]),
+    /// What is awaited did not come.
+    Waits,
+    /// What is awaited came, which prints this.
+    Comes(&'static [u8]),
+    /// A daemon does this on a connection, counted from 0.
+    On(usize, Deed),
+    /// A connection ends.
+    Leaves(usize),
+}
+
+/// A desk with three connections, the lines that are left of a script, and what the last one waits for.
+#[derive(Drop)]
+struct Course<'a> {
+    desk: Desk,
+    peers: [Peer; 3],
+    lines: &'a [BrokerLine],
+    awaited: Option<Awaited>,
+    ghost sendable: { All IsSendableLine lines.now },
+}
+
+/// Writes a reply as a Post has it.
+fn reply_bytes(alloc: Global, unique: u64, answer: Answer) -> Result<Bytes, NoMemory> {
+    let mut bytes = [0; MAX_REPLY_LEN];
+    let len = write_reply(&Reply { unique, answer }, &mut bytes);
+    Ok(Bytes::of(Vec::from_slice(alloc, &bytes[..len])?))
+}
+
+/// Makes the answer that gives a number of a directory out.
+fn entry(number: u64) -> Answer {
+    let Some(perm) = Perm::of(0o755) else {
+        return Answer::Done;
+    };
+    Answer::Entry {
+        number: Number(number),
+        attr: Attr {
+            kind: Kind::Dir,
+            perm,
+            size: 0,
+            nlink: 2,
+        },
+    }
+}
+
+/// Makes the frame of a deed.
+fn frame_of(alloc: Global, deed: Deed) -> Result<Frame, NoMemory> {
+    Ok(match deed {
+        Deed::Attaches => Frame::Attach(DaemonId(0)),
+        Deed::Mounts => Frame::Mount,
+        Deed::Takes(generation) => Frame::Take { generation },
+        Deed::PostsError(generation, unique) => Frame::Post {
+            generation,
+            reply: reply_bytes(alloc, unique, Answer::Error(Errno::ENOENT))?,
+        },
+        Deed::PostsEntry(generation, unique, number) => Frame::Post {
+            generation,
+            reply: reply_bytes(alloc, unique, entry(number))?,
+        },
+        Deed::Claims(generation) => Frame::Claim { generation },
+    })
+}
+
+/// Returns whether a deed succeeded, by what the daemon is told.
+fn is_done(deed: Deed, told: &Response) -> bool {
+    matches!(
+        (deed, told),
+        (Deed::Attaches, Response::Tells(Frame::Attached(_)))
+            | (Deed::Mounts, Response::Tells(Frame::Mounted { .. }))
+            | (Deed::Takes(_), Response::Tells(Frame::Ask(_)))
+            | (Deed::PostsError(..), Response::Tells(Frame::Posted))
+            | (Deed::PostsEntry(..), Response::Tells(Frame::Posted))
+            | (Deed::Claims(_), Response::Tells(Frame::Claimed { .. }))
+    )
+}
+
+/// Lets a daemon do a deed, and returns whether it succeeded.
+fn does_once(alloc: Global, course: &mut Course<'_>, at: usize, deed: Deed) -> bool {
+    let Some(peer) = course.peers.get_mut(at) else {
+        return false;
+    };
+    let Ok(frame) = frame_of(alloc, deed) else {
+        return false;
+    };
+    let told = course.desk.answer(peer, &frame);
+    drop(frame);
+    let is_done = is_done(deed, &told);
+    drop(told);
+    is_done
+}
+
+/// Lets a daemon do a deed as `does_once` does, once more where it did not succeed.
+fn does(alloc: Global, course: &mut Course<'_>, at: usize, deed: Deed) -> bool {
+    does_once(alloc, course, at, deed) || does_once(alloc, course, at, deed)
+}
+
+/// Returns whether what was begun prints this.
+fn prints_begun(alloc: Global, desk: &Desk, begun: &Begun, lines: &[u8]) -> bool {
+    let mut out = Vec::new(alloc);
+    let printed = print_begun(&mut out, desk.broker(), begun);
+    let so = printed.is_ok() && out.as_slice() == lines;
+    drop(out);
+    so
+}
+
+/// Returns whether what came prints this.
+fn prints_came(alloc: Global, came: &Came, lines: &[u8]) -> bool {
+    let mut out = Vec::new(alloc);
+    let printed = print_came(&mut out, came);
+    let so = printed.is_ok() && out.as_slice() == lines;
+    drop(out);
+    so
+}
+
+/// Begins the next line, and returns whether it prints this.
+fn begins(alloc: Global, course: &mut Course<'_>, lines: &[u8]) -> bool {
+    let Some((line, rest)) = course.lines.split_first() else {
+        return false;
+    };
+    course.lines = rest;
+    let mut begun = begin(&mut course.desk, line);
+    if begun == Begun::Refused(IssueFault::NoMemory) {
+        begun = begin(&mut course.desk, line);
+    }
+    if let Begun::Waits(awaited) = begun {
+        course.awaited = Some(awaited);
+    }
+    prints_begun(alloc, &course.desk, &begun, lines)
+        || prints_begun(alloc, &course.desk, &begun, lines)
+}
+
+/// Looks whether what is awaited came, once more where memory was refused.
+fn looked(course: &mut Course<'_>) -> Option<Came> {
+    let awaited = course.awaited?;
+    match look(&mut course.desk, &awaited) {
+        Some(Came::Lacks) => look(&mut course.desk, &awaited),
+        came => came,
+    }
+}
+
+/// Returns whether what is awaited came, and prints this.
+fn comes(alloc: Global, course: &mut Course<'_>, lines: &[u8]) -> bool {
+    match looked(course) {
+        Some(came) => prints_came(alloc, &came, lines) || prints_came(alloc, &came, lines),
+        None => false,
+    }
+}
+
+/// Ends a connection.
+fn leaves(course: &mut Course<'_>, at: usize) -> bool {
+    match course.peers.get(at) {
+        Some(peer) => {
+            course.desk.leave(*peer);
+            true
+        }
+        None => false,
+    }
+}
+
+/// Makes one step, and returns whether it goes as it says.
+fn goes_so(alloc: Global, course: &mut Course<'_>, step: Step) -> bool {
+    match step {
+        Step::Begins(lines) => begins(alloc, course, lines),
+        Step::Waits => looked(course).is_none(),
+        Step::Comes(lines) => comes(alloc, course, lines),
+        Step::On(at, deed) => does(alloc, course, at, deed),
+        Step::Leaves(at) => leaves(course, at),
+    }
+}
+
+/// Returns the course of a script from its first line on, at a new desk.
+fn course_of<'a>(desk: Desk, lines: &'a [BrokerLine]) -> Course<'a>
+    requires sendable { All IsSendableLine lines.now }
+{
+    Course {
+        desk,
+        peers: [Peer::Stranger; 3],
+        lines,
+        awaited: None,
+    }
+}
+
+/// Makes all steps with the lines of a script at a new desk, and returns whether each goes as it says and no line is
+/// left.
+fn all_go_so_of(alloc: Global, lines: &[BrokerLine], steps: &[Step]) -> bool
+    requires sendable { All IsSendableLine lines.now }
+{
+    let Ok(desk) = Desk::new(alloc) else {
+        return false;
+    };
+    let mut course = course_of(desk, lines);
+    let mut so = true;
+    for step in steps {
+        so = so && goes_so(alloc, &mut course, *step);
+    }
+    so = so && course.lines.is_empty();
+    drop(course);
+    so
+}
+
+/// Reads a script, and makes all steps with its lines.
+fn all_go_so_once(alloc: Global, script: &[u8], steps: &[Step]) -> bool {
+    let Ok(lines) = read_broker_script(alloc, script) else {
+        return false;
+    };
+    let so = all_go_so_of(alloc, lines.as_slice(), steps);
+    drop(lines);
+    so
+}
+
+/// Makes all steps as `all_go_so_once` does, once more where they do not go so.
+pub fn all_go_so(alloc: Global, script: &[u8], steps: &[Step]) -> bool {
+    all_go_so_once(alloc, script, steps) || all_go_so_once(alloc, script, steps)
+}
+
+/// Reads a text, and returns how many lines it has, or the number of the first bad one; 0 where memory was refused.
+fn read_so(alloc: Global, text: &[u8]) -> Result<usize, usize> {
+    match read_broker_script(alloc, text) {
+        Ok(lines) => {
+            let count = lines.len();
+            drop(lines);
+            Ok(count)
+        }
+        Err(BrokerScriptFault::BadLine(number)) => Err(number),
+        Err(BrokerScriptFault::NoMemory) => Err(0),
+    }
+}
+
+/// Returns whether each text is read so, once more where it is not.
+pub fn reads_all(alloc: Global, texts: &[(&[u8], Result<usize, usize>)]) -> bool {
+    let mut so = true;
+    for (text, expected) in texts {
+        so = so && (read_so(alloc, text) == *expected || read_so(alloc, text) == *expected);
+    }
+    so
+}

@@ -1,0 +1,235 @@
+//! Worked examples: what daemons tell each other and ask of the broker, from desk to desk.
+mod steps;
+
+use crate::daemon_desk_tests::steps::{Says, Step, Told, all_go_so};
+use Step::{
+    Claims, GivesUp, Hears, Lends, LooksUp, Mounts, Offers, Prepares, Readies, Returns, Sent,
+    Serves, Wants,
+};
+use daemon_desk::{Claiming, Mounting};
+
+/// Daemon 0 mounts at generation 1.
+const MOUNTS: Step = Mounts(0, Says::Mounted(1), Mounting::Serves(1));
+
+static TAKEN_OVER: [Step; 33] = [
+    Serves(0, None),
+    Prepares(0),
+    MOUNTS,
+    Serves(0, Some(1)),
+    LooksUp(0, 2),
+    Offers(1),
+    Lends(0, true),
+    Hears(0, Told::Choice(1, 1)),
+    Hears(1, Told::Heeds),
+    Serves(0, Some(1)),
+    Readies(0, Told::Nothing),
+    Returns(0),
+    LooksUp(0, 2),
+    Readies(0, Told::Ready(1, 1)),
+    Serves(0, None),
+    Lends(0, false),
+    Readies(0, Told::Nothing),
+    Hears(1, Told::Pong(1)),
+    Hears(0, Told::Data(1, 1)),
+    Wants(0, None),
+    Wants(1, None),
+    Hears(1, Told::Heeds),
+    Wants(1, Some(1)),
+    Serves(1, None),
+    Claims(1, Says::Claimed(2), Claiming::Serves(2)),
+    Wants(1, None),
+    Serves(1, Some(2)),
+    LooksUp(1, 2),
+    GivesUp(0, Told::Failed(1)),
+    Wants(0, Some(1)),
+    Claims(0, Says::Stale(2), Claiming::Stale),
+    Wants(0, None),
+    GivesUp(0, Told::Nothing),
+];
+
+#[test]
+fn hands_over_to_a_new_daemon(rt: HostRuntime) {
+    assert!(rt; all_go_so(rt.alloc(), &TAKEN_OVER, &[]));
+}
+
+static MOUNTED: [Step; 16] = [
+    Mounts(0, Says::Mounted(1), Mounting::Broken),
+    Prepares(0),
+    Mounts(0, Says::Empty, Mounting::Broken),
+    Mounts(0, Says::Claimed(1), Mounting::Broken),
+    Mounts(0, Says::Pong(1), Mounting::Broken),
+    Mounts(0, Says::Seated, Mounting::Seated),
+    Mounts(0, Says::LastGeneration, Mounting::LastGeneration),
+    Mounts(0, Says::Ended, Mounting::Ended),
+    Serves(0, None),
+    Lends(0, false),
+    Mounts(0, Says::Mounted(7), Mounting::Serves(7)),
+    Serves(0, Some(7)),
+    Mounts(0, Says::Mounted(8), Mounting::Broken),
+    Prepares(0),
+    Mounts(0, Says::Mounted(8), Mounting::Broken),
+    Serves(0, Some(7)),
+];
+
+#[test]
+fn mounts_once_and_only_when_prepared(rt: HostRuntime) {
+    assert!(rt; all_go_so(rt.alloc(), &MOUNTED, &[]));
+}
+
+static REFUSED: [Step; 12] = [
+    Prepares(0),
+    MOUNTS,
+    Sent(0, Says::Offer(2), Told::NoCommon),
+    Serves(0, Some(1)),
+    Sent(1, Says::NoCommon, Told::Heeds),
+    Sent(1, Says::Choice(1, 1), Told::Ignores),
+    Sent(0, Says::Offer(1), Told::Choice(1, 1)),
+    Sent(0, Says::Offer(1), Told::Busy),
+    Sent(2, Says::Busy, Told::Heeds),
+    Sent(2, Says::Choice(1, 1), Told::Ignores),
+    GivesUp(2, Told::Nothing),
+    Readies(0, Told::Ready(1, 1)),
+];
+
+#[test]
+fn refuses_an_offer_of_other_versions_or_at_another_time(rt: HostRuntime) {
+    assert!(rt; all_go_so(rt.alloc(), &REFUSED, &[]));
+}
+
+static CLOSED: [Step; 9] = [
+    Prepares(0),
+    MOUNTS,
+    Sent(0, Says::Take(1), Told::Closes),
+    Sent(0, Says::Empty, Told::Closes),
+    Sent(0, Says::Ended, Told::Closes),
+    Sent(0, Says::Claimed(2), Told::Closes),
+    Sent(0, Says::Seated, Told::Closes),
+    Sent(0, Says::Pong(1), Told::Ignores),
+    Serves(0, Some(1)),
+];
+
+#[test]
+fn closes_where_no_daemon_sends_such_a_frame(rt: HostRuntime) {
+    assert!(rt; all_go_so(rt.alloc(), &CLOSED, &[]));
+}
+
+static LEFT_EARLY: [Step; 21] = [
+    Prepares(0),
+    MOUNTS,
+    LooksUp(0, 2),
+    GivesUp(0, Told::Nothing),
+    Offers(1),
+    Lends(0, true),
+    Hears(0, Told::Choice(1, 1)),
+    GivesUp(0, Told::Failed(1)),
+    Returns(0),
+    Readies(0, Told::Nothing),
+    LooksUp(0, 2),
+    Offers(1),
+    Hears(0, Told::Choice(2, 1)),
+    Hears(1, Told::Heeds),
+    Readies(0, Told::Ready(2, 1)),
+    Sent(0, Says::Pong(1), Told::Ignores),
+    Hears(1, Told::Pong(2)),
+    Sent(0, Says::Failed(2), Told::Heeds),
+    Sent(0, Says::Pong(2), Told::Ignores),
+    Wants(0, None),
+    LooksUp(0, 2),
+];
+
+#[test]
+fn serves_on_where_a_takeover_ends_before_the_data(rt: HostRuntime) {
+    assert!(rt; all_go_so(rt.alloc(), &LEFT_EARLY, &[]));
+}
+
+static LEFT_LATE: [Step; 25] = [
+    Prepares(0),
+    MOUNTS,
+    LooksUp(0, 2),
+    Offers(1),
+    Hears(0, Told::Choice(1, 1)),
+    Hears(1, Told::Heeds),
+    Readies(0, Told::Ready(1, 1)),
+    Hears(1, Told::Pong(1)),
+    Hears(0, Told::Data(1, 1)),
+    GivesUp(0, Told::Failed(1)),
+    Serves(0, None),
+    Lends(0, false),
+    Wants(0, Some(1)),
+    Claims(0, Says::Empty, Claiming::Broken),
+    Claims(0, Says::Mounted(2), Claiming::Broken),
+    Wants(0, Some(1)),
+    Claims(0, Says::Unanswered(3), Claiming::Waits),
+    Wants(0, Some(1)),
+    Claims(0, Says::Claimed(2), Claiming::Serves(2)),
+    Serves(0, Some(2)),
+    Claims(0, Says::Claimed(3), Claiming::Broken),
+    Serves(0, Some(2)),
+    LooksUp(0, 2),
+    GivesUp(1, Told::Nothing),
+    Mounts(1, Says::Mounted(3), Mounting::Broken),
+];
+
+#[test]
+fn serves_again_by_a_claim_where_a_takeover_ends_after_the_data(rt: HostRuntime) {
+    assert!(rt; all_go_so(rt.alloc(), &LEFT_LATE, &[]));
+}
+
+/// Daemon 1 is handed what daemon 0 serves.
+static HANDED: [Step; 8] = [
+    Prepares(0),
+    MOUNTS,
+    Offers(1),
+    Hears(0, Told::Choice(1, 1)),
+    Hears(1, Told::Heeds),
+    Readies(0, Told::Ready(1, 1)),
+    Hears(1, Told::Pong(1)),
+    Hears(0, Told::Data(1, 1)),
+];
+
+static ENDED: [Step; 5] = [
+    Hears(1, Told::Heeds),
+    Wants(1, Some(1)),
+    Claims(1, Says::Ended, Claiming::Ended),
+    Wants(1, None),
+    Claims(1, Says::Claimed(2), Claiming::Broken),
+];
+
+static AT_THE_LAST: [Step; 4] = [
+    Hears(1, Told::Heeds),
+    Claims(1, Says::LastGeneration, Claiming::LastGeneration),
+    Wants(1, None),
+    Serves(1, None),
+];
+
+static LATE: [Step; 4] = [
+    Hears(2, Told::Ignores),
+    Sent(1, Says::Failed(1), Told::Heeds),
+    Hears(1, Told::Ignores),
+    Wants(1, None),
+];
+
+#[test]
+fn is_gone_where_no_claim_can_be_granted(rt: HostRuntime) {
+    for endings in [ENDED.as_slice(), AT_THE_LAST.as_slice(), LATE.as_slice()] {
+        assert!(rt; all_go_so(rt.alloc(), &HANDED, endings));
+    }
+}
+
+static LENT: [Step; 10] = [
+    Prepares(0),
+    MOUNTS,
+    Lends(0, true),
+    Lends(0, false),
+    Serves(0, Some(1)),
+    Readies(0, Told::Nothing),
+    Returns(0),
+    Lends(0, true),
+    Returns(1),
+    Lends(1, false),
+];
+
+#[test]
+fn lends_what_it_serves_once_and_takes_back_only_that(rt: HostRuntime) {
+    assert!(rt; all_go_so(rt.alloc(), &LENT, &[]));
+}
