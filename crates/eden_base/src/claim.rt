@@ -11,7 +11,7 @@ pub enum ClaimFault {
     /// The seat is not at the generation that is claimed, but at this one.
     #[error("Stale {now}")]
     Stale { now: u64 },
-    /// So many asks that were taken have no reply yet.
+    /// Of the asks that were taken, `asks` have no reply yet.
     #[error("Unanswered {asks}")]
     Unanswered { asks: u64 },
     /// The seat is at the last generation.

@@ -15,7 +15,7 @@ pub record ReaderState : Type 0 where
 abbrev pub faulted : ReaderState → LinkFault → ReaderState
 faulted reader fault = record { unread = reader.unread; fault = Some fault }
 
--- what comes of a look for a frame while no fault stands: the first frame is taken off; or there is none yet; or its
+-- the answer to a look for a frame while no fault stands: the first frame is taken off; or there is none yet; or its
 -- fault stands from now on. Out of memory comes in place of a frame that takes some, and changes nothing
 abbrev pub Takes : ReaderState → Result (Option Frame) LinkFault → ReaderState → Type 0
 Takes old (Ok (Some frame)) new = (said old.unread ≡ First frame new.unread) × (new.fault ≡ None)
@@ -23,7 +23,7 @@ Takes old (Ok None) new = (said old.unread ≡ NotYet) × (new ≡ old)
 Takes old (Err NoMemory) new = SaysCopied (said old.unread) × (new ≡ old)
 Takes old (Err fault) new = (said old.unread ≡ Faulty fault) × (new ≡ faulted old fault)
 
--- what comes of it with this fault standing, if any: a fault that stands is answered again
+-- the answer with this fault standing, if any: a fault that stands is answered again
 abbrev pub TakesBeside : Option LinkFault → ReaderState → Result (Option Frame) LinkFault → ReaderState → Type 0
 TakesBeside None old result new = Takes old result new
 TakesBeside (Some fault) old result new = (result ≡ Err fault) × (new ≡ old)

@@ -165,7 +165,7 @@ IsRefusal said line fault = said ≡ Err (fault_at line fault)
 abbrev pub IsManifestRefusal : List ℕ → ManifestFault → Type 0
 IsManifestRefusal text fault = IsRefusal (manifest_of text) fault.line fault.kind
 
--- where a fault stands among so many lines, the last of which LF doesn't end: out of memory comes for lines that are
+-- where a fault stands among a count of lines, the last of which LF doesn't end: out of memory comes for lines that are
 -- ended, and for the commit's alone where no other follows it
 abbrev pub IsAmongLines : ℕ → ℕ → ManifestFaultKind → Type 0
 IsAmongLines count line NoMemory = (0 < line) × (line < count) × (line ≡ 1 → count ≡ 2)

@@ -1,4 +1,4 @@
-//! What comes of a message.
+//! The answer to a message.
 use crate::Message;
 
 /// What a daemon makes of a message that it hears.
@@ -6,7 +6,7 @@ use crate::Message;
 pub enum Heard {
     /// It is not for this phase or session, and changes nothing.
     Ignored,
-    /// It is taken, and nothing is to be said.
+    /// It is taken, and has no answer.
     Heard,
     /// This is to be said.
     Say(Message),

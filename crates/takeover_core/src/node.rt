@@ -15,7 +15,7 @@ pub enum DrainFault {
     /// It is not draining.
     #[error("WrongPhase")]
     WrongPhase,
-    /// So many asks and items are in hand, and so many replies not posted.
+    /// Asks and items are in hand, or replies are not posted: these counts of them.
     #[error("Undrained {in_hand} {unposted}")]
     Undrained { in_hand: usize, unposted: usize },
 }
@@ -286,8 +286,8 @@ impl Node {
         }
     }
 
-    /// Says that the daemon is ready to hand over, where it drains and has nothing left: so many asks and items in
-    /// hand, and so many replies not posted.
+    /// Says that the daemon is ready to hand over, where it drains and has nothing left: no ask or item of `in_hand`,
+    /// and no reply of `unposted`.
     pub fn drained(&mut self, in_hand: usize, unposted: usize) -> Result<Message, DrainFault>
         ensures ready { IfOk result (λ message.
             heard self.old (Drained in_hand unposted) ≡ Heard.Say message) }

@@ -31,7 +31,7 @@ fn comes(node: &mut Node, message: Message, expected: Heard) -> bool {
     is(heard, expected)
 }
 
-/// Makes a daemon of version 1 that serves at this generation and has begun so many sessions.
+/// Makes a daemon of version 1 that serves at this generation and has begun `sessions` sessions.
 fn serving(generation: u64, sessions: u32) -> Node {
     Node {
         phase: Phase::Serving { generation },
