@@ -45,14 +45,13 @@ pub enum Step {
     Leaves(usize),
 }
 
-/// A desk with three connections, the lines that are left of a script, and what the last one waits for.
+/// A desk with three connections, how many lines of a script were begun, and what the last one waits for.
 #[derive(Drop)]
-struct Course<'a> {
+struct Course {
     desk: Desk,
     peers: [Peer; 3],
-    lines: &'a [BrokerLine],
+    begun: usize,
     awaited: Option<Awaited>,
-    ghost sendable: { All IsSendableLine lines.now },
 }
 
 /// Writes a reply as a Post has it.
@@ -110,7 +109,7 @@ fn is_done(deed: Deed, told: &Response) -> bool {
 }
 
 /// Lets a daemon do a deed, and returns whether it succeeded.
-fn does_once(alloc: Global, course: &mut Course<'_>, at: usize, deed: Deed) -> bool {
+fn does_once(alloc: Global, course: &mut Course, at: usize, deed: Deed) -> bool {
     let Some(peer) = course.peers.get_mut(at) else {
         return false;
     };
@@ -125,7 +124,7 @@ fn does_once(alloc: Global, course: &mut Course<'_>, at: usize, deed: Deed) -> b
 }
 
 /// Lets a daemon do a deed as `does_once` does, once more where it did not succeed.
-fn does(alloc: Global, course: &mut Course<'_>, at: usize, deed: Deed) -> bool {
+fn does(alloc: Global, course: &mut Course, at: usize, deed: Deed) -> bool {
     does_once(alloc, course, at, deed) || does_once(alloc, course, at, deed)
 }
 
@@ -147,12 +146,15 @@ fn prints_came(alloc: Global, came: &Came, lines: &[u8]) -> bool {
     so
 }
 
-/// Begins the next line, and returns whether it prints this.
-fn begins(alloc: Global, course: &mut Course<'_>, lines: &[u8]) -> bool {
-    let Some((line, rest)) = course.lines.split_first() else {
+/// Begins the next line of a script, and returns whether it prints this.
+fn begins(alloc: Global, course: &mut Course, script: &[BrokerLine], lines: &[u8]) -> bool
+    requires sendable { All IsSendableLine script.now }
+{
+    if course.begun >= script.len() {
         return false;
-    };
-    course.lines = rest;
+    }
+    let line = &script[course.begun];
+    course.begun += 1;
     let mut begun = begin(&mut course.desk, line);
     if begun == Begun::Refused(IssueFault::NoMemory) {
         begun = begin(&mut course.desk, line);
@@ -164,17 +166,23 @@ fn begins(alloc: Global, course: &mut Course<'_>, lines: &[u8]) -> bool {
         || prints_begun(alloc, &course.desk, &begun, lines)
 }
 
+/// Returns whether memory was refused for what came.
+fn lacks(came: &Came) -> bool {
+    matches!(came, Came::Lacks)
+}
+
 /// Looks whether what is awaited came, once more where memory was refused.
-fn looked(course: &mut Course<'_>) -> Option<Came> {
+fn looked(course: &mut Course) -> Option<Came> {
     let awaited = course.awaited?;
-    match look(&mut course.desk, &awaited) {
-        Some(Came::Lacks) => look(&mut course.desk, &awaited),
-        came => came,
+    let came = look(&mut course.desk, &awaited)?;
+    if lacks(&came) {
+        return look(&mut course.desk, &awaited);
     }
+    Some(came)
 }
 
 /// Returns whether what is awaited came, and prints this.
-fn comes(alloc: Global, course: &mut Course<'_>, lines: &[u8]) -> bool {
+fn comes(alloc: Global, course: &mut Course, lines: &[u8]) -> bool {
     match looked(course) {
         Some(came) => prints_came(alloc, &came, lines) || prints_came(alloc, &came, lines),
         None => false,
@@ -182,7 +190,7 @@ fn comes(alloc: Global, course: &mut Course<'_>, lines: &[u8]) -> bool {
 }
 
 /// Ends a connection.
-fn leaves(course: &mut Course<'_>, at: usize) -> bool {
+fn leaves(course: &mut Course, at: usize) -> bool {
     match course.peers.get(at) {
         Some(peer) => {
             course.desk.leave(*peer);
@@ -193,9 +201,11 @@ fn leaves(course: &mut Course<'_>, at: usize) -> bool {
 }
 
 /// Makes one step, and returns whether it goes as it says.
-fn goes_so(alloc: Global, course: &mut Course<'_>, step: Step) -> bool {
+fn goes_so(alloc: Global, course: &mut Course, script: &[BrokerLine], step: Step) -> bool
+    requires sendable { All IsSendableLine script.now }
+{
     match step {
-        Step::Begins(lines) => begins(alloc, course, lines),
+        Step::Begins(lines) => begins(alloc, course, script, lines),
         Step::Waits => looked(course).is_none(),
         Step::Comes(lines) => comes(alloc, course, lines),
         Step::On(at, deed) => does(alloc, course, at, deed),
@@ -204,13 +214,11 @@ fn goes_so(alloc: Global, course: &mut Course<'_>, step: Step) -> bool {
 }
 
 /// Returns the course of a script from its first line on, at a new desk.
-fn course_of<'a>(desk: Desk, lines: &'a [BrokerLine]) -> Course<'a>
-    requires sendable { All IsSendableLine lines.now }
-{
+fn course_at(desk: Desk) -> Course {
     Course {
         desk,
         peers: [Peer::Stranger; 3],
-        lines,
+        begun: 0,
         awaited: None,
     }
 }
@@ -223,12 +231,12 @@ fn all_go_so_of(alloc: Global, lines: &[BrokerLine], steps: &[Step]) -> bool
     let Ok(desk) = Desk::new(alloc) else {
         return false;
     };
-    let mut course = course_of(desk, lines);
+    let mut course = course_at(desk);
     let mut so = true;
     for step in steps {
-        so = so && goes_so(alloc, &mut course, *step);
+        so = so && goes_so(alloc, &mut course, lines, *step);
     }
-    so = so && course.lines.is_empty();
+    so = so && course.begun == lines.len();
     drop(course);
     so
 }
