@@ -1,1 +1,2 @@
+pub mod Patience
 pub mod Takeovers

@@ -2,6 +2,7 @@
 use crate::exit::Exit;
 use crate::fault::DaemonFault;
 use crate::orders::Orders;
+use crate::patient::Patient;
 use eden_base::DaemonId;
 use links::{Frame, SocketChannel};
 use sockets::{Deadline, Link, Timed, connect};
@@ -10,7 +11,9 @@ use std::io::{self, BufReader, ErrorKind};
 use std::net::Net;
 use std::os::unix::net::UnixStream;
 use std::rt::Clock;
+use std::sync::Arc;
 use std::time::Duration;
+use workers::Stop;
 
 /// How long the broker may take for an answer that it never holds, in milliseconds.
 const BROKER_PATIENCE: u64 = 5000;
@@ -21,7 +24,7 @@ pub(crate) fn answer_by<R: Clock>(clock: &R) -> Deadline {
 }
 
 /// The channel of a worker.
-pub(crate) type Worker<'a, R> = SocketChannel<BufReader<Timed<'a, R>>, UnixStream>;
+pub(crate) type Worker<'a, R> = Patient<Asking<'a, R>>;
 
 /// A daemon's first connection to the broker, and those of its workers.
 #[derive(Drop)]
@@ -104,19 +107,25 @@ fn attach<R: Clock>(
     }
 }
 
-/// Returns a channel at a generation for each worker's connection. All that was sent on those before was answered.
+/// Returns a channel at a generation for each worker's connection, patient until a stop is asked. All that was sent on
+/// those before was answered.
 pub(crate) fn channels<'a, R: Clock>(
     rt: &'a R,
     alloc: Global,
     workers: &[UnixStream],
     generation: u64,
+    stop: &Arc<Stop>,
 ) -> io::Result<Vec<Worker<'a, R>>> {
     let mut channels = Vec::with_capacity(alloc, workers.len())?;
     for worker in workers {
-        channels.push(channel(rt, alloc, worker, generation)?)?;
+        let channel = channel(rt, alloc, worker, generation)?;
+        channels.push(Patient::new(channel, Arc::try_clone(stop)?))?;
     }
     Ok(channels)
 }
+
+/// The channel of a worker that asks once.
+type Asking<'a, R> = SocketChannel<BufReader<Timed<'a, R>>, UnixStream>;
 
 /// Returns a channel at a generation over a worker's connection.
 fn channel<'a, R: Clock>(
@@ -124,7 +133,7 @@ fn channel<'a, R: Clock>(
     alloc: Global,
     worker: &UnixStream,
     generation: u64,
-) -> io::Result<Worker<'a, R>> {
+) -> io::Result<Asking<'a, R>> {
     let link = Link::over(alloc, rt, worker.try_clone()?, None)?;
     let (reader, writer) = link.into_ends();
     match SocketChannel::new(alloc, reader, writer, generation) {

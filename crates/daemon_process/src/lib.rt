@@ -9,6 +9,7 @@ mod fault;
 mod handover;
 mod lobby;
 mod orders;
+mod patient;
 mod process;
 mod rounds;
 mod serving;

@@ -139,7 +139,7 @@ fn settle<B: Backing + Drop, C: Channel + Drop>(
 /// Returns how the daemon ends whose channels stopped, if one did.
 pub(crate) fn exit_of<R: Clock>(channels: &[Worker<'_, R>]) -> Option<Exit> {
     for channel in channels {
-        match channel.ended() {
+        match channel.channel().ended() {
             Some(TakeFault::Ended) => return Some(Exit::Ended),
             Some(_stale) => return Some(Exit::Faulty(DaemonFault::Broken)),
             None => {}

@@ -9,7 +9,7 @@ use std::alloc::Global;
 use std::io::{self, Write};
 use std::os::unix::net::UnixStream;
 use std::rt::Clock;
-use std::sync::Wait;
+use std::sync::{Arc, Wait};
 use std::thread::Threads;
 use std::time::Duration;
 use std::{mem, thread};
@@ -66,17 +66,15 @@ fn serve_lease<'a, R: Threads + Wait + Clock + Sync, W: Write>(
     workers: &[UnixStream],
     crew: &mut Crew<'a, R>,
     lease: Lease,
-    stop: &Stop,
+    stop: &Arc<Stop>,
     out: &mut W,
 ) -> Option<Exit> {
-    if crew.generation != lease.generation {
-        let Ok(made) = channels(rt, alloc, workers, lease.generation) else {
-            shared.take_back(rt, lease);
-            thread::sleep(rt, Duration::from_millis(PAUSE));
-            return None;
-        };
-        crew.channels = made;
-        crew.generation = lease.generation;
+    let Ok(is_new) = man(rt, alloc, workers, crew, lease.generation, stop) else {
+        shared.take_back(rt, lease);
+        thread::sleep(rt, Duration::from_millis(PAUSE));
+        return None;
+    };
+    if is_new {
         if let Err(error) = print_serving(out, lease.generation) {
             return Some(Exit::Faulty(DaemonFault::CannotWrite(error)));
         }
@@ -92,6 +90,26 @@ fn serve_lease<'a, R: Threads + Wait + Clock + Sync, W: Write>(
         }
         Err(exit) => Some(exit),
     }
+}
+
+/// Has a channel for each worker at a generation, patient until a stop is asked. Returns whether they are new.
+fn man<'a, R: Clock>(
+    rt: &'a R,
+    alloc: Global,
+    workers: &[UnixStream],
+    crew: &mut Crew<'a, R>,
+    generation: u64,
+    stop: &Arc<Stop>,
+) -> io::Result<bool> {
+    if crew.generation == generation {
+        for channel in crew.channels.iter_mut() {
+            channel.heed(Arc::try_clone(stop)?);
+        }
+        return Ok(false);
+    }
+    crew.channels = channels(rt, alloc, workers, generation, stop)?;
+    crew.generation = generation;
+    Ok(true)
 }
 
 /// Prints that the daemon serves at a generation.

@@ -1,0 +1,82 @@
+//! A channel that is asked again where nothing waits.
+ghost use Rattle.std.specs.Prelude.{◌≡◌, true};
+ghost use Rattle.daemon_process.specs.Patience.{Looks};
+ghost use Rattle.fuse_wire.specs.declared.request.Ask.{Ask as AskValue};
+ghost use Rattle.workers.specs.Channel.{with_ask};
+ghost use Rattle.workers.specs.declared.channel.Taken.TheVariants as took;
+
+use fuse_wire::Reply;
+use std::sync::Arc;
+use workers::{Channel, Posted, Stop, Taken};
+
+/// How often a channel is asked again before a worker's round ends.
+const LOOKS: usize = 9;
+
+/// A channel that is asked again where nothing waits, unless the round is asked to stop. So a round outlasts a short
+/// silence, and threads are started for few of them.
+#[derive(Drop)]
+pub(crate) struct Patient<C> {
+    channel: C,
+    stop: Arc<Stop>,
+}
+
+impl<C: Channel> Patient<C> {
+    /// Makes a channel patient until a stop is asked.
+    pub(crate) fn new(channel: C, stop: Arc<Stop>) -> Patient<C>
+        ensures channel { result.channel ≡ channel }
+    {
+        Patient { channel, stop }
+    }
+
+    /// Heeds another round's stop from now on.
+    pub(crate) fn heed(&mut self, stop: Arc<Stop>)
+        ensures channel { self.new.channel ≡ self.old.channel }
+    {
+        self.stop = stop;
+    }
+
+    /// Returns the channel.
+    pub(crate) fn channel(&self) -> &C
+        ensures channel { result.now ≡ self.now.channel }
+    {
+        &self.channel
+    }
+
+    /// Takes the next ask, and looks again where there is none now.
+    fn look(&mut self) -> Taken
+        ensures looks { Looks C.takes self.old.channel result self.new.channel }
+        ensures stop { self.new.stop ≡ self.old.stop }
+        ensures taken { C.tells ≡ true → (ask : AskValue) → result ≡ took.Ask ask
+            → C.told self.new.channel ≡ with_ask (C.told self.old.channel) ask }
+        ensures empty { C.tells ≡ true → result ≡ took.Empty
+            → C.told self.new.channel ≡ C.told self.old.channel }
+        ensures stopped { C.tells ≡ true → result ≡ took.Stopped
+            → C.told self.new.channel ≡ C.told self.old.channel }
+    {
+        for _again in 0..LOOKS {
+            match self.channel.take() {
+                Taken::Empty if !self.stop.asked() => {}
+                taken => return taken,
+            }
+        }
+        self.channel.take()
+    }
+}
+
+impl<C: Channel> Channel for Patient<C> {
+    ghost takes = { λ before taken after. Looks C.takes before.channel taken after.channel };
+
+    ghost posts = { λ before reply posted after. C.posts before.channel reply posted after.channel };
+
+    ghost tells = { C.tells };
+
+    ghost told = { λ patient. C.told patient.channel };
+
+    fn take(&mut self) -> Taken {
+        self.look()
+    }
+
+    fn post(&mut self, reply: Reply) -> Posted {
+        self.channel.post(reply)
+    }
+}
