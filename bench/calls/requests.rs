@@ -1,13 +1,6 @@
-//! What a daemon serves in plain Rust, and the requests of `measure requests`, so that the instructions of one can be
-//! counted beside ours: hash maps by number, and by directory and name, and an index slab in the order of use for what is
-//! loaded. It makes the same requests and prints the same line. Nothing is proved, memory is not asked for beforehand,
-//! and a full count or the last number is a panic.
-//!
-//!   plain requests LINES DEPTH        a thousand requests of each kind, for a manifest of LINES lines and a directory at DEPTH
-//!   plain requests LINES random       GETATTR of 20,000 random files, at the program's own limit of 1,024
-use std::collections::HashMap;
-use std::env;
-use std::hash::{BuildHasherDefault, Hasher};
+//! What a daemon serves: hash maps by number, and by directory and name. Memory is not asked for beforehand.
+use crate::hashing::Map;
+use crate::loaded::{Attr, Kind, Loaded};
 
 const ROOT: u64 = 1;
 const EACH: u64 = 64;
@@ -15,64 +8,12 @@ const ASKED: u64 = 1000;
 const ASKED_RANDOMLY: u64 = 20_000;
 const LOADED_LIMIT: usize = 64;
 const DEFAULT_LIMIT: usize = 1024;
-const NONE: u32 = u32::MAX;
 
 const ENOENT: i32 = 2;
 const EEXIST: i32 = 17;
 const ENOTDIR: i32 = 20;
 
 type Name = Box<[u8]>;
-type Map<K, V> = HashMap<K, V, BuildHasherDefault<WordHasher>>;
-
-/// A quick hash of words, as rustc's own maps have it.
-#[derive(Default)]
-struct WordHasher(u64);
-
-impl WordHasher {
-    fn add(&mut self, word: u64) {
-        self.0 = (self.0.rotate_left(5) ^ word).wrapping_mul(0x517c_c1b7_2722_0a95);
-    }
-}
-
-impl Hasher for WordHasher {
-    fn write(&mut self, bytes: &[u8]) {
-        for part in bytes.chunks(8) {
-            let mut word = [0; 8];
-            word[..part.len()].copy_from_slice(part);
-            self.add(u64::from_le_bytes(word));
-        }
-    }
-
-    fn write_u32(&mut self, word: u32) {
-        self.add(word.into());
-    }
-
-    fn write_u64(&mut self, word: u64) {
-        self.add(word);
-    }
-
-    fn write_usize(&mut self, word: usize) {
-        self.add(word as u64);
-    }
-
-    fn finish(&self) -> u64 {
-        self.0
-    }
-}
-
-#[derive(Clone, Copy, PartialEq)]
-enum Kind {
-    File,
-    Dir,
-}
-
-#[derive(Clone, Copy)]
-struct Attr {
-    kind: Kind,
-    perm: u16,
-    size: u64,
-    nlink: u32,
-}
 
 struct Item {
     node: u64,
@@ -95,85 +36,6 @@ enum Answer {
     Opened { number: u64, attr: Attr },
     Done,
     Error(i32),
-}
-
-/// Attributes by slot, in the order of their last use.
-struct Loaded {
-    nodes: Vec<Node>,
-    free: Vec<u32>,
-    newest: u32,
-    oldest: u32,
-    limit: usize,
-}
-
-struct Node {
-    number: u64,
-    attr: Attr,
-    newer: u32,
-    older: u32,
-}
-
-impl Loaded {
-    fn new(limit: usize) -> Loaded {
-        Loaded { nodes: Vec::with_capacity(limit), free: Vec::new(), newest: NONE, oldest: NONE, limit }
-    }
-
-    fn detach(&mut self, slot: u32) {
-        let (newer, older) = (self.nodes[slot as usize].newer, self.nodes[slot as usize].older);
-        match newer {
-            NONE => self.newest = older,
-            _ => self.nodes[newer as usize].older = older,
-        }
-        match older {
-            NONE => self.oldest = newer,
-            _ => self.nodes[older as usize].newer = newer,
-        }
-    }
-
-    fn attach(&mut self, slot: u32) {
-        let older = self.newest;
-        let node = &mut self.nodes[slot as usize];
-        node.newer = NONE;
-        node.older = older;
-        match older {
-            NONE => self.oldest = slot,
-            _ => self.nodes[older as usize].newer = slot,
-        }
-        self.newest = slot;
-    }
-
-    fn touch(&mut self, slot: u32) -> Attr {
-        if self.newest != slot {
-            self.detach(slot);
-            self.attach(slot);
-        }
-        self.nodes[slot as usize].attr
-    }
-
-    fn is_full(&self) -> bool {
-        self.nodes.len() - self.free.len() == self.limit
-    }
-
-    fn add(&mut self, number: u64, attr: Attr) -> u32 {
-        let node = Node { number, attr, newer: NONE, older: NONE };
-        let slot = match self.free.pop() {
-            Some(slot) => {
-                self.nodes[slot as usize] = node;
-                slot
-            }
-            None => {
-                self.nodes.push(node);
-                self.nodes.len() as u32 - 1
-            }
-        };
-        self.attach(slot);
-        slot
-    }
-
-    fn remove(&mut self, slot: u32) {
-        self.detach(slot);
-        self.free.push(slot);
-    }
 }
 
 /// A file of the checkout: of the manifest, or made since.
@@ -281,9 +143,7 @@ impl Served {
             return Some(attr);
         }
         if self.loaded.is_full() {
-            let oldest = self.loaded.oldest;
-            let unloaded = self.loaded.nodes[oldest as usize].number;
-            self.loaded.remove(oldest);
+            let unloaded = self.loaded.remove_oldest();
             self.entries.get_mut(&unloaded).unwrap().slot = None;
         }
         let slot = self.loaded.add(number, attr);
@@ -556,19 +416,17 @@ fn ask_random(served: &mut Served, lines: u64) -> u64 {
     shown
 }
 
-fn main() {
-    let words: Vec<String> = env::args().skip(2).collect();
+/// Makes the requests of `measure requests`, as words say, and returns what they were answered.
+pub fn measure(words: &[String]) -> String {
     let lines: u64 = words[0].parse().expect("LINES is a number");
-    let line = format!("requests {}", words.join(" "));
     if words[1] == "random" {
         let mut served = Served::new(lines, DEFAULT_LIMIT);
-        println!("{line}: shown {}", ask_random(&mut served, lines));
-        return;
+        return format!("shown {}", ask_random(&mut served, lines));
     }
     let depth = words[1].parse().expect("DEPTH is a number");
     let mut served = Served::new(lines, LOADED_LIMIT);
     let found = ask_fresh(&mut served, lines);
     let made = ask_made(&mut served, depth);
     let batches = ask_batches(&mut served);
-    println!("{line}: found {found} made {made} batches {batches} next {}", served.next);
+    format!("found {found} made {made} batches {batches} next {}", served.next)
 }

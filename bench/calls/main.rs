@@ -1,0 +1,19 @@
+//! Plain Rust beside the calls that `crates/measure` makes, so that the instructions of one can be compared: it makes the
+//! same calls and prints the same lines. Nothing is proved here. `bench/instructions` builds it, and runs both.
+//!
+//!   calls requests LINES DEPTH|random     requests to what a daemon serves
+//!   calls map ENTRIES [random]            calls on the numbers that a daemon gave
+mod hashing;
+mod loaded;
+mod map;
+mod requests;
+
+fn main() {
+    let words: Vec<String> = std::env::args().skip(1).collect();
+    let told = match words[0].as_str() {
+        "requests" => requests::measure(&words[1..]),
+        "map" => map::measure(&words[1..]),
+        subject => panic!("{subject} is no subject"),
+    };
+    println!("{}: {told}", words.join(" "));
+}
