@@ -117,8 +117,8 @@ impl Numbers {
 // ---- the calls, each in a function of its own
 
 #[inline(never)]
-fn give_new(map: &mut Numbers, parent: u64, name: &[u8]) -> u64 {
-    map.give(parent, name)
+fn give_new(map: &mut Numbers, parent: u64, name: &[u8]) -> Result<u64, Forgot> {
+    Ok(map.give(parent, name))
 }
 
 #[inline(never)]
@@ -229,7 +229,9 @@ fn call_all(map: &mut Numbers, entries: u64) -> String {
         lowered += u64::from(number.is_some_and(|number| forget_one(map, number) == Forgot::Lowered));
     }
     for (&i, (_, fresh)) in numbers.iter().zip(&names) {
-        let number = give_new(map, parent_of(i), fresh);
+        let Ok(number) = give_new(map, parent_of(i), fresh) else {
+            continue;
+        };
         if number % 2 == 0 {
             unlink(map, number, number);
         }
