@@ -3,7 +3,11 @@
 //!
 //!   calls requests LINES DEPTH|random     requests to what a daemon serves
 //!   calls map ENTRIES [random]            calls on the numbers that a daemon gave
+//!   calls image ENTRIES 0                 an image read, restored, made again and written
+//!   calls journal RECORDS WORKERS ROUNDS  whether a round is settled
 mod hashing;
+mod image;
+mod journal;
 mod loaded;
 mod map;
 mod requests;
@@ -13,6 +17,8 @@ fn main() {
     let told = match words[0].as_str() {
         "requests" => requests::measure(&words[1..]),
         "map" => map::measure(&words[1..]),
+        "image" => image::measure(&words[1..]),
+        "journal" => journal::measure(&words[1..]),
         subject => panic!("{subject} is no subject"),
     };
     println!("{}: {told}", words.join(" "));
