@@ -1,43 +1,7 @@
-//! A round's journal and its workers' receipts. A name of at most 16 bytes stands in its value.
+//! A round's journal and its workers' receipts.
+use crate::request::{Item, Name, Request};
+
 const ROOT: u64 = 1;
-
-#[derive(PartialEq)]
-enum Name {
-    Short { bytes: [u8; 16], len: u8 },
-    Long(Vec<u8>),
-}
-
-impl Name {
-    fn of(text: String) -> Name {
-        if text.len() > 16 {
-            return Name::Long(text.into_bytes());
-        }
-        let mut bytes = [0; 16];
-        bytes[..text.len()].copy_from_slice(text.as_bytes());
-        Name::Short { bytes, len: text.len() as u8 }
-    }
-}
-
-#[derive(PartialEq)]
-struct Item {
-    node: u64,
-    k: u64,
-}
-
-/// All nine kinds, since a comparison goes by the kind.
-#[allow(dead_code)]
-#[derive(PartialEq)]
-enum Request {
-    Lookup { dir: u64, name: Name },
-    Getattr { node: u64 },
-    Forget(Item),
-    BatchForget(Vec<Item>),
-    Create { dir: u64, name: Name, perm: u16 },
-    Mkdir { dir: u64, name: Name, perm: u16 },
-    Unlink { dir: u64, name: Name },
-    Rmdir { dir: u64, name: Name },
-    Other { node: u64, opcode: u32 },
-}
 
 #[derive(PartialEq)]
 struct Attr {
@@ -91,7 +55,7 @@ fn settled(journal: &[Record], workers: &[Vec<Receipt>]) -> bool {
 }
 
 fn request_of(i: u64) -> Request {
-    let name = || Name::of(format!("file{i}.txt"));
+    let name = || Name::of(format!("file{i}.txt").as_bytes());
     match i % 4 {
         0 => Request::Lookup { dir: ROOT, name: name() },
         1 => Request::Getattr { node: i + 2 },

@@ -5,12 +5,17 @@
 //!   calls map ENTRIES [random]            calls on the numbers that a daemon gave
 //!   calls image ENTRIES 0                 an image read, restored, made again and written
 //!   calls journal RECORDS WORKERS ROUNDS  whether a round is settled
+//!   calls frames FORM ROUNDS [behind FRAMES|pieces BYTES]   frames written, fed and taken off
+//!   calls wire FORM ROUNDS                requests read
+mod frames;
 mod hashing;
 mod image;
 mod journal;
 mod loaded;
 mod map;
+mod request;
 mod requests;
+mod wire;
 
 fn main() {
     let words: Vec<String> = std::env::args().skip(1).collect();
@@ -19,6 +24,8 @@ fn main() {
         "map" => map::measure(&words[1..]),
         "image" => image::measure(&words[1..]),
         "journal" => journal::measure(&words[1..]),
+        "frames" => frames::measure(&words[1..]),
+        "wire" => wire::measure(&words[1..]),
         subject => panic!("{subject} is no subject"),
     };
     println!("{}: {told}", words.join(" "));
