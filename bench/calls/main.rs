@@ -2,11 +2,13 @@
 //! same calls and prints the same lines. Nothing is proved here. `bench/instructions` builds it, and runs both.
 //!
 //!   calls requests LINES DEPTH|random     requests to what a daemon serves
+//!   calls checkout LINES                  calls on a manifest's tree
 //!   calls map ENTRIES [random]            calls on the numbers that a daemon gave
 //!   calls image ENTRIES 0                 an image read, restored, made again and written
 //!   calls journal RECORDS WORKERS ROUNDS  whether a round is settled
 //!   calls frames FORM ROUNDS [behind FRAMES|pieces BYTES]   frames written, fed and taken off
 //!   calls wire FORM ROUNDS                requests read
+mod checkout;
 mod frames;
 mod hashing;
 mod image;
@@ -21,6 +23,7 @@ fn main() {
     let words: Vec<String> = std::env::args().skip(1).collect();
     let told = match words[0].as_str() {
         "requests" => requests::measure(&words[1..]),
+        "checkout" => checkout::measure(&words[1..]),
         "map" => map::measure(&words[1..]),
         "image" => image::measure(&words[1..]),
         "journal" => journal::measure(&words[1..]),
