@@ -24,6 +24,7 @@ impl<C: Channel> Patient<C> {
     /// Makes a channel patient until a stop is asked.
     pub(crate) fn new(channel: C, stop: Arc<Stop>) -> Patient<C>
         ensures channel { result.channel ≡ channel }
+        ensures stop { result.stop ≡ stop }
     {
         Patient { channel, stop }
     }
@@ -31,6 +32,7 @@ impl<C: Channel> Patient<C> {
     /// Heeds another round's stop from now on.
     pub(crate) fn heed(&mut self, stop: Arc<Stop>)
         ensures channel { self.new.channel ≡ self.old.channel }
+        ensures stop { self.new.stop ≡ stop }
     {
         self.stop = stop;
     }
