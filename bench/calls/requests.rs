@@ -72,7 +72,7 @@ struct Served {
 }
 
 impl Served {
-    /// Begins to serve the manifest of so many lines that `measure` makes.
+    /// Begins to serve the manifest of `lines` lines that `measure` makes.
     fn new(lines: u64, limit: usize) -> Served {
         let mut served = Served {
             files: vec![File { kind: Kind::Dir, perm: 0o755, size: 0, is_made: false }],
