@@ -33,7 +33,7 @@ pub enum IssueFault {
     /// Of an ask: one of its numbers is neither the root nor held.
     #[error("the kernel does not hold the number")]
     NotHeld,
-    /// Also each batch: the kernel's side hands single items in.
+    /// Also each batch: only single items are taken.
     #[error("a forget of the root, of nothing, or of more than the kernel holds")]
     BadForget,
     /// Of an ask: the last unique was given, or 1,024 asks are under way. Of a forget: 4,096 items wait.
@@ -93,7 +93,7 @@ impl Broker {
         })
     }
 
-    /// Returns why no daemon can mount.
+    /// Returns why no daemon can mount, if none can.
     pub fn mount_refusal(&self) -> Option<MountFault>
         ensures fault { result ≡ mount_fault self.now }
     {
@@ -131,7 +131,7 @@ impl Broker {
         Ok(self.mount(daemon))
     }
 
-    /// Returns why the request is refused, out of memory apart.
+    /// Returns why a request is refused, if it is. Out of memory is no such cause.
     pub fn refusal(&self, request: &Request) -> Option<IssueFault>
         ensures fault { result ≡ issue_fault self.now request.now }
     {
@@ -230,7 +230,7 @@ impl Broker {
         Ok(())
     }
 
-    /// Returns why a daemon does not serve at a generation.
+    /// Returns why a daemon does not serve at a generation, if it doesn't.
     fn seat_refusal(&self, daemon: DaemonId, generation: u64) -> Option<NotSeated>
         ensures { result ≡ seat_fault self.now.seat daemon generation }
     {
@@ -304,7 +304,7 @@ impl Broker {
         Ok(reply)
     }
 
-    /// Returns why the seat cannot be claimed at a generation.
+    /// Returns why the seat cannot be claimed at a generation, if it cannot.
     fn claim_refusal(&self, generation: u64) -> Option<ClaimFault>
         ensures { result ≡ claim_fault self.now generation }
     {
@@ -352,8 +352,8 @@ impl Broker {
         self.seat = Some(Seat { generation, daemon });
     }
 
-    /// Ends the mount where the daemon that is gone has the seat: the kernel then holds nothing, and nothing is under
-    /// way. That another daemon is gone changes nothing. Takes no memory.
+    /// Ends the mount where the daemon that is gone has the seat: the kernel then holds nothing, and no message is
+    /// under way. That another daemon is gone changes nothing. Takes no memory.
     pub fn gone(&mut self, daemon: DaemonId)
         ensures gone { self.new ≡ without_daemon self.old daemon }
     {

@@ -30,7 +30,7 @@ impl Model for Forgets {
 }
 
 impl Forgets {
-    /// Returns no items.
+    /// Makes an empty list.
     pub(crate) fn new(alloc: Global) -> Forgets
         ensures none { result ≡ [] }
     {

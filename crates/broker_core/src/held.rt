@@ -11,7 +11,7 @@ use std::ops::Bound;
 /// The numbers that the kernel holds. Clauses see it as a `HeldMap`.
 #[derive(Drop)]
 pub(crate) struct Held {
-    /// Each at least once.
+    /// Each count is at least 1.
     counts: BTreeMap<u64, u64>,
 }
 
@@ -30,7 +30,7 @@ impl Model for Held {
 }
 
 impl Held {
-    /// Returns no numbers.
+    /// Makes an empty map.
     pub(crate) fn new(alloc: Global) -> Held
         ensures none { result ≡ none_held }
     {
@@ -54,7 +54,7 @@ impl Held {
         Ok(())
     }
 
-    /// Holds a number k times less, and not at all where that is as often as it is held.
+    /// Lowers a number's count by k. At 0 the number is held no more.
     pub(crate) fn lower(&mut self, number: Number, k: u64)
         ensures lowered { self.new ≡ lowered self.old number.0 k }
     {
@@ -68,7 +68,7 @@ impl Held {
         *count -= k;
     }
 
-    /// Holds no number any more.
+    /// Empties the map.
     pub(crate) fn clear(&mut self)
         ensures none { self.new ≡ none_held }
     {

@@ -18,8 +18,8 @@ use std::mem;
 #[derive(Clone, Copy)]
 pub(crate) struct NotAsked;
 
-/// Asks from issue to delivery, and forget items until they are taken. Clauses see it as a `TrafficState`. Only an
-/// issue takes memory.
+/// Asks from issue to delivery, and forget items until they are taken. Callers give each ask a unique above those of
+/// all asks without a reply. Clauses see it as a `TrafficState`. Only an issue takes memory.
 #[derive(Drop)]
 pub(crate) struct Traffic {
     untaken: VecDeque<Ask>,
@@ -137,8 +137,8 @@ impl Traffic {
         self.untaken.is_empty() && self.forgets.len() == 0
     }
 
-    /// Hands the first untaken ask out, or the first items as one request where no ask waits or 256 items do; nothing
-    /// exactly where nothing waits. It takes no memory.
+    /// Hands out the first untaken ask, or the first items as one request if no ask waits or 256 items do. Returns none
+    /// exactly where neither waits. It takes no memory.
     pub(crate) fn take(&mut self) -> Option<Ask>
         ensures first { result ≡ next_taken self.old }
         ensures left { self.new ≡ left_by_take self.old }

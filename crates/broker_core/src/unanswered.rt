@@ -33,7 +33,7 @@ impl Model for Unanswered {
 }
 
 impl Unanswered {
-    /// Returns no asks.
+    /// Makes an empty list.
     pub(crate) fn new(alloc: Global) -> Unanswered
         ensures none { result ≡ [] }
         ensures rising { IsRising result }
@@ -54,7 +54,7 @@ impl Unanswered {
         }
     }
 
-    /// Adds an ask behind the others. It takes memory only where the last one has no reply yet.
+    /// Adds an ask behind the others. It takes memory only if the last one still has no reply.
     pub(crate) fn push(&mut self, unique: u64, form: Form) -> Result<(), NoMemory>
         requires later { All (λ asked. asked.0 < unique) self.old }
         ensures pushed { OnOk result (self.new ≡ self.old ++ (unique, form) ∷ []) }

@@ -18,7 +18,7 @@ use fuse_wire::{Reply, Request, RequestRoom, read_reply, write_request_to};
 use std::alloc::Global;
 use std::marker::Model;
 
-/// How many daemons get a number, those that are gone among them.
+/// How many daemons get a number. One that is gone still counts.
 pub const MAX_DAEMONS: usize = 1024;
 
 /// The broker, the daemons that attached to it, and whether it is closed to all. Contracts see it as a `DeskState`.
@@ -82,8 +82,8 @@ impl Desk {
             .count()
     }
 
-    /// Takes a request of the kernel, as `Broker::issue` does. One of another opcode than the listed ones has a text of
-    /// its own.
+    /// Takes a request of the kernel, as `Broker::issue` does. An `Other` must have an opcode of its own, so that its
+    /// bytes are read again as this request.
     pub fn issue(&mut self, request: &Request) -> Result<Option<u64>, IssueFault>
         requires sendable { IsSendable request.now }
         ensures unique { IfOk result (λ unique. unique ≡ unique_of self.old.broker request.now) }
@@ -105,8 +105,8 @@ impl Desk {
         self.broker.deliver()
     }
 
-    /// Answers a frame of `peer`, who is from then on who the frame says. Only a Take of an ask wants memory. Where that
-    /// is refused, the peer is told that nothing waits, and the ask waits on.
+    /// Answers a frame of `peer`. After an Attach, `peer` is the daemon or worker that it names. Only a Take of an ask
+    /// takes memory: out of memory the answer is Empty, and the ask waits on.
     pub fn answer(&mut self, peer: &mut Peer, frame: &Frame) -> Response
         ensures answers { Answers self.old peer.old frame.now result self.new }
         ensures peer { peer.new ≡ peer_after self.old peer.old frame.now }
@@ -172,7 +172,7 @@ impl Desk {
         Response::Tells(Frame::Attached(daemon))
     }
 
-    /// Returns whether the mount is over for a daemon: where it is for all, and where the daemon is gone or never was.
+    /// Returns whether a daemon is to be answered Ended: the desk is closed, or the daemon is gone or never came.
     fn is_over_for(&self, daemon: DaemonId) -> bool
         ensures { result ≡ is_over_for self.now daemon }
     {
@@ -286,7 +286,7 @@ impl Desk {
         }
     }
 
-    /// Returns where a daemon that got a number stands in the list.
+    /// Returns the index of a daemon that got a number.
     fn index_of(&self, daemon: DaemonId) -> Option<usize>
         ensures index { IfSome result (λ index. daemon.0 ≡ index + 1) }
         ensures below { IfSome result (λ index. index < length self.now.daemons) }
@@ -299,7 +299,7 @@ impl Desk {
     }
 }
 
-/// Returns whether an attached daemon sends such a frame.
+/// Returns whether a frame is of a kind that attached daemons send.
 fn is_sent_by_daemons(frame: &Frame) -> bool
     ensures { result ≡ is_sent_by_daemons frame.now }
 {

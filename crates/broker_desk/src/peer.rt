@@ -1,4 +1,4 @@
-//! One end of a connection to the broker, and what it is told.
+//! One end of a connection to the broker, and the answers to it.
 use eden_base::DaemonId;
 use frames::Frame;
 
@@ -13,10 +13,10 @@ pub enum Peer {
     Worker(DaemonId),
 }
 
-/// What a frame comes to.
+/// The desk's answer to a frame.
 #[derive(Drop)]
 pub enum Response {
-    /// The peer is told this.
+    /// The peer is sent this frame.
     Tells(Frame),
     /// No daemon sends such a frame there: the connection is closed.
     Closes,

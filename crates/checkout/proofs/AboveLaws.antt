@@ -8,7 +8,7 @@ use Rattle.eden_base.proofs.MemberLemmas.{some-IsSome}
 use Rattle.eden_base.specs.declared.number.FileId.{FileId}
 use Rattle.checkout.specs.Added.{gives}
 use Rattle.checkout.specs.Around.{links_now, AreBeside, IsDirAbove, StandsIn}
-use Rattle.checkout.specs.Gone.{Gone, is_gone}
+use Rattle.checkout.specs.UnlinkedFiles.{UnlinkedFiles, is_gone}
 use Rattle.manifest.specs.Manifest.{Line, Manifest, IsManifest, line_of}
 use Rattle.checkout.specs.Overlay.{still}
 use Rattle.manifest.specs.Tree.{link_cmp, links_from}
@@ -31,7 +31,7 @@ link-line_of lines file line h =
       | false ↦ λ e g. (g, let late : 2 ≤ file.0 = grind (arith, nat_tests) in omega arith)
     ] refl h
 
-module _ (m : Manifest) (added : FinMap link_cmp FileId) (gone : Gone) where
+module _ (m : Manifest) (added : FinMap link_cmp FileId) (gone : UnlinkedFiles) where
   abbrev base : FinMap link_cmp FileId
   base = links_from 2 m.lines
 

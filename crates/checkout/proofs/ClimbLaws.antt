@@ -9,7 +9,7 @@ use Rattle.eden_base.specs.declared.number.FileId.{FileId}
 use Rattle.checkout.specs.Around.{among, ids, IsClimb, IsDirAbove}
 use Rattle.manifest.specs.Tree.{link_cmp}
 use Rattle.checkout.proofs.AroundWays.{goes_on}
-use Rattle.checkout.proofs.GoneLemmas.{below-push, distinct-push, length_below}
+use Rattle.checkout.proofs.UnlinkedLemmas.{below-push, distinct-push, length_below}
 use Rattle.manifest.proofs.MapLemmas.{get-insert_other, get-insert_same}
 
 pub none-IsClimb : (links : FinMap link_cmp FileId) (colours : FinMap nat_cmp Bool) (top : Option FileId) → IsClimb links colours colours [] top

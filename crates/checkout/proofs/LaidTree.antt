@@ -15,7 +15,7 @@ use Rattle.checkout.specs.Added.{gives}
 use Rattle.checkout.specs.BadChanges.{bad_by_other, bad_itself, first_link, gives_same, is_at}
 use Rattle.checkout.specs.Changed.{changed, links_with}
 use Rattle.checkout.specs.Changes.{file_ids, place_of}
-use Rattle.checkout.specs.Gone.{Gone, is_gone}
+use Rattle.checkout.specs.UnlinkedFiles.{UnlinkedFiles, is_gone}
 use Rattle.checkout.specs.Laying.{AreTaken, CanAdd, StandApart, add, file_kept, taken, with_added, with_made}
 use Rattle.manifest.specs.Manifest.{Manifest, IsManifest}
 use Rattle.checkout.specs.Overlay.{tree_over, AreParts}
@@ -99,7 +99,7 @@ module _ (m : Manifest) (c : Changes) (is : IsManifest m) (itself : bad_itself m
       all_free [] = tt
       all_free (x ∷ xs) = (get-empty {X = FileId} link_cmp (place_of x), all_free xs)
 
-  module _ (gone : Gone) (lost : Tally) (went : gone.files ≡ taken m c.links) (so_far : AreTaken m gone lost) where
+  module _ (gone : UnlinkedFiles) (lost : Tally) (went : gone.files ≡ taken m c.links) (so_far : AreTaken m gone lost) where
     abbrev made : FinMap nat_cmp MadeFile
     made = with_made empty c.made
 

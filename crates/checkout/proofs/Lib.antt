@@ -23,8 +23,6 @@ pub mod CreateLaws
 pub mod DirLaws
 pub mod FilesFrom
 pub mod FirstBadLaws
-pub mod GoneLemmas
-pub mod GoneListing
 pub mod GoodChanges
 pub mod GoodRounds
 pub mod IdMaps
@@ -56,5 +54,7 @@ pub mod RoundsAround
 pub mod TakenLaws
 pub mod TakenSteps
 pub mod UnionLaws
+pub mod UnlinkedLemmas
+pub mod UnlinkedListing
 pub mod UpwardLaws
 pub mod WithChanges

@@ -9,7 +9,7 @@ use Rattle.checkout.specs.Around.{AreApart, AreBeside, GivesTarget, IsFirstAbove
 use Rattle.checkout.specs.BadChanges.{changed_links, file_in, first_link, IsBadAround}
 use Rattle.checkout.specs.Changed.{changed, links_with}
 use Rattle.checkout.specs.Changes.{place_of}
-use Rattle.checkout.specs.Gone.{Gone, is_gone}
+use Rattle.checkout.specs.UnlinkedFiles.{UnlinkedFiles, is_gone}
 use Rattle.checkout.specs.Laying.{with_made}
 use Rattle.manifest.specs.Manifest.{Manifest}
 use Rattle.checkout.specs.Overlay.{AreParts, tree_over}
@@ -26,7 +26,7 @@ use Rattle.checkout.proofs.LaidTree.{laid-AreParts, laid-changed, stand_apart}
 use Rattle.manifest.proofs.ManifestTree.{same_id}
 use Rattle.checkout.proofs.RoundFour.{cut-found}
 
-module _ (m : Manifest) (c : Changes) (added : FinMap link_cmp FileId) (gone : Gone) (lost : Tally) (laid : AreLaid m c added gone lost) where
+module _ (m : Manifest) (c : Changes) (added : FinMap link_cmp FileId) (gone : UnlinkedFiles) (lost : Tally) (laid : AreLaid m c added gone lost) where
   abbrev links : FinMap link_cmp FileId
   links = links_now m added gone
 

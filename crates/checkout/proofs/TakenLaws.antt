@@ -6,13 +6,13 @@ use Rattle.std.specs.FinMap.{get}
 use Rattle.eden_base.specs.declared.number.FileId.{FileId}
 use Rattle.manifest.specs.declared.links.LinkChange.{LinkChange}
 use Rattle.checkout.specs.Changes.{place_of}
-use Rattle.checkout.specs.Gone.{Gone, is_gone}
+use Rattle.checkout.specs.UnlinkedFiles.{UnlinkedFiles, is_gone}
 use Rattle.checkout.specs.Laying.{AreTaken, base_target}
 use Rattle.manifest.specs.Manifest.{Manifest, IsManifest}
 use Rattle.checkout.specs.Overlay.{is_line, lost_in}
 use Rattle.manifest.specs.Tally.{Tally, count_of}
 use Rattle.manifest.specs.Tree.{links_from}
-use Rattle.checkout.proofs.GoneLemmas.{is_gone-added}
+use Rattle.checkout.proofs.UnlinkedLemmas.{is_gone-added}
 use Rattle.checkout.proofs.LostCounts.{lost-le-kids, lost-one_more}
 use Rattle.manifest.proofs.LineCounts.{kids-le-length}
 use Rattle.manifest.proofs.ManifestIsTree.{tree_of-IsTree}
@@ -33,7 +33,7 @@ one_place m is a b f g here there same =
     let w = (tree_of-IsTree m is).links_are_apart (file_with a.0) (file_with b.0) a.1 b.1 f here (there ∙ ap (λ x. Some x) (same_id g f (sym same))) in
     λ i. ((w.0 i).0, w.1 i)
 
-module _ (m : Manifest) (is : IsManifest m) (gone : Gone) (lost : Tally) (so_far : AreTaken m gone lost) (change : LinkChange) (file : FileId) (here : base_target m change ≡ Some file) where
+module _ (m : Manifest) (is : IsManifest m) (gone : UnlinkedFiles) (lost : Tally) (so_far : AreTaken m gone lost) (change : LinkChange) (file : FileId) (here : base_target m change ≡ Some file) where
   -- both counts have room
   pub record HasRoom : Type 0 where
     pub file_within : file.0 < gone.room
@@ -58,7 +58,7 @@ module _ (m : Manifest) (is : IsManifest m) (gone : Gone) (lost : Tally) (so_far
         fits = omega (arith, counted, kids, all, few);
       }
 
-  module _ (left : is_gone gone file.0 ≡ false) (gone' : Gone) (lost' : Tally) (files : gone'.files ≡ gone.files ++ file.0 ∷ []) (gone_room : gone'.room ≡ gone.room)
+  module _ (left : is_gone gone file.0 ≡ false) (gone' : UnlinkedFiles) (lost' : Tally) (files : gone'.files ≡ gone.files ++ file.0 ∷ []) (gone_room : gone'.room ≡ gone.room)
       (counts : (q : ℕ) → count_of lost' q ≡ (if q == change.dir.0 then count_of lost q + 1 else count_of lost q)) (lost_room : lost'.room ≡ lost.room) where
     one_more : (q : ℕ) → is_gone gone' q ≡ ((q == file.0) || is_gone gone q)
     one_more = is_gone-added gone gone' file.0 files

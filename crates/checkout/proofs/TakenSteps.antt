@@ -10,12 +10,12 @@ use Rattle.std.specs.Ordering.{eq_by_cmp, is_eq}
 use Rattle.eden_base.specs.declared.number.FileId.{FileId}
 use Rattle.manifest.specs.declared.links.LinkChange.{LinkChange}
 use Rattle.checkout.specs.Changes.{place_of}
-use Rattle.checkout.specs.Gone.{Gone, is_gone}
+use Rattle.checkout.specs.UnlinkedFiles.{UnlinkedFiles, is_gone}
 use Rattle.checkout.specs.Laying.{IsLeft, StandApart, base_target, taken}
 use Rattle.manifest.specs.Manifest.{Manifest, IsManifest}
 use Rattle.manifest.specs.Tree.{link_cmp}
 use Rattle.manifest.proofs.FlatLemmas.{link_cmp_total}
-use Rattle.checkout.proofs.GoneLemmas.{is_gone-added}
+use Rattle.checkout.proofs.UnlinkedLemmas.{is_gone-added}
 use Rattle.manifest.proofs.ListLemmas.{listed_more, nothing_left}
 use Rattle.checkout.proofs.TakenLaws.{one_place}
 
@@ -23,7 +23,7 @@ use Rattle.checkout.proofs.TakenLaws.{one_place}
 pub not_one : (a b : ℕ × List ℕ) → eq_by_cmp link_cmp a b ≡ false → a ≡ b → ⊥
 not_one a b e same = let yes = ap (λ x. eq_by_cmp link_cmp x b) same ∙ ap is_eq (tied_itself link_cmp_total b) in cc (yes, e)
 
-module _ (m : Manifest) (is : IsManifest m) (gone gone' : Gone) (change : LinkChange) (went : gone'.files ≡ gone.files ++ taken m (change ∷ [])) where
+module _ (m : Manifest) (is : IsManifest m) (gone gone' : UnlinkedFiles) (change : LinkChange) (went : gone'.files ≡ gone.files ++ taken m (change ∷ [])) where
   -- what stands elsewhere is left still
   left_still : (d : LinkChange) → IsLeft m gone d → eq_by_cmp link_cmp (place_of change) (place_of d) ≡ false → IsLeft m gone' d
   left_still d h apart =
@@ -58,7 +58,7 @@ module _ (m : Manifest) (is : IsManifest m) (gone gone' : Gone) (change : LinkCh
   }
 
 -- at first nothing is gone
-pub all_left_first : (m : Manifest) (gone : Gone) → ((q : ℕ) → is_gone gone q ≡ false) → (links : List LinkChange) → AllByRecursion (IsLeft m gone) links
+pub all_left_first : (m : Manifest) (gone : UnlinkedFiles) → ((q : ℕ) → is_gone gone q ≡ false) → (links : List LinkChange) → AllByRecursion (IsLeft m gone) links
 all_left_first m gone none [] = tt
 all_left_first m gone none (c ∷ cs) = (here (base_target m c), all_left_first m gone none cs)
   where

@@ -12,7 +12,7 @@ use Rattle.manifest.specs.declared.links.LinkChange.{LinkChange}
 use Rattle.checkout.specs.declared.made.MadeFile.{MadeFile}
 use Rattle.checkout.specs.BadChanges.{Else, bad_by_other, bad_itself, changed_links, file_does, first_link, first_link_where, is_cut_off, manifest_target, IsBadAround, IsBadChange}
 use Rattle.checkout.specs.Changed.{changed}
-use Rattle.checkout.specs.Gone.{Gone, is_gone}
+use Rattle.checkout.specs.UnlinkedFiles.{UnlinkedFiles, is_gone}
 use Rattle.checkout.specs.Laying.{taken, with_made}
 use Rattle.manifest.specs.Manifest.{IsManifest, Manifest}
 use Rattle.checkout.specs.Overlay.{IsOverlay, tree_over}
@@ -67,7 +67,7 @@ pub bad_by_second : (m : Manifest) (c : Changes) (place : ℕ) → bad_itself m 
 bad_by_second m c place itself e = later_round (bad_itself m c) (Else (bad_by_other m c) (IsBadAround m c)) (Some place) itself (this_round (bad_by_other m c) (IsBadAround m c) place e)
 
 -- what the second round finds, in the words of the calls that made it
-module _ (m : Manifest) (c : Changes) (is : IsManifest m) (itself : bad_itself m c ≡ None) (gone : Gone) (went : gone.files ≡ taken m c.links)
+module _ (m : Manifest) (c : Changes) (is : IsManifest m) (itself : bad_itself m c ≡ None) (gone : UnlinkedFiles) (went : gone.files ≡ taken m c.links)
     (links : List LinkChange) (all : links ≡ c.links)
     (found : Option ℕ) (looked : found ≡ first_of (is_given_twice m (is_gone gone) (λ file. marked file None links)) 0 links) where
   pub second_round : option_map (λ i. first_link c + i) found ≡ bad_by_other m c
@@ -75,7 +75,7 @@ module _ (m : Manifest) (c : Changes) (is : IsManifest m) (itself : bad_itself m
       twice-found m c is itself (is_gone gone) (λ q. ap (list_any (λ f. q == f)) went) found
       (looked ∙ ap (λ xs. first_of (is_given_twice m (is_gone gone) (λ file. marked file None xs)) 0 xs) all)
 
-module _ (m : Manifest) (c : Changes) (added : FinMap link_cmp FileId) (gone : Gone) (lost : Tally) (laid : AreLaid m c added gone lost) where
+module _ (m : Manifest) (c : Changes) (added : FinMap link_cmp FileId) (gone : UnlinkedFiles) (lost : Tally) (laid : AreLaid m c added gone lost) where
   pub bad_by_last : (bad : Option ℕ) → IsBadAround m c bad → IsBadChange m c bad
   bad_by_last bad h =
       later_round (bad_itself m c) (Else (bad_by_other m c) (IsBadAround m c)) bad laid.itself (later_round (bad_by_other m c) (IsBadAround m c) bad laid.by_other h)

@@ -10,7 +10,7 @@ use Rattle.std.specs.Ordering.{nat_cmp}
 use Rattle.eden_base.specs.declared.number.FileId.{FileId}
 use Rattle.manifest.specs.declared.links.LinkChange.{LinkChange}
 use Rattle.checkout.specs.Changes.{place_of}
-use Rattle.checkout.specs.Gone.{Gone, is_gone}
+use Rattle.checkout.specs.UnlinkedFiles.{UnlinkedFiles, is_gone}
 use Rattle.manifest.specs.Manifest.{Manifest}
 use Rattle.checkout.specs.Overlay.{links_over, still}
 use Rattle.manifest.specs.Tree.{link_cmp, links_from}
@@ -37,7 +37,7 @@ IsFirstAbove links changes None =
     (place : ℕ) (change : LinkChange) → slice_get changes place ≡ Some change → IsAbove links change → ⊥
 
 -- a manifest's links, with those that were added and without those that are gone
-abbrev pub links_now : Manifest → FinMap link_cmp FileId → Gone → FinMap link_cmp FileId
+abbrev pub links_now : Manifest → FinMap link_cmp FileId → UnlinkedFiles → FinMap link_cmp FileId
 links_now m added gone = links_over added (is_gone gone) (links_from 2 m.lines)
 
 -- no file stands twice

@@ -1,4 +1,4 @@
--- The first of some changes that no tree of the manifest has. Its place is 0 for the next file, and then counts the
+-- The first of some changes that no tree of the manifest has. Its position is 0 for the next file, and then counts the
 -- files that were made and the links that were changed. Its causes are looked for in four rounds, each over all
 -- changes: what one says by itself, then what all links say together. (This project's own.)
 use Rattle.std.specs.Prelude.{◌≡◌, ℕ, ◌+◌, ◌<◌, ◌⊎◌, ◌==◌, ◌&&◌, ◌||◌, Bool, true, false, not, nat_lt, List, [], ◌∷◌, ◌++◌, length, slice_get, Option, Some, None, is_some, if◌then◌else◌}
@@ -110,10 +110,10 @@ is_bad_link m made before change =
     || not (is_target m made change.target)
     || gives_same change.target (manifest_target m change)
 
--- the place of the first that is bad behind the one before it
+-- the position of the first that is bad behind the one before it
 abbrev pub first_bad : {X : Type 0} → (Option X → X → Bool) → ℕ → Option X → List X → Option ℕ
-first_bad bad place before [] = None
-first_bad bad place before (x ∷ xs) = if bad before x then Some place else first_bad bad (place + 1) (Some x) xs
+first_bad bad position before [] = None
+first_bad bad position before (x ∷ xs) = if bad before x then Some position else first_bad bad (position + 1) (Some x) xs
 
 -- where the links begin
 abbrev pub first_link : Changes → ℕ
@@ -126,7 +126,7 @@ bad_itself m c =
     else option_or (first_bad (is_bad_made m c.next_file) 1 None c.made)
     (first_bad (is_bad_link m c.made) (first_link c) None c.links)
 
--- the place of the first link of which a test holds
+-- the position of the first link of which a test holds
 abbrev pub first_link_where : (LinkChange → Bool) → Changes → Option ℕ
 first_link_where test c = first_bad (λ _ change. test change) (first_link c) None c.links
 
@@ -174,7 +174,7 @@ IsBadAround m c bad =
 
 -- what an earlier round found, or else what a later one finds
 abbrev pub Else : Option ℕ → (Option ℕ → Type 0) → Option ℕ → Type 0
-Else (Some place) Later bad = bad ≡ Some place
+Else (Some position) Later bad = bad ≡ Some position
 Else None Later bad = Later bad
 
 -- the first bad change, if there is one

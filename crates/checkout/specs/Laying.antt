@@ -10,7 +10,7 @@ use Rattle.checkout.specs.declared.changes.Made.{Made}
 use Rattle.checkout.specs.declared.made.MadeFile.{MadeFile}
 use Rattle.checkout.specs.Added.{gives}
 use Rattle.checkout.specs.Changes.{place_of}
-use Rattle.checkout.specs.Gone.{Gone, is_gone}
+use Rattle.checkout.specs.UnlinkedFiles.{UnlinkedFiles, is_gone}
 use Rattle.manifest.specs.Manifest.{Manifest}
 use Rattle.checkout.specs.Overlay.{is_line, lost_in}
 use Rattle.manifest.specs.Tally.{Tally, count_of}
@@ -29,14 +29,14 @@ abbrev pub taken : Manifest → List LinkChange → List ℕ
 taken m links = filter_map (λ change. option_map (λ (file : FileId). file.0) (base_target m change)) links
 
 -- what is gone are files of the manifest, counted by directory, with room for all of them
-pub record AreTaken (m : Manifest) (gone : Gone) (lost : Tally) : Type 0 where
+pub record AreTaken (m : Manifest) (gone : UnlinkedFiles) (lost : Tally) : Type 0 where
   pub gone_room : gone.room ≡ length m.lines + 2
   pub lost_room : lost.room ≡ length m.lines + 2
   pub are_lines : (file : FileId) → is_gone gone file.0 ≡ true → is_line m file ≡ true
   pub counted : (dir : ℕ) → count_of lost dir ≡ lost_in (is_gone gone) dir 2 m.lines
 
 -- what the manifest has where a link was changed is not gone yet
-abbrev pub IsLeft : Manifest → Gone → LinkChange → Type 0
+abbrev pub IsLeft : Manifest → UnlinkedFiles → LinkChange → Type 0
 IsLeft m gone change = IfSome (base_target m change) (λ file. is_gone gone file.0 ≡ false)
 
 -- links, with one that gives this file, or none

@@ -5,7 +5,7 @@ pub mod Changed
 pub mod ChangedTree
 pub mod Changes
 pub mod Create
-pub mod Gone
+pub mod UnlinkedFiles
 pub mod MadeCodes
 pub mod Laying
 pub mod Listing

@@ -7,7 +7,7 @@ use Rattle.checkout.specs.declared.changes.Changes.{Changes}
 use Rattle.manifest.specs.declared.links.LinkChange.{LinkChange}
 use Rattle.checkout.specs.Added.{gives}
 use Rattle.checkout.specs.BadChanges.{bad_by_other, bad_itself, file_does}
-use Rattle.checkout.specs.Gone.{Gone}
+use Rattle.checkout.specs.UnlinkedFiles.{UnlinkedFiles}
 use Rattle.checkout.specs.Laying.{AreTaken, base_target, taken, with_added}
 use Rattle.manifest.specs.Manifest.{IsManifest, Manifest, kids_in}
 use Rattle.checkout.specs.Overlay.{is_line}
@@ -55,7 +55,7 @@ cuts m added gone lost change =
     is_cut m added gone lost change.dir || file_does (is_cut m added gone lost) (base_target m change)
 
 -- changes of which neither of two rounds found one bad, laid over a manifest
-pub record AreLaid (m : Manifest) (c : Changes) (added : FinMap link_cmp FileId) (gone : Gone) (lost : Tally) :
+pub record AreLaid (m : Manifest) (c : Changes) (added : FinMap link_cmp FileId) (gone : UnlinkedFiles) (lost : Tally) :
     Type 0 where
   pub is_manifest : IsManifest m
   pub itself : bad_itself m c ≡ None

@@ -1,4 +1,4 @@
-//! The links that were added since the manifest, from both ends.
+//! The links that were added since the manifest, by name and by file.
 ghost use Rattle.std.specs.Prelude.{◌≡◌, List, ℕ, None, Some, false, MatchOption, OnErr, OnOk};
 ghost use Rattle.std.specs.FinMap.{empty, get, insert, remove};
 ghost use Rattle.checkout.specs.Added.{gives};
@@ -9,7 +9,8 @@ use std::alloc::Global;
 use std::collections::HashMap;
 use std::marker::Model;
 
-/// Each gives a file that no other gives: one that was made, or one of the manifest that stands elsewhere now.
+/// The added links. Each gives another file: one that was made, or one of the manifest that stands elsewhere now. Both
+/// kinds are in one map, so that what makes its two ends agree is said once.
 #[derive(Drop)]
 pub struct Added {
     links: Links,
@@ -37,7 +38,7 @@ impl Model for Added {
 }
 
 impl Added {
-    /// Returns no links.
+    /// Makes an empty set of links.
     pub fn new(alloc: Global) -> Added
         ensures { result ≡ empty }
     {

@@ -1,4 +1,4 @@
-//! What a checkout stands on: the store that knows the files' attributes.
+//! The store below a checkout, which knows the files' attributes.
 ghost use Rattle.std.specs.Prelude.{◌≡◌, ◌<◌, ◌≤◌, ℕ, Bool, true, is_ok, IfOk, IfSome, IsOk, IsSome, OnErr, OnOk, Option, Some};
 ghost use Rattle.eden_base.specs.declared.number.FileId.{FileId};
 ghost use Rattle.manifest.specs.Tree.{file_of, tree_of};
@@ -16,16 +16,17 @@ pub struct BackingFault;
 
 /// A store of a commit's files. What it holds never changes; it may fail to tell it.
 pub trait Backing {
-    /// What it knows of each file.
+    /// The content of each file that it holds.
     ghost content: { Self → FileId → Option Content };
 
     /// How often it failed.
     ghost failed: { Self → ℕ };
 
-    /// Whether it answers when it is asked next, as far as that is known beforehand.
+    /// Whether it answers when it is asked next, if that is known beforehand.
     ghost will_answer: { Self → Option Bool };
 
-    /// Returns the attributes of a file that the store holds, the count of its names apart.
+    /// Returns the attributes of a file that the store holds. The count of its names is the tree's to tell: an unlinked
+    /// file has none.
     fn attr(&mut self, file: FileId) -> Result<Content, BackingFault>
         requires held { IsSome (content self.old file) }
         ensures attr { IfOk result (λ attr. content self.old file ≡ Some attr) }

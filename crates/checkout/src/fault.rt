@@ -17,7 +17,7 @@ pub enum CreateFault {
 /// Why changes make no tree of a manifest.
 #[derive(Clone, Copy, Debug, PartialEq, Eq, Error)]
 pub enum ChangeFault {
-    /// Its place: 0 for the next file, and then the files that were made and the links that were changed, from 1.
+    /// The position of the first bad change: 0 for the next file, then the made files and the changed links from 1.
     #[error("change {0} is bad")]
     BadChange(usize),
     #[error("out of memory")]

@@ -5,11 +5,11 @@ mod added;
 mod backing;
 mod changes;
 mod fault;
-mod gone;
 mod made;
 mod order;
 mod overlay;
 mod tree;
+mod unlinked_files;
 
 pub use backing::{Backing, BackingFault, ManifestBacking};
 pub use changes::{Changes, LinkList, Made, MadeList};

@@ -16,7 +16,7 @@ pub struct MadeFile {
     pub perm: Perm,
 }
 
-/// They are kept by their ids.
+/// The made files, by id.
 #[derive(Drop)]
 pub struct MadeFiles {
     files: BTreeMap<u64, MadeFile>,
@@ -39,7 +39,7 @@ impl Model for MadeFiles {
 }
 
 impl MadeFiles {
-    /// Returns no files.
+    /// Makes an empty set of files.
     pub fn new(alloc: Global) -> MadeFiles
         ensures { result ≡ empty }
     {

@@ -8,14 +8,14 @@ ghost use Rattle.manifest.specs.Tree.{link_cmp};
 use manifest::LinkChange;
 use std::cmp::Ordering;
 
-/// Compares where two names stand: by directory, and then byte by byte.
+/// Compares the places of two links: by directory, and then by the bytes of the name.
 pub fn compare(a: &LinkChange, b: &LinkChange) -> Ordering
     ensures { result ≡ link_cmp (place_of a.now) (place_of b.now) }
 {
     a.dir.0.cmp(&b.dir.0).then(a.name.cmp(&b.name))
 }
 
-/// Sorts names by where they stand. Takes no memory.
+/// Sorts links by place. Takes no memory.
 pub fn sort(links: &mut Vec<LinkChange>)
     ensures permutation { IsPermutation links.old.items links.new.items }
     ensures sorted { IsSortedBy (λ a b. is_lt (link_cmp (place_of a) (place_of b))) links.new.items }

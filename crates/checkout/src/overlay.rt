@@ -3,13 +3,13 @@ ghost use Rattle.std.specs.Prelude.{◌≡◌, ◌==◌, ◌&&◌, ◌||◌, nat
 ghost use Rattle.std.specs.FinMap.{entries};
 ghost use Rattle.std.specs.List.{list_any};
 ghost use Rattle.checkout.specs.Added.{gives};
-ghost use Rattle.checkout.specs.Gone.{is_gone};
+ghost use Rattle.checkout.specs.UnlinkedFiles.{is_gone};
 ghost use Rattle.checkout.specs.Overlay.{is_line};
 ghost use Rattle.manifest.specs.Manifest.{kids_in};
 ghost use Rattle.manifest.specs.Tally.{count_of};
 
 use crate::added::Added;
-use crate::gone::Gone;
+use crate::unlinked_files::UnlinkedFiles;
 use eden_base::FileId;
 use manifest::{Manifest, Tally};
 
@@ -21,14 +21,14 @@ pub fn is_line(manifest: &Manifest, file: FileId) -> bool
 }
 
 /// Returns whether a link of the manifest gives the file still.
-pub fn is_left(manifest: &Manifest, gone: &Gone, file: FileId) -> bool
+pub fn is_left(manifest: &Manifest, gone: &UnlinkedFiles, file: FileId) -> bool
     ensures { result ≡ (is_line manifest.now file && not (is_gone gone.now file.0)) }
 {
     is_line(manifest, file) && !gone.has(file)
 }
 
 /// Returns whether some name leads to the file. None leads to the root.
-pub fn is_linked(manifest: &Manifest, added: &Added, gone: &Gone, file: FileId) -> bool
+pub fn is_linked(manifest: &Manifest, added: &Added, gone: &UnlinkedFiles, file: FileId) -> bool
     ensures { result ≡ (gives added.now file || (is_line manifest.now file && not (is_gone gone.now file.0))) }
 {
     added.dir_of(file).is_some() || is_left(manifest, gone, file)

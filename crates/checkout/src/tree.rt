@@ -15,25 +15,25 @@ ghost use Rattle.checkout.specs.ChangedTree.{attr_of, perm_made, next_file, nlin
 use crate::added::Added;
 use crate::changes::bad_itself::bad_itself;
 use crate::changes::laid::Laid;
-use crate::gone::Gone;
 use crate::made::{MadeFile, MadeFiles};
 use crate::order::sort;
+use crate::unlinked_files::UnlinkedFiles;
 use crate::{ChangeFault, Changes, CreateFault, LinkList, MadeList, overlay};
 use eden_base::{Attr, END_OF_FILES, FileId, Kind, Name, NoMemory, Perm};
 use manifest::{Content, Manifest, Tally, nlink_of_kind};
 use std::alloc::Global;
 use std::marker::Model;
 
-/// What the requests of a mount read and change. It starts as its manifest says, and holds what differs from it alone:
-/// the files that were made, the links that were added, which of the manifest's files lost their link, and how many of
-/// a directory's links that were. The room for losses is taken at once, so that no name is too many to remove.
+/// The tree that the requests of a mount read and change. It starts as its manifest says, and holds only what differs
+/// from it: the made files, the added links, the manifest's files that lost their link, and how many links each
+/// directory lost. The room for losses is taken at once, so that every name can be removed without memory.
 #[derive(Drop)]
 pub struct Tree {
     alloc: Global,
     manifest: Manifest,
     made: MadeFiles,
     added: Added,
-    gone: Gone,
+    gone: UnlinkedFiles,
     lost: Tally,
     next_file: u64,
 }
@@ -41,7 +41,7 @@ pub struct Tree {
 impl Model for Tree {
     ghost use Rattle.std.specs.Prelude.{◌≡◌, ◌+◌, length};
     ghost use Rattle.checkout.specs.Overlay.{tree_over, IsOverlay};
-    ghost use Rattle.checkout.specs.Gone.{is_gone};
+    ghost use Rattle.checkout.specs.UnlinkedFiles.{is_gone};
     ghost use Rattle.manifest.specs.Tally.{count_of};
     ghost use Rattle.manifest.specs.Tree.{Tree};
     ghost use Rattle.manifest.specs.Codes.{tree_code};
@@ -65,7 +65,7 @@ impl Tree {
     {
         let manifest = manifest.share()?;
         let files = manifest.lines().len() + 2;
-        let gone = Gone::with_room(alloc, files)?;
+        let gone = UnlinkedFiles::with_room(alloc, files)?;
         let lost = Tally::with_room(alloc, files)?;
         Ok(Tree {
             alloc,
@@ -78,8 +78,8 @@ impl Tree {
         })
     }
 
-    /// Makes the tree of a manifest with changes made, or tells the first of them that no tree has. It costs what
-    /// differs and what lies above that, and the room for losses.
+    /// Makes the tree of a manifest with these changes, or returns the first bad one. The cost grows with the changes
+    /// and the directories above them, and with the room for losses.
     pub fn with_changes(
         alloc: Global,
         manifest: &Manifest,
@@ -91,8 +91,8 @@ impl Tree {
         ensures good { OnOk result (IsBadChange manifest.now changes.now None) }
         ensures refused { IfErr result (IsChangeRefusal manifest.now changes.now) }
     {
-        if let Some(place) = bad_itself(manifest, changes) {
-            return Err(ChangeFault::BadChange(place));
+        if let Some(position) = bad_itself(manifest, changes) {
+            return Err(ChangeFault::BadChange(position));
         }
         let manifest = manifest.share()?;
         let laid = Laid::of(alloc, &manifest, changes)?;
@@ -123,7 +123,7 @@ impl Tree {
         FileId(self.next_file)
     }
 
-    /// Returns what is known of a file of the tree, its names apart.
+    /// Returns a file's kind, permissions and size.
     fn content(&self, file: FileId) -> Option<Content>
         ensures { result ≡ file_of self.now file }
     {
@@ -160,7 +160,7 @@ impl Tree {
         overlay::is_linked(&self.manifest, &self.added, &self.gone, file)
     }
 
-    /// Returns what a daemon tells the kernel of a file of the tree.
+    /// Returns the attributes that a daemon tells the kernel of a file.
     pub fn attr(&self, file: FileId) -> Option<Attr>
         ensures attr { result ≡ attr_of self.now file }
     {
@@ -216,8 +216,8 @@ impl Tree {
         Some(file)
     }
 
-    /// Returns what tells the tree from its manifest's: the files that were made, the names that give another file than
-    /// the manifest says or none, and the next file. It costs what differs, and not what the manifest holds.
+    /// Returns how the tree differs from its manifest's: the made files, the names that give another file or none, and
+    /// the next file. The cost grows with the changes, and not with the manifest.
     pub fn changes(&self) -> Result<Changes, NoMemory>
         ensures changes { IfOk result (AreChanges self.now) }
         ensures no_others { IfOk result (λ changes. (others : ChangesState) → AreChanges self.now others

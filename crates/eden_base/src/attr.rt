@@ -1,8 +1,8 @@
-//! What the kernel is told of a file.
+//! The attributes of a file.
 ghost use Rattle.std.specs.Prelude.{◌≡◌, ◌≤◌, ◌↔◌, IfSome, IsSome};
 ghost use Rattle.eden_base.specs.Words.{kind_name};
 
-/// Whether a file has content or entries. Links and devices are no part of a checkout here.
+/// A regular file or a directory. Symbolic links and devices are no part of a checkout here.
 #[derive(Clone, Copy, PartialEq, Eq)]
 pub enum Kind {
     File,

@@ -1,8 +1,8 @@
-//! What becomes of a claim of the seat.
+//! Why a claim of the seat fails.
 use thiserror::Error;
 
-/// Why a daemon cannot claim the seat. The first that holds is told, in this order, in the words that a printed
-/// refusal has for it.
+/// Why a daemon cannot claim the seat. The first that holds is told, in this order. Its text is that of a printed
+/// refusal.
 #[derive(Clone, Copy, Debug, PartialEq, Eq, Error)]
 pub enum ClaimFault {
     /// No daemon has the seat.

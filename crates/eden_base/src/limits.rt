@@ -1,4 +1,4 @@
-//! The limits of numbers, of what is counted by them, of sizes, and of what is numbered in a takeover.
+//! The limits of numbers, counts, sizes, generations and sessions.
 
 /// How often the kernel may hold one number: a count of 32 bits.
 pub const GREATEST_COUNT: u64 = (1 << 32) - 1;

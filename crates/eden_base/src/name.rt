@@ -14,7 +14,8 @@ use std::cmp::Ordering;
 use std::marker::Model;
 use thiserror::Error;
 
-/// How many bytes a name keeps in its value: most names of a checkout take no memory, and `Name` takes 32 bytes.
+/// How many bytes a name keeps in its value. Most names of a checkout take no memory so. It is the most with which a
+/// `Name` takes 32 bytes.
 const SHORT: usize = 16;
 
 /// A name as `path_resolution(7)` has it, in bytes that need be no text.

@@ -1,9 +1,9 @@
-//! Bytes, parted.
+//! Splits bytes at a separator.
 ghost use Rattle.std.specs.Prelude.{◌≡◌, ◌<◌, ◌==◌, IfSome, length, position};
 ghost use Rattle.std.specs.Option.{option_map};
 ghost use Rattle.eden_base.specs.Text.{cut};
 
-/// Returns what stands before and after the first of this byte; nothing where there is none.
+/// Splits bytes at the first `byte`: what stands before it, and what behind. None where it isn't there.
 pub fn cut(bytes: &[u8], byte: u8) -> Option<(&[u8], &[u8])>
     ensures parts { option_map (λ p. (p.0.now, p.1.now)) result ≡ cut byte bytes.now }
     ensures shorter { IfSome result (λ p. length p.1.now < length bytes.now) }
@@ -12,7 +12,7 @@ pub fn cut(bytes: &[u8], byte: u8) -> Option<(&[u8], &[u8])>
     Some((&bytes[..place], &bytes[place + 1..]))
 }
 
-/// Returns where the first of this byte stands.
+/// Returns the index of the first `byte`, if there is one.
 fn first_of(bytes: &[u8], byte: u8) -> Option<usize>
     ensures place { result ≡ position (λ b. b == byte) bytes.now }
     ensures within { IfSome result (λ i. i < length bytes.now) }

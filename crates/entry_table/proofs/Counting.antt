@@ -9,7 +9,7 @@ use Rattle.entry_table.specs.Entries.{entry_of, count_of, once_more, is_bad_item
 use Rattle.entry_table.specs.Inside.{IsTable}
 use Rattle.entry_table.specs.Slots.{slot_at}
 use Rattle.entry_table.specs.Table.{TableState, kept_of}
-use Rattle.entry_table.specs.declared.kept.Held.{Held}
+use Rattle.entry_table.specs.declared.kept.Entry.{Entry}
 use Rattle.entry_table.specs.declared.kept.Kept.{Kept}
 use Rattle.entry_table.specs.declared.table.Table.TheInside.{Inside}
 use Rattle.entry_table.proofs.Changing.{KeepsPlace, count_of-none}
@@ -38,8 +38,8 @@ pub good-item : (es : List Kept) (n k : ℕ) → (k ≡ 0 → ⊥) → k ≤ cou
 good-item es n k some few = let z : (k == 0) ≡ false = eq-false k 0 some in let l : nat_lt (count_of es n) k ≡ false = grind (arith, nat_tests) in rw (z, l) refl
 
 -- how often what stands in a slot is held
-abbrev pub count_in : Option Held → ℕ
-count_in o = option_map_or (λ (h : Held). h.count) o 0
+abbrev pub count_in : Option Entry → ℕ
+count_in o = option_map_or (λ (h : Entry). h.count) o 0
 
 -- a count stands in the slot of its number
 pub count-held : (t : Inside) (now : TableState) (n : ℕ) → view_of t ≡ now → IsTable t → count_of now.entries n ≡ count_in (slot_held (slot_at t.slots.items n))
@@ -47,7 +47,7 @@ count-held t now n view is =
     ap (λ (s : TableState). count_of s.entries n) (sym view)
     ∙ ap (λ (e : Option Kept). option_map_or (λ (kept : Kept). kept.count) e 0) (sym (held-entry t.slots.items 2 t.next n is.slots))
     ∙ in_ (slot_held (slot_at t.slots.items n)) where
-      in_ : (o : Option Held) → option_map_or (λ (kept : Kept). kept.count) (option_map (kept_of n) o) 0 ≡ count_in o
+      in_ : (o : Option Entry) → option_map_or (λ (kept : Kept). kept.count) (option_map (kept_of n) o) 0 ≡ count_in o
       in_ None = refl
       in_ (Some h) = refl
 
@@ -58,7 +58,7 @@ bad-more es n k few = let l : nat_lt (count_of es n) k ≡ true = grind (arith, 
   or_true true = refl
   or_true false = refl
 
-pub bad-in : (t : Inside) (now : TableState) (n k : ℕ) (s : Option (Option Held)) → view_of t ≡ now → IsTable t → slot_at t.slots.items n ≡ s → count_in (slot_held s) < k → is_bad_item now.entries n k ≡ true
+pub bad-in : (t : Inside) (now : TableState) (n k : ℕ) (s : Option (Option Entry)) → view_of t ≡ now → IsTable t → slot_at t.slots.items n ≡ s → count_in (slot_held s) < k → is_bad_item now.entries n k ≡ true
 bad-in t now n k s view is found few =
-    let count : count_of now.entries n ≡ count_in (slot_held s) = count-held t now n view is ∙ ap (λ (o : Option (Option Held)). count_in (slot_held o)) found in
+    let count : count_of now.entries n ≡ count_in (slot_held s) = count-held t now n view is ∙ ap (λ (o : Option (Option Entry)). count_in (slot_held o)) found in
     bad-more now.entries n k (omega arith)

@@ -8,10 +8,10 @@ use Rattle.eden_base.specs.declared.place.Place.TheVariants.{Linked, Unlinked}
 use Rattle.entry_table.specs.Entries.{has_number, entry_of, place_of_kept}
 use Rattle.entry_table.specs.Inside.{IsTable}
 use Rattle.entry_table.specs.Links.{link_of, is_link}
-use Rattle.entry_table.specs.Slots.{kept_from, slot_at, file_beside, note_beside, files_from, notes_from, spare_of, AreSlots, IsIndexed, IsPlaceOf}
+use Rattle.entry_table.specs.Slots.{kept_from, slot_at, file_beside, note_beside, files_from, notes_from, spare_of, AreSlots, IsIndexed, IsIndexOf}
 use Rattle.entry_table.specs.Table.{TableState, kept_of, without_entry}
 use Rattle.entry_table.specs.declared.kept.Kept.{Kept}
-use Rattle.entry_table.specs.declared.kept.Held.{Held}
+use Rattle.entry_table.specs.declared.kept.Entry.{Entry}
 use Rattle.entry_table.specs.declared.table.Table.TheInside.{Inside}
 use Rattle.entry_table.proofs.IndexedLemmas.{indexed-lost, indexed-left}
 use Rattle.entry_table.proofs.SlotWrites.{set-slots, emptied, emptied-kept, emptied-beside}
@@ -19,23 +19,23 @@ use Rattle.entry_table.proofs.TableLemmas.{view_of, slot-entry, found-held, writ
 use Rattle.std.specs.Prelude.{None, if◌then◌else◌, slice_set}
 
 -- what was taken out of the slot of a number, and what is left
-pub record Taken (t : Inside) (n : ℕ) (h : Held) (left : List (ℕ × Option Held)) : Type 0 where
+pub record Taken (t : Inside) (n : ℕ) (h : Entry) (left : List (ℕ × Option Entry)) : Type 0 where
   pub is : IsTable t
   pub found : slot_at t.slots.items n ≡ Some (Some h)
   pub taken : left ≡ emptied t.next n h t.slots.items
 
--- by the place at which the slot was found
-pub taken-at : (t : Inside) (n place : ℕ) (slot : ℕ × Option Held) (h : Held) (now : Option Held) (slots : List (ℕ × Option Held)) → IsTable t → slots ≡ t.slots.items → IsPlaceOf slots n place →
-    slot ≡ get_or t.slots.items place slot → slot.1 ≡ Some h → now ≡ None → Taken t n h (slice_set t.slots.items place (slot.0, now))
-taken-at t n place slot h now slots is same at value full gone =
-    let there = subst (λ (es : List (ℕ × Option Held)). IsPlaceOf es n place) same at in
+-- by the index at which the slot was found
+pub taken-at : (t : Inside) (n index : ℕ) (slot : ℕ × Option Entry) (h : Entry) (now : Option Entry) (slots : List (ℕ × Option Entry)) → IsTable t → slots ≡ t.slots.items → IsIndexOf slots n index →
+    slot ≡ get_or t.slots.items index slot → slot.1 ≡ Some h → now ≡ None → Taken t n h (slice_set t.slots.items index (slot.0, now))
+taken-at t n index slot h now slots is same at value full gone =
+    let there = subst (λ (es : List (ℕ × Option Entry)). IsIndexOf es n index) same at in
     record {
       is = is;
-      found = found-held t n place slot is there value h h full;
-      taken = ap (λ (w : Option Held). slice_set t.slots.items place (slot.0, w)) gone ∙ written t n place slot is there value None;
+      found = found-held t n index slot is there value h h full;
+      taken = ap (λ (w : Option Entry). slice_set t.slots.items index (slot.0, w)) gone ∙ written t n index slot is there value None;
     }
 
-module _ {t : Inside} {n : ℕ} {h : Held} {left : List (ℕ × Option Held)} (out : Taken t n h left) where
+module _ {t : Inside} {n : ℕ} {h : Entry} {left : List (ℕ × Option Entry)} (out : Taken t n h left) where
   abbrev pub kept_left : List Kept
   kept_left = without_where (has_number n) (kept_from t.slots.items)
 

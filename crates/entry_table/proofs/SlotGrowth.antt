@@ -15,49 +15,49 @@ use Rattle.entry_table.proofs.SlotWrites.{found-behind, found-here}
 use Rattle.entry_table.specs.Slots.{kept_from, slot_at, first_beside, all_beside, AreSlots}
 use Rattle.entry_table.specs.Table.{kept_of}
 use Rattle.entry_table.specs.declared.kept.Kept.{Kept}
-use Rattle.entry_table.specs.declared.kept.Held.{Held}
+use Rattle.entry_table.specs.declared.kept.Entry.{Entry}
 
 -- the next number is given: its slot is the last
-module _ (next : ℕ) (h : Held) where
-  abbrev pub pushed : List (ℕ × Option Held) → List (ℕ × Option Held)
+module _ (next : ℕ) (h : Entry) where
+  abbrev pub pushed : List (ℕ × Option Entry) → List (ℕ × Option Entry)
   pushed es = es ++ (next, Some h) ∷ []
 
-  pub pushed-slots : (es : List (ℕ × Option Held)) (low : ℕ) → AreSlots low next es → AreSlots low (next + 1) (pushed es)
+  pub pushed-slots : (es : List (ℕ × Option Entry)) (low : ℕ) → AreSlots low next es → AreSlots low (next + 1) (pushed es)
   pushed-slots [] low are = (are, omega arith)
   pushed-slots ((m, o) ∷ es) low are = (are.0, pushed-slots es (m + 1) are.1)
 
-  pub pushed-kept : (es : List (ℕ × Option Held)) → kept_from (pushed es) ≡ kept_from es ++ kept_of next h ∷ []
+  pub pushed-kept : (es : List (ℕ × Option Entry)) → kept_from (pushed es) ≡ kept_from es ++ kept_of next h ∷ []
   pushed-kept [] = refl
   pushed-kept ((m, Some g) ∷ es) = ap (λ (xs : List Kept). kept_of m g ∷ xs) (pushed-kept es)
   pushed-kept ((m, None) ∷ es) = pushed-kept es
 
-  module _ {X : Type 0} (part : Held → Option X) where
-    pub pushed-beside : (es : List (ℕ × Option Held)) → part h ≡ None → all_beside part (pushed es) ≡ all_beside part es
+  module _ {X : Type 0} (part : Entry → Option X) where
+    pub pushed-beside : (es : List (ℕ × Option Entry)) → part h ≡ None → all_beside part (pushed es) ≡ all_beside part es
     pushed-beside [] new = ap (λ (o : Option X). first_beside next o []) new
     pushed-beside ((m, Some g) ∷ es) new = ap (first_beside m (part g)) (pushed-beside es new)
     pushed-beside ((m, None) ∷ es) new = pushed-beside es new
 
 -- the slot isn't empty
-abbrev pub is_full : ℕ × Option Held → Bool
+abbrev pub is_full : ℕ × Option Entry → Bool
 is_full slot = is_some slot.1
 
 -- without the empty slots
-pub full-slots : (es : List (ℕ × Option Held)) (low next : ℕ) → AreSlots low next es → AreSlots low next (filter is_full es)
+pub full-slots : (es : List (ℕ × Option Entry)) (low next : ℕ) → AreSlots low next es → AreSlots low next (filter is_full es)
 full-slots [] low next are = are
 full-slots ((m, Some h) ∷ es) low next are = (are.0, full-slots es (m + 1) next are.1)
 full-slots ((m, None) ∷ es) low next are = full-slots es low next (slots-behind es None low m next are)
 
-pub full-kept : (es : List (ℕ × Option Held)) → kept_from (filter is_full es) ≡ kept_from es
+pub full-kept : (es : List (ℕ × Option Entry)) → kept_from (filter is_full es) ≡ kept_from es
 full-kept [] = refl
 full-kept ((m, Some h) ∷ es) = ap (λ (xs : List Kept). kept_of m h ∷ xs) (full-kept es)
 full-kept ((m, None) ∷ es) = full-kept es
 
-pub full-length : (es : List (ℕ × Option Held)) → length (filter is_full es) ≡ length (kept_from es)
+pub full-length : (es : List (ℕ × Option Entry)) → length (filter is_full es) ≡ length (kept_from es)
 full-length [] = refl
 full-length ((m, Some h) ∷ es) = ap suc (full-length es)
 full-length ((m, None) ∷ es) = full-length es
 
-pub full-beside : {X : Type 0} (part : Held → Option X) (es : List (ℕ × Option Held)) → all_beside part (filter is_full es) ≡ all_beside part es
+pub full-beside : {X : Type 0} (part : Entry → Option X) (es : List (ℕ × Option Entry)) → all_beside part (filter is_full es) ≡ all_beside part es
 full-beside part [] = refl
 full-beside part ((m, Some h) ∷ es) = ap (first_beside m (part h)) (full-beside part es)
 full-beside part ((m, None) ∷ es) = full-beside part es
@@ -72,8 +72,8 @@ cmp-greater : (m n : ℕ) → n < m → nat_cmp m n ≡ Greater
 cmp-greater m n h = sym (nat_cmp_is m n Greater h)
 
 -- something is put beside an entry
-module _ {X : Type 0} (part : Held → Option X) (next : ℕ) (n : ℕ) (x : X) where
-  low_first : (es : List (ℕ × Option Held)) (low : ℕ) → AreSlots low next es → n < low → insert_entry nat_cmp (all_beside part es) n x ≡ (n, x) ∷ all_beside part es
+module _ {X : Type 0} (part : Entry → Option X) (next : ℕ) (n : ℕ) (x : X) where
+  low_first : (es : List (ℕ × Option Entry)) (low : ℕ) → AreSlots low next es → n < low → insert_entry nat_cmp (all_beside part es) n x ≡ (n, x) ∷ all_beside part es
   low_first [] low are less = refl
   low_first ((m, Some g) ∷ es) low are less = in_ (part g) (let a : low ≤ m = are.0 in low_first es (m + 1) are.1 (omega arith)) where
     in_ : (o : Option X) → insert_entry nat_cmp (all_beside part es) n x ≡ (n, x) ∷ all_beside part es → insert_entry nat_cmp (first_beside m o (all_beside part es)) n x ≡ (n, x) ∷ first_beside m o (all_beside part es)
@@ -81,7 +81,7 @@ module _ {X : Type 0} (part : Held → Option X) (next : ℕ) (n : ℕ) (x : X) 
     in_ (Some y) rest = let a : low ≤ m = are.0 in let c : nat_cmp n m ≡ Less = cmp-less n m (omega arith) in rw c refl
   low_first ((m, None) ∷ es) low are less = let a : low ≤ m = are.0 in low_first es (m + 1) are.1 (omega arith)
 
-  pub set-put : (h now : Held) → part now ≡ Some x → (es : List (ℕ × Option Held)) (low : ℕ) → AreSlots low next es → slot_at es n ≡ Some (Some h) →
+  pub set-put : (h now : Entry) → part now ≡ Some x → (es : List (ℕ × Option Entry)) (low : ℕ) → AreSlots low next es → slot_at es n ≡ Some (Some h) →
       all_beside part (set_value (is_at (nat_cmp n)) es (Some now)) ≡ insert_entry nat_cmp (all_beside part es) n x
   set-put h now is [] low are found = absurd (let none : ⊥ = cc in none)
   set-put h now is ((m, Some g) ∷ es) low are found = in_ (eq-or m n) (λ there. set-put h now is es (m + 1) are.1 there) where

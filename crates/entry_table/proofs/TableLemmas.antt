@@ -10,24 +10,24 @@ use Rattle.eden_base.specs.declared.place.Place.TheVariants.{Unlinked}
 use Rattle.eden_base.specs.First.{changed_where, without_where}
 use Rattle.entry_table.specs.Entries.{has_number, entry_of, marked, IsLinked}
 use Rattle.entry_table.specs.Inside.{IsTable}
-use Rattle.entry_table.specs.Slots.{kept_from, slot_at, all_beside, files_from, notes_from, spare_of, AreSlots, IsPlaceOf, IsIndexed}
+use Rattle.entry_table.specs.Slots.{kept_from, slot_at, all_beside, files_from, notes_from, spare_of, AreSlots, IsIndexOf, IsIndexed}
 use Rattle.entry_table.specs.Table.{TableState, kept_of}
 use Rattle.entry_table.specs.declared.kept.Kept.{Kept}
-use Rattle.entry_table.specs.declared.kept.Held.{Held}
+use Rattle.entry_table.specs.declared.kept.Entry.{Entry}
 use Rattle.entry_table.specs.declared.table.Table.TheInside.{Inside}
 use Rattle.eden_base.proofs.MemberLemmas.{some-same, some-none, some-IsSome}
 use Rattle.entry_table.proofs.EntryLemmas.{changed-same, changed-other, without-other, without-same}
 use Rattle.entry_table.proofs.FileLemmas.{linked-marked}
 use Rattle.entry_table.proofs.IndexedLemmas.{Loses}
 use Rattle.entry_table.proofs.SlotLemmas.{slot_held, some-held, held-entry, slots-numbers}
-use Rattle.entry_table.proofs.SlotSearch.{place-found, place-set}
+use Rattle.entry_table.proofs.SlotSearch.{index-found, index-set}
 use Rattle.entry_table.proofs.SlotWrites.{set-slots, set-kept, set-beside}
 
 abbrev pub view_of : Inside → TableState
 view_of t = record { entries = kept_from t.slots.items; remembered = files_from t.slots.items; notes = notes_from t.slots.items; next = t.next; spare = spare_of t.is_reserved }
 
 -- what is an entry stands in a slot
-pub entry-slot : (t : Inside) (now : TableState) (n : ℕ) → view_of t ≡ now → IsTable t → IsSome (entry_of now.entries n) → (h : Held) × (slot_at t.slots.items n ≡ Some (Some h))
+pub entry-slot : (t : Inside) (now : TableState) (n : ℕ) → view_of t ≡ now → IsTable t → IsSome (entry_of now.entries n) → (h : Entry) × (slot_at t.slots.items n ≡ Some (Some h))
 entry-slot t now n view is some = some-held t.slots.items 2 t.next n is.slots (subst (λ (s : TableState). IsSome (entry_of s.entries n)) (sym view) some)
 
 pub never-none : (t : Inside) (now : TableState) (n : ℕ) → view_of t ≡ now → IsTable t → IsSome (entry_of now.entries n) → None ≡ slot_at t.slots.items n → ⊥
@@ -37,7 +37,7 @@ pub never-empty : (t : Inside) (now : TableState) (n : ℕ) → view_of t ≡ no
 never-empty t now n view is some at = let w = entry-slot t now n view is some in let e = at ∙ w.1 in let none : ⊥ = cc in none
 
 -- the entry that stands in a slot
-pub slot-entry : (t : Inside) (n : ℕ) (h : Held) → IsTable t → slot_at t.slots.items n ≡ Some (Some h) → entry_of (kept_from t.slots.items) n ≡ Some (kept_of n h)
+pub slot-entry : (t : Inside) (n : ℕ) (h : Entry) → IsTable t → slot_at t.slots.items n ≡ Some (Some h) → entry_of (kept_from t.slots.items) n ≡ Some (kept_of n h)
 slot-entry t n h is found = sym (held-entry t.slots.items 2 t.next n is.slots) ∙ ap (λ o. option_map (kept_of n) (slot_held o)) found
 
 pub changed-none : (es : List Kept) (p : Kept → Bool) → changed_where p (λ x. x) es ≡ es
@@ -48,27 +48,27 @@ changed-none (x ∷ es) p = in_ (p x) (changed-none es p) where
   in_ false e = ap (λ (xs : List Kept). x ∷ xs) e
 
 -- a slot that was found by its number
-module _ (t : Inside) (n place : ℕ) (slot : ℕ × Option Held) (is : IsTable t) (there : IsPlaceOf t.slots.items n place) (value : slot ≡ get_or t.slots.items place slot) where
+module _ (t : Inside) (n index : ℕ) (slot : ℕ × Option Entry) (is : IsTable t) (there : IsIndexOf t.slots.items n index) (value : slot ≡ get_or t.slots.items index slot) where
   pub found-in : slot_at t.slots.items n ≡ Some slot.1
-  found-in = place-found t.slots.items 2 t.next n place slot is.slots there ∙ ap (λ (s : ℕ × Option Held). Some s.1) (sym value)
+  found-in = index-found t.slots.items 2 t.next n index slot is.slots there ∙ ap (λ (s : ℕ × Option Entry). Some s.1) (sym value)
 
   -- what is written into it
-  pub written : (w : Option Held) → slice_set t.slots.items place (slot.0, w) ≡ set_value (is_at (nat_cmp n)) t.slots.items w
+  pub written : (w : Option Entry) → slice_set t.slots.items index (slot.0, w) ≡ set_value (is_at (nat_cmp n)) t.slots.items w
   written w =
-      let number : slot.0 ≡ n = ap (λ (s : ℕ × Option Held). s.0) value ∙ there.1 slot in
-      ap (λ (k : ℕ). slice_set t.slots.items place (k, w)) number ∙ place-set t.slots.items 2 t.next n place w is.slots there
+      let number : slot.0 ≡ n = ap (λ (s : ℕ × Option Entry). s.0) value ∙ there.1 slot in
+      ap (λ (k : ℕ). slice_set t.slots.items index (k, w)) number ∙ index-set t.slots.items 2 t.next n index w is.slots there
 
-  pub written-slots : (w : Option Held) → AreSlots 2 t.next (slice_set t.slots.items place (slot.0, w))
+  pub written-slots : (w : Option Entry) → AreSlots 2 t.next (slice_set t.slots.items index (slot.0, w))
   written-slots w = rw (written w) (set-slots t.next n w t.slots.items 2 is.slots)
 
-  module _ (h now : Held) (here : slot.1 ≡ Some h) where
+  module _ (h now : Entry) (here : slot.1 ≡ Some h) where
     pub found-held : slot_at t.slots.items n ≡ Some (Some h)
     found-held = found-in ∙ ap Some here
 
-    pub written-kept : (change : Kept → Kept) → change (kept_of n h) ≡ kept_of n now → kept_from (slice_set t.slots.items place (slot.0, Some now)) ≡ changed_where (has_number n) change (kept_from t.slots.items)
+    pub written-kept : (change : Kept → Kept) → change (kept_of n h) ≡ kept_of n now → kept_from (slice_set t.slots.items index (slot.0, Some now)) ≡ changed_where (has_number n) change (kept_from t.slots.items)
     written-kept change is_so = ap kept_from (written (Some now)) ∙ set-kept t.next n h now t.slots.items 2 change is_so is.slots found-held
 
-    pub written-beside : {X : Type 0} (part : Held → Option X) → part now ≡ part h → all_beside part (slice_set t.slots.items place (slot.0, Some now)) ≡ all_beside part t.slots.items
+    pub written-beside : {X : Type 0} (part : Entry → Option X) → part now ≡ part h → all_beside part (slice_set t.slots.items index (slot.0, Some now)) ≡ all_beside part t.slots.items
     written-beside part same = ap (all_beside part) (written (Some now)) ∙ set-beside t.next n h now part t.slots.items 2 same is.slots found-held
 
 -- an entry is taken out
@@ -115,7 +115,7 @@ way-room b slots room h = omega arith
 pub linked-some : (es : List Kept) (n : ℕ) → IsLinked es n → IsSome (entry_of es n)
 linked-some es n linked = some-IsSome (entry_of es n) linked.0 linked.3
 
-pub linked-place : (t : Inside) (now : TableState) (n : ℕ) (h : Held) (file : FileId) → view_of t ≡ now → IsTable t → IsLinked now.entries n → slot_at t.slots.items n ≡ Some (Some h) → h.place ≡ Unlinked file → ⊥
+pub linked-place : (t : Inside) (now : TableState) (n : ℕ) (h : Entry) (file : FileId) → view_of t ≡ now → IsTable t → IsLinked now.entries n → slot_at t.slots.items n ≡ Some (Some h) → h.place ≡ Unlinked file → ⊥
 linked-place t now n h file view is linked found unlinked =
     let there : entry_of now.entries n ≡ Some (kept_of n h) = ap (λ (s : TableState). entry_of s.entries n) (sym view) ∙ slot-entry t n h is found in
     let same : linked.0 ≡ kept_of n h = some-same (entry_of now.entries n) linked.0 (kept_of n h) linked.3 there in

@@ -11,24 +11,24 @@ use Rattle.eden_base.specs.declared.place.Place.TheVariants.{Linked}
 use Rattle.entry_table.specs.Entries.{entry_of}
 use Rattle.entry_table.specs.Table.{kept_of}
 use Rattle.entry_table.specs.declared.kept.Kept.{Kept}
-use Rattle.entry_table.specs.declared.kept.Held.{Held}
+use Rattle.entry_table.specs.declared.kept.Entry.{Entry}
 
 -- an entry without its number, of which no file is remembered and nothing is noted
-abbrev pub held_of : Kept → Held
+abbrev pub held_of : Kept → Entry
 held_of kept = record { place = kept.place; count = kept.count; file = None; note = None }
 
 -- the slot of an entry
-abbrev pub slot_of : Kept → ℕ × Option Held
+abbrev pub slot_of : Kept → ℕ × Option Entry
 slot_of kept = (kept.number.0, Some (held_of kept))
 
 -- the slots of such entries
-abbrev pub slots_of : List Kept → List (ℕ × Option Held)
+abbrev pub slots_of : List Kept → List (ℕ × Option Entry)
 slots_of entries = map slot_of entries
 
 -- the entries in slots; a slot whose entry has left is empty
-abbrev pub kept_from : List (ℕ × Option Held) → List Kept
+abbrev pub kept_from : List (ℕ × Option Entry) → List Kept
 kept_from [] = []
-kept_from ((n, Some held) ∷ slots) = kept_of n held ∷ kept_from slots
+kept_from ((n, Some entry) ∷ slots) = kept_of n entry ∷ kept_from slots
 kept_from ((n, None) ∷ slots) = kept_from slots
 
 -- the number of the first entry
@@ -37,16 +37,16 @@ first_number [] = None
 first_number (kept ∷ entries) = Some kept.number
 
 -- the slot of a number
-abbrev pub slot_at : List (ℕ × Option Held) → ℕ → Option (Option Held)
+abbrev pub slot_at : List (ℕ × Option Entry) → ℕ → Option (Option Entry)
 slot_at slots n = lookup (is_at (nat_cmp n)) slots
 
 -- what stands in it
-abbrev pub held_in : List (ℕ × Option Held) → ℕ → Option Held
-held_in slots n = option_and_then (λ (held : Option Held). held) (slot_at slots n)
+abbrev pub held_in : List (ℕ × Option Entry) → ℕ → Option Entry
+held_in slots n = option_and_then (λ (entry : Option Entry). entry) (slot_at slots n)
 
--- the slot at this place is the number's
-abbrev pub IsPlaceOf : List (ℕ × Option Held) → ℕ → ℕ → Type 0
-IsPlaceOf slots n place = (place < length slots) × HoldsAt (λ (slot : ℕ × Option Held). slot.0 ≡ n) slots place
+-- the slot at this index is the number's
+abbrev pub IsIndexOf : List (ℕ × Option Entry) → ℕ → ℕ → Type 0
+IsIndexOf slots n index = (index < length slots) × HoldsAt (λ (slot : ℕ × Option Entry). slot.0 ≡ n) slots index
 
 -- what a number has, if anything, before what others have
 abbrev pub first_beside : {X : Type 0} → ℕ → Option X → List (ℕ × X) → List (ℕ × X)
@@ -54,23 +54,23 @@ first_beside n (Some x) xs = (n, x) ∷ xs
 first_beside n None xs = xs
 
 -- what the entries have, each with its number
-abbrev pub all_beside : {X : Type 0} → (Held → Option X) → List (ℕ × Option Held) → List (ℕ × X)
+abbrev pub all_beside : {X : Type 0} → (Entry → Option X) → List (ℕ × Option Entry) → List (ℕ × X)
 all_beside part [] = []
-all_beside part ((n, Some held) ∷ slots) = first_beside n (part held) (all_beside part slots)
+all_beside part ((n, Some entry) ∷ slots) = first_beside n (part entry) (all_beside part slots)
 all_beside part ((n, None) ∷ slots) = all_beside part slots
 
 -- the file of an entry, and its note
-abbrev pub file_beside : Held → Option FileId
-file_beside held = held.file
+abbrev pub file_beside : Entry → Option FileId
+file_beside entry = entry.file
 
-abbrev pub note_beside : Held → Option ℕ
-note_beside held = held.note
+abbrev pub note_beside : Entry → Option ℕ
+note_beside entry = entry.note
 
 -- the files that are remembered, and the notes
-abbrev pub files_from : List (ℕ × Option Held) → List (ℕ × FileId)
+abbrev pub files_from : List (ℕ × Option Entry) → List (ℕ × FileId)
 files_from slots = all_beside file_beside slots
 
-abbrev pub notes_from : List (ℕ × Option Held) → List (ℕ × ℕ)
+abbrev pub notes_from : List (ℕ × Option Entry) → List (ℕ × ℕ)
 notes_from slots = all_beside note_beside slots
 
 -- how many numbers are reserved
@@ -78,12 +78,12 @@ abbrev pub spare_of : Bool → ℕ
 spare_of ready = if ready then 1 else 0
 
 -- numbers rise from a lowest one and stay below the next
-abbrev pub AreSlots : ℕ → ℕ → List (ℕ × Option Held) → Type 0
+abbrev pub AreSlots : ℕ → ℕ → List (ℕ × Option Entry) → Type 0
 AreSlots low next [] = low ≤ next
 AreSlots low next (slot ∷ slots) = (low ≤ slot.0) × AreSlots (slot.0 + 1) next slots
 
 -- the slots of a table, whichever its next number is
-abbrev pub IsSlots : List (ℕ × Option Held) → Type 0
+abbrev pub IsSlots : List (ℕ × Option Entry) → Type 0
 IsSlots slots = (next : ℕ) × AreSlots 2 next slots
 
 -- what the index has of the entries: each linked one at its place, and nothing else

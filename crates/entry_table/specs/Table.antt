@@ -9,7 +9,7 @@ use Rattle.eden_base.specs.declared.number.Number.{Number}
 use Rattle.eden_base.specs.declared.place.Place.TheVariants.{Linked}
 use Rattle.entry_table.specs.Entries.{entry_of, is_kept}
 use Rattle.entry_table.specs.declared.kept.Kept.{Kept}
-use Rattle.entry_table.specs.declared.kept.Held.{Held}
+use Rattle.entry_table.specs.declared.kept.Entry.{Entry}
 
 -- the entries, the files that are remembered of them and the notes that are kept beside them, both by rising number,
 -- the next number, and whether there is room for it
@@ -21,8 +21,8 @@ pub record TableState : Type 0 where
   pub spare : ℕ
 
 -- an entry, with its number
-abbrev pub kept_of : ℕ → Held → Kept
-kept_of n held = record { number = record { 0 = n }; place = held.place; count = held.count }
+abbrev pub kept_of : ℕ → Entry → Kept
+kept_of n entry = record { number = record { 0 = n }; place = entry.place; count = entry.count }
 
 -- the number stands in this directory
 abbrev pub IsIn : List Kept → ℕ → Number → Type 0

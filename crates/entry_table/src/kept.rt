@@ -1,4 +1,4 @@
-//! One entry: with its number, and what it has beside it.
+//! An entry of the table, and what an image keeps of it.
 ghost use Rattle.std.specs.Prelude.{◌≡◌, IfOk};
 ghost use Rattle.entry_table.specs.EntryPlaces.{HasName, IsNamedEntry, is_under_name};
 ghost use Rattle.entry_table.specs.Table.{kept_of};
@@ -6,7 +6,7 @@ ghost use Rattle.entry_table.specs.Table.{kept_of};
 use eden_base::{FileId, Name, NoMemory, Number, Place};
 use std::alloc::Global;
 
-/// A number that was given and is of use still: while the kernel holds it, or a number below it.
+/// A number that was given and is kept: the kernel holds it, or a number below it.
 #[derive(Drop)]
 pub struct Kept {
     pub number: Number,
@@ -15,9 +15,9 @@ pub struct Kept {
     pub count: u64,
 }
 
-/// What an entry has beside its number.
+/// What the table has of a number.
 #[derive(Drop)]
-pub struct Held {
+pub struct Entry {
     pub place: Place,
     pub count: u64,
     /// The file that the number names, once it was found.
@@ -26,7 +26,7 @@ pub struct Held {
     pub note: Option<u32>,
 }
 
-impl Held {
+impl Entry {
     /// Tells whether the entry stands under a name.
     pub fn is_linked(&self) -> bool
         ensures linked { result ≡ is_under_name self.now.place }
@@ -37,7 +37,7 @@ impl Held {
         }
     }
 
-    /// Returns the entry of a number with this beside it, in memory of its own.
+    /// Returns what an image keeps of the entry, in memory of its own.
     pub(crate) fn kept(&self, alloc: Global, number: Number) -> Result<Kept, NoMemory>
         ensures entry { IfOk result (λ kept. kept ≡ kept_of number.0 self.now) }
         ensures named { IfOk result IsNamedEntry }

@@ -6,5 +6,5 @@ mod kept;
 mod table;
 mod way;
 
-pub use kept::{Held, Kept};
+pub use kept::{Entry, Kept};
 pub use table::Table;

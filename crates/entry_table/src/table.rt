@@ -10,19 +10,19 @@ ghost use Rattle.eden_base.specs.declared.number.FileId.{FileId};
 ghost use Rattle.eden_base.specs.declared.number.Number.{Number};
 ghost use Rattle.entry_table.specs.EntryPlaces.{HasName, IsNamedEntry, is_under_name};
 ghost use Rattle.entry_table.specs.Entries.{has_number, entry_of, entry_at, is_kid_of, number_of_kept, place_of_kept, number_after, new_entry, marked, IsLinked, IsFileOf, file_remembered, remembered, AreNumbers, AreEntries, count_of, once_more, is_bad_item, lowered};
-ghost use Rattle.entry_table.specs.Slots.{slot_of, slots_of, slot_at, kept_from, files_from, notes_from, first_number, held_in, AreSlots, IsSlots, IsPlaceOf};
+ghost use Rattle.entry_table.specs.Slots.{slot_of, slots_of, slot_at, kept_from, files_from, notes_from, first_number, held_in, AreSlots, IsSlots, IsIndexOf};
 ghost use Rattle.entry_table.specs.Table.{IsIn, kept_of, without_entry, AreOfKept, file_number, note_of, noted};
 
 use crate::index::Index;
-use crate::kept::{Held, Kept};
+use crate::kept::{Entry, Kept};
 use crate::way::locate;
 use checkout::Tree;
 use eden_base::{FileId, GREATEST_COUNT, Name, NoMemory, Number, Place};
 use std::alloc::{AllocError, Global};
 use std::marker::Model;
 
-/// A number, and what its entry has beside it. The slot stays empty where the entry has left, until room is needed.
-pub(crate) type Slot = (u64, Option<Held>);
+/// A number and its entry. Where the entry has left, the slot stays empty until room is needed.
+pub(crate) type Slot = (u64, Option<Entry>);
 
 /// The entries by number and by place. Their slots stand by rising number, so that a new one is the last. There is room
 /// for the next number's where that is reserved, and the way has room for a walk past all of them.
@@ -68,7 +68,7 @@ impl Table {
         }
     }
 
-    /// Returns a table of these entries, of which no file is remembered and nothing is noted.
+    /// Makes a table of these entries, without files and notes.
     pub fn of_entries(alloc: Global, entries: Vec<Kept>, next: u64) -> Result<Table, NoMemory>
         requires entries { AreEntries entries.items next }
         ensures table { IfOk result (λ table. table
@@ -94,13 +94,13 @@ impl Table {
         self.next
     }
 
-    /// Returns what an entry has beside its number.
-    pub fn get(&self, number: Number) -> Option<&Held>
+    /// Returns the entry of a number.
+    pub fn get(&self, number: Number) -> Option<&Entry>
         ensures entry { option_map (kept_of number.0) (option_copied result)
             ≡ entry_of self.now.entries number.0 }
-        ensures file { option_and_then (λ held. held.file) (option_copied result)
+        ensures file { option_and_then (λ entry. entry.file) (option_copied result)
             ≡ file_remembered self.now.remembered number.0 }
-        ensures note { option_and_then (λ held. held.note) (option_copied result)
+        ensures note { option_and_then (λ entry. entry.note) (option_copied result)
             ≡ note_of self.now.notes number.0 }
         ensures kept { AreOfKept file_number self.now.entries self.now.remembered }
     {
@@ -170,19 +170,19 @@ impl Table {
     {
         let number = Number(self.next);
         self.index.add(parent.0, &name, number.0);
-        let held = Held {
+        let entry = Entry {
             place: Place::Linked { parent, name },
             count: 1,
             file: None,
             note: None,
         };
-        self.slots.push_reserved((number.0, Some(held)));
+        self.slots.push_reserved((number.0, Some(entry)));
         self.next += 1;
         self.is_reserved = false;
         number
     }
 
-    /// Counts a number once more, and tells whether it did: not where the kernel holds it as often as it may.
+    /// Counts a number once more, and returns whether it did. It doesn't at the greatest count.
     pub fn raise(&mut self, number: Number) -> bool
         requires held { IsSome (entry_of self.old.entries number.0) }
         ensures may { result ≡ nat_lt (count_of self.old.entries number.0) greatest_count }
@@ -191,17 +191,17 @@ impl Table {
         } else self.old) }
         ensures kept { AreOfKept file_number self.old.entries self.old.remembered }
     {
-        let Some(place) = place_of(self.slots.as_slice(), number) else {
+        let Some(index) = index_of(self.slots.as_slice(), number) else {
             unreachable!()
         };
-        let slot = &mut self.slots[place];
-        let Some(held) = &mut slot.1 else {
+        let slot = &mut self.slots[index];
+        let Some(entry) = &mut slot.1 else {
             unreachable!()
         };
-        if held.count >= GREATEST_COUNT {
+        if entry.count >= GREATEST_COUNT {
             return false;
         }
-        held.count += 1;
+        entry.count += 1;
         true
     }
 
@@ -218,16 +218,16 @@ impl Table {
         if k == 0 {
             return None;
         }
-        let place = place_of(self.slots.as_slice(), number)?;
-        let slot = &mut self.slots[place];
-        let Some(held) = &mut slot.1 else {
+        let index = index_of(self.slots.as_slice(), number)?;
+        let slot = &mut self.slots[index];
+        let Some(entry) = &mut slot.1 else {
             return None;
         };
-        if held.count < k {
+        if entry.count < k {
             return None;
         }
-        held.count -= k;
-        Some(held.count)
+        entry.count -= k;
+        Some(entry.count)
     }
 
     /// Remembers the file that a number names.
@@ -237,14 +237,14 @@ impl Table {
           remembered = remembered self.old.remembered number.0 file;
         } }
     {
-        let Some(place) = place_of(self.slots.as_slice(), number) else {
+        let Some(index) = index_of(self.slots.as_slice(), number) else {
             unreachable!()
         };
-        let slot = &mut self.slots[place];
-        let Some(held) = &mut slot.1 else {
+        let slot = &mut self.slots[index];
+        let Some(entry) = &mut slot.1 else {
             unreachable!()
         };
-        held.file = Some(file);
+        entry.file = Some(file);
     }
 
     /// Notes something of a number, in place of what was noted, or nothing.
@@ -252,14 +252,14 @@ impl Table {
         requires held { IsSome (entry_of self.old.entries number.0) }
         ensures noted { self.new ≡ record self.old { notes = noted self.old.notes number.0 note } }
     {
-        let Some(place) = place_of(self.slots.as_slice(), number) else {
+        let Some(index) = index_of(self.slots.as_slice(), number) else {
             unreachable!()
         };
-        let slot = &mut self.slots[place];
-        let Some(held) = &mut slot.1 else {
+        let slot = &mut self.slots[index];
+        let Some(entry) = &mut slot.1 else {
             unreachable!()
         };
-        held.note = note;
+        entry.note = note;
     }
 
     /// Takes the name of a number away, and returns the directory in which it stood.
@@ -271,20 +271,20 @@ impl Table {
         ensures dir { IsIn self.old.entries number.0 result }
         ensures kept { AreOfKept file_number self.new.entries self.new.remembered }
     {
-        let Some(place) = place_of(self.slots.as_slice(), number) else {
+        let Some(index) = index_of(self.slots.as_slice(), number) else {
             unreachable!()
         };
-        let slot = &mut self.slots[place];
-        let Some(held) = slot.1.take() else {
+        let slot = &mut self.slots[index];
+        let Some(entry) = slot.1.take() else {
             unreachable!()
         };
-        slot.1 = Some(Held {
+        slot.1 = Some(Entry {
             place: Place::Unlinked { file },
-            count: held.count,
-            file: held.file,
-            note: held.note,
+            count: entry.count,
+            file: entry.file,
+            note: entry.note,
         });
-        let Place::Linked { parent, name } = &held.place else {
+        let Place::Linked { parent, name } = &entry.place else {
             unreachable!()
         };
         self.index.remove(parent.0, name);
@@ -298,16 +298,16 @@ impl Table {
         ensures removed { self.new ≡ without_entry self.old number.0
             (without_where (has_number number.0) self.old.entries) }
     {
-        let Some(place) = place_of(self.slots.as_slice(), number) else {
+        let Some(index) = index_of(self.slots.as_slice(), number) else {
             unreachable!()
         };
-        let Some(held) = self.slots[place].1.take() else {
+        let Some(entry) = self.slots[index].1.take() else {
             unreachable!()
         };
-        if let Place::Linked { parent, name } = &held.place {
+        if let Place::Linked { parent, name } = &entry.place {
             self.index.remove(parent.0, name);
         }
-        held.place
+        entry.place
     }
 
     /// Finds the file that a number names in a tree, by the names above it.
@@ -329,17 +329,17 @@ fn slots_of(alloc: Global, entries: Vec<Kept>) -> Result<Vec<Slot>, AllocError>
     entries.into_iter().map(slot_of).collect(alloc)
 }
 
-/// Returns the slot of an entry, of which no file is remembered and nothing is noted.
+/// Makes the slot of an entry, without a file and a note.
 fn slot_of(kept: Kept) -> Slot
     ensures { result ≡ slot_of kept }
 {
-    let held = Held {
+    let entry = Entry {
         place: kept.place,
         count: kept.count,
         file: None,
         note: None,
     };
-    (kept.number.0, Some(held))
+    (kept.number.0, Some(entry))
 }
 
 /// Returns the entries that stand in the slots, in memory of their own.
@@ -349,17 +349,17 @@ fn entries_of(alloc: Global, slots: &[Slot]) -> Result<Vec<Kept>, NoMemory>
 {
     let mut entries = Vec::with_capacity(alloc, slots.len())?;
     for (number, slot) in slots {
-        let Some(held) = slot else {
+        let Some(entry) = slot else {
             continue;
         };
-        let kept = held.kept(alloc, Number(*number))?;
+        let kept = entry.kept(alloc, Number(*number))?;
         entries.push(kept)?;
     }
     Ok(entries)
 }
 
-/// Makes room for one more slot. Where there is none, the empty slots go, and what is left has room for a quarter
-/// more at least, so that little is spare and each gift pays for five slots that were looked at.
+/// Makes room for one more slot. Where there is none, it drops the empty slots, and takes memory for at least a quarter
+/// more than are left. So little memory is spare, and on average a new number costs a look at five slots.
 fn make_room(slots: &mut Vec<Slot>) -> Result<(), AllocError>
     ensures entries { kept_from slots.new.items ≡ kept_from slots.old.items }
     ensures files { files_from slots.new.items ≡ files_from slots.old.items }
@@ -377,8 +377,9 @@ fn make_room(slots: &mut Vec<Slot>) -> Result<(), AllocError>
     slots.try_reserve_exact(slots.len() / 4 + 1)
 }
 
-/// Returns between which places the slots up to a number end. As numbers rise, a slot's number is at least as far above
-/// the first as the slot is, and at least as far below the last; so the places are one where no number is missing.
+/// Returns the range of indexes in which the slots up to a number end. Numbers rise, so the slot of a number is at most
+/// as far from the first slot as its number is from the first number, and likewise from the last. Where no number is
+/// missing, the range is one index.
 fn window(slots: &[Slot], number: Number) -> (usize, usize)
     requires { IsSlots slots.now }
     ensures before { AllWithin (λ slot. slot.0 ≤ number.0) slots.now 0 result.0 }
@@ -395,7 +396,7 @@ fn window(slots: &[Slot], number: Number) -> (usize, usize)
     (len.saturating_sub(below), len.min(above + 1))
 }
 
-/// Returns how many slots stand up to a number, with its own.
+/// Returns how many slots have that number or a lower one.
 fn up_to(slots: &[Slot], number: Number) -> usize
     requires { IsSlots slots.now }
     ensures parted { IsPartitionPoint (λ slot. slot.0 ≤ number.0) (λ slot. number.0 < slot.0) slots.now result }
@@ -417,26 +418,26 @@ fn first_in(slots: &[Slot]) -> Option<Number>
     None
 }
 
-/// Returns where the slot of a number stands.
-fn place_of(slots: &[Slot], number: Number) -> Option<usize>
+/// Returns the index of a number's slot.
+fn index_of(slots: &[Slot], number: Number) -> Option<usize>
     requires { IsSlots slots.now }
-    ensures place { IfSome result (IsPlaceOf slots.now number.0) }
+    ensures index { IfSome result (IsIndexOf slots.now number.0) }
     ensures none { IfNone result (slot_at slots.now number.0 ≡ None) }
 {
-    let place = up_to(slots, number).checked_sub(1)?;
-    if slots[place].0 == number.0 {
-        Some(place)
+    let index = up_to(slots, number).checked_sub(1)?;
+    if slots[index].0 == number.0 {
+        Some(index)
     } else {
         None
     }
 }
 
-/// Returns what an entry has beside its number.
-pub(crate) fn held_at(slots: &[Slot], number: Number) -> Option<&Held>
+/// Returns the entry of a number.
+pub(crate) fn held_at(slots: &[Slot], number: Number) -> Option<&Entry>
     requires { IsSlots slots.now }
     ensures held { option_copied result ≡ held_in slots.now number.0 }
     ensures entry { option_map (kept_of number.0) (option_copied result)
         ≡ entry_of (kept_from slots.now) number.0 }
 {
-    slots[place_of(slots, number)?].1.as_ref()
+    slots[index_of(slots, number)?].1.as_ref()
 }

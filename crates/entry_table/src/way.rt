@@ -53,10 +53,10 @@ pub(crate) fn locate(
 {
     let mut file = climb(slots, way, number)?;
     while let Some(number) = way.pop() {
-        let Some(held) = held_at(slots, number) else {
+        let Some(entry) = held_at(slots, number) else {
             unreachable!()
         };
-        let Place::Linked { name, .. } = &held.place else {
+        let Place::Linked { name, .. } = &entry.place else {
             unreachable!()
         };
         file = tree.child(file, name)?;

@@ -52,7 +52,7 @@ impl Model for Served {
         × AreLoaded (record { map = s.map; tree = s.tree }) };
 }
 
-/// The directory of a number, and the file under a name in it.
+/// The file of a directory's number, and the file under a name in it.
 #[derive(Drop)]
 struct Found {
     dir: FileId,
@@ -85,7 +85,7 @@ impl Linkage {
         }
     }
 
-    /// Returns how many names lead to a file of a kind that stands so.
+    /// Returns how many names a file of a kind has.
     fn nlink(self, kind: Kind) -> u32
         ensures { result ≡ (if lacks_name self then 0 else nlink_of_kind kind) }
     {
@@ -108,7 +108,7 @@ impl Served {
         Ok(Served { map, tree })
     }
 
-    /// Returns a daemon that begins to serve `tree`, with numbers that were given before: nothing is loaded of them. At
+    /// Returns a daemon that begins to serve `tree`, with numbers that were given before and no attribute loaded. At
     /// most `limit` attributes are loaded at once, and one may always be. `entries` and `tree` are lost where memory is
     /// refused.
     pub fn of_entries(
@@ -143,9 +143,9 @@ impl Served {
         &self.tree
     }
 
-    /// Answers an ask, or applies the items of a forget, which has no answer. A file that isn't loaded is asked of the
-    /// backing, once nothing but memory stands against the answer; no other is. An error changes no number, no count,
-    /// no place and no tree, and loads nothing.
+    /// Answers an ask, or applies the items of a forget, which has no answer. The backing is asked for the request's
+    /// file alone, if it isn't loaded and only memory may still be refused. An error changes no number, count, place or
+    /// tree, and loads no attribute.
     #[tactic(auto, using(crate::proofs::Steps::steps))]
     pub fn apply<B: Backing>(
         &mut self,

@@ -1,4 +1,4 @@
-//! What the kernel forgets at once, out of line.
+//! The items of a batch of forgets, out of line.
 ghost use Rattle.std.specs.Prelude.{◌≡◌, ◌↔◌, ◌≤◌, ◌*◌, ◌==◌, List, length, vec_len, vec_capacity, IfOk, IsTrue};
 ghost use Rattle.fuse_wire.specs.RequestBody.{items_at};
 
@@ -8,7 +8,8 @@ use eden_base::NoMemory;
 use std::alloc::Global;
 use std::marker::Model;
 
-/// The items of a batch, at most 256, in order. They lie in memory of their own, so that a request stays small.
+/// The items of a batch, at most 256, in order. They lie in memory of their own, so that a request takes at most 80
+/// bytes: with 256 items in it, it would take 4,112, which are moved at every step.
 #[derive(Drop)]
 pub struct Batch {
     items: Vec<Item>,

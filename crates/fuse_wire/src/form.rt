@@ -1,4 +1,4 @@
-//! What a request is answered with.
+//! The forms of replies.
 ghost use Rattle.std.specs.Prelude.{◌≡◌};
 ghost use Rattle.fuse_wire.specs.Form.{belongs};
 

@@ -1,4 +1,4 @@
-//! What the kernel forgets.
+//! The items of a forget.
 ghost use Rattle.std.specs.Prelude.{◌≡◌, ◌↔◌, ◌<◌, ◌≤◌, ◌+◌, ◌*◌, List, [], ◌∷◌, ◌++◌, length, drop, ◌==◌, nat_eq, IsTrue};
 ghost use Rattle.fuse_wire.specs.RequestBody.{item_at, items_at};
 
@@ -47,7 +47,7 @@ impl Default for Item {
     }
 }
 
-/// The items of a batch, at most 256, in order. They lie in the value itself.
+/// The items of a batch, at most 256, in order. They lie in the value itself, so that `read_items` takes no memory.
 #[derive(Drop)]
 pub struct Items {
     items: ArrayVec<Item, 256>,
@@ -68,7 +68,7 @@ impl Items {
     /// This project's own limit.
     pub const MAX_LEN: usize = 256;
 
-    /// Returns no items.
+    /// Makes an empty list.
     pub fn new() -> Items
         ensures empty { result ≡ [] }
     {

@@ -23,7 +23,7 @@ impl Model for Nodes {
 }
 
 impl Nodes {
-    /// Returns no number.
+    /// Makes an empty list.
     pub(crate) fn none() -> Nodes
         ensures { result ≡ [] }
     {
@@ -32,7 +32,7 @@ impl Nodes {
         }
     }
 
-    /// Returns one number.
+    /// Makes a list of one number.
     pub(crate) fn one(number: Number) -> Nodes
         ensures { result ≡ number ∷ [] }
     {
@@ -41,7 +41,7 @@ impl Nodes {
         Nodes { numbers }
     }
 
-    /// Returns two numbers, in this order.
+    /// Makes a list of two numbers, in this order.
     pub(crate) fn two(first: Number, second: Number) -> Nodes
         ensures { result ≡ first ∷ second ∷ [] }
     {

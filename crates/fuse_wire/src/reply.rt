@@ -1,10 +1,10 @@
-//! What a daemon answers.
+//! The replies of a daemon.
 ghost use Rattle.std.specs.Prelude.{◌≡◌, ◌↔◌, IsTrue};
 
 use crate::same::same_attr;
 use eden_base::{Attr, Errno, Number};
 
-/// What became of a request.
+/// The result of a request.
 #[derive(Clone, Copy, PartialEq, Eq)]
 pub enum Answer {
     /// Of LOOKUP and MKDIR: the kernel holds the number once more.

@@ -1,4 +1,4 @@
-//! What a refused request is answered.
+//! The reply to a request that was refused.
 ghost use Rattle.std.specs.Prelude.{◌≡◌};
 ghost use Rattle.fuse_wire.specs.FaultReply.{errno_of_fault, fault_reply_of};
 

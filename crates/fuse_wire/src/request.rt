@@ -1,4 +1,4 @@
-//! What the kernel asks, and by which opcode.
+//! The requests of the kernel, and their opcodes.
 ghost use Rattle.std.specs.Prelude.{◌≡◌, ◌≤◌, ◌↔◌, length, IsTrue, IfOk, OnErr};
 ghost use Rattle.fuse_wire.specs.Request.{code, opcode, opcode_of, nodeid, is_forget, form_of, is_ask, nodes, item_of, items_of, other_of};
 
@@ -33,7 +33,7 @@ pub struct Ask {
     pub what: Request,
 }
 
-/// What a request asks for (`enum fuse_opcode` of `linux/fuse.h`).
+/// The operation of a request (`enum fuse_opcode` of `linux/fuse.h`).
 #[derive(Clone, Copy)]
 pub(crate) enum Opcode {
     Lookup,

@@ -23,15 +23,15 @@ use std::alloc::Global;
 use std::marker::Model;
 use thiserror::Error;
 
-/// What becomes of a forget.
+/// The result of a forget.
 #[derive(Clone, Copy, PartialEq, Eq)]
 pub enum Forgot {
-    /// The number is held less often, and is of use still.
+    /// The count is lower, and the entry stays.
     Lowered,
-    /// The number left, with each directory above it that is of no use without it.
+    /// The number left, with each directory above it that has count 0 and no other child.
     Dropped,
-    /// The number is unknown, or is held less often than the forget says, or the forget takes back nothing:
-    /// `bad_items` counts it, and nothing else changes.
+    /// The number is unknown, its count is below what the forget takes back, or that is 0: `bad_items` counts it, and
+    /// nothing else changes.
     Bad,
     /// The root is held always; nothing changed.
     Root,
@@ -92,8 +92,7 @@ impl Model for InodeMap {
 }
 
 impl InodeMap {
-    /// Remembers no number yet but the root's, which is no entry. At most `loaded_limit` attributes are
-    /// loaded at once.
+    /// Makes a map without entries, which knows the root alone. At most `loaded_limit` attributes are loaded at once.
     pub fn new(alloc: Global, loaded_limit: usize) -> Result<InodeMap, NoMemory>
         requires limit { 1 ≤ loaded_limit }
         ensures new { IfOk result (λ map. map ≡ new_map loaded_limit) }
@@ -153,7 +152,7 @@ impl InodeMap {
         ensures count { result ≡ count_of self.now.entries number.0 }
     {
         match self.table.get(number) {
-            Some(held) => held.count,
+            Some(entry) => entry.count,
             None => 0,
         }
     }
@@ -288,7 +287,7 @@ impl InodeMap {
         Ok(number)
     }
 
-    /// Tells what would become of a forget.
+    /// Returns the result that a forget would have.
     pub fn forgot(&self, number: Number, k: u64) -> Forgot
         ensures forgot { result ≡ forgot self.now number.0 k }
     {
@@ -308,7 +307,7 @@ impl InodeMap {
         Forgot::Dropped
     }
 
-    /// Lowers the count of a number. Once of no use, it is dropped, with each directory above it that then is.
+    /// Lowers the count of a number. An entry with count 0 and no children goes, then each parent that has become one.
     pub fn forget(&mut self, number: Number, k: u64) -> Forgot
         ensures forgot { result ≡ forgot self.old number.0 k }
         ensures forgotten { self.new ≡ forgotten self.old number.0 k }
@@ -330,8 +329,8 @@ impl InodeMap {
         Forgot::Dropped
     }
 
-    /// Takes the name of a number away: it names its file by a mark from now on. Its directory is dropped where it is
-    /// then of no use, with each directory above it that then is.
+    /// Takes the name of a number away: from now on it names its file by a mark. Its directory's entry is removed if it
+    /// has count 0 and no other child, then each parent that has become one.
     pub fn unlink(&mut self, number: Number, file: FileId)
         requires linked { IsLinked self.old.entries number.0 }
         requires no_kids { list_any (is_kid_of number.0) self.old.entries ≡ false }
@@ -359,7 +358,7 @@ impl InodeMap {
         load_attr(&mut self.table, &mut self.loaded, number, attr);
     }
 
-    /// Unloads the oldest attribute, unless nothing is loaded.
+    /// Unloads the attribute that was used longest ago, if there is one.
     pub fn unload_oldest(&mut self) -> bool
         ensures some { result ≡ nat_lt 0 (length self.old.loaded) }
         ensures unloaded { self.new ≡ record self.old { loaded = without_oldest self.old.loaded } }
@@ -389,24 +388,24 @@ impl InodeMap {
         ensures linked { IfSome result (λ found.
             option_map is_linked_entry (entry_of self.now.entries number.0) ≡ Some found.1) }
     {
-        let held = self.table.get(number)?;
-        let file = held.file?;
-        Some((file, held.is_linked()))
+        let entry = self.table.get(number)?;
+        let file = entry.file?;
+        Some((file, entry.is_linked()))
     }
 }
 
-/// Tells whether a number is remembered without use.
+/// Tells whether a number has an entry with count 0 and no children.
 fn is_useless(table: &Table, number: Number) -> bool
     ensures useless { result ≡ is_useless table.now.entries number.0 }
     ensures kept { AreOfKept file_number table.now.entries table.now.remembered }
 {
     match table.get(number) {
-        Some(held) => held.count == 0 && !table.has_kids(number),
+        Some(entry) => entry.count == 0 && !table.has_kids(number),
         None => false,
     }
 }
 
-/// Drops a number where it is of no use, with each directory above it that then is.
+/// Removes an entry with count 0 and no children, then each parent that has become one.
 fn prune(table: &mut Table, loaded: &mut Nodes<LoadedAttr>, number: Number)
     requires numbers { AreNumbers 2 table.old.next table.old.entries }
     requires others_of_use { AreOfUseBut (Some number.0) table.old.entries }
@@ -424,7 +423,7 @@ fn prune(table: &mut Table, loaded: &mut Nodes<LoadedAttr>, number: Number)
     }
 }
 
-/// Drops a number of no use, with each directory above it that then is.
+/// Removes an entry that has count 0 and no children, then each parent that has become one.
 fn drop_upwards(table: &mut Table, loaded: &mut Nodes<LoadedAttr>, number: Number)
     requires numbers { AreNumbers 2 table.old.next table.old.entries }
     requires useless { is_useless table.old.entries number.0 ≡ true }

@@ -15,10 +15,10 @@ use entry_table::Table;
 use node_arena::{Nodes, Slot};
 use std::alloc::Global;
 
-/// How many attributes there is ever room for.
+/// The greatest limit of loaded attributes.
 const MOST_LOADED: usize = 65_536;
 
-/// What the kernel was told of a number.
+/// A number, and the attributes that the kernel was told of its file.
 #[derive(Clone, Copy)]
 pub struct LoadedAttr {
     pub number: Number,
@@ -60,7 +60,7 @@ pub(crate) fn attr_at(table: &Table, nodes: &mut Nodes<LoadedAttr>, number: Numb
     Some(attr)
 }
 
-/// Unloads the oldest attribute, unless nothing is loaded, and tells whether it did.
+/// Unloads the attribute that was used longest ago, if there is one, and returns whether it did.
 pub(crate) fn unload_oldest(table: &mut Table, nodes: &mut Nodes<LoadedAttr>) -> bool
     requires entries { AreOfKept loaded_number table.old.entries (attrs_in nodes.old) }
     requires named { AreNamed table.old.notes nodes.old }
@@ -119,7 +119,7 @@ pub(crate) fn load_attr(
     table.note(number, Some(slot.index));
 }
 
-/// Removes an entry with what is loaded of it, and returns where it stood.
+/// Removes an entry with its loaded attribute, and returns its place.
 pub(crate) fn strike(table: &mut Table, nodes: &mut Nodes<LoadedAttr>, number: Number) -> Place
     requires entry { IsSome (entry_of table.old.entries number.0) }
     requires named { AreNamed table.old.notes nodes.old }

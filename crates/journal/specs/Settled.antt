@@ -6,24 +6,25 @@ use Rattle.journal.specs.Receipts.{ReceiptsState}
 use Rattle.journal.specs.declared.journal.Record.{Record}
 use Rattle.journal.specs.declared.receipt.Receipt.{Receipt}
 
--- the record at the receipt's place has its request and its answer
+-- the record at the receipt's position has its request and its answer
 abbrev pub IsOf : List Record → Receipt → Type 0
-IsOf records receipt = slice_get records receipt.place ≡ Some (applied receipt.ask.what receipt.answer)
+IsOf records receipt = slice_get records receipt.position ≡ Some (applied receipt.ask.what receipt.answer)
 
--- each receipt's place is below the next one's
+-- each receipt's position is below the next one's
 abbrev pub IsRising : List Receipt → Type 0
-IsRising receipts = AllAdjacentBelow (λ (one next : Receipt). one.place < next.place) receipts (length receipts)
+IsRising receipts = AllAdjacentBelow (λ (one next : Receipt). one.position < next.position) receipts (length receipts)
 
--- how many of these receipts have this place
+-- how many of these receipts have this position
 abbrev pub times : List Receipt → ℕ → ℕ
-times receipts place = count_by (λ (receipt : Receipt). nat_eq receipt.place place) receipts
+times receipts position = count_by (λ (receipt : Receipt). nat_eq receipt.position position) receipts
 
--- how many receipts of all workers have this place
+-- how many receipts of all workers have this position
 abbrev pub times_in_all : List ReceiptsState → ℕ → ℕ
-times_in_all workers place = sum_by (λ (kept : ReceiptsState). times kept.list place) workers
+times_in_all workers position = sum_by (λ (kept : ReceiptsState). times kept.list position) workers
 
--- a round is settled: each receipt is that of its record, each worker's places rise, and each place has one receipt
+-- a round is settled: each receipt is that of its record, each worker's positions rise, and each position has one
+-- receipt
 pub record IsSettled (records : List Record) (workers : List ReceiptsState) : Type 0 where
   pub same : All (λ (kept : ReceiptsState). All (IsOf records) kept.list) workers
   pub rising : All (λ (kept : ReceiptsState). IsRising kept.list) workers
-  pub once : EachIndex records (λ (place : ℕ). times_in_all workers place ≡ 1)
+  pub once : EachIndex records (λ (position : ℕ). times_in_all workers position ≡ 1)

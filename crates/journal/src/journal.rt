@@ -1,4 +1,4 @@
-//! What was applied in a round, in order.
+//! The requests that a round applied, in order.
 ghost use Rattle.std.specs.Prelude.{◌≡◌, ◌+◌, ◌<◌, ◌≤◌, ◌++◌, ◌∷◌, [], length, IfOk, OnOk, OnErr};
 
 use eden_base::NoMemory;
@@ -6,7 +6,7 @@ use fuse_wire::{Answer, Request};
 use std::alloc::Global;
 use std::marker::Model;
 
-/// A request that was applied, with what it was answered. A forget has no answer.
+/// A request that was applied, with its answer. A forget has none.
 #[derive(Drop)]
 pub struct Record {
     pub request: Request,

@@ -7,11 +7,11 @@ use fuse_wire::{Answer, Ask, BatchRoom, Request};
 use std::alloc::Global;
 use std::marker::Model;
 
-/// What one turn of a worker was: the ask that it took, the place of its record in the journal, and its answer. A
+/// What one turn of a worker was: the ask that it took, the position of its record in the journal, and its answer. A
 /// forget has no answer.
 #[derive(Drop)]
 pub struct Receipt {
-    pub place: usize,
+    pub position: usize,
     pub ask: Ask,
     pub answer: Option<Answer>,
 }
@@ -24,9 +24,9 @@ struct CopyRoom {
     batch: BatchRoom,
 }
 
-/// The receipts of a worker in the order of its turns, with places for more, and a spare room for the copy of one
-/// request. Contracts see it as a `ReceiptsState`: the receipts, for how many more there is a place, and whether the
-/// spare room is there.
+/// The receipts of a worker in the order of its turns, with places for more. One spare room, some 4.6 kB, is there for
+/// the copy of a request where memory is refused. A room for each turn would cost more than the turn. Contracts see it
+/// as a `ReceiptsState`: the receipts, for how many more there is a place, and whether the spare room is there.
 #[derive(Drop)]
 pub struct Receipts {
     alloc: Global,

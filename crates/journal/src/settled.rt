@@ -23,11 +23,11 @@ fn same_outcome(first: &Option<Answer>, second: &Option<Answer>) -> bool
     }
 }
 
-/// Returns whether the record at a receipt's place has its request and its answer.
+/// Returns whether the record at a receipt's position has its request and its answer.
 fn is_of(records: &[Record], receipt: &Receipt) -> bool
     ensures same { IsTrue result ↔ IsOf records.now receipt.now }
 {
-    match records.get(receipt.place) {
+    match records.get(receipt.position) {
         Some(record) => {
             record.request.is(&receipt.ask.what) && same_outcome(&record.answer, &receipt.answer)
         }
@@ -35,7 +35,7 @@ fn is_of(records: &[Record], receipt: &Receipt) -> bool
     }
 }
 
-/// Returns whether each receipt is that of the record at its place.
+/// Returns whether each receipt is that of the record at its position.
 fn are_of(records: &[Record], receipts: &[Receipt]) -> bool
     ensures same { IsTrue result ↔ All (IsOf records.now) receipts.now }
 {
@@ -47,55 +47,55 @@ fn are_of(records: &[Record], receipts: &[Receipt]) -> bool
     true
 }
 
-/// Returns whether each receipt's place is below the next one's.
+/// Returns whether each receipt's position is below the next one's.
 fn is_rising(receipts: &[Receipt]) -> bool
     ensures rising { IsTrue result ↔ IsRising receipts.now }
 {
     for next in 1..receipts.len() {
-        if receipts[next].place <= receipts[next - 1].place {
+        if receipts[next].position <= receipts[next - 1].position {
             return false;
         }
     }
     true
 }
 
-/// Counts the place of each receipt, and returns whether none was counted before.
+/// Counts the position of each receipt, and returns whether none was counted before.
 fn count(counts: &mut Vec<u8>, receipts: &[Receipt]) -> bool
-    requires in_range { All (λ (receipt : ReceiptValue). receipt.place < length counts.old.items) receipts.now }
+    requires in_range { All (λ (receipt : ReceiptValue). receipt.position < length counts.old.items) receipts.now }
     ensures len { length counts.new.items ≡ length counts.old.items }
-    ensures counted { IsTrue result → EachIndex counts.old.items (λ (place : ℕ).
-        slice_index counts.new.items place ≡ slice_index counts.old.items place + times receipts.now place) }
-    ensures twice { IsFalse result → SomeIndex counts.old.items (λ (place : ℕ).
-        1 < slice_index counts.old.items place + times receipts.now place) }
+    ensures counted { IsTrue result → EachIndex counts.old.items (λ (position : ℕ).
+        slice_index counts.new.items position ≡ slice_index counts.old.items position + times receipts.now position) }
+    ensures twice { IsFalse result → SomeIndex counts.old.items (λ (position : ℕ).
+        1 < slice_index counts.old.items position + times receipts.now position) }
 {
     for receipt in receipts {
-        if counts[receipt.place] > 0 {
+        if counts[receipt.position] > 0 {
             return false;
         }
-        counts[receipt.place] = 1;
+        counts[receipt.position] = 1;
     }
     true
 }
 
-/// Returns whether each place was counted once.
+/// Returns whether each position was counted once.
 fn all_once(counts: &[u8]) -> bool
-    ensures once { IsTrue result ↔ EachIndex counts.now (λ (place : ℕ). slice_index counts.now place ≡ 1) }
+    ensures once { IsTrue result ↔ EachIndex counts.now (λ (position : ℕ). slice_index counts.now position ≡ 1) }
 {
     counts.iter().all(|count| *count == 1)
 }
 
-/// Counts the places of a worker's receipts, and returns whether these are those of the records, rise, and were not
+/// Counts the positions of a worker's receipts, and returns whether these are those of the records, rise, and were not
 /// counted before.
 fn joins(records: &[Record], counts: &mut Vec<u8>, receipts: &[Receipt]) -> bool
     requires len { length counts.old.items ≡ length records.now }
     ensures len { length counts.new.items ≡ length counts.old.items }
     ensures same { IsTrue result → All (IsOf records.now) receipts.now }
     ensures rising { IsTrue result → IsRising receipts.now }
-    ensures counted { IsTrue result → EachIndex counts.old.items (λ (place : ℕ).
-        slice_index counts.new.items place ≡ slice_index counts.old.items place + times receipts.now place) }
+    ensures counted { IsTrue result → EachIndex counts.old.items (λ (position : ℕ).
+        slice_index counts.new.items position ≡ slice_index counts.old.items position + times receipts.now position) }
     ensures twice { IsFalse result → All (IsOf records.now) receipts.now → IsRising receipts.now
-        → SomeIndex counts.old.items (λ (place : ℕ).
-        1 < slice_index counts.old.items place + times receipts.now place) }
+        → SomeIndex counts.old.items (λ (position : ℕ).
+        1 < slice_index counts.old.items position + times receipts.now position) }
 {
     if !are_of(records, receipts) || !is_rising(receipts) {
         return false;
@@ -103,8 +103,8 @@ fn joins(records: &[Record], counts: &mut Vec<u8>, receipts: &[Receipt]) -> bool
     count(counts, receipts)
 }
 
-/// Returns whether a round is settled: each receipt is that of the record at its place, the places of each worker rise,
-/// and each place of the journal has one receipt.
+/// Returns whether a round is settled: each receipt is that of the record at its position, the positions of each worker
+/// rise, and each position of the journal has one receipt.
 pub fn is_settled(alloc: Global, journal: &Journal, workers: &[Receipts]) -> Result<bool, NoMemory>
     ensures settled { IfOk result (λ settled. IsTrue settled ↔ IsSettled journal.now.records workers.now) }
 {

@@ -14,7 +14,7 @@ use std::alloc::Global;
 use std::collections::BTreeMap;
 use std::marker::Model;
 
-/// A lookup by bytes takes no memory, as the names are kept as bytes.
+/// The names of one directory. They are kept as bytes, so that a lookup takes no memory.
 #[derive(Drop)]
 pub struct Directory {
     files: BTreeMap<Vec<u8>, FileId>,
@@ -39,7 +39,7 @@ impl Model for Directory {
 }
 
 impl Directory {
-    /// Returns a directory with nothing in it.
+    /// Makes an empty directory.
     pub fn new(alloc: Global) -> Directory
         ensures { result ≡ empty }
     {

@@ -25,7 +25,7 @@ pub enum ManifestFaultKind {
     BadMode,
     /// The size isn't a decimal number below 2^63, or has a leading zero.
     BadSize,
-    /// What the slashes of the path part aren't all names.
+    /// A part of the path, between slashes, is no name.
     BadPath,
     /// No earlier line makes the directory that holds the file.
     NoParent,

@@ -17,7 +17,7 @@ use eden_base::{FileId, Kind, Name, NoMemory, cut};
 use std::alloc::Global;
 use std::marker::Model;
 
-/// The index of the places is made as the lines are read, and serves whoever reads the manifest afterwards.
+/// The lines of a manifest, and an index of their places, which grows as lines are read.
 #[derive(Drop)]
 pub struct Lines {
     lines: Vec<Line>,
@@ -47,7 +47,7 @@ impl Lines {
     /// How many lines may follow the commit's.
     const MAX_LINES: usize = 65535;
 
-    /// Returns no lines.
+    /// Makes an empty list of lines.
     pub fn new(alloc: Global) -> Lines
         ensures { result ≡ [] }
     {

@@ -21,7 +21,7 @@ pub struct LinkChange {
     pub target: Option<FileId>,
 }
 
-/// A directory in which no name was to stand is not there.
+/// The names of every directory. An empty directory has no entry here.
 #[derive(Drop)]
 pub struct Links {
     /// By their ids, which the tree gives itself, so a hash with a fixed seed serves.

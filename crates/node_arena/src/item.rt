@@ -5,7 +5,8 @@ ghost use Rattle.node_arena.specs.Item.{index_in, value_in};
 
 use std::mem::replace;
 
-/// The index of a node, and its value where it holds one.
+/// The index of a node, and its value where it holds one. The index and the flag that tells which take eight bytes
+/// together.
 #[derive(Drop)]
 pub enum Item<T> {
     Vacant { index: u32 },

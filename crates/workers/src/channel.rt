@@ -10,7 +10,7 @@ ghost use Rattle.workers.specs.declared.channel.Posted.TheVariants as post;
 
 use fuse_wire::{Ask, Reply};
 
-/// The result of a look for an ask.
+/// The result of `Channel::take`.
 #[derive(Drop)]
 pub enum Taken {
     Ask(Ask),
@@ -22,7 +22,7 @@ pub enum Taken {
     Broken,
 }
 
-/// The result of a reply.
+/// The result of `Channel::post`.
 #[derive(Clone, Copy, PartialEq, Eq)]
 pub enum Posted {
     Done,
@@ -30,19 +30,19 @@ pub enum Posted {
     Broken,
 }
 
-/// The kernel's side of one worker. Each says what a look for an ask and a reply make of it, and so what it was where
-/// it is Broken. One that tells its lists also says what was taken from it and posted to it.
+/// The kernel's side of one worker. Each implementation says by `takes` and `posts` what its calls do, so also what led
+/// to Broken. One that tells its lists also says which asks were taken and which replies posted.
 pub trait Channel {
-    /// What a look for an ask makes of it, by its result.
+    /// The channel before a `take`, the result, and the channel after it.
     ghost takes: { Self → TakenValue → Self → Type 0 };
 
-    /// What a reply makes of it, by its result.
+    /// The channel before a `post`, the reply, the result, and the channel after it.
     ghost posts: { Self → ReplyValue → PostedValue → Self → Type 0 };
 
     /// Whether it tells its lists.
     ghost tells: { Bool };
 
-    /// What was taken from it and posted to it.
+    /// The asks that were taken from it, and the replies posted to it.
     ghost told: { Self → Told };
 
     /// Takes the next ask.

@@ -1,4 +1,4 @@
-//! Why a round gives nothing.
+//! Why a round fails.
 ghost use Rattle.std.specs.Prelude.{Some};
 ghost use Rattle.workers.specs.Faults.{fault_text};
 
@@ -6,7 +6,7 @@ use crate::rooms::Rooms;
 use fuse_ops::Served;
 use std::fmt;
 
-/// What a round gives back for which memory was refused: all that it was handed. No request was taken.
+/// All that was handed to a round, given back where memory was refused. No request was taken.
 #[derive(Drop)]
 pub struct Returned<B: Drop, C: Drop> {
     pub rooms: Rooms,
@@ -15,7 +15,8 @@ pub struct Returned<B: Drop, C: Drop> {
     pub channels: Vec<C>,
 }
 
-/// Why a round gives nothing that may be served on.
+/// Why a round failed. Only `NoMemory` gives back what may be served on. Its texts are written by hand: a derived
+/// `Error` asks for `Debug` of all that is given back.
 #[derive(Drop)]
 pub enum RoundFault<B: Drop, C: Drop> {
     /// A channel was broken.

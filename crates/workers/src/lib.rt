@@ -3,7 +3,7 @@
 
 mod channel;
 mod fault;
-mod gate;
+mod hook;
 mod locked;
 mod memory_channel;
 mod rooms;
@@ -17,7 +17,7 @@ mod worker;
 
 pub use channel::{Channel, Posted, Taken};
 pub use fault::{Returned, RoundFault};
-pub use gate::{Gate, OpenGate};
+pub use hook::{Hook, NoHook};
 pub use journal::{Journal, Receipt, Receipts, Record};
 pub use locked::{LockedMap, Opened, Opening, Parts, Shared};
 pub use memory_channel::MemoryChannel;

@@ -14,7 +14,7 @@ use std::marker::{Brand, Model};
 use std::sync::Mutex;
 use std::sync::ledger::{Blank, Book, Ledger, Share};
 
-/// Names a round: the ledger of its records, the state in which it opened, and how many turns a worker has.
+/// The name of a round: the ledger of its records, its opening state, and the most turns of a worker.
 pub trait Opening: Ledger {
     ghost use Rattle.std.specs.Prelude.{ℕ};
     ghost use Rattle.fuse_ops.specs.Served.{ServedState};
@@ -38,9 +38,9 @@ impl Opening for Brand {
 /// The map's lock, which the workers of a round share.
 pub type Shared<N, B> = Mutex<LockedMap<N, B>>;
 
-/// What is served, its backing, the journal, and the total of the round's ledger. It keeps that what is served is the
-/// replay of the journal from the opening state. Each turn leaves one part of the ledger here, and the journal has room
-/// for the others: so no turn finds it full. Contracts see it as the journal's records.
+/// The served state, its backing, the journal, and the total of the round's ledger. Its invariant: the served state is
+/// the replay of the journal from the opening state. Each turn leaves one part of the ledger here, and the journal has
+/// room for the others, so no turn finds it full. Contracts see it as the journal's records.
 #[derive(Drop)]
 pub struct LockedMap<N: Opening, B: Backing + Drop> {
     alloc: Global,
@@ -123,7 +123,7 @@ impl<N: Opening, B: Backing + Drop> LockedMap<N, B> {
     pub(crate) fn turn(&mut self, ask: Ask, share: &mut Share<N>) -> Turn
         requires parts { 1 < share.old.parts }
         ensures parts { share.new.parts + 1 ≡ share.old.parts }
-        ensures place { result.place ≡ length self.old }
+        ensures position { result.position ≡ length self.old }
         ensures pushes { self.new ≡ self.old ++ applied ask.what result.answer ∷ [] }
         ensures counted { share.new.amount ≡ share.old.amount + 1 }
     {

@@ -1,4 +1,4 @@
-//! A channel over asks that are known before.
+//! A channel over asks that are known from the start.
 ghost use Rattle.std.specs.Prelude.{◌≡◌, ◌<◌, ◌≤◌, ℕ, [], length, true, IfOk};
 ghost use Rattle.fuse_wire.specs.declared.request.Ask.{Ask as AskValue};
 ghost use Rattle.workers.specs.Channel.{told_of, with_ask, with_replies, Takes, Posts};
@@ -91,7 +91,7 @@ impl MemoryChannel {
         }
     }
 
-    /// Keeps the reply. It is Broken past as many as there are asks.
+    /// Keeps the reply. It is Broken where there are as many replies as asks.
     pub fn post(&mut self, reply: Reply) -> Posted
         ensures posts { Posts self.old reply result self.new }
     {

@@ -11,7 +11,7 @@ ghost use Rattle.workers.specs.declared.fault.RoundFault.TheVariants as fault;
 
 use crate::channel::Channel;
 use crate::fault::{Returned, RoundFault};
-use crate::gate::Gate;
+use crate::hook::Hook;
 use crate::locked::{LockedMap, Opened, Opening, Parts, Shared};
 use crate::rooms::Rooms;
 use crate::running::{Crew, Joined, serve_each};
@@ -48,9 +48,9 @@ fn serve_all<
     N: Opening + Send + Sync,
     B: Backing + Drop + Send,
     C: Channel + Drop + Send,
-    G: Gate + Sync,
+    G: Hook + Sync,
     R: Threads + Wait + Sync,
->(rt: &R, shared: &Shared<N, B>, crew: Crew<N, C>, gate: &G, stop: &Stop) -> Joined<N, C>
+>(rt: &R, shared: &Shared<N, B>, crew: Crew<N, C>, hook: &G, stop: &Stop) -> Joined<N, C>
     ensures parts { result.share.parts + receipts_in result.receipts.items
         ≡ vec_len crew.channels * (N.turns + 1) }
     ensures counted { result.share.amount ≡ receipts_in result.receipts.items }
@@ -72,7 +72,7 @@ fn serve_all<
             ensures broken { result.is_broken ≡ true → OneBreaks C.takes C.posts N.turns crew.channels.items }
             ensures places { All (HasPlaces N.turns) result.receipts.items }
             ensures workers { vec_len result.receipts ≡ vec_len crew.channels }
-        { serve_each(scope, rt, shared, crew, gate, stop) },
+        { serve_each(scope, rt, shared, crew, hook, stop) },
     )
 }
 
@@ -156,7 +156,7 @@ fn round_of<
     N: Opening + Send + Sync,
     B: Backing + Drop + Send,
     C: Channel + Drop + Send,
-    G: Gate + Sync,
+    G: Hook + Sync,
     R: Threads + Wait + Sync,
 >(
     rt: &R,
@@ -167,7 +167,7 @@ fn round_of<
     backing: B,
     channels: Vec<C>,
     turns: usize,
-    gate: &G,
+    hook: &G,
     stop: &Stop,
 ) -> Result<Round<B, C>, RoundFault<B, C>>
     requires name { blank.name ≡ N.name }
@@ -197,7 +197,7 @@ fn round_of<
         turns,
         share,
     };
-    let joined = serve_all(rt, &shared, crew, gate, stop);
+    let joined = serve_all(rt, &shared, crew, hook, stop);
     left_by(shared.into_inner().into_parts(), joined)
 }
 
@@ -207,7 +207,7 @@ fn round_of<
 pub fn serve_round<
     B: Backing + Drop + Send,
     C: Channel + Drop + Send,
-    G: Gate + Sync,
+    G: Hook + Sync,
     R: Threads + Wait + Sync,
 >(
     rt: &R,
@@ -217,7 +217,7 @@ pub fn serve_round<
     backing: B,
     channels: Vec<C>,
     turns: usize,
-    gate: &G,
+    hook: &G,
     stop: &Stop,
 ) -> Result<Round<B, C>, RoundFault<B, C>>
     requires backs { Backs (B.content backing) served.tree }
@@ -260,7 +260,7 @@ pub fn serve_round<
         backing,
         channels,
         turns,
-        gate,
+        hook,
         stop,
     )
 }

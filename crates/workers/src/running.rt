@@ -8,7 +8,7 @@ ghost use Rattle.workers.specs.Shift.{IsShift};
 ghost use Rattle.workers.specs.declared.worker.Ending.TheVariants.{Broken};
 
 use crate::channel::Channel;
-use crate::gate::Gate;
+use crate::hook::Hook;
 use crate::locked::{Opening, Shared};
 use crate::shift::{Shift, serve_channel};
 use crate::stop::Stop;
@@ -82,7 +82,7 @@ fn start<
     N: Opening + Send + Sync + 's,
     B: Backing + Drop + Send + 's,
     C: Channel + Drop + Send + 's,
-    G: Gate + Sync + 's,
+    G: Hook + Sync + 's,
     R: Threads + Wait + Sync + 's,
 >(
     scope: &Scope<'s, &'e ()>,
@@ -92,7 +92,7 @@ fn start<
     turns: usize,
     room: Receipts,
     share: Share<N>,
-    gate: &'e G,
+    hook: &'e G,
     stop: &'e Stop,
     alone: bool,
 ) -> Running<N, C>
@@ -120,7 +120,7 @@ fn start<
         ensures places { HasPlaces N.turns result.receipts }
         ensures shift { IsShift C.takes C.posts C.tells C.told N.turns
             channel result.receipts result.ending result.channel }
-    { serve_channel(rt, shared, channel, turns, room, share, gate, stop) };
+    { serve_channel(rt, shared, channel, turns, room, share, hook, stop) };
     if alone {
         return Running {
             channel: was,
@@ -215,14 +215,14 @@ pub(crate) fn serve_each<
     N: Opening + Send + Sync + 's,
     B: Backing + Drop + Send + 's,
     C: Channel + Drop + Send + 's,
-    G: Gate + Sync + 's,
+    G: Hook + Sync + 's,
     R: Threads + Wait + Sync + 's,
 >(
     scope: &Scope<'s, &'e ()>,
     rt: &'e R,
     shared: &'e Shared<N, B>,
     crew: Crew<N, C>,
-    gate: &'e G,
+    hook: &'e G,
     stop: &'e Stop,
 ) -> Joined<N, C>
     ensures parts { result.share.parts + receipts_in result.receipts.items
@@ -257,7 +257,7 @@ pub(crate) fn serve_each<
     let part = share.split_off(turns as u64 + 1, 0);
     let alone = channels.is_empty();
     let running = start(
-        scope, rt, shared, channel, turns, room, part, gate, stop, alone,
+        scope, rt, shared, channel, turns, room, part, hook, stop, alone,
     );
     let others = Crew {
         channels,
@@ -265,6 +265,6 @@ pub(crate) fn serve_each<
         turns,
         share,
     };
-    let joined = serve_each(scope, rt, shared, others, gate, stop);
+    let joined = serve_each(scope, rt, shared, others, hook, stop);
     joined.and(running.join(rt))
 }

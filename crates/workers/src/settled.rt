@@ -1,4 +1,4 @@
-//! What a round leaves that is settled.
+//! What a settled round leaves.
 ghost use Rattle.std.specs.Prelude.{◌≡◌, vec_len, IfOk, IfErr, OnOk};
 ghost use Rattle.journal.specs.Settled.{IsSettled};
 ghost use Rattle.workers.specs.Faults.{GivesBack, GivesRooms, IsUndrained};
@@ -13,7 +13,7 @@ use fuse_ops::Served;
 use journal::is_settled;
 use std::alloc::Global;
 
-/// What may be served on after a round: nothing is in hand, and nothing unposted.
+/// What may be served on after a round: the hands are empty, and every reply is posted.
 #[derive(Drop)]
 pub struct Settled<B: Backing + Drop, C: Channel + Drop> {
     pub rooms: Rooms,
@@ -22,8 +22,8 @@ pub struct Settled<B: Backing + Drop, C: Channel + Drop> {
     pub channels: Vec<C>,
 }
 
-/// Compares the workers' receipts with the journal. It gives back what is served, the backing, the channels and the
-/// emptied rooms of a round whose receipts are its journal. What is Unsettled gives nothing back.
+/// Compares the workers' receipts with the journal. If the round is settled, it gives back the served state, the
+/// backing, the channels and the emptied rooms. Unsettled gives nothing back.
 pub fn drain<B: Backing + Drop, C: Channel + Drop>(
     alloc: Global,
     round: Round<B, C>,
@@ -49,7 +49,7 @@ pub fn drain<B: Backing + Drop, C: Channel + Drop>(
     }
 }
 
-/// Returns what may be served on after a round that is settled.
+/// Returns what a settled round leaves.
 fn settled_by<B: Backing + Drop, C: Channel + Drop>(round: Round<B, C>) -> Settled<B, C>
     ensures served { result.served ≡ round.served }
     ensures backing { result.backing ≡ round.backing }

@@ -1,9 +1,9 @@
-//! The turns of a worker, one after another: public for what their contract says.
+//! The turns of a worker, one after another. It is public for its contract.
 ghost use Rattle.std.specs.Prelude.{◌≡◌, ◌+◌, ◌<◌, ◌≤◌, true, Some, [], length};
 ghost use Rattle.workers.specs.Shift.{Ends, LeavesSpare, Tells};
 
 use crate::channel::Channel;
-use crate::gate::Gate;
+use crate::hook::Hook;
 use crate::locked::{Opening, Shared};
 use crate::stop::Stop;
 use crate::worker::{Ending, Worker};
@@ -23,15 +23,15 @@ pub struct Shift<N: Opening, C: Channel + Drop> {
 
 /// Takes asks from a channel, at most `turns`, serves each under the map's lock and posts its reply. It ends where
 /// there is none, a stop is asked for, or the spare room of `room` is used. Each turn leaves one part of `share` under
-/// the lock, and needs another one beside it. It says nothing of what stands under the lock.
-pub fn serve_channel<N: Opening, B: Backing + Drop, C: Channel + Drop, G: Gate, R: Wait>(
+/// the lock, and needs one more. The contract leaves the state under the lock open.
+pub fn serve_channel<N: Opening, B: Backing + Drop, C: Channel + Drop, G: Hook, R: Wait>(
     rt: &R,
     shared: &Shared<N, B>,
     channel: C,
     turns: usize,
     room: Receipts,
     share: Share<N>,
-    gate: &G,
+    hook: &G,
     stop: &Stop,
 ) -> Shift<N, C>
     requires parts { turns < share.parts }
@@ -59,7 +59,7 @@ pub fn serve_channel<N: Opening, B: Backing + Drop, C: Channel + Drop, G: Gate, 
         if stop.asked() {
             return worker.end(Ending::Done);
         }
-        match worker.turn(rt, shared, gate) {
+        match worker.turn(rt, shared, hook) {
             None => {}
             Some(ending) => return worker.end(ending),
         }

@@ -1,15 +1,15 @@
-//! The wish that a round ends.
+//! A flag that asks a round to end.
 use std::sync::atomic::{AtomicBool, Ordering};
 
-/// Whether the workers of a round are asked to take nothing more. Its calls promise nothing but that they return: not
-/// what `asked` answers, nor when a worker sees it.
+/// A flag that asks the workers of a round to take nothing more. Its calls promise to return, and nothing of what
+/// `asked` answers or when a worker sees it.
 #[derive(Drop)]
 pub struct Stop {
     asked: AtomicBool,
 }
 
 impl Stop {
-    /// Returns a wish that nobody has.
+    /// Makes a flag that is not set.
     pub fn new() -> Stop {
         Stop {
             asked: AtomicBool::new(false),

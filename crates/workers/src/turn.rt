@@ -1,4 +1,4 @@
-//! One request served under the map's lock: public for what its contract says.
+//! One request served under the map's lock. It is public for its contract.
 ghost use Rattle.std.specs.Prelude.{◌≡◌, ◌+◌, ◌<◌, ◌++◌, ◌∷◌, [], length};
 ghost use Rattle.eden_base.specs.declared.number.FileId.{FileId};
 ghost use Rattle.fuse_ops.specs.Loading.{AsksAs, Backs, FailsAs, Loads};
@@ -11,10 +11,10 @@ use fuse_wire::{Answer, Ask};
 use journal::{Journal, Record};
 use std::alloc::Global;
 
-/// What a turn gives: the place of its record in the journal, and the answer. A forget has no answer.
+/// What a turn gives: the position of its record in the journal, and the answer. A forget has no answer.
 #[derive(Drop)]
 pub struct Turn {
-    pub place: usize,
+    pub position: usize,
     pub answer: Option<Answer>,
 }
 
@@ -28,7 +28,7 @@ pub fn serve_one<B: Backing>(
 ) -> Turn
     requires backs { Backs (B.content backing.old) served.old.tree }
     requires room { 0 < journal.old.room }
-    ensures place { result.place ≡ length journal.old.records }
+    ensures position { result.position ≡ length journal.old.records }
     ensures pushes { journal.new.records ≡ journal.old.records ++ applied ask.what result.answer ∷ [] }
     ensures room { journal.new.room + 1 ≡ journal.old.room }
     // The answer is that of `apply`.
@@ -39,11 +39,11 @@ pub fn serve_one<B: Backing>(
     ensures same_content { (file : FileId) → B.content backing.new file ≡ B.content backing.old file }
     ensures same_manifest { served.new.tree.manifest ≡ served.old.tree.manifest }
 {
-    let place = journal.records().len();
+    let position = journal.records().len();
     let answer = served.apply(alloc, backing, &ask.what);
     journal.push(Record {
         request: ask.what,
         answer,
     });
-    Turn { place, answer }
+    Turn { position, answer }
 }

@@ -7,7 +7,7 @@ ghost use Rattle.workers.specs.declared.channel.Taken.TheVariants as took;
 ghost use Rattle.workers.specs.declared.channel.Posted.TheVariants as post;
 
 use crate::channel::{Channel, Posted, Taken};
-use crate::gate::Gate;
+use crate::hook::Hook;
 use crate::locked::{Opening, Shared};
 use crate::shift::Shift;
 use crate::turn::Turn;
@@ -20,11 +20,12 @@ use std::sync::ledger::Share;
 /// Why a worker took nothing more.
 #[derive(Clone, Copy, PartialEq, Eq)]
 pub enum Ending {
-    /// It took as much as it may, or there is nothing to take, or it was asked to stop.
+    /// The worker had all its turns, found no ask, or was asked to stop.
     Done,
-    /// Memory was refused for the copy of its last request, which is in its spare room: it has none for another.
+    /// Memory was refused for the copy of the worker's last request. That copy took the spare room, so there is none
+    /// for another.
     OutOfRoom,
-    /// Its channel was broken: the mount is over.
+    /// The worker's channel was broken: the mount is over.
     Broken,
 }
 
@@ -36,7 +37,7 @@ pub(crate) struct Worker<N: Opening, C: Channel + Drop> {
     pub share: Share<N>,
 }
 
-/// Posts the reply to an ask of a unique, where it has an answer. Without one there is nothing to post.
+/// Posts the reply to an ask, if it has an answer.
 fn post<C: Channel>(channel: &mut C, unique: u64, answer: Option<Answer>) -> Posted
     ensures replies { Replies C.posts channel.old unique answer result channel.new }
     ensures told { C.tells ≡ true → result ≡ post.Done
@@ -63,12 +64,12 @@ fn turn_alone<N: Opening, B: Backing + Drop, R: Wait>(
 }
 
 impl<N: Opening, C: Channel + Drop> Worker<N, C> {
-    /// Takes an ask, serves it under the lock and posts its reply. Returns why nothing more is to be taken.
-    pub(crate) fn turn<B: Backing + Drop, G: Gate, R: Wait>(
+    /// Takes an ask, serves it under the lock and posts its reply. Returns why the worker ends, if it does.
+    pub(crate) fn turn<B: Backing + Drop, G: Hook, R: Wait>(
         &mut self,
         rt: &R,
         shared: &Shared<N, B>,
-        gate: &G,
+        hook: &G,
     ) -> Option<Ending>
         requires parts { 1 < self.old.share.parts }
         requires places { 0 < self.old.receipts.places }
@@ -90,7 +91,7 @@ impl<N: Opening, C: Channel + Drop> Worker<N, C> {
             → C.told self.new.channel ≡ grown start self.new.receipts.list }
     {
         match self.channel.take() {
-            Taken::Ask(ask) => self.serve(rt, shared, gate, ask),
+            Taken::Ask(ask) => self.serve(rt, shared, hook, ask),
             Taken::Empty => Some(Ending::Done),
             Taken::Stopped => Some(Ending::Done),
             Taken::Broken => Some(Ending::Broken),
@@ -99,11 +100,11 @@ impl<N: Opening, C: Channel + Drop> Worker<N, C> {
 
     /// Serves an ask that was taken, and posts its reply.
     #[tactic(auto, using(crate::proofs::Growing::grown_more, crate::proofs::Turning::turned_broken))]
-    fn serve<B: Backing + Drop, G: Gate, R: Wait>(
+    fn serve<B: Backing + Drop, G: Hook, R: Wait>(
         &mut self,
         rt: &R,
         shared: &Shared<N, B>,
-        gate: &G,
+        hook: &G,
         ask: Ask,
     ) -> Option<Ending>
         requires parts { 1 < self.old.share.parts }
@@ -122,23 +123,23 @@ impl<N: Opening, C: Channel + Drop> Worker<N, C> {
             → C.told self.new.channel ≡ grown start self.new.receipts.list }
     {
         let unique = ask.unique;
-        gate.before(unique);
+        hook.before(unique);
         let what = self.receipts.copy(&ask.what);
         let turn = turn_alone(rt, shared, ask, &mut self.share);
         self.receipts.push(Receipt {
-            place: turn.place,
+            position: turn.position,
             ask: Ask { unique, what },
             answer: turn.answer,
         });
         let posted = post(&mut self.channel, unique, turn.answer);
-        gate.after(unique);
+        hook.after(unique);
         match posted {
             Posted::Done => self.after_turn(),
             Posted::Broken => Some(Ending::Broken),
         }
     }
 
-    /// Returns why nothing more is to be taken after a turn whose reply was posted, where the spare room is used.
+    /// Returns why the worker ends after a turn whose reply was posted, if it does: its spare room is used.
     fn after_turn(&self) -> Option<Ending>
         ensures after_turn { result ≡ after_turn self.now.receipts.spare }
     {

@@ -3,18 +3,23 @@ ghost use Rattle.std.specs.Prelude.{◌≡◌, ◌↔◌, true, is_some, IfOk, O
 ghost use Rattle.std.specs.FinMap.{get};
 ghost use Rattle.std.specs.List.{AllByRecursion};
 ghost use Rattle.checkout.specs.Around.{links_now, AreApart, AreBeside, AreRight, GivesTarget, IsAbove, IsDirAbove, IsFirstAbove};
-ghost use Rattle.checkout.specs.Gone.{is_gone};
+ghost use Rattle.checkout.specs.UnlinkedFiles.{is_gone};
 ghost use Rattle.manifest.specs.Tree.{links_from};
 
 use super::colours::{Colours, from_file};
 use crate::added::Added;
-use crate::gone::Gone;
+use crate::unlinked_files::UnlinkedFiles;
 use eden_base::{FileId, NoMemory};
 use manifest::{LinkChange, Manifest, line_of};
 use std::alloc::Global;
 
 /// Returns the directory in which a link gives the file.
-fn dir_above(manifest: &Manifest, added: &Added, gone: &Gone, file: FileId) -> Option<FileId>
+fn dir_above(
+    manifest: &Manifest,
+    added: &Added,
+    gone: &UnlinkedFiles,
+    file: FileId,
+) -> Option<FileId>
     requires beside { AreBeside added.now (is_gone gone.now) (links_from 2 manifest.now.lines) }
     ensures dir { IsDirAbove (links_now manifest.now added.now gone.now) file result }
 {
@@ -29,12 +34,12 @@ fn dir_above(manifest: &Manifest, added: &Added, gone: &Gone, file: FileId) -> O
 }
 
 /// Colours the files on the way up from a file. It stops at one that has a colour, so that no file is looked at twice.
-/// Where that is a file of this way, those from it on are a circle.
+/// If that is a file of the same walk, the files from it on are a circle.
 fn climb(
     alloc: Global,
     manifest: &Manifest,
     added: &Added,
-    gone: &Gone,
+    gone: &UnlinkedFiles,
     colours: &mut Colours,
     file: FileId,
 ) -> Result<(), NoMemory>
@@ -62,7 +67,7 @@ fn is_above(
     alloc: Global,
     manifest: &Manifest,
     added: &Added,
-    gone: &Gone,
+    gone: &UnlinkedFiles,
     colours: &mut Colours,
     change: &LinkChange,
 ) -> Result<bool, NoMemory>
@@ -81,12 +86,12 @@ fn is_above(
     Ok(colours.get(file).unwrap())
 }
 
-/// Returns the place, from 0, of the first of some links whose target is its directory or above it.
+/// Returns the index of the first link whose target is its directory or above it.
 pub fn first_above(
     alloc: Global,
     manifest: &Manifest,
     added: &Added,
-    gone: &Gone,
+    gone: &UnlinkedFiles,
     links: &[LinkChange],
 ) -> Result<Option<usize>, NoMemory>
     requires beside { AreBeside added.now (is_gone gone.now) (links_from 2 manifest.now.lines) }
@@ -95,9 +100,9 @@ pub fn first_above(
     ensures first { IfOk result (IsFirstAbove (links_now manifest.now added.now gone.now) links.now) }
 {
     let mut colours = Colours::new(alloc);
-    for (place, change) in links.iter().enumerate() {
+    for (index, change) in links.iter().enumerate() {
         if is_above(alloc, manifest, added, gone, &mut colours, change)? {
-            return Ok(Some(place));
+            return Ok(Some(index));
         }
     }
     Ok(None)

@@ -8,18 +8,19 @@ use super::Changes;
 use super::around::first_above;
 use super::cut::first_cut;
 use crate::added::Added;
-use crate::gone::Gone;
+use crate::unlinked_files::UnlinkedFiles;
 use eden_base::NoMemory;
 use manifest::{Manifest, Tally};
 use std::alloc::Global;
 
-/// Returns the index of the one or the other. Neither of the first two rounds found a bad change.
+/// Returns the index of the first link that makes a circle, or else of the first that cuts off a directory. The first
+/// two rounds found no bad change.
 pub fn first_bad_around(
     alloc: Global,
     manifest: &Manifest,
     changes: &Changes,
     added: &Added,
-    gone: &Gone,
+    gone: &UnlinkedFiles,
     lost: &Tally,
 ) -> Result<Option<usize>, NoMemory>
     requires laid { AreLaid manifest.now changes.now added.now gone.now lost.now }
@@ -28,7 +29,7 @@ pub fn first_bad_around(
 {
     let links = changes.links.as_slice();
     match first_above(alloc, manifest, added, gone, links)? {
-        Some(place) => Ok(Some(place)),
+        Some(index) => Ok(Some(index)),
         None => Ok(first_cut(manifest, added, gone, lost, links)),
     }
 }

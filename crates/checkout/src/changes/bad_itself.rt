@@ -1,4 +1,4 @@
-//! What is bad of changes by itself, whatever the other links say.
+//! The first round over changes: those that are bad whatever other links say.
 ghost use Rattle.std.specs.Prelude.{◌≡◌, ◌==◌, ◌+◌, None, length};
 ghost use Rattle.std.specs.List.{find};
 ghost use Rattle.std.specs.List.Sorted.{IsStrictlySortedBy};
@@ -46,7 +46,7 @@ fn is_bad_made(manifest: &Manifest, next: FileId, before: Option<Made>, made: Ma
     !rises(before, made) || made.file.0 <= last_file(manifest) || next.0 <= made.file.0
 }
 
-/// Returns the place of the first made file that is bad behind the one before it.
+/// Returns the index of the first made file that is bad behind the one before it.
 fn first_bad_made(manifest: &Manifest, next: FileId, files: &[Made]) -> Option<usize>
     ensures { result ≡ first_bad (is_bad_made manifest.now next) 1 None files.now }
 {
@@ -77,7 +77,7 @@ fn kind_made(files: &[Made], file: FileId) -> Option<Kind>
     ensures { result ≡ option_map (λ (x : Made). x.kind) (find (λ (x : Made). x.file.0 == file.0) files.now) }
 {
     match files.binary_search_by_key(&file.0, |made| made.file.0) {
-        Ok(place) => Some(files[place].kind),
+        Ok(index) => Some(files[index].kind),
         Err(_) => None,
     }
 }
@@ -93,7 +93,7 @@ fn kind_with(manifest: &Manifest, files: &[Made], file: FileId) -> Option<Kind>
     }
 }
 
-/// Returns whether this is the kind of a directory.
+/// Returns whether a kind is that of a directory.
 fn is_dir(kind: Option<Kind>) -> bool
     ensures { result ≡ is_dir kind }
 {
@@ -104,7 +104,7 @@ fn is_dir(kind: Option<Kind>) -> bool
     }
 }
 
-/// Returns whether a name may give this: a file that isn't the root, or none.
+/// Returns whether a link may have this target: a known file that isn't the root, or none.
 fn is_target(manifest: &Manifest, files: &[Made], target: Option<FileId>) -> bool
     requires rising { IsStrictlySortedBy nat_cmp (file_ids files.now) }
     ensures { result ≡ is_target manifest.now files.now target }
@@ -133,8 +133,8 @@ fn gives_same(target: Option<FileId>, other: Option<FileId>) -> bool
     }
 }
 
-/// Returns whether a link isn't behind the one before it, stands in no directory, gives no file, or what the manifest
-/// has there.
+/// Returns whether a changed link is bad: it isn't behind the one before it, stands in no directory, has no such
+/// target, or gives the same as the manifest.
 fn is_bad_link(
     manifest: &Manifest,
     files: &[Made],
@@ -150,7 +150,7 @@ fn is_bad_link(
         || gives_same(change.target, manifest_target(manifest, change))
 }
 
-/// Returns the place of the first link that is bad behind the one before it.
+/// Returns the index of the first link that is bad behind the one before it.
 fn first_bad_link(manifest: &Manifest, files: &[Made], links: &[LinkChange]) -> Option<usize>
     requires rising { IsStrictlySortedBy nat_cmp (file_ids files.now) }
     ensures { result ≡ first_bad (is_bad_link manifest.now files.now) (length files.now + 1) None links.now }
@@ -166,7 +166,7 @@ fn first_bad_link(manifest: &Manifest, files: &[Made], links: &[LinkChange]) -> 
     None
 }
 
-/// Returns the place of the first change that is bad by itself. Takes no memory.
+/// Returns the position of the first change that is bad by itself: 0 for the next file. Takes no memory.
 pub fn bad_itself(manifest: &Manifest, changes: &Changes) -> Option<usize>
     ensures { result ≡ bad_itself manifest.now changes.now }
 {
@@ -175,7 +175,7 @@ pub fn bad_itself(manifest: &Manifest, changes: &Changes) -> Option<usize>
     }
     let files = changes.made.as_slice();
     match first_bad_made(manifest, changes.next_file, files) {
-        Some(place) => Some(place),
+        Some(position) => Some(position),
         None => first_bad_link(manifest, files, changes.links.as_slice()),
     }
 }

@@ -2,11 +2,11 @@
 ghost use Rattle.std.specs.Prelude.{◌≡◌, ℕ, None, IfOk};
 ghost use Rattle.std.specs.BTreeMap.{get as mark_of, IsOrdered};
 ghost use Rattle.std.specs.Ordering.{nat_cmp};
-ghost use Rattle.checkout.specs.Gone.{is_gone};
+ghost use Rattle.checkout.specs.UnlinkedFiles.{is_gone};
 ghost use Rattle.checkout.specs.Rounds.{first_of, is_given_twice, is_marked, marked};
 
-use crate::gone::Gone;
 use crate::overlay::is_left;
+use crate::unlinked_files::UnlinkedFiles;
 use eden_base::NoMemory;
 use manifest::{LinkChange, Manifest};
 use std::alloc::Global;
@@ -41,7 +41,7 @@ fn is_marked(marks: &BTreeMap<u64, bool>, file: u64) -> bool
 /// Returns whether another link gives the file of a changed one: one of the manifest's, or that of another change.
 fn is_given_twice(
     manifest: &Manifest,
-    gone: &Gone,
+    gone: &UnlinkedFiles,
     marks: &BTreeMap<u64, bool>,
     change: &LinkChange,
 ) -> bool
@@ -58,7 +58,7 @@ fn is_given_twice(
 pub fn first_given_twice(
     alloc: Global,
     manifest: &Manifest,
-    gone: &Gone,
+    gone: &UnlinkedFiles,
     links: &[LinkChange],
 ) -> Result<Option<usize>, NoMemory>
     ensures { IfOk result (λ found. found ≡ first_of
@@ -68,10 +68,10 @@ pub fn first_given_twice(
     Ok(first_marked(manifest, gone, &marks, links))
 }
 
-/// Returns the same, where the files that changes give are marked.
+/// Returns the index as `first_given_twice` does, with the files that changes give already marked.
 fn first_marked(
     manifest: &Manifest,
-    gone: &Gone,
+    gone: &UnlinkedFiles,
     marks: &BTreeMap<u64, bool>,
     links: &[LinkChange],
 ) -> Option<usize>

@@ -1,4 +1,4 @@
-//! The files that ways up came by, and whether each is on a circle of links.
+//! The files that a walk upwards visited, and whether each is on a circle of links.
 ghost use Rattle.std.specs.Prelude.{◌≡◌, ◌≤◌, true, OnOk};
 ghost use Rattle.std.specs.FinMap.{empty, get, insert};
 ghost use Rattle.checkout.specs.Around.{from_file, AreSet};
@@ -8,7 +8,7 @@ use std::alloc::Global;
 use std::collections::BTreeMap;
 use std::marker::Model;
 
-/// A file that no way came by has no colour.
+/// The colour of each file that was visited: on a circle or not.
 #[derive(Drop)]
 pub struct Colours {
     files: BTreeMap<u64, bool>,
@@ -31,7 +31,7 @@ impl Model for Colours {
 }
 
 impl Colours {
-    /// Returns no colours.
+    /// Makes an empty set of colours.
     pub fn new(alloc: Global) -> Colours
         ensures { result ≡ empty }
     {
@@ -40,7 +40,7 @@ impl Colours {
         }
     }
 
-    /// Returns whether the file is on a circle, where that is known. A way up has no more files than there are ids.
+    /// Returns whether the file is on a circle, or none for a file that was not visited.
     pub fn get(&self, file: FileId) -> Option<bool>
         ensures colour { result ≡ get self.now file.0 }
         ensures id { file.0 ≤ u64.MAX }
@@ -71,9 +71,9 @@ impl Colours {
 pub fn from_file(file: FileId, files: &[FileId]) -> &[FileId]
     ensures { result.now ≡ from_file file files.now }
 {
-    for (place, other) in files.iter().enumerate() {
+    for (index, other) in files.iter().enumerate() {
         if other.0 == file.0 {
-            return &files[place..];
+            return &files[index..];
         }
     }
     &[]

@@ -1,24 +1,36 @@
 //! The first changed link that cuts off a directory: links stand in it, and none gives it any more.
 ghost use Rattle.std.specs.Prelude.{◌≡◌};
-ghost use Rattle.checkout.specs.Gone.{is_gone};
+ghost use Rattle.checkout.specs.UnlinkedFiles.{is_gone};
 ghost use Rattle.checkout.specs.Rounds.{cuts, first_of, is_cut};
 ghost use Rattle.manifest.specs.Tally.{count_of};
 
 use crate::added::Added;
-use crate::gone::Gone;
 use crate::overlay::{has_links, is_linked};
+use crate::unlinked_files::UnlinkedFiles;
 use eden_base::FileId;
 use manifest::{LinkChange, Manifest, Tally};
 
 /// Returns whether links stand in a directory, and none gives it.
-fn is_cut(manifest: &Manifest, added: &Added, gone: &Gone, lost: &Tally, dir: FileId) -> bool
+fn is_cut(
+    manifest: &Manifest,
+    added: &Added,
+    gone: &UnlinkedFiles,
+    lost: &Tally,
+    dir: FileId,
+) -> bool
     ensures { result ≡ is_cut manifest.now added.now (is_gone gone.now) (count_of lost.now) dir }
 {
     dir.0 != 1 && !is_linked(manifest, added, gone, dir) && has_links(manifest, added, lost, dir)
 }
 
-/// Returns whether the directory of a changed link is cut off, or the file that the manifest has in its place.
-fn cuts(manifest: &Manifest, added: &Added, gone: &Gone, lost: &Tally, change: &LinkChange) -> bool
+/// Returns whether a changed link cuts off its own directory, or the file that the manifest has at its place.
+fn cuts(
+    manifest: &Manifest,
+    added: &Added,
+    gone: &UnlinkedFiles,
+    lost: &Tally,
+    change: &LinkChange,
+) -> bool
     ensures { result ≡ cuts manifest.now added.now (is_gone gone.now) (count_of lost.now) change.now }
 {
     if is_cut(manifest, added, gone, lost, change.dir) {
@@ -34,7 +46,7 @@ fn cuts(manifest: &Manifest, added: &Added, gone: &Gone, lost: &Tally, change: &
 pub fn first_cut(
     manifest: &Manifest,
     added: &Added,
-    gone: &Gone,
+    gone: &UnlinkedFiles,
     lost: &Tally,
     links: &[LinkChange],
 ) -> Option<usize>

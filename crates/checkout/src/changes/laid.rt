@@ -15,8 +15,8 @@ use super::by_other::first_given_twice;
 use super::{Changes, Made, laying};
 use crate::ChangeFault;
 use crate::added::Added;
-use crate::gone::Gone;
 use crate::made::MadeFiles;
+use crate::unlinked_files::UnlinkedFiles;
 use eden_base::NoMemory;
 use manifest::{LinkChange, Manifest, Tally};
 use std::alloc::Global;
@@ -26,7 +26,7 @@ use std::alloc::Global;
 pub struct Laid {
     pub made: MadeFiles,
     pub added: Added,
-    pub gone: Gone,
+    pub gone: UnlinkedFiles,
     pub lost: Tally,
 }
 
@@ -84,7 +84,7 @@ fn taken(
     alloc: Global,
     manifest: &Manifest,
     changes: &Changes,
-) -> Result<(Gone, Tally), ChangeFault>
+) -> Result<(UnlinkedFiles, Tally), ChangeFault>
     requires is_manifest { IsManifest manifest.now }
     requires itself { bad_itself manifest.now changes.now ≡ None }
     ensures files { IfOk result (λ p. p.0.files ≡ taken manifest.now changes.now.links) }
@@ -98,11 +98,11 @@ fn taken(
     Ok((gone, lost))
 }
 
-/// Looks for a link whose file another gives, where what goes with the changes is gone.
+/// Looks for a link whose file another gives, once the manifest's links at changed places are taken.
 fn look_for_others(
     alloc: Global,
     manifest: &Manifest,
-    gone: &Gone,
+    gone: &UnlinkedFiles,
     changes: &Changes,
 ) -> Result<(), ChangeFault>
     requires is_manifest { IsManifest manifest.now }
@@ -129,8 +129,8 @@ fn brought(alloc: Global, changes: &Changes) -> Result<(MadeFiles, Added), NoMem
     Ok((made, added))
 }
 
-/// Tells the place of a bad link, behind those of the made files.
-/// It takes the links for the proof alone: their length bounds the sum.
+/// Returns the position of a bad link, which counts on after the made files. It takes the links for the proof alone:
+/// their length bounds the sum.
 fn bad_link(files: &[Made], links: &[LinkChange], i: usize) -> ChangeFault
     requires within { i < length links.now }
     ensures { result ≡ BadChange (length files.now + 1 + i) }

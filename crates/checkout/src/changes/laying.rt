@@ -7,26 +7,26 @@ ghost use Rattle.checkout.specs.Laying.{taken, with_added, with_made, AreTaken, 
 
 use super::Made;
 use crate::added::Added;
-use crate::gone::Gone;
 use crate::made::{MadeFile, MadeFiles};
+use crate::unlinked_files::UnlinkedFiles;
 use eden_base::NoMemory;
 use manifest::{LinkChange, Manifest, Tally};
 use std::alloc::Global;
 
-/// Returns the files of the manifest at the places of changed links, whose own links go, and how many go from each
-/// directory.
+/// Returns the manifest's files at the places of changed links, which lose their link, and how many links each
+/// directory loses.
 pub fn taken(
     alloc: Global,
     manifest: &Manifest,
     links: &[LinkChange],
-) -> Result<(Gone, Tally), NoMemory>
+) -> Result<(UnlinkedFiles, Tally), NoMemory>
     requires apart { StandApart links.now }
     ensures files { IfOk result (λ p. p.0.files ≡ taken manifest.now links.now) }
     ensures taken { IfOk result (λ p. AreTaken manifest.now p.0 p.1) }
     ensures names { IfOk result (λ _. AllByRecursion (λ link. IsNameText link.name) links.now) }
 {
     let room = manifest.lines().len() + 2;
-    let mut gone = Gone::with_room(alloc, room)?;
+    let mut gone = UnlinkedFiles::with_room(alloc, room)?;
     let mut lost = Tally::with_room(alloc, room)?;
     for change in links {
         take(manifest, change, &mut gone, &mut lost);
@@ -35,7 +35,7 @@ pub fn taken(
 }
 
 /// Lets the manifest's link at the place of a changed one go, if there is one. Takes no memory.
-fn take(manifest: &Manifest, change: &LinkChange, gone: &mut Gone, lost: &mut Tally)
+fn take(manifest: &Manifest, change: &LinkChange, gone: &mut UnlinkedFiles, lost: &mut Tally)
     requires left { IsLeft manifest.now gone.old change.now }
     requires so_far { AreTaken manifest.now gone.old lost.old }
     ensures files { gone.new.files ≡ gone.old.files ++ taken manifest.now (change.now ∷ []) }

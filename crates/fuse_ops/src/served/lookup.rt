@@ -45,8 +45,8 @@ impl Served {
         }
     }
 
-    /// Tells the entry of a name that has a number, which is held once more. The count is raised first, and taken back
-    /// where the backing fails.
+    /// Answers with the entry of a name that has a number, which counts once more. The count is raised first, and
+    /// lowered again where the backing fails.
     fn enter_again<B: Backing>(
         &mut self,
         backing: &mut B,
@@ -81,8 +81,8 @@ impl Served {
         }
     }
 
-    /// Tells the entry of a file that was found under a name without a number, which is given the next. What stands
-    /// against that is looked for before the backing is asked.
+    /// Answers with the entry of a file under a name without a number, which is given the next. Refusals are looked for
+    /// before the backing is asked.
     fn enter_next<B: Backing>(
         &mut self,
         alloc: Global,
@@ -135,7 +135,7 @@ impl Served {
         }
     }
 
-    /// Tells the attributes of a number's file. The root's are never loaded.
+    /// Returns the attributes of a number's file. The root's are never loaded.
     fn load<B: Backing>(
         &mut self,
         backing: &mut B,
@@ -165,8 +165,8 @@ impl Served {
         self.load_asked(backing, number, located.file)
     }
 
-    /// Tells the attributes that are loaded of a number, which become the most recent. Whether a name leads to the file
-    /// is not loaded, since names come and go.
+    /// Returns the loaded attributes of a number, which become the most recent. The count of names comes from
+    /// `linkage`, since names come and go.
     fn loaded(&mut self, number: Number, linkage: Linkage) -> Option<Attr>
         requires other { number.0 ≡ 1 → ⊥ }
         ensures attr { IfSome result (λ told. (file : FileId) → Names self.old number.0 file
@@ -214,8 +214,7 @@ impl Served {
     }
 }
 
-/// Asks the backing for a file of a tree, where it is a regular one of the manifest. What is known of others is the
-/// tree's to tell.
+/// Asks the backing for a file of a tree, if it is a regular one of the manifest. The tree itself knows the others.
 fn ask<B: Backing>(tree: &Tree, backing: &mut B, file: FileId) -> Result<Attr, BackingFault>
     requires is_tree { IsTree tree.now }
     requires there { IsSome (tree_file tree.now file) }
@@ -246,7 +245,7 @@ fn ask<B: Backing>(tree: &Tree, backing: &mut B, file: FileId) -> Result<Attr, B
     })
 }
 
-/// Returns what is answered where no number could be given.
+/// Converts the cause why no number could be given to an error.
 fn errno_of(fault: GiveFault) -> Errno
     ensures { result ≡ errno_of fault }
 {

@@ -13,7 +13,7 @@ loop-number-preserved c =
     let entries = c.loop-number.entries.items in
     let kept = c.in_ok-kept.kept in
     let rest = kept_from (drop (c.loop-number.number-index + 1) c.args.slots.now) in
-    let next = next-kept c.args.slots.now c.loop-number.number-index c.loop-number-item.result c.loop-number-test.true c.loop-number-item.is c.in-Some.held c.in-Some.is in (
+    let next = next-kept c.args.slots.now c.loop-number.number-index c.loop-number-item.result c.loop-number-test.true c.loop-number-item.is c.in-Some.entry c.in-Some.is in (
       ap (λ (xs : List Kept). xs ++ rest) c.in_ok-push.ensures.items ∙ append_assoc entries (kept ∷ []) rest
           ∙ ap (λ (xs : List Kept). entries ++ xs) (ap (λ (k : Kept). k ∷ rest) c.in_ok-kept.ensures.entry ∙ sym next) ∙ was.0,
       rw c.in_ok-push.ensures.items (all-append IsNamedEntry entries (kept ∷ []) was.1 (c.in_ok-kept.ensures.named, tt)),

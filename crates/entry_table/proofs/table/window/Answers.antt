@@ -1,4 +1,4 @@
--- The first slot and the last tell between which places the slots up to a number end.
+-- The first slot and the last tell between which indexes the slots up to a number end.
 use Rattle.std.proofs.Common.{sym, arith}
 use Rattle.entry_table.proofs.SlotWindow.{before-last, behind-first, window-order}
 use Rattle.entry_table.proofs.table.window.Goals as goal

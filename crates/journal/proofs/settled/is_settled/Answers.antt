@@ -27,8 +27,8 @@ loop-kept-preserved c =
           c.kept-item.result c.loop-kept-test.true c.kept-item.is (search rules) was.1,
       goes_on (λ (kept : ReceiptsState). IsRising kept.list) c.args.workers.now c.loop-kept.kept-index
           c.kept-item.result c.loop-kept-test.true c.kept-item.is (search rules) was.2,
-      λ place here. counts_more c.args.workers.now c.loop-kept.kept-index c.kept-item.result place _ _
-          c.loop-kept-test.true c.kept-item.is (was.3 place here) (search rules),
+      λ position here. counts_more c.args.workers.now c.loop-kept.kept-index c.kept-item.result position _ _
+          c.loop-kept-test.true c.kept-item.is (was.3 position here) (search rules),
     )
 
 pub returns : goal.returns

@@ -9,5 +9,5 @@ invariant-loop-kept l =
     (length l.counts.items ≡ length l.records)
     × AllWithin (λ (kept : ReceiptsState). All (IsOf l.records) kept.list) l.workers 0 l.kept-index
     × AllWithin (λ (kept : ReceiptsState). IsRising kept.list) l.workers 0 l.kept-index
-    × EachIndex l.records (λ (place : ℕ).
-    slice_index l.counts.items place ≡ times_in_all (take l.kept-index l.workers) place)
+    × EachIndex l.records (λ (position : ℕ).
+    slice_index l.counts.items position ≡ times_in_all (take l.kept-index l.workers) position)

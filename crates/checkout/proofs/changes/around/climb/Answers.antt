@@ -6,7 +6,7 @@ use Rattle.eden_base.specs.declared.number.FileId.{FileId}
 use Rattle.checkout.specs.Around.{from_file, links_now, AreSet}
 use Rattle.checkout.proofs.ClimbLaws.{began_coloured, climb_on, distinct_on, fit_on, none-IsClimb, none_from, room_left}
 use Rattle.checkout.proofs.ColourLaws.{climb-AreRight, marked-AreRight, set_keeps}
-use Rattle.checkout.proofs.GoneLemmas.{none-IsDistinct}
+use Rattle.checkout.proofs.UnlinkedLemmas.{none-IsDistinct}
 use Rattle.checkout.proofs.changes.around.climb.Goals as goal
 
 pub loop-colours-init : goal.loop-colours-init

@@ -5,8 +5,8 @@ use Rattle.manifest.specs.declared.links.LinkChange.{LinkChange}
 use Rattle.checkout.specs.Around.{links_now, AreRight, IsAbove}
 use Rattle.checkout.proofs.changes.around.first_above.Given as goal
 
-abbrev pub invariant-loop-place : goal.invariant-loop-place
-invariant-loop-place l = record {
+abbrev pub invariant-loop-index : goal.invariant-loop-index
+invariant-loop-index l = record {
   right : AreRight (links_now l.manifest l.added l.gone) l.colours;
-  none : (before : ℕ) (other : LinkChange) → before < l.place → slice_get l.links before ≡ Some other → IsAbove (links_now l.manifest l.added l.gone) other → ⊥;
+  none : (before : ℕ) (other : LinkChange) → before < l.index → slice_get l.links before ≡ Some other → IsAbove (links_now l.manifest l.added l.gone) other → ⊥;
 }

@@ -2,7 +2,7 @@
 use Rattle.std.proofs.Common.{Some, None, sym, ap, subst, ◌∙◌}
 use Rattle.std.specs.List.{AllByRecursion}
 use Rattle.checkout.specs.Around.{GivesTarget, IsFirstAbove, links_now}
-use Rattle.checkout.specs.Gone.{is_gone}
+use Rattle.checkout.specs.UnlinkedFiles.{is_gone}
 use Rattle.checkout.specs.Rounds.{cuts, first_of}
 use Rattle.manifest.specs.Tally.{count_of}
 use Rattle.checkout.proofs.RoundsAround.{all_give, are_apart, are_beside, around_above, around_cut}
@@ -22,12 +22,12 @@ first_above-requires-clause-targets c =
 pub returns-in-Some : goal.returns-in-Some
 returns-in-Some c =
     let links = links_now c.args.manifest.now c.args.added.now c.args.gone.now in
-    let first = subst (λ xs. IsFirstAbove links xs (Some c.in-Some.place)) c.as_slice-links.ensures.links (subst (IsFirstAbove links c.as_slice-links.result.now) c.in-Some.is c.in_ok-place.ensures.first) in
-    around_above c.args.manifest.now c.args.changes.now c.args.added.now c.args.gone.now c.args.lost.now c.requires.laid c.in-Some.place first
+    let first = subst (λ xs. IsFirstAbove links xs (Some c.in-Some.index)) c.as_slice-links.ensures.links (subst (IsFirstAbove links c.as_slice-links.result.now) c.in-Some.is c.in_ok-index.ensures.first) in
+    around_above c.args.manifest.now c.args.changes.now c.args.added.now c.args.gone.now c.args.lost.now c.requires.laid c.in-Some.index first
 
 pub returns-in-None : goal.returns-in-None
 returns-in-None c =
     let links = links_now c.args.manifest.now c.args.added.now c.args.gone.now in
-    let none = subst (λ xs. IsFirstAbove links xs None) c.as_slice-links.ensures.links (subst (IsFirstAbove links c.as_slice-links.result.now) c.in-None.is c.in_ok-place.ensures.first) in
+    let none = subst (λ xs. IsFirstAbove links xs None) c.as_slice-links.ensures.links (subst (IsFirstAbove links c.as_slice-links.result.now) c.in-None.is c.in_ok-index.ensures.first) in
     let found = c.first_cut.ensures ∙ ap (first_of (cuts c.args.manifest.now c.args.added.now (is_gone c.args.gone.now) (count_of c.args.lost.now)) 0) c.as_slice-links.ensures.links in
     around_cut c.args.manifest.now c.args.changes.now c.args.added.now c.args.gone.now c.args.lost.now c.requires.laid c.first_cut.result none found

@@ -8,9 +8,9 @@ use Rattle.checkout.proofs.changes.bad_itself.kind_made.Goals as goal
 
 pub returns-in-Ok : goal.returns-in-Ok
 returns-in-Ok c =
-    let file = c.index-files-place.result in
+    let file = c.index-files-index.result in
     let equal = c.in-Ok.ensures.position (λ made. made.file.0) (answers_always _ _ _ (λ f a r g called. search rules)) in
-    sym (ap (option_map (λ (x : Made). x.kind)) (searched-found c.args.file.0 c.args.files.now c.in-Ok.place file c.requires.rising c.in-Ok.ensures.bound (equal file)))
+    sym (ap (option_map (λ (x : Made). x.kind)) (searched-found c.args.file.0 c.args.files.now c.in-Ok.index file c.requires.rising c.in-Ok.ensures.bound (equal file)))
 
 pub returns-in-Err : goal.returns-in-Err
 returns-in-Err c =

@@ -2,7 +2,7 @@
 use Rattle.std.proofs.Common.{◌≡◌, drop}
 use Rattle.std.specs.BTreeMap.{get as mark_of}
 use Rattle.std.specs.Ordering.{nat_cmp}
-use Rattle.checkout.specs.Gone.{is_gone}
+use Rattle.checkout.specs.UnlinkedFiles.{is_gone}
 use Rattle.checkout.specs.Rounds.{first_of, is_given_twice}
 use Rattle.checkout.proofs.changes.by_other.first_marked.Given as goal
 

@@ -3,5 +3,5 @@ use Rattle.std.proofs.Common.{◌≡◌, drop}
 use Rattle.checkout.specs.Around.{from_file}
 use Rattle.checkout.proofs.changes.colours.from_file.Given as goal
 
-abbrev pub invariant-loop-place : goal.invariant-loop-place
-invariant-loop-place l = from_file l.file (drop l.place l.files) ≡ from_file l.file l.files
+abbrev pub invariant-loop-index : goal.invariant-loop-index
+invariant-loop-index l = from_file l.file (drop l.index l.files) ≡ from_file l.file l.files

@@ -1,6 +1,6 @@
 -- The first of what is left is the first of all.
 use Rattle.std.proofs.Common.{◌≡◌, drop}
-use Rattle.checkout.specs.Gone.{is_gone}
+use Rattle.checkout.specs.UnlinkedFiles.{is_gone}
 use Rattle.checkout.specs.Rounds.{cuts, first_of}
 use Rattle.manifest.specs.Tally.{count_of}
 use Rattle.checkout.proofs.changes.cut.first_cut.Given as goal

@@ -3,7 +3,7 @@ use Rattle.std.proofs.Common.{◌≡◌, ◌+◌, Some, None, length, sym, ap, s
 use Rattle.std.specs.Option.{option_map}
 use Rattle.checkout.specs.BadChanges.{IsBadChange, bad_by_other, first_link}
 use Rattle.checkout.specs.Changed.{IsChangeRefusal}
-use Rattle.checkout.specs.Gone.{is_gone}
+use Rattle.checkout.specs.UnlinkedFiles.{is_gone}
 use Rattle.checkout.specs.Rounds.{is_given_twice, marked}
 use Rattle.checkout.proofs.WithChanges.{bad_by_second, first_of-within, second_round}
 use Rattle.checkout.proofs.changes.laid.look_for_others.Goals as goal

@@ -1,7 +1,7 @@
 -- The manifest's file is new among those that are gone, and both counts have room.
 use Rattle.std.proofs.Common.{◌≡◌, ap, sym, subst, IfSome, ◌∙◌, false}
 use Rattle.std.specs.FinMap.{get}
-use Rattle.checkout.specs.Gone.{is_gone}
+use Rattle.checkout.specs.UnlinkedFiles.{is_gone}
 use Rattle.manifest.specs.Tree.{links_from}
 use Rattle.checkout.proofs.TakenLaws.{has_room, take-AreTaken}
 use Rattle.checkout.proofs.changes.laying.take.Goals as goal

@@ -6,7 +6,7 @@ use Rattle.std.specs.List.{AllByRecursion}
 use Rattle.std.specs.List.Sorted.{IsPermutation}
 use Rattle.eden_base.specs.Name.{IsNameText}
 use Rattle.checkout.specs.Changes.{AreLinkChanges, AreMade}
-use Rattle.checkout.specs.Gone.{is_gone}
+use Rattle.checkout.specs.UnlinkedFiles.{is_gone}
 use Rattle.checkout.specs.Listing.{gone_changes, listed_file, HaveLines}
 use Rattle.manifest.specs.Links.{added_change}
 use Rattle.manifest.specs.Tally.{count_of}
@@ -14,7 +14,7 @@ use Rattle.manifest.specs.Tree.{IsTree, tree_of}
 use Rattle.checkout.proofs.ChangeLists.{all_entries}
 use Rattle.checkout.proofs.ChangesLaws.{changed_names, one_changes, one_tree}
 use Rattle.manifest.proofs.FlatLemmas.{link_cmp_total}
-use Rattle.checkout.proofs.GoneListing.{all_gone, all_have_lines}
+use Rattle.checkout.proofs.UnlinkedListing.{all_gone, all_have_lines}
 use Rattle.checkout.proofs.LinkPlaces.{AreLinkChanges-over}
 use Rattle.checkout.proofs.MadeChanges.{AreMade-over}
 use Rattle.manifest.proofs.ManifestIsTree.{tree_of-IsTree}

@@ -3,7 +3,7 @@ use Rattle.std.proofs.Common.{◌≡◌, ℕ, if◌then◌else◌, List, Bool, O
 use Rattle.std.specs.FinMap.{FinMap, get}
 use Rattle.std.specs.Option.{option_or}
 use Rattle.eden_base.specs.declared.number.FileId.{FileId}
-use Rattle.checkout.specs.Gone.{is_gone}
+use Rattle.checkout.specs.UnlinkedFiles.{is_gone}
 use Rattle.checkout.specs.Overlay.{still}
 use Rattle.manifest.specs.Tally.{count_of}
 use Rattle.manifest.specs.Tree.{link_cmp, links_from}

@@ -1,6 +1,6 @@
 -- The file is made, or nothing is changed.
 use Rattle.std.proofs.Common.{refl}
-use Rattle.checkout.specs.Gone.{is_gone}
+use Rattle.checkout.specs.UnlinkedFiles.{is_gone}
 use Rattle.manifest.specs.Tally.{count_of}
 use Rattle.checkout.proofs.OverlaySteps.{create-step, next_is_new, none_there, undone}
 use Rattle.checkout.proofs.tree.Tree.create.Goals as goal

@@ -1,6 +1,6 @@
 -- A name was added, or not all of the manifest's are gone.
 use Rattle.std.proofs.Common.{sym, ◌∙◌}
-use Rattle.checkout.specs.Gone.{is_gone}
+use Rattle.checkout.specs.UnlinkedFiles.{is_gone}
 use Rattle.manifest.specs.Tally.{count_of}
 use Rattle.checkout.proofs.OverlayLaws.{has_links-over}
 use Rattle.checkout.proofs.tree.Tree.has_links.Goals as goal

@@ -1,6 +1,6 @@
 -- An added link gives the file, or its line is not gone.
 use Rattle.std.proofs.Common.{sym, ◌∙◌}
-use Rattle.checkout.specs.Gone.{is_gone}
+use Rattle.checkout.specs.UnlinkedFiles.{is_gone}
 use Rattle.manifest.specs.Tally.{count_of}
 use Rattle.checkout.proofs.OverlayLaws.{is_linked-over}
 use Rattle.checkout.proofs.tree.Tree.is_linked.Goals as goal

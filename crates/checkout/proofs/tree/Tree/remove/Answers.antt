@@ -1,8 +1,8 @@
 -- A link that was added, or one of the manifest's.
 use Rattle.std.proofs.Common.{arith, sym, ◌∙◌}
-use Rattle.checkout.specs.Gone.{is_gone}
+use Rattle.checkout.specs.UnlinkedFiles.{is_gone}
 use Rattle.manifest.specs.Tally.{count_of}
-use Rattle.checkout.proofs.GoneLemmas.{is_gone-added}
+use Rattle.checkout.proofs.UnlinkedLemmas.{is_gone-added}
 use Rattle.checkout.proofs.OverlaySteps.{remove_added-step, is_found, found-is, remove_line-step}
 use Rattle.checkout.proofs.tree.Tree.remove.Goals as goal
 

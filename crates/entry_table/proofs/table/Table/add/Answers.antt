@@ -6,7 +6,7 @@ use Rattle.entry_table.specs.Links.{link_of}
 use Rattle.entry_table.specs.Slots.{kept_from, file_beside, note_beside, IsIndexed}
 use Rattle.entry_table.specs.Table.{TableState, kept_of}
 use Rattle.entry_table.specs.declared.kept.Kept.{Kept}
-use Rattle.entry_table.specs.declared.kept.Held.{Held}
+use Rattle.entry_table.specs.declared.kept.Entry.{Entry}
 use Rattle.entry_table.proofs.EntryLemmas.{next-none}
 use Rattle.entry_table.proofs.IndexedLemmas.{indexed-added}
 use Rattle.entry_table.proofs.SlotGrowth.{pushed-slots, pushed-kept, pushed-beside}
@@ -17,7 +17,7 @@ use Rattle.entry_table.proofs.table.Table.add.Goals as goal
 pub invariant_of-self : goal.invariant_of-self
 invariant_of-self c =
     let t = c.self.inside in
-    let h : Held = record { place = Linked c.args.parent c.args.name; count = 1; file = None; note = None } in
+    let h : Entry = record { place = Linked c.args.parent c.args.name; count = 1; file = None; note = None } in
     let same = ap kept_from c.push_reserved.ensures.items ∙ pushed-kept t.next h t.slots.items in
     let free : entry_at (kept_from t.slots.items) c.args.parent.0 c.args.name ≡ None = subst (λ (s : TableState). entry_at s.entries c.args.parent.0 c.args.name ≡ None) (sym c.self.view_is) c.requires.is_new in
     record {
@@ -33,5 +33,5 @@ invariant_of-self c =
 pub returns-clause-added : goal.returns-clause-added
 returns-clause-added c =
     let t = c.self.inside in
-    let h : Held = record { place = Linked c.args.parent c.args.name; count = 1; file = None; note = None } in
+    let h : Entry = record { place = Linked c.args.parent c.args.name; count = 1; file = None; note = None } in
     rw (← c.self.view_is, c.push_reserved.ensures.items, pushed-kept t.next h t.slots.items, pushed-beside t.next h file_beside t.slots.items refl, pushed-beside t.next h note_beside t.slots.items refl) refl

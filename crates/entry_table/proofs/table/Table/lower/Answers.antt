@@ -2,18 +2,18 @@
 use Rattle.std.proofs.Common.{◌≡◌, ℕ, ◌-◌, List, Option, Some, None, refl, sym, ap, ◌∙◌, subst, arith}
 use Rattle.std.specs.Prelude.{slice_set}
 use Rattle.entry_table.specs.Links.{link_of}
-use Rattle.entry_table.specs.Slots.{slot_at, kept_from, file_beside, note_beside, IsIndexed, IsPlaceOf}
+use Rattle.entry_table.specs.Slots.{slot_at, kept_from, file_beside, note_beside, IsIndexed, IsIndexOf}
 use Rattle.entry_table.specs.declared.kept.Kept.{Kept}
-use Rattle.entry_table.specs.declared.kept.Held.{Held}
+use Rattle.entry_table.specs.declared.kept.Entry.{Entry}
 use Rattle.entry_table.proofs.Counting.{less, less-keeps, good-item, count_in, count-held, bad-in}
 use Rattle.entry_table.proofs.IndexedLemmas.{indexed-changed}
 use Rattle.entry_table.proofs.SlotLemmas.{slot_held, files-kept}
 use Rattle.entry_table.proofs.TableLemmas.{found-in, found-held, written-slots, written-kept, written-beside}
 use Rattle.entry_table.proofs.table.Table.lower.Goals as goal
 
-pub returns-in_err-place-clause-bad : goal.returns-in_err-place-clause-bad
-returns-in_err-place-clause-bad c =
-    let none = subst (λ (es : List (ℕ × Option Held)). slot_at es c.args.number.0 ≡ None) c.as_slice.ensures.value c.in_err-place.ensures.none in
+pub returns-in_err-index-clause-bad : goal.returns-in_err-index-clause-bad
+returns-in_err-index-clause-bad c =
+    let none = subst (λ (es : List (ℕ × Option Entry)). slot_at es c.args.number.0 ≡ None) c.as_slice.ensures.value c.in_err-index.ensures.none in
     rw c.from_residual.ensures (bad-in c.self.inside c.args.self.now c.args.number.0 c.args.k None c.self.view_is c.self.invariant none (let f = c.if-k-eq0.false in omega arith))
 
 pub returns-in_default-clause-bad : goal.returns-in_default-clause-bad
@@ -21,29 +21,29 @@ returns-in_default-clause-bad c =
     let t = c.self.inside in
     let n = c.args.number.0 in
     let slot = c.index_mut-slot.result.now in
-    let there = subst (λ (es : List (ℕ × Option Held)). IsPlaceOf es n c.in_ok-place.place) c.as_slice.ensures.value c.in_ok-place.ensures.place in
-    bad-in t c.args.self.now n c.args.k (Some None) c.self.view_is c.self.invariant (found-in t n c.in_ok-place.place slot c.self.invariant there c.index_mut-slot.ensures.value ∙ ap Some c.in_default.is) (let f = c.if-k-eq0.false in omega arith)
+    let there = subst (λ (es : List (ℕ × Option Entry)). IsIndexOf es n c.in_ok-index.index) c.as_slice.ensures.value c.in_ok-index.ensures.index in
+    bad-in t c.args.self.now n c.args.k (Some None) c.self.view_is c.self.invariant (found-in t n c.in_ok-index.index slot c.self.invariant there c.index_mut-slot.ensures.value ∙ ap Some c.in_default.is) (let f = c.if-k-eq0.false in omega arith)
 
-pub returns-then-held-k-clause-bad : goal.returns-then-held-k-clause-bad
-returns-then-held-k-clause-bad c =
+pub returns-then-entry-k-clause-bad : goal.returns-then-entry-k-clause-bad
+returns-then-entry-k-clause-bad c =
     let t = c.self.inside in
     let n = c.args.number.0 in
     let slot = c.index_mut-slot.result.now in
-    let h = c.in-Some.held in
-    let there = subst (λ (es : List (ℕ × Option Held)). IsPlaceOf es n c.in_ok-place.place) c.as_slice.ensures.value c.in_ok-place.ensures.place in
-    bad-in t c.args.self.now n c.args.k (Some (Some h)) c.self.view_is c.self.invariant (found-held t n c.in_ok-place.place slot c.self.invariant there c.index_mut-slot.ensures.value h h c.in-Some.is) c.if-held-k.true
+    let h = c.in-Some.entry in
+    let there = subst (λ (es : List (ℕ × Option Entry)). IsIndexOf es n c.in_ok-index.index) c.as_slice.ensures.value c.in_ok-index.ensures.index in
+    bad-in t c.args.self.now n c.args.k (Some (Some h)) c.self.view_is c.self.invariant (found-held t n c.in_ok-index.index slot c.self.invariant there c.index_mut-slot.ensures.value h h c.in-Some.is) c.if-entry-k.true
 
 pub invariant_of-self-2 : goal.invariant_of-self-2
 invariant_of-self-2 c =
     let t = c.self.inside in
     let n = c.args.number.0 in
     let slot = c.index_mut-slot.result.now in
-    let h = c.in-Some.held in
-    let there = subst (λ (es : List (ℕ × Option Held)). IsPlaceOf es n c.in_ok-place.place) c.as_slice.ensures.value c.in_ok-place.ensures.place in
-    let now : Held = record h { count = h.count - c.args.k } in
+    let h = c.in-Some.entry in
+    let there = subst (λ (es : List (ℕ × Option Entry)). IsIndexOf es n c.in_ok-index.index) c.as_slice.ensures.value c.in_ok-index.ensures.index in
+    let now : Entry = record h { count = h.count - c.args.k } in
     record {
-      slots = written-slots t n c.in_ok-place.place slot c.self.invariant there c.index_mut-slot.ensures.value (Some now);
-      indexed = subst (λ (es : List Kept). IsIndexed es (link_of t.index)) (sym (written-kept t n c.in_ok-place.place slot c.self.invariant there c.index_mut-slot.ensures.value h now c.in-Some.is (less c.args.k) refl))
+      slots = written-slots t n c.in_ok-index.index slot c.self.invariant there c.index_mut-slot.ensures.value (Some now);
+      indexed = subst (λ (es : List Kept). IsIndexed es (link_of t.index)) (sym (written-kept t n c.in_ok-index.index slot c.self.invariant there c.index_mut-slot.ensures.value h now c.in-Some.is (less c.args.k) refl))
           (indexed-changed (kept_from t.slots.items) (link_of t.index) n (less c.args.k) (less-keeps c.args.k) c.self.invariant.indexed);
       ready = c.self.invariant.ready;
       free = c.self.invariant.free;
@@ -55,19 +55,19 @@ returns-clause-good c =
     let t = c.self.inside in
     let n = c.args.number.0 in
     let slot = c.index_mut-slot.result.now in
-    let h = c.in-Some.held in
-    let there = subst (λ (es : List (ℕ × Option Held)). IsPlaceOf es n c.in_ok-place.place) c.as_slice.ensures.value c.in_ok-place.ensures.place in
-    let count = count-held t c.args.self.now n c.self.view_is c.self.invariant ∙ ap (λ o. count_in (slot_held o)) (found-held t n c.in_ok-place.place slot c.self.invariant there c.index_mut-slot.ensures.value h h c.in-Some.is) in
-    good-item c.args.self.now.entries n c.args.k c.if-k-eq0.false (let f = c.if-held-k.false in omega arith)
+    let h = c.in-Some.entry in
+    let there = subst (λ (es : List (ℕ × Option Entry)). IsIndexOf es n c.in_ok-index.index) c.as_slice.ensures.value c.in_ok-index.ensures.index in
+    let count = count-held t c.args.self.now n c.self.view_is c.self.invariant ∙ ap (λ o. count_in (slot_held o)) (found-held t n c.in_ok-index.index slot c.self.invariant there c.index_mut-slot.ensures.value h h c.in-Some.is) in
+    good-item c.args.self.now.entries n c.args.k c.if-k-eq0.false (let f = c.if-entry-k.false in omega arith)
 
 pub returns-clause-left : goal.returns-clause-left
 returns-clause-left c =
     let t = c.self.inside in
     let n = c.args.number.0 in
     let slot = c.index_mut-slot.result.now in
-    let h = c.in-Some.held in
-    let there = subst (λ (es : List (ℕ × Option Held)). IsPlaceOf es n c.in_ok-place.place) c.as_slice.ensures.value c.in_ok-place.ensures.place in
-    let count = count-held t c.args.self.now n c.self.view_is c.self.invariant ∙ ap (λ o. count_in (slot_held o)) (found-held t n c.in_ok-place.place slot c.self.invariant there c.index_mut-slot.ensures.value h h c.in-Some.is) in
+    let h = c.in-Some.entry in
+    let there = subst (λ (es : List (ℕ × Option Entry)). IsIndexOf es n c.in_ok-index.index) c.as_slice.ensures.value c.in_ok-index.ensures.index in
+    let count = count-held t c.args.self.now n c.self.view_is c.self.invariant ∙ ap (λ o. count_in (slot_held o)) (found-held t n c.in_ok-index.index slot c.self.invariant there c.index_mut-slot.ensures.value h h c.in-Some.is) in
     ap (λ m. m - c.args.k) (sym count)
 
 pub returns-clause-lowered : goal.returns-clause-lowered
@@ -75,13 +75,13 @@ returns-clause-lowered c =
     let t = c.self.inside in
     let n = c.args.number.0 in
     let slot = c.index_mut-slot.result.now in
-    let h = c.in-Some.held in
-    let there = subst (λ (es : List (ℕ × Option Held)). IsPlaceOf es n c.in_ok-place.place) c.as_slice.ensures.value c.in_ok-place.ensures.place in
-    let now : Held = record h { count = h.count - c.args.k } in
-    rw (← c.self.view_is, written-kept t n c.in_ok-place.place slot c.self.invariant there c.index_mut-slot.ensures.value h now c.in-Some.is (less c.args.k) refl, written-beside t n c.in_ok-place.place slot c.self.invariant there c.index_mut-slot.ensures.value h now c.in-Some.is file_beside refl, written-beside t n c.in_ok-place.place slot c.self.invariant there c.index_mut-slot.ensures.value h now c.in-Some.is note_beside refl) refl
+    let h = c.in-Some.entry in
+    let there = subst (λ (es : List (ℕ × Option Entry)). IsIndexOf es n c.in_ok-index.index) c.as_slice.ensures.value c.in_ok-index.ensures.index in
+    let now : Entry = record h { count = h.count - c.args.k } in
+    rw (← c.self.view_is, written-kept t n c.in_ok-index.index slot c.self.invariant there c.index_mut-slot.ensures.value h now c.in-Some.is (less c.args.k) refl, written-beside t n c.in_ok-index.index slot c.self.invariant there c.index_mut-slot.ensures.value h now c.in-Some.is file_beside refl, written-beside t n c.in_ok-index.index slot c.self.invariant there c.index_mut-slot.ensures.value h now c.in-Some.is note_beside refl) refl
 
 pub returns-clause-kept : goal.returns-clause-kept
 returns-clause-kept c =
-    let h = c.in-Some.held in
-    let now : Held = record h { count = h.count - c.args.k } in
-    files-kept (slice_set c.self.inside.slots.items c.in_ok-place.place (c.index_mut-slot.result.now.0, Some now))
+    let h = c.in-Some.entry in
+    let now : Entry = record h { count = h.count - c.args.k } in
+    files-kept (slice_set c.self.inside.slots.items c.in_ok-index.index (c.index_mut-slot.result.now.0, Some now))

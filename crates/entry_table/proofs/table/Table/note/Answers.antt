@@ -2,9 +2,9 @@
 use Rattle.std.proofs.Common.{◌≡◌, ℕ, List, Option, Some, None, refl, sym, ap, ◌∙◌, subst}
 use Rattle.entry_table.specs.Entries.{has_number}
 use Rattle.entry_table.specs.Links.{link_of}
-use Rattle.entry_table.specs.Slots.{slot_at, kept_from, file_beside, note_beside, notes_from, AreSlots, IsIndexed, IsPlaceOf}
+use Rattle.entry_table.specs.Slots.{slot_at, kept_from, file_beside, note_beside, notes_from, AreSlots, IsIndexed, IsIndexOf}
 use Rattle.entry_table.specs.declared.kept.Kept.{Kept}
-use Rattle.entry_table.specs.declared.kept.Held.{Held}
+use Rattle.entry_table.specs.declared.kept.Entry.{Entry}
 use Rattle.std.specs.Map.{set_value}
 use Rattle.std.specs.Ordering.{nat_cmp}
 use Rattle.std.specs.BTreeMap.{is_at}
@@ -15,33 +15,33 @@ use Rattle.entry_table.proofs.TableLemmas.{never-none, never-empty, found-in, fo
 use Rattle.entry_table.proofs.table.Table.note.Goals as goal
 
 -- by whether there is a note
-note_in : (o : Option ℕ) (es : List (ℕ × Option Held)) (low next n : ℕ) (h now : Held) → now.note ≡ o → AreSlots low next es → slot_at es n ≡ Some (Some h) → notes_from (set_value (is_at (nat_cmp n)) es (Some now)) ≡ noted (notes_from es) n o
+note_in : (o : Option ℕ) (es : List (ℕ × Option Entry)) (low next n : ℕ) (h now : Entry) → now.note ≡ o → AreSlots low next es → slot_at es n ≡ Some (Some h) → notes_from (set_value (is_at (nat_cmp n)) es (Some now)) ≡ noted (notes_from es) n o
 note_in (Some note) es low next n h now is are found = set-put note_beside next n note h now is es low are found
 note_in None es low next n h now is are found = cleared-beside note_beside next n h es low are found now is
 
 pub unreachable-requires : goal.unreachable-requires
 unreachable-requires c =
-    never-none c.self.inside c.args.self.now c.args.number.0 c.self.view_is c.self.invariant c.requires.held (sym (subst (λ (es : List (ℕ × Option Held)). slot_at es c.args.number.0 ≡ None) c.as_slice.ensures.value c.in_default.ensures.none))
+    never-none c.self.inside c.args.self.now c.args.number.0 c.self.view_is c.self.invariant c.requires.held (sym (subst (λ (es : List (ℕ × Option Entry)). slot_at es c.args.number.0 ≡ None) c.as_slice.ensures.value c.in_default.ensures.none))
 
 pub unreachable-requires-in_default-1₀ : goal.unreachable-requires-in_default-1₀
 unreachable-requires-in_default-1₀ c =
     let t = c.self.inside in
     let n = c.args.number.0 in
-    let there = subst (λ (es : List (ℕ × Option Held)). IsPlaceOf es n c.in-Some.place) c.as_slice.ensures.value c.in-Some.ensures.place in
+    let there = subst (λ (es : List (ℕ × Option Entry)). IsIndexOf es n c.in-Some.index) c.as_slice.ensures.value c.in-Some.ensures.index in
     never-empty t c.args.self.now n c.self.view_is c.self.invariant c.requires.held
-    (sym (found-in t n c.in-Some.place c.index_mut-slot.result.now c.self.invariant there c.index_mut-slot.ensures.value ∙ ap Some c.in_default-1₀.is))
+    (sym (found-in t n c.in-Some.index c.index_mut-slot.result.now c.self.invariant there c.index_mut-slot.ensures.value ∙ ap Some c.in_default-1₀.is))
 
 pub invariant_of-self : goal.invariant_of-self
 invariant_of-self c =
     let t = c.self.inside in
     let n = c.args.number.0 in
     let slot = c.index_mut-slot.result.now in
-    let h = c.in-Some-1₀.held in
-    let there = subst (λ (es : List (ℕ × Option Held)). IsPlaceOf es n c.in-Some.place) c.as_slice.ensures.value c.in-Some.ensures.place in
-    let now : Held = record h { note = c.args.note } in
-    let same = written-kept t n c.in-Some.place slot c.self.invariant there c.index_mut-slot.ensures.value h now c.in-Some-1₀.is (λ x. x) refl ∙ changed-none (kept_from t.slots.items) (has_number n) in
+    let h = c.in-Some-1₀.entry in
+    let there = subst (λ (es : List (ℕ × Option Entry)). IsIndexOf es n c.in-Some.index) c.as_slice.ensures.value c.in-Some.ensures.index in
+    let now : Entry = record h { note = c.args.note } in
+    let same = written-kept t n c.in-Some.index slot c.self.invariant there c.index_mut-slot.ensures.value h now c.in-Some-1₀.is (λ x. x) refl ∙ changed-none (kept_from t.slots.items) (has_number n) in
     record {
-      slots = written-slots t n c.in-Some.place slot c.self.invariant there c.index_mut-slot.ensures.value (Some now);
+      slots = written-slots t n c.in-Some.index slot c.self.invariant there c.index_mut-slot.ensures.value (Some now);
       indexed = subst (λ (es : List Kept). IsIndexed es (link_of t.index)) (sym same) c.self.invariant.indexed;
       ready = c.self.invariant.ready;
       free = c.self.invariant.free;
@@ -53,11 +53,11 @@ returns c =
     let t = c.self.inside in
     let n = c.args.number.0 in
     let slot = c.index_mut-slot.result.now in
-    let h = c.in-Some-1₀.held in
-    let there = subst (λ (es : List (ℕ × Option Held)). IsPlaceOf es n c.in-Some.place) c.as_slice.ensures.value c.in-Some.ensures.place in
-    let now : Held = record h { note = c.args.note } in
-    let same = written-kept t n c.in-Some.place slot c.self.invariant there c.index_mut-slot.ensures.value h now c.in-Some-1₀.is (λ x. x) refl ∙ changed-none (kept_from t.slots.items) (has_number n) in
-    let found = found-held t n c.in-Some.place slot c.self.invariant there c.index_mut-slot.ensures.value h now c.in-Some-1₀.is in
-    let files = written-beside t n c.in-Some.place slot c.self.invariant there c.index_mut-slot.ensures.value h now c.in-Some-1₀.is file_beside refl in
-    let notes = ap notes_from (written t n c.in-Some.place slot c.self.invariant there c.index_mut-slot.ensures.value (Some now)) ∙ note_in c.args.note t.slots.items 2 t.next n h now refl c.self.invariant.slots found in
+    let h = c.in-Some-1₀.entry in
+    let there = subst (λ (es : List (ℕ × Option Entry)). IsIndexOf es n c.in-Some.index) c.as_slice.ensures.value c.in-Some.ensures.index in
+    let now : Entry = record h { note = c.args.note } in
+    let same = written-kept t n c.in-Some.index slot c.self.invariant there c.index_mut-slot.ensures.value h now c.in-Some-1₀.is (λ x. x) refl ∙ changed-none (kept_from t.slots.items) (has_number n) in
+    let found = found-held t n c.in-Some.index slot c.self.invariant there c.index_mut-slot.ensures.value h now c.in-Some-1₀.is in
+    let files = written-beside t n c.in-Some.index slot c.self.invariant there c.index_mut-slot.ensures.value h now c.in-Some-1₀.is file_beside refl in
+    let notes = ap notes_from (written t n c.in-Some.index slot c.self.invariant there c.index_mut-slot.ensures.value (Some now)) ∙ note_in c.args.note t.slots.items 2 t.next n h now refl c.self.invariant.slots found in
     record { noted = rw (← c.self.view_is, same, files, notes) refl }

@@ -5,9 +5,9 @@ use Rattle.std.proofs.lemmas.Bool.Decides.{nat_tests}
 use Rattle.eden_base.specs.Limits.{greatest_count}
 use Rattle.entry_table.specs.Entries.{count_of, once_more}
 use Rattle.entry_table.specs.Links.{link_of}
-use Rattle.entry_table.specs.Slots.{slot_at, kept_from, file_beside, note_beside, IsIndexed, IsPlaceOf}
+use Rattle.entry_table.specs.Slots.{slot_at, kept_from, file_beside, note_beside, IsIndexed, IsIndexOf}
 use Rattle.entry_table.specs.declared.kept.Kept.{Kept}
-use Rattle.entry_table.specs.declared.kept.Held.{Held}
+use Rattle.entry_table.specs.declared.kept.Entry.{Entry}
 use Rattle.entry_table.proofs.Counting.{once-keeps, count_in, count-held}
 use Rattle.entry_table.proofs.IndexedLemmas.{indexed-changed}
 use Rattle.entry_table.proofs.SlotLemmas.{slot_held, files-kept}
@@ -22,41 +22,41 @@ free_in m e = grind (arith, nat_tests)
 
 pub unreachable-requires : goal.unreachable-requires
 unreachable-requires c =
-    never-none c.self.inside c.args.self.now c.args.number.0 c.self.view_is c.self.invariant c.requires.held (sym (subst (λ (es : List (ℕ × Option Held)). slot_at es c.args.number.0 ≡ None) c.as_slice.ensures.value c.in_default.ensures.none))
+    never-none c.self.inside c.args.self.now c.args.number.0 c.self.view_is c.self.invariant c.requires.held (sym (subst (λ (es : List (ℕ × Option Entry)). slot_at es c.args.number.0 ≡ None) c.as_slice.ensures.value c.in_default.ensures.none))
 
 pub unreachable-requires-in_default-1₀ : goal.unreachable-requires-in_default-1₀
 unreachable-requires-in_default-1₀ c =
     let t = c.self.inside in
     let n = c.args.number.0 in
-    let there = subst (λ (es : List (ℕ × Option Held)). IsPlaceOf es n c.in-Some.place) c.as_slice.ensures.value c.in-Some.ensures.place in
+    let there = subst (λ (es : List (ℕ × Option Entry)). IsIndexOf es n c.in-Some.index) c.as_slice.ensures.value c.in-Some.ensures.index in
     never-empty t c.args.self.now n c.self.view_is c.self.invariant c.requires.held
-    (sym (found-in t n c.in-Some.place c.index_mut-slot.result.now c.self.invariant there c.index_mut-slot.ensures.value ∙ ap Some c.in_default-1₀.is))
+    (sym (found-in t n c.in-Some.index c.index_mut-slot.result.now c.self.invariant there c.index_mut-slot.ensures.value ∙ ap Some c.in_default-1₀.is))
 
-pub returns-then-held-ge-GREATEST_COUNT-clause-may : goal.returns-then-held-ge-GREATEST_COUNT-clause-may
-returns-then-held-ge-GREATEST_COUNT-clause-may c =
+pub returns-then-entry-ge-GREATEST_COUNT-clause-may : goal.returns-then-entry-ge-GREATEST_COUNT-clause-may
+returns-then-entry-ge-GREATEST_COUNT-clause-may c =
     let t = c.self.inside in
     let n = c.args.number.0 in
     let slot = c.index_mut-slot.result.now in
-    let h = c.in-Some-1₀.held in
-    let there = subst (λ (es : List (ℕ × Option Held)). IsPlaceOf es n c.in-Some.place) c.as_slice.ensures.value c.in-Some.ensures.place in
-    let count = count-held t c.args.self.now n c.self.view_is c.self.invariant ∙ ap (λ o. count_in (slot_held o)) (found-held t n c.in-Some.place slot c.self.invariant there c.index_mut-slot.ensures.value h h c.in-Some-1₀.is) in
-    let full = c.if-held-ge-GREATEST_COUNT.true in
+    let h = c.in-Some-1₀.entry in
+    let there = subst (λ (es : List (ℕ × Option Entry)). IsIndexOf es n c.in-Some.index) c.as_slice.ensures.value c.in-Some.ensures.index in
+    let count = count-held t c.args.self.now n c.self.view_is c.self.invariant ∙ ap (λ o. count_in (slot_held o)) (found-held t n c.in-Some.index slot c.self.invariant there c.index_mut-slot.ensures.value h h c.in-Some-1₀.is) in
+    let full = c.if-entry-ge-GREATEST_COUNT.true in
     sym (full_in (count_of c.args.self.now.entries n) (omega arith))
 
-pub returns-then-held-ge-GREATEST_COUNT-clause-kept : goal.returns-then-held-ge-GREATEST_COUNT-clause-kept
-returns-then-held-ge-GREATEST_COUNT-clause-kept c = rw (← c.self.view_is) (files-kept c.self.inside.slots.items)
+pub returns-then-entry-ge-GREATEST_COUNT-clause-kept : goal.returns-then-entry-ge-GREATEST_COUNT-clause-kept
+returns-then-entry-ge-GREATEST_COUNT-clause-kept c = rw (← c.self.view_is) (files-kept c.self.inside.slots.items)
 
 pub invariant_of-self-2 : goal.invariant_of-self-2
 invariant_of-self-2 c =
     let t = c.self.inside in
     let n = c.args.number.0 in
     let slot = c.index_mut-slot.result.now in
-    let h = c.in-Some-1₀.held in
-    let there = subst (λ (es : List (ℕ × Option Held)). IsPlaceOf es n c.in-Some.place) c.as_slice.ensures.value c.in-Some.ensures.place in
-    let now : Held = record h { count = h.count + 1 } in
+    let h = c.in-Some-1₀.entry in
+    let there = subst (λ (es : List (ℕ × Option Entry)). IsIndexOf es n c.in-Some.index) c.as_slice.ensures.value c.in-Some.ensures.index in
+    let now : Entry = record h { count = h.count + 1 } in
     record {
-      slots = written-slots t n c.in-Some.place slot c.self.invariant there c.index_mut-slot.ensures.value (Some now);
-      indexed = subst (λ (es : List Kept). IsIndexed es (link_of t.index)) (sym (written-kept t n c.in-Some.place slot c.self.invariant there c.index_mut-slot.ensures.value h now c.in-Some-1₀.is once_more refl))
+      slots = written-slots t n c.in-Some.index slot c.self.invariant there c.index_mut-slot.ensures.value (Some now);
+      indexed = subst (λ (es : List Kept). IsIndexed es (link_of t.index)) (sym (written-kept t n c.in-Some.index slot c.self.invariant there c.index_mut-slot.ensures.value h now c.in-Some-1₀.is once_more refl))
           (indexed-changed (kept_from t.slots.items) (link_of t.index) n once_more once-keeps c.self.invariant.indexed);
       ready = c.self.invariant.ready;
       free = c.self.invariant.free;
@@ -68,10 +68,10 @@ returns-clause-may c =
     let t = c.self.inside in
     let n = c.args.number.0 in
     let slot = c.index_mut-slot.result.now in
-    let h = c.in-Some-1₀.held in
-    let there = subst (λ (es : List (ℕ × Option Held)). IsPlaceOf es n c.in-Some.place) c.as_slice.ensures.value c.in-Some.ensures.place in
-    let count = count-held t c.args.self.now n c.self.view_is c.self.invariant ∙ ap (λ o. count_in (slot_held o)) (found-held t n c.in-Some.place slot c.self.invariant there c.index_mut-slot.ensures.value h h c.in-Some-1₀.is) in
-    let free = c.if-held-ge-GREATEST_COUNT.false in
+    let h = c.in-Some-1₀.entry in
+    let there = subst (λ (es : List (ℕ × Option Entry)). IsIndexOf es n c.in-Some.index) c.as_slice.ensures.value c.in-Some.ensures.index in
+    let count = count-held t c.args.self.now n c.self.view_is c.self.invariant ∙ ap (λ o. count_in (slot_held o)) (found-held t n c.in-Some.index slot c.self.invariant there c.index_mut-slot.ensures.value h h c.in-Some-1₀.is) in
+    let free = c.if-entry-ge-GREATEST_COUNT.false in
     sym (free_in (count_of c.args.self.now.entries n) (omega arith))
 
 pub returns-clause-raised : goal.returns-clause-raised
@@ -79,10 +79,10 @@ returns-clause-raised c =
     let t = c.self.inside in
     let n = c.args.number.0 in
     let slot = c.index_mut-slot.result.now in
-    let h = c.in-Some-1₀.held in
-    let there = subst (λ (es : List (ℕ × Option Held)). IsPlaceOf es n c.in-Some.place) c.as_slice.ensures.value c.in-Some.ensures.place in
-    let now : Held = record h { count = h.count + 1 } in
-    rw (← c.self.view_is, written-kept t n c.in-Some.place slot c.self.invariant there c.index_mut-slot.ensures.value h now c.in-Some-1₀.is once_more refl, written-beside t n c.in-Some.place slot c.self.invariant there c.index_mut-slot.ensures.value h now c.in-Some-1₀.is file_beside refl, written-beside t n c.in-Some.place slot c.self.invariant there c.index_mut-slot.ensures.value h now c.in-Some-1₀.is note_beside refl) refl
+    let h = c.in-Some-1₀.entry in
+    let there = subst (λ (es : List (ℕ × Option Entry)). IsIndexOf es n c.in-Some.index) c.as_slice.ensures.value c.in-Some.ensures.index in
+    let now : Entry = record h { count = h.count + 1 } in
+    rw (← c.self.view_is, written-kept t n c.in-Some.index slot c.self.invariant there c.index_mut-slot.ensures.value h now c.in-Some-1₀.is once_more refl, written-beside t n c.in-Some.index slot c.self.invariant there c.index_mut-slot.ensures.value h now c.in-Some-1₀.is file_beside refl, written-beside t n c.in-Some.index slot c.self.invariant there c.index_mut-slot.ensures.value h now c.in-Some-1₀.is note_beside refl) refl
 
 pub returns-clause-kept : goal.returns-clause-kept
 returns-clause-kept c = rw (← c.self.view_is) (files-kept c.self.inside.slots.items)

@@ -5,10 +5,10 @@ use Rattle.eden_base.specs.First.{changed_where}
 use Rattle.eden_base.specs.declared.place.Place.TheVariants.{Unlinked}
 use Rattle.entry_table.specs.Entries.{has_number, entry_of, marked}
 use Rattle.entry_table.specs.Links.{link_of}
-use Rattle.entry_table.specs.Slots.{slot_at, kept_from, file_beside, note_beside, IsIndexed, IsPlaceOf}
+use Rattle.entry_table.specs.Slots.{slot_at, kept_from, file_beside, note_beside, IsIndexed, IsIndexOf}
 use Rattle.entry_table.specs.Table.{TableState, kept_of}
 use Rattle.entry_table.specs.declared.kept.Kept.{Kept}
-use Rattle.entry_table.specs.declared.kept.Held.{Held}
+use Rattle.entry_table.specs.declared.kept.Entry.{Entry}
 use Rattle.entry_table.proofs.IndexedLemmas.{indexed-lost}
 use Rattle.entry_table.proofs.SlotLemmas.{files-kept}
 use Rattle.entry_table.proofs.TableLemmas.{never-none, never-empty, slot-entry, found-in, found-held, written-slots, written-kept, written-beside, marked-loses, linked-some, linked-place}
@@ -17,41 +17,41 @@ use Rattle.entry_table.proofs.table.Table.unlink.Goals as goal
 pub unreachable-requires : goal.unreachable-requires
 unreachable-requires c =
     never-none c.self.inside c.args.self.now c.args.number.0 c.self.view_is c.self.invariant (linked-some c.args.self.now.entries c.args.number.0 c.requires.linked)
-    (sym (subst (λ (es : List (ℕ × Option Held)). slot_at es c.args.number.0 ≡ None) c.as_slice.ensures.value c.in_default.ensures.none))
+    (sym (subst (λ (es : List (ℕ × Option Entry)). slot_at es c.args.number.0 ≡ None) c.as_slice.ensures.value c.in_default.ensures.none))
 
 pub unreachable-requires-in_default-take : goal.unreachable-requires-in_default-take
 unreachable-requires-in_default-take c =
     let t = c.self.inside in
     let n = c.args.number.0 in
     let slot = c.index_mut-slot.result.now in
-    let there = subst (λ (es : List (ℕ × Option Held)). IsPlaceOf es n c.in-Some.place) c.as_slice.ensures.value c.in-Some.ensures.place in
+    let there = subst (λ (es : List (ℕ × Option Entry)). IsIndexOf es n c.in-Some.index) c.as_slice.ensures.value c.in-Some.ensures.index in
     never-empty t c.args.self.now n c.self.view_is c.self.invariant (linked-some c.args.self.now.entries n c.requires.linked)
-    (sym (found-in t n c.in-Some.place slot c.self.invariant there c.index_mut-slot.ensures.value ∙ ap Some (sym c.take.ensures.value ∙ c.in_default-take.is)))
+    (sym (found-in t n c.in-Some.index slot c.self.invariant there c.index_mut-slot.ensures.value ∙ ap Some (sym c.take.ensures.value ∙ c.in_default-take.is)))
 
 pub unreachable-requires-in_default-place : goal.unreachable-requires-in_default-place
 unreachable-requires-in_default-place c =
     let t = c.self.inside in
     let n = c.args.number.0 in
     let slot = c.index_mut-slot.result.now in
-    let h = c.in-Some-take.held in
-    let there = subst (λ (es : List (ℕ × Option Held)). IsPlaceOf es n c.in-Some.place) c.as_slice.ensures.value c.in-Some.ensures.place in
+    let h = c.in-Some-take.entry in
+    let there = subst (λ (es : List (ℕ × Option Entry)). IsIndexOf es n c.in-Some.index) c.as_slice.ensures.value c.in-Some.ensures.index in
     let here = sym c.take.ensures.value ∙ c.in-Some-take.is in
-    linked-place t c.args.self.now n h c.in_default-place.field-0 c.self.view_is c.self.invariant c.requires.linked (found-held t n c.in-Some.place slot c.self.invariant there c.index_mut-slot.ensures.value h h here) c.in_default-place.is
+    linked-place t c.args.self.now n h c.in_default-place.field-0 c.self.view_is c.self.invariant c.requires.linked (found-held t n c.in-Some.index slot c.self.invariant there c.index_mut-slot.ensures.value h h here) c.in_default-place.is
 
 pub invariant_of-self : goal.invariant_of-self
 invariant_of-self c =
     let t = c.self.inside in
     let n = c.args.number.0 in
     let slot = c.index_mut-slot.result.now in
-    let h = c.in-Some-take.held in
-    let there = subst (λ (es : List (ℕ × Option Held)). IsPlaceOf es n c.in-Some.place) c.as_slice.ensures.value c.in-Some.ensures.place in
+    let h = c.in-Some-take.entry in
+    let there = subst (λ (es : List (ℕ × Option Entry)). IsIndexOf es n c.in-Some.index) c.as_slice.ensures.value c.in-Some.ensures.index in
     let here = sym c.take.ensures.value ∙ c.in-Some-take.is in
-    let now : Held = record { place = Unlinked c.args.file; count = h.count; file = h.file; note = h.note } in
-    let entry = slot-entry t n h c.self.invariant (found-held t n c.in-Some.place slot c.self.invariant there c.index_mut-slot.ensures.value h now here) in
+    let now : Entry = record { place = Unlinked c.args.file; count = h.count; file = h.file; note = h.note } in
+    let entry = slot-entry t n h c.self.invariant (found-held t n c.in-Some.index slot c.self.invariant there c.index_mut-slot.ensures.value h now here) in
     let left : List Kept = changed_where (has_number n) (marked c.args.file) (kept_from t.slots.items) in
     record {
-      slots = written-slots t n c.in-Some.place slot c.self.invariant there c.index_mut-slot.ensures.value (Some now);
-      indexed = subst (λ (es : List Kept). IsIndexed es (link_of c.remove.new.self)) (sym (written-kept t n c.in-Some.place slot c.self.invariant there c.index_mut-slot.ensures.value h now here (marked c.args.file) refl))
+      slots = written-slots t n c.in-Some.index slot c.self.invariant there c.index_mut-slot.ensures.value (Some now);
+      indexed = subst (λ (es : List Kept). IsIndexed es (link_of c.remove.new.self)) (sym (written-kept t n c.in-Some.index slot c.self.invariant there c.index_mut-slot.ensures.value h now here (marked c.args.file) refl))
           (indexed-lost (kept_from t.slots.items) left n (link_of t.index) (link_of c.remove.new.self) (kept_of n h) c.in-Linked.parent c.in-Linked.name
           (marked-loses t n c.args.file (kept_of n h) entry) entry c.in-Linked.is c.self.invariant.indexed c.remove.ensures.links);
       ready = λ is. c.remove.ensures.ready (c.self.invariant.ready is);
@@ -64,25 +64,25 @@ returns-clause-unlinked c =
     let t = c.self.inside in
     let n = c.args.number.0 in
     let slot = c.index_mut-slot.result.now in
-    let h = c.in-Some-take.held in
-    let there = subst (λ (es : List (ℕ × Option Held)). IsPlaceOf es n c.in-Some.place) c.as_slice.ensures.value c.in-Some.ensures.place in
+    let h = c.in-Some-take.entry in
+    let there = subst (λ (es : List (ℕ × Option Entry)). IsIndexOf es n c.in-Some.index) c.as_slice.ensures.value c.in-Some.ensures.index in
     let here = sym c.take.ensures.value ∙ c.in-Some-take.is in
-    let now : Held = record { place = Unlinked c.args.file; count = h.count; file = h.file; note = h.note } in
-    rw (← c.self.view_is, written-kept t n c.in-Some.place slot c.self.invariant there c.index_mut-slot.ensures.value h now here (marked c.args.file) refl, written-beside t n c.in-Some.place slot c.self.invariant there c.index_mut-slot.ensures.value h now here file_beside refl, written-beside t n c.in-Some.place slot c.self.invariant there c.index_mut-slot.ensures.value h now here note_beside refl) refl
+    let now : Entry = record { place = Unlinked c.args.file; count = h.count; file = h.file; note = h.note } in
+    rw (← c.self.view_is, written-kept t n c.in-Some.index slot c.self.invariant there c.index_mut-slot.ensures.value h now here (marked c.args.file) refl, written-beside t n c.in-Some.index slot c.self.invariant there c.index_mut-slot.ensures.value h now here file_beside refl, written-beside t n c.in-Some.index slot c.self.invariant there c.index_mut-slot.ensures.value h now here note_beside refl) refl
 
 pub returns-clause-dir : goal.returns-clause-dir
 returns-clause-dir c =
     let t = c.self.inside in
     let n = c.args.number.0 in
     let slot = c.index_mut-slot.result.now in
-    let h = c.in-Some-take.held in
-    let there = subst (λ (es : List (ℕ × Option Held)). IsPlaceOf es n c.in-Some.place) c.as_slice.ensures.value c.in-Some.ensures.place in
+    let h = c.in-Some-take.entry in
+    let there = subst (λ (es : List (ℕ × Option Entry)). IsIndexOf es n c.in-Some.index) c.as_slice.ensures.value c.in-Some.ensures.index in
     let here = sym c.take.ensures.value ∙ c.in-Some-take.is in
-    let entry = slot-entry t n h c.self.invariant (found-held t n c.in-Some.place slot c.self.invariant there c.index_mut-slot.ensures.value h h here) in
+    let entry = slot-entry t n h c.self.invariant (found-held t n c.in-Some.index slot c.self.invariant there c.index_mut-slot.ensures.value h h here) in
     (kept_of n h, c.in-Linked.name, ap (λ (s : TableState). entry_of s.entries n) (sym c.self.view_is) ∙ entry, c.in-Linked.is)
 
 pub returns-clause-kept : goal.returns-clause-kept
 returns-clause-kept c =
-    let h = c.in-Some-take.held in
-    let now : Held = record { place = Unlinked c.args.file; count = h.count; file = h.file; note = h.note } in
-    files-kept (slice_set c.self.inside.slots.items c.in-Some.place (c.index_mut-slot.result.now.0, Some now))
+    let h = c.in-Some-take.entry in
+    let now : Entry = record { place = Unlinked c.args.file; count = h.count; file = h.file; note = h.note } in
+    files-kept (slice_set c.self.inside.slots.items c.in-Some.index (c.index_mut-slot.result.now.0, Some now))

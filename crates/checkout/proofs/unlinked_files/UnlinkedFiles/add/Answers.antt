@@ -1,9 +1,9 @@
 -- The file is new, so that there is room for one more, and they stay apart.
 use Rattle.std.proofs.Common.{◌≡◌, ◌==◌, false, ap, ◌∙◌, arith}
 use Rattle.std.specs.List.{list_any}
-use Rattle.checkout.specs.Gone.{is_gone}
-use Rattle.checkout.proofs.GoneLemmas.{counted-push, length_below, below-push, distinct-push, length-push}
-use Rattle.checkout.proofs.gone.Gone.add.Goals as goal
+use Rattle.checkout.specs.UnlinkedFiles.{is_gone}
+use Rattle.checkout.proofs.UnlinkedLemmas.{counted-push, length_below, below-push, distinct-push, length-push}
+use Rattle.checkout.proofs.unlinked_files.UnlinkedFiles.add.Goals as goal
 
 pub push_reserved-requires : goal.push_reserved-requires
 push_reserved-requires c =

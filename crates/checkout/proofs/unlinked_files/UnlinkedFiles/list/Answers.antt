@@ -4,10 +4,10 @@ use Rattle.std.proofs.Math.ListN.{drop_of_length-le}
 use Rattle.std.specs.Option.{is_some}
 use Rattle.std.specs.FinMap.{get}
 use Rattle.checkout.specs.Listing.{gone_changes}
-use Rattle.checkout.proofs.GoneListing.{without_link, gone_first, have_later, listed_place, left_out}
+use Rattle.checkout.proofs.UnlinkedListing.{without_link, gone_first, have_later, listed_place, left_out}
 use Rattle.manifest.proofs.ListLemmas.{nothing_left}
-use Rattle.checkout.proofs.gone.Gone.list.Goals.{then-is_none+in_ok-copy+in_ok-push, else-is_none}
-use Rattle.checkout.proofs.gone.Gone.list.Goals as goal
+use Rattle.checkout.proofs.unlinked_files.UnlinkedFiles.list.Goals.{then-is_none+in_ok-copy+in_ok-push, else-is_none}
+use Rattle.checkout.proofs.unlinked_files.UnlinkedFiles.list.Goals as goal
 
 pub loop-file-init : goal.loop-file-init
 loop-file-init c = record { listed = refl; have_lines = c.requires.lines }

@@ -6,7 +6,7 @@ use Rattle.std.proofs.lemmas.Map.Keys.{IsDistinct-cons, IsDistinct-push}
 use Rattle.std.proofs.lemmas.Map.Steps.{length-le_from_distinct_below}
 use Rattle.std.specs.Cmp.{nat_eq_equiv}
 use Rattle.std.specs.List.{AllByRecursion, IsDistinct, list_any}
-use Rattle.checkout.specs.Gone.{Gone, is_gone}
+use Rattle.checkout.specs.UnlinkedFiles.{UnlinkedFiles, is_gone}
 use Rattle.manifest.specs.Tally.{Tally, count_of}
 
 pub none-IsDistinct : IsDistinct eqb []
@@ -24,7 +24,7 @@ has-push (f ∷ fs) file q =
     let rest = has-push fs file q in
     rw rest (elim (q == f) as (λ b. (b || ((q == file) || list_any (λ x. q == x) fs)) ≡ ((q == file) || (b || list_any (λ x. q == x) fs))) [ true ↦ sym (or-true (q == file)) | false ↦ refl ])
 
-pub is_gone-added : (old new : Gone) (file : ℕ) → new.files ≡ old.files ++ file ∷ [] → (q : ℕ) → is_gone new q ≡ ((q == file) || is_gone old q)
+pub is_gone-added : (old new : UnlinkedFiles) (file : ℕ) → new.files ≡ old.files ++ file ∷ [] → (q : ℕ) → is_gone new q ≡ ((q == file) || is_gone old q)
 is_gone-added old new file added q = ap (list_any (λ f. q == f)) added ∙ has-push old.files file q
 
 above_zero : (n : ℕ) → nat_lt 0 (n + 1) ≡ true

@@ -1,7 +1,7 @@
-//! The manifest's files whose link is gone.
+//! The manifest's files that lost their link.
 ghost use Rattle.std.specs.Prelude.{◌≡◌, ◌==◌, ◌++◌, ◌∷◌, [], ◌<◌, false, IfOk, OnOk};
 ghost use Rattle.std.specs.List.{IsDistinct};
-ghost use Rattle.checkout.specs.Gone.{is_gone};
+ghost use Rattle.checkout.specs.UnlinkedFiles.{is_gone};
 ghost use Rattle.checkout.specs.Listing.{gone_changes, HaveLines};
 
 use eden_base::{FileId, NoMemory};
@@ -9,22 +9,22 @@ use manifest::{Line, LinkChange, Links, Tally};
 use std::alloc::Global;
 use std::marker::Model;
 
-/// Whether a file is one of them is known at once, and they are listed without a look at any other. The room for all of
-/// them is taken before the first.
+/// The manifest's files that lost their link: as marks by id, and as a list. Room for all files is taken before the
+/// first.
 #[derive(Drop)]
-pub struct Gone {
+pub struct UnlinkedFiles {
     marks: Tally,
     files: Vec<u64>,
 }
 
-impl Model for Gone {
+impl Model for UnlinkedFiles {
     ghost use Rattle.std.specs.Prelude.{◌≡◌, ◌==◌, ◌<◌, ◌≤◌, ℕ, length, nat_lt, true};
     ghost use Rattle.std.specs.List.{IsDistinct};
     ghost use Rattle.std.specs.Vec.{vec_capacity, vec_len};
-    ghost use Rattle.checkout.specs.Gone.{Gone, is_gone};
+    ghost use Rattle.checkout.specs.UnlinkedFiles.{UnlinkedFiles, is_gone};
     ghost use Rattle.manifest.specs.Tally.{count_of};
 
-    ghost Value = { Gone };
+    ghost Value = { UnlinkedFiles };
 
     ghost view = { λ a. record { files = a.files.items; room = a.marks.room } };
 
@@ -34,14 +34,14 @@ impl Model for Gone {
         × (vec_len a.files ≡ length a.files.items) × (a.marks.room ≤ vec_capacity a.files) };
 }
 
-impl Gone {
-    /// Returns no files, with room for those whose ids are below this.
-    pub fn with_room(alloc: Global, room: usize) -> Result<Gone, NoMemory>
+impl UnlinkedFiles {
+    /// Makes an empty set with room for the ids below `room`.
+    pub fn with_room(alloc: Global, room: usize) -> Result<UnlinkedFiles, NoMemory>
         ensures { IfOk result (λ gone. gone ≡ record { files = []; room = room }) }
     {
         let marks = Tally::with_room(alloc, room)?;
         let files = Vec::with_capacity(alloc, room)?;
-        Ok(Gone { marks, files })
+        Ok(UnlinkedFiles { marks, files })
     }
 
     /// Returns whether the file's link is gone.
@@ -51,8 +51,8 @@ impl Gone {
         self.marks.count(file.0) > 0
     }
 
-    /// Writes the places of the files, as the lines have them, behind the names that are listed: each gives nothing.
-    /// A place at which a link was added is left out.
+    /// Appends a change without a target for each of these files, at its place in the manifest. A place at which a link
+    /// was added is left out.
     pub fn list(
         &self,
         alloc: Global,

@@ -1,7 +1,7 @@
 -- There are none yet.
 use Rattle.std.proofs.Common.{refl}
-use Rattle.checkout.proofs.GoneLemmas.{none-IsDistinct}
-use Rattle.checkout.proofs.gone.Gone.with_room.Goals as goal
+use Rattle.checkout.proofs.UnlinkedLemmas.{none-IsDistinct}
+use Rattle.checkout.proofs.unlinked_files.UnlinkedFiles.with_room.Goals as goal
 
 pub invariant_of-result : goal.invariant_of-result
 invariant_of-result c =

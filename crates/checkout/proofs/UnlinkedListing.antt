@@ -7,7 +7,7 @@ use Rattle.std.specs.FinMap.{FinMap, get}
 use Rattle.std.specs.List.{AllByRecursion, cons_option, list_any}
 use Rattle.eden_base.specs.declared.number.FileId.{FileId}
 use Rattle.manifest.specs.declared.links.LinkChange.{LinkChange}
-use Rattle.checkout.specs.Gone.{Gone, is_gone}
+use Rattle.checkout.specs.UnlinkedFiles.{UnlinkedFiles, is_gone}
 use Rattle.checkout.specs.Listing.{gone_change, gone_changes, HaveLines}
 use Rattle.manifest.specs.Manifest.{Line, Manifest}
 use Rattle.checkout.specs.Overlay.{is_line}
@@ -59,8 +59,8 @@ each_gone P (f ∷ fs) h = (
   each_gone P fs (λ q k. h q (ap (λ b. (q == f) || b) k ∙ or-true (q == f))),
 )
 
-pub all_gone : (gone : Gone) → AllByRecursion (λ file. is_gone gone file ≡ true) gone.files
+pub all_gone : (gone : UnlinkedFiles) → AllByRecursion (λ file. is_gone gone file ≡ true) gone.files
 all_gone gone = each_gone (λ file. is_gone gone file ≡ true) gone.files (λ q h. h)
 
-pub all_have_lines : (m : Manifest) (gone : Gone) → ((file : FileId) → is_gone gone file.0 ≡ true → is_line m file ≡ true) → HaveLines m.lines gone.files
+pub all_have_lines : (m : Manifest) (gone : UnlinkedFiles) → ((file : FileId) → is_gone gone file.0 ≡ true → is_line m file ≡ true) → HaveLines m.lines gone.files
 all_have_lines m gone are_lines = each_gone (λ file. (2 ≤ file) × (file < length m.lines + 2)) gone.files (λ q h. within_lines m (record { 0 = q }) (are_lines (record { 0 = q }) h))
