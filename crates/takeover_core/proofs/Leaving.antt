@@ -3,12 +3,12 @@ use Rattle.std.proofs.Common.{◌≡◌, ◌≢◌, ℕ, ◌+◌, max, Bool, tru
 use Rattle.std.specs.List.{reduce}
 use Rattle.eden_base.specs.declared.claim.ClaimFault.TheVariants.{Ended}
 use Rattle.takeover_core.specs.declared.phase.Phase.{Phase}
-use Rattle.takeover_core.specs.declared.phase.Phase.TheVariants.{Waiting, Chosen, Raising, Holding, Serving, Draining, Pinged, Making, Handed, Gone}
+use Rattle.takeover_core.specs.declared.phase.Phase.TheVariants.{Waiting, Chosen, Taking, Reading, Raising, Holding, Serving, Draining, Pinged, Making, Handed, Gone}
 use Rattle.takeover_core.specs.declared.heard.Heard.TheVariants.{Say}
 use Rattle.takeover_core.specs.declared.message.Message.TheVariants.{Offer, NoCommon, Busy}
 use Rattle.takeover_core.specs.Laws.{CanBegin, CanBeLeft}
 use Rattle.takeover_core.specs.Node.{NodeState}
-use Rattle.takeover_core.specs.Phases.{Event, Stays, begins, after_row, is_used_up, Hear, Raised, DataFailed, GiveUp, Claimed, Crash, phase_after}
+use Rattle.takeover_core.specs.Phases.{Event, Stays, begins, after_row, is_used_up, Hear, Fed, Raised, DataFailed, GiveUp, Claimed, Crash, phase_after}
 use Rattle.takeover_core.specs.Versions.{is_among, greatest_common}
 use Rattle.takeover_core.proofs.VersionLaws.{among_first}
 use Rattle.takeover_core.proofs.Rows.{node_of}
@@ -36,6 +36,8 @@ offer_begins node g (Some v) false some free = λ e. cc
 left : (versions : List ℕ) (n : ℕ) (phase : Phase) → phase ≢ Gone → ((g : ℕ) → phase ≡ Serving g → CanBegin (node_of versions n phase) g) → IsLeft versions n phase
 left vs n Waiting there begin = (GiveUp, λ e. cc, λ e. cc)
 left vs n (Chosen s v) there begin = (GiveUp, λ e. cc, λ e. cc)
+left vs n (Taking s g v i m) there begin = (Fed false, λ e. cc, λ e. cc)
+left vs n (Reading s g v i m) there begin = (GiveUp, λ e. cc, λ e. cc)
 left vs n (Raising s g) there begin = (Raised false, λ e. cc, λ e. cc)
 left vs n (Holding g) there begin = (Claimed (Err Ended), λ e. cc, λ e. cc)
 left vs n (Serving g) there begin =

@@ -1,23 +1,38 @@
 -- What a daemon becomes and says over a list of events. It may be any list: messages that are lost, repeated, late or
 -- misdelivered, and calls at any time.
-use Rattle.std.specs.Prelude.{◌≢◌, ℕ, ◌==◌, ◌≤◌, Bool, true, false, List, [], ◌∷◌, Option, Some, None, Ok}
+use Rattle.std.specs.Prelude.{◌≢◌, ℕ, ◌==◌, ◌≤◌, Bool, true, false, List, [], ◌∷◌, Option, Some, None, Ok, if◌then◌else◌}
 use Rattle.takeover_core.specs.declared.heard.Heard.{Heard as Answer}
 use Rattle.takeover_core.specs.declared.heard.Heard.TheVariants.{Say}
 use Rattle.takeover_core.specs.declared.message.Message.TheVariants.{Data}
 use Rattle.takeover_core.specs.declared.phase.Phase.{Phase}
 use Rattle.takeover_core.specs.declared.phase.Phase.TheVariants.{Serving, Draining, Pinged, Making, Holding, Handed, Gone}
 use Rattle.takeover_core.specs.Node.{NodeState}
-use Rattle.takeover_core.specs.Phases.{Event, Mounted, Claimed, after, heard}
+use Rattle.takeover_core.specs.Phases.{Event, Mounted, Claimed, PartsMade, goes_in_parts, after, heard}
 
 -- the daemon after all of them
 abbrev pub after_all : NodeState → List Event → NodeState
 after_all node [] = node
 after_all node (event ∷ events) = after_all (after node event) events
 
--- what it answered to each
-abbrev pub answers : NodeState → List Event → List Answer
-answers node [] = []
-answers node (event ∷ events) = heard node event ∷ answers (after node event) events
+-- the session whose data an answer is
+abbrev pub data_of : Answer → Option ℕ
+data_of (Say (Data s g bytes)) = Some s
+data_of answer = None
+
+-- the session whose data is made in parts
+abbrev pub parts_of : Phase → Option ℕ
+parts_of (Making g s v) = if goes_in_parts v then Some s else None
+parts_of phase = None
+
+-- the session whose data an event hands over: in one message, which is the answer, or in parts
+abbrev pub handover_of : NodeState → Event → Option ℕ
+handover_of node PartsMade = parts_of node.phase
+handover_of node event = data_of (heard node event)
+
+-- the sessions whose data they hand over, each event's in its turn
+abbrev pub handovers : NodeState → List Event → List (Option ℕ)
+handovers node [] = []
+handovers node (event ∷ events) = handover_of node event ∷ handovers (after node event) events
 
 -- the generation at which it has the seat, as far as it knows
 abbrev pub seat_of : Phase → Option ℕ
@@ -59,7 +74,7 @@ abbrev pub is_claim : Event → Bool
 is_claim (Claimed (Ok g)) = true
 is_claim event = false
 
--- the data of this session
-abbrev pub is_data_of : ℕ → Answer → Bool
-is_data_of session (Say (Data s g bytes)) = s == session
-is_data_of session answer = false
+-- the data of this session is handed over
+abbrev pub is_handover_of : ℕ → Option ℕ → Bool
+is_handover_of session (Some s) = s == session
+is_handover_of session None = false

@@ -8,7 +8,7 @@ use Rattle.takeover_core.specs.declared.phase.Phase.TheVariants.{Serving, Draini
 use Rattle.takeover_core.specs.Node.{NodeState, new_node}
 use Rattle.takeover_core.specs.Phases.{Event, Hear, Crash, heard, phase_after, is_used_up, may_take, claim_wanted}
 use Rattle.takeover_core.specs.Versions.{is_among}
-use Rattle.takeover_core.specs.Histories.{after_all, answers, seat_of, HasEnded, is_out, is_given, is_claim, is_data_of}
+use Rattle.takeover_core.specs.Histories.{after_all, handovers, seat_of, HasEnded, is_out, is_given, is_claim, is_handover_of}
 
 -- it has the seat at a generation only where the broker gave it the seat at that generation
 abbrev pub ServesOnlyWhereGiven : Type 0
@@ -28,11 +28,11 @@ ServesAgainOnlyByClaim =
     (node : NodeState) (events : List Event) →
     is_out node.phase ≡ true → list_any is_claim events ≡ false → is_out (after_all node events).phase ≡ true
 
--- it says the data of a session at most once
+-- it hands the data of a session over at most once, in one message or in parts
 abbrev pub MakesDataOnce : Type 0
 MakesDataOnce =
     (versions : List ℕ) (events : List Event) (session : ℕ) →
-    count_by (is_data_of session) (answers (new_node versions) events) ≤ 1
+    count_by (is_handover_of session) (handovers (new_node versions) events) ≤ 1
 
 -- it may take requests in Serving and Draining alone
 abbrev pub TakesWhileServing : Type 0

@@ -1,16 +1,16 @@
 -- The phases of a takeover, as one table. (This project's own.)
-use Rattle.std.specs.Prelude.{ℕ, ◌+◌, ◌==◌, Bool, true, false, ◌&&◌, ◌||◌, List, Option, Some, None, is_none, unwrap_or, Result, Ok, Err, if◌then◌else◌}
+use Rattle.std.specs.Prelude.{ℕ, ◌+◌, ◌==◌, Bool, true, false, ◌&&◌, ◌||◌, nat_lt, nat_le, List, Option, Some, None, is_none, unwrap_or, Result, Ok, Err, if◌then◌else◌}
 use Rattle.eden_base.specs.Limits.{last_generation, last_session}
 use Rattle.eden_base.specs.declared.claim.ClaimFault.{ClaimFault}
 use Rattle.eden_base.specs.declared.claim.ClaimFault.TheVariants.{Unanswered}
 use Rattle.takeover_core.specs.declared.phase.Phase.{Phase}
-use Rattle.takeover_core.specs.declared.phase.Phase.TheVariants.{Waiting, Chosen, Raising, Holding, Serving, Draining, Pinged, Making, Handed, Gone}
+use Rattle.takeover_core.specs.declared.phase.Phase.TheVariants.{Waiting, Chosen, Taking, Reading, Raising, Holding, Serving, Draining, Pinged, Making, Handed, Gone}
 use Rattle.takeover_core.specs.declared.message.Message.{Message}
-use Rattle.takeover_core.specs.declared.message.Message.TheVariants.{Offer, Choice, NoCommon, Busy, Ready, Pong, Data, Failed}
+use Rattle.takeover_core.specs.declared.message.Message.TheVariants.{Offer, Choice, NoCommon, Busy, Ready, Pong, Data, Part, Failed}
 use Rattle.takeover_core.specs.declared.heard.Heard.{Heard as Answer}
 use Rattle.takeover_core.specs.declared.node.DrainFault.{DrainFault}
 use Rattle.takeover_core.specs.declared.node.DrainFault.TheVariants.{WrongPhase, Undrained}
-use Rattle.takeover_core.specs.declared.heard.Heard.TheVariants.{Ignored, Heard, Say, MakeData, GotData}
+use Rattle.takeover_core.specs.declared.heard.Heard.TheVariants.{Ignored, Heard, Say, MakeData, GotData, GotPart}
 use Rattle.takeover_core.specs.Node.{NodeState}
 use Rattle.takeover_core.specs.Versions.{is_among, greatest_common}
 
@@ -18,13 +18,31 @@ use Rattle.takeover_core.specs.Versions.{is_among, greatest_common}
 pub data Event : Type 0 where
   Mounted : (generation : ℕ) → Event
   Hear : (message : Message) → Event
+  Fed : (succeeded : Bool) → Event
   Raised : (succeeded : Bool) → Event
   Drained : (in_hand unposted : ℕ) → Event
   DataMade : (bytes : List ℕ) → Event
+  PartsMade : Event
   DataFailed : Event
   GiveUp : Event
   Claimed : (answer : Result ℕ ClaimFault) → Event
   Crash : Event
+
+-- the data of this version goes in one message
+abbrev pub goes_whole : ℕ → Bool
+goes_whole version = version == 1
+
+-- the data of this version goes in numbered parts
+abbrev pub goes_in_parts : ℕ → Bool
+goes_in_parts version = nat_le 2 version
+
+-- the most parts of a text
+abbrev pub most_parts : ℕ
+most_parts = 65536
+
+-- a text may have this count of parts
+abbrev pub is_part_count : ℕ → Bool
+is_part_count count = nat_le 1 count && nat_le count most_parts
 
 -- a row of the table: the next phase, or the same one, or the first phase of a new session; and the answer
 pub data Row : Type 0 where
@@ -48,6 +66,10 @@ is_used_up node g = node.sessions == last_session || g == last_generation
 abbrev pub begins : ℕ → ℕ → ℕ → Row
 begins s g v = Begins s (Draining g s v) (Say (Choice s v))
 
+-- the phase behind a part that was read: it waits for the next one, or has the data
+abbrev pub behind_part : ℕ → ℕ → ℕ → ℕ → ℕ → Phase
+behind_part s g v i n = if nat_lt i n then Reading s g v (i + 1) n else Raising s g
+
 -- the table: what an event makes of a phase, and what the daemon answers. The first row that fits decides
 abbrev pub row : NodeState → Phase → Event → Row
 row node Waiting (Mounted g) = Goes (Serving g) Heard
@@ -55,8 +77,16 @@ row node Waiting (Hear (Choice t v)) = provided (is_among node.versions v) (Goes
 row node Waiting (Hear NoCommon) = Goes Gone Heard
 row node Waiting (Hear Busy) = Goes Gone Heard
 row node (Chosen s v) (Hear (Ready t g)) = provided (t == s) (Stays (Say (Pong s)))
-row node (Chosen s v) (Hear (Data t g bytes)) = provided (t == s) (Goes (Raising s g) (GotData s g v))
+row node (Chosen s v) (Hear (Data t g bytes)) =
+    provided (t == s && goes_whole v) (Goes (Raising s g) (GotData s g v))
+row node (Chosen s v) (Hear (Part t g i n bytes)) =
+    provided (t == s && goes_in_parts v && i == 1 && is_part_count n) (Goes (Taking s g v 1 n) (GotPart s g v 1 n))
+row node (Reading s g v i n) (Hear (Part t h j m bytes)) =
+    provided (t == s && h == g && j == i && m == n) (Goes (Taking s g v i n) (GotPart s g v i n))
+row node (Taking s g v i n) (Fed true) = Goes (behind_part s g v i n) Heard
+row node (Taking s g v i n) (Fed false) = Goes Gone (Say (Failed s))
 row node (Chosen s v) (Hear (Failed t)) = provided (t == s) (Goes Gone Heard)
+row node (Reading s g v i n) (Hear (Failed t)) = provided (t == s) (Goes Gone Heard)
 row node (Raising s g) (Raised true) = Goes (Holding g) Heard
 row node (Raising s g) (Raised false) = Goes Gone (Say (Failed s))
 row node (Serving g) (Hear (Offer offered)) =
@@ -70,7 +100,8 @@ row node (Handed g s) (Hear (Offer offered)) = Stays (Say Busy)
 row node (Draining g s v) (Drained hand unposted) =
     provided (hand == 0 && unposted == 0) (Goes (Pinged g s v) (Say (Ready s g)))
 row node (Pinged g s v) (Hear (Pong t)) = provided (t == s) (Goes (Making g s v) (MakeData s g v))
-row node (Making g s v) (DataMade bytes) = Goes (Handed g s) (Say (Data s g bytes))
+row node (Making g s v) (DataMade bytes) = provided (goes_whole v) (Goes (Handed g s) (Say (Data s g bytes)))
+row node (Making g s v) PartsMade = provided (goes_in_parts v) (Goes (Handed g s) Heard)
 row node (Making g s v) DataFailed = Goes (Serving g) (Say (Failed s))
 row node (Draining g s v) (Hear (Failed t)) = provided (t == s) (Goes (Serving g) Heard)
 row node (Pinged g s v) (Hear (Failed t)) = provided (t == s) (Goes (Serving g) Heard)
@@ -85,6 +116,7 @@ row node (Holding g) (Claimed (Err (Unanswered n))) = Stays Heard
 row node (Holding g) (Claimed (Err fault)) = Goes Gone Heard
 row node Waiting GiveUp = Goes Gone Heard
 row node (Chosen s v) GiveUp = Goes Gone Heard
+row node (Reading s g v i n) GiveUp = Goes Gone Heard
 row node phase Crash = Goes Gone Heard
 row node phase event = ignored
 
@@ -128,10 +160,25 @@ abbrev pub is_raising : Phase → Bool
 is_raising (Raising s g) = true
 is_raising phase = false
 
+-- it reads a part
+abbrev pub is_taking : Phase → Bool
+is_taking (Taking s g v i n) = true
+is_taking phase = false
+
 -- it makes the data
 abbrev pub is_making : Phase → Bool
 is_making (Making g s v) = true
 is_making phase = false
+
+-- it makes data that goes in one message
+abbrev pub is_making_whole : Phase → Bool
+is_making_whole (Making g s v) = goes_whole v
+is_making_whole phase = false
+
+-- it makes data that goes in parts
+abbrev pub is_making_parts : Phase → Bool
+is_making_parts (Making g s v) = goes_in_parts v
+is_making_parts phase = false
 
 -- it may claim the seat
 abbrev pub is_holding : Phase → Bool

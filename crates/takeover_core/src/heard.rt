@@ -10,7 +10,7 @@ pub enum Heard {
     Heard,
     /// This is to be said.
     Say(Message),
-    /// The data is to be made: `Node::data_made` or `Node::data_failed` follows.
+    /// The data is to be made: `Node::data_made`, `Node::parts_made` or `Node::data_failed` follows.
     MakeData {
         session: u32,
         generation: u64,
@@ -21,5 +21,13 @@ pub enum Heard {
         session: u32,
         generation: u64,
         version: u16,
+    },
+    /// The message's part is to be read: `Node::fed` follows.
+    GotPart {
+        session: u32,
+        generation: u64,
+        version: u16,
+        position: u32,
+        count: u32,
     },
 }

@@ -17,7 +17,7 @@ pub fn serves_again_only_by_claim()
     ensures law { ServesAgainOnlyByClaim }
 {}
 
-/// States that a daemon says the data of a session at most once.
+/// States that a daemon hands the data of a session over at most once, in one message or in parts.
 pub fn makes_data_once()
     ensures law { MakesDataOnce }
 {}

@@ -31,6 +31,14 @@ pub enum Message {
         generation: u64,
         bytes: Bytes,
     },
+    /// One of the numbered parts of a text: the part of this position, counted from 1, of this count.
+    Part {
+        session: u32,
+        generation: u64,
+        position: u32,
+        count: u32,
+        bytes: Bytes,
+    },
     /// The session is over without a takeover.
     Failed {
         session: u32,

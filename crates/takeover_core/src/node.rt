@@ -1,13 +1,15 @@
 //! The phases of one daemon.
 ghost use Rattle.std.specs.Prelude.{◌≡◌, ℕ, List, Some, None, IsTrue, IfOk, IfErr, OnOk, OnErr};
 ghost use Rattle.takeover_core.specs.Node.{new_node};
-ghost use Rattle.takeover_core.specs.Phases.{after, heard, said, drain_fault, is_raising, is_making, is_holding, may_take, claim_wanted, Mounted, Hear, Raised, Drained, DataMade, DataFailed, GiveUp, Claimed, Crash};
+ghost use Rattle.takeover_core.specs.Phases.{after, heard, said, drain_fault, is_taking, is_raising, is_making, is_making_whole, is_making_parts, is_holding, may_take, claim_wanted, Mounted, Hear, Fed, Raised, Drained, DataMade, PartsMade, DataFailed, GiveUp, Claimed, Crash};
 
 use crate::{Heard, Message, Phase, Versions};
 use byte_codec::Bytes;
-use eden_base::{ClaimFault, LAST_GENERATION, LAST_SESSION};
+use eden_base::ClaimFault;
 use std::marker::Model;
 use thiserror::Error;
+
+mod hearing;
 
 /// Why a daemon is not drained: the first that holds, in this order, in the words of a printed refusal.
 #[derive(Clone, Copy, Debug, PartialEq, Eq, Error)]
@@ -108,163 +110,58 @@ impl Node {
                 generation,
                 ..
             } => self.hear_data(*session, *generation),
+            Message::Part {
+                session,
+                generation,
+                position,
+                count,
+                ..
+            } => self.hear_part(*session, *generation, *position, *count),
             Message::Failed { session } => self.hear_failed(*session),
         }
     }
 
-    fn hear_offer(&mut self, offered: &Versions) -> Heard
-        ensures heard { result ≡ heard self.old (Hear (Message.Offer offered.now)) }
-        ensures after { self.new ≡ after self.old (Hear (Message.Offer offered.now)) }
+    /// Takes in whether the part was read, and returns the message that is to be said, if there is one. It waits for the
+    /// next part then, or has the data.
+    pub fn fed(&mut self, succeeded: bool) -> Option<Message>
+        requires taking { IsTrue (is_taking self.old.phase) }
+        ensures message { result ≡ said (heard self.old (Fed succeeded)) }
+        ensures after { self.new ≡ after self.old (Fed succeeded) }
     {
         match self.phase {
-            Phase::Serving { generation } => Heard::Say(self.take_offer(generation, offered)),
-            Phase::Draining { .. }
-            | Phase::Pinged { .. }
-            | Phase::Making { .. }
-            | Phase::Handed { .. } => { Heard::Say(Message::Busy) }
-            _ => Heard::Ignored,
-        }
-    }
-
-    /// Begins the next session, unless there is no version for it, or no number.
-    fn take_offer(&mut self, generation: u64, offered: &Versions) -> Message
-        requires serving { self.old.phase ≡ Phase.Serving generation }
-        ensures heard { heard self.old (Hear (Message.Offer offered.now)) ≡ Heard.Say result }
-        ensures after { self.new ≡ after self.old (Hear (Message.Offer offered.now)) }
-    {
-        let Some(version) = self.versions.greatest_common(offered) else {
-            return Message::NoCommon;
-        };
-        if self.sessions == LAST_SESSION || generation == LAST_GENERATION {
-            return Message::Busy;
-        }
-        self.sessions += 1;
-        let session = self.sessions;
-        self.phase = Phase::Draining {
-            generation,
-            session,
-            version,
-        };
-        Message::Choice { session, version }
-    }
-
-    fn hear_choice(&mut self, session: u32, version: u16) -> Heard
-        ensures heard { result ≡ heard self.old (Hear (Message.Choice session version)) }
-        ensures after { self.new ≡ after self.old (Hear (Message.Choice session version)) }
-    {
-        match self.phase {
-            Phase::Waiting if self.versions.contains(version) => {
-                self.phase = Phase::Chosen { session, version };
-                Heard::Heard
-            }
-            _ => Heard::Ignored,
-        }
-    }
-
-    /// Hears that the offer was not taken.
-    fn hear_refusal(&mut self) -> Heard
-        ensures heard_no_common { result ≡ heard self.old (Hear Message.NoCommon) }
-        ensures heard_busy { result ≡ heard self.old (Hear Message.Busy) }
-        ensures after_no_common { self.new ≡ after self.old (Hear Message.NoCommon) }
-        ensures after_busy { self.new ≡ after self.old (Hear Message.Busy) }
-    {
-        match self.phase {
-            Phase::Waiting => {
+            Phase::Taking { session, .. } if !succeeded => {
                 self.phase = Phase::Gone;
-                Heard::Heard
+                Some(Message::Failed { session })
             }
-            _ => Heard::Ignored,
-        }
-    }
-
-    fn hear_ready(&mut self, ready: u32, generation: u64) -> Heard
-        ensures heard { result ≡ heard self.old (Hear (Message.Ready ready generation)) }
-        ensures after { self.new ≡ after self.old (Hear (Message.Ready ready generation)) }
-    {
-        match self.phase {
-            Phase::Chosen { session, .. } if session == ready => Heard::Say(Message::Pong {
+            Phase::Taking {
                 session,
-            }),
-            _ => Heard::Ignored,
-        }
-    }
-
-    fn hear_pong(&mut self, ponged: u32) -> Heard
-        ensures heard { result ≡ heard self.old (Hear (Message.Pong ponged)) }
-        ensures after { self.new ≡ after self.old (Hear (Message.Pong ponged)) }
-    {
-        match self.phase {
-            Phase::Pinged {
                 generation,
-                session,
                 version,
-            } if session == ponged => {
-                self.phase = Phase::Making {
-                    generation,
+                position,
+                count,
+            } if position < count => {
+                self.phase = Phase::Reading {
                     session,
+                    generation,
                     version,
+                    position: position + 1,
+                    count,
                 };
-                Heard::MakeData {
-                    session,
-                    generation,
-                    version,
-                }
+                None
             }
-            _ => Heard::Ignored,
-        }
-    }
-
-    /// Hears the data, whatever its bytes are: they are read by whoever has the message.
-    fn hear_data(&mut self, handed: u32, generation: u64) -> Heard
-        ensures heard { (bytes : List ℕ) →
-            result ≡ heard self.old (Hear (Message.Data handed generation bytes)) }
-        ensures after { (bytes : List ℕ) →
-            self.new ≡ after self.old (Hear (Message.Data handed generation bytes)) }
-    {
-        match self.phase {
-            Phase::Chosen { session, version } if session == handed => {
+            Phase::Taking {
+                session,
+                generation,
+                ..
+            } => {
                 self.phase = Phase::Raising {
                     session,
                     generation,
                 };
-                Heard::GotData {
-                    session,
-                    generation,
-                    version,
-                }
+                None
             }
-            _ => Heard::Ignored,
+            _ => unreachable!(),
         }
-    }
-
-    fn hear_failed(&mut self, failed: u32) -> Heard
-        ensures heard { result ≡ heard self.old (Hear (Message.Failed failed)) }
-        ensures after { self.new ≡ after self.old (Hear (Message.Failed failed)) }
-    {
-        match self.phase {
-            Phase::Chosen { session, .. } if session == failed => self.phase = Phase::Gone,
-            Phase::Draining {
-                generation,
-                session,
-                ..
-            }
-            | Phase::Pinged {
-                generation,
-                session,
-                ..
-            }
-            | Phase::Making {
-                generation,
-                session,
-                ..
-            } if session == failed => { self.phase = Phase::Serving { generation } }
-            Phase::Handed {
-                generation,
-                session,
-            } if session == failed => { self.phase = Phase::Holding { generation } }
-            _ => return Heard::Ignored,
-        }
-        Heard::Heard
     }
 
     /// Takes in whether the data was read and raised, and returns the message that is to be said, if there is one.
@@ -320,10 +217,10 @@ impl Node {
         }
     }
 
-    /// Hands the data over, in the bytes' own memory, and returns the message that is to be said. From here on the
-    /// daemon does not serve without a claim.
+    /// Hands the data over in one message, in the bytes' own memory, and returns the message that is to be said. From
+    /// here on the daemon does not serve without a claim.
     pub fn data_made(&mut self, bytes: Bytes) -> Message
-        requires making { IsTrue (is_making self.old.phase) }
+        requires making { IsTrue (is_making_whole self.old.phase) }
         ensures message { Some result ≡ said (heard self.old (DataMade bytes)) }
         ensures after { self.new ≡ after self.old (DataMade bytes) }
     {
@@ -343,6 +240,24 @@ impl Node {
                     bytes,
                 }
             }
+            _ => unreachable!(),
+        }
+    }
+
+    /// Hands the data over in parts, which the caller says. From here on the daemon does not serve without a claim.
+    pub fn parts_made(&mut self)
+        requires making { IsTrue (is_making_parts self.old.phase) }
+        ensures after { self.new ≡ after self.old PartsMade }
+    {
+        match self.phase {
+            Phase::Making {
+                generation,
+                session,
+                ..
+            } => self.phase = Phase::Handed {
+                generation,
+                session,
+            },
             _ => unreachable!(),
         }
     }
@@ -372,7 +287,7 @@ impl Node {
         ensures after { self.new ≡ after self.old GiveUp }
     {
         match self.phase {
-            Phase::Waiting | Phase::Chosen { .. } => {
+            Phase::Waiting | Phase::Chosen { .. } | Phase::Reading { .. } => {
                 self.phase = Phase::Gone;
                 Heard::Heard
             }

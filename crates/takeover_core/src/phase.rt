@@ -10,6 +10,22 @@ pub enum Phase {
         session: u32,
         version: u16,
     },
+    /// It reads the part of this position.
+    Taking {
+        session: u32,
+        generation: u64,
+        version: u16,
+        position: u32,
+        count: u32,
+    },
+    /// It waits for the part of this position.
+    Reading {
+        session: u32,
+        generation: u64,
+        version: u16,
+        position: u32,
+        count: u32,
+    },
     /// It has the data, and reads and raises it.
     Raising {
         session: u32,

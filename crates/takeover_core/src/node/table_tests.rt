@@ -1,4 +1,5 @@
 //! Each pair of a phase and a call, once. The rows are those of the table of phases, written out by hand.
+use self::rows::{Answer, CALLS, Call, PHASES, ROWS};
 use super::Node;
 use super::tests::is;
 use crate::{Heard, Message, Phase, Versions};
@@ -6,186 +7,7 @@ use byte_codec::Bytes;
 use eden_base::ClaimFault;
 use std::alloc::Global;
 
-/// A call, or a message that is heard: of session 3, generation 5 and version 1 unless its name says otherwise.
-#[derive(Clone, Copy, PartialEq, Eq)]
-enum Call {
-    Mounted,
-    Offer,
-    OfferOfVersion9,
-    Choice,
-    ChoiceOfVersion9,
-    NoCommon,
-    Busy,
-    Ready,
-    ReadyOfSession4,
-    Pong,
-    PongOfSession4,
-    Data,
-    DataOfSession4,
-    Failed,
-    FailedOfSession4,
-    Raised,
-    NotRaised,
-    Drained,
-    DrainedButForOneAsk,
-    DrainedButForOneReply,
-    DataMade,
-    DataFailed,
-    GiveUp,
-    ClaimedAt7,
-    ClaimUnanswered,
-    ClaimEnded,
-    ClaimStale,
-    ClaimLastGeneration,
-    Crash,
-}
-
-static CALLS: [Call; 29] = [
-    Call::Mounted,
-    Call::Offer,
-    Call::OfferOfVersion9,
-    Call::Choice,
-    Call::ChoiceOfVersion9,
-    Call::NoCommon,
-    Call::Busy,
-    Call::Ready,
-    Call::ReadyOfSession4,
-    Call::Pong,
-    Call::PongOfSession4,
-    Call::Data,
-    Call::DataOfSession4,
-    Call::Failed,
-    Call::FailedOfSession4,
-    Call::Raised,
-    Call::NotRaised,
-    Call::Drained,
-    Call::DrainedButForOneAsk,
-    Call::DrainedButForOneReply,
-    Call::DataMade,
-    Call::DataFailed,
-    Call::GiveUp,
-    Call::ClaimedAt7,
-    Call::ClaimUnanswered,
-    Call::ClaimEnded,
-    Call::ClaimStale,
-    Call::ClaimLastGeneration,
-    Call::Crash,
-];
-
-/// What is said, or is to be done. What says nothing is `Heard` where it is taken.
-#[derive(Clone, Copy)]
-enum Answer {
-    Ignored,
-    Heard,
-    SayNoCommon,
-    SayBusy,
-    SayChoice,
-    SayReady,
-    SayPong,
-    SayData,
-    SayFailed,
-    MakeData,
-    GotData,
-}
-
-const WAITING: Phase = Phase::Waiting;
-
-const CHOSEN: Phase = Phase::Chosen {
-    session: 3,
-    version: 1,
-};
-
-const RAISING: Phase = Phase::Raising {
-    session: 3,
-    generation: 5,
-};
-
-const HOLDING: Phase = Phase::Holding { generation: 5 };
-
-const SERVING: Phase = Phase::Serving { generation: 5 };
-
-const SERVING_AT_7: Phase = Phase::Serving { generation: 7 };
-
-const DRAINING: Phase = Phase::Draining {
-    generation: 5,
-    session: 3,
-    version: 1,
-};
-
-const PINGED: Phase = Phase::Pinged {
-    generation: 5,
-    session: 3,
-    version: 1,
-};
-
-const MAKING: Phase = Phase::Making {
-    generation: 5,
-    session: 3,
-    version: 1,
-};
-
-const HANDED: Phase = Phase::Handed {
-    generation: 5,
-    session: 3,
-};
-
-const GONE: Phase = Phase::Gone;
-
-static PHASES: [Phase; 10] = [
-    WAITING, CHOSEN, RAISING, HOLDING, SERVING, DRAINING, PINGED, MAKING, HANDED, GONE,
-];
-
-/// Phase, call, next phase, answer. All other pairs are ignored and change nothing.
-static ROWS: [(Phase, Call, Phase, Answer); 48] = [
-    (WAITING, Call::Mounted, SERVING, Answer::Heard),
-    (WAITING, Call::Choice, CHOSEN, Answer::Heard),
-    (WAITING, Call::NoCommon, GONE, Answer::Heard),
-    (WAITING, Call::Busy, GONE, Answer::Heard),
-    (WAITING, Call::GiveUp, GONE, Answer::Heard),
-    (WAITING, Call::Crash, GONE, Answer::Heard),
-    (CHOSEN, Call::Ready, CHOSEN, Answer::SayPong),
-    (CHOSEN, Call::Data, RAISING, Answer::GotData),
-    (CHOSEN, Call::Failed, GONE, Answer::Heard),
-    (CHOSEN, Call::GiveUp, GONE, Answer::Heard),
-    (CHOSEN, Call::Crash, GONE, Answer::Heard),
-    (RAISING, Call::Raised, HOLDING, Answer::Heard),
-    (RAISING, Call::NotRaised, GONE, Answer::SayFailed),
-    (RAISING, Call::Crash, GONE, Answer::Heard),
-    (SERVING, Call::OfferOfVersion9, SERVING, Answer::SayNoCommon),
-    (SERVING, Call::Offer, DRAINING, Answer::SayChoice),
-    (SERVING, Call::Crash, GONE, Answer::Heard),
-    (DRAINING, Call::OfferOfVersion9, DRAINING, Answer::SayBusy),
-    (DRAINING, Call::Offer, DRAINING, Answer::SayBusy),
-    (DRAINING, Call::Drained, PINGED, Answer::SayReady),
-    (DRAINING, Call::Failed, SERVING, Answer::Heard),
-    (DRAINING, Call::GiveUp, SERVING, Answer::SayFailed),
-    (DRAINING, Call::Crash, GONE, Answer::Heard),
-    (PINGED, Call::OfferOfVersion9, PINGED, Answer::SayBusy),
-    (PINGED, Call::Offer, PINGED, Answer::SayBusy),
-    (PINGED, Call::Pong, MAKING, Answer::MakeData),
-    (PINGED, Call::Failed, SERVING, Answer::Heard),
-    (PINGED, Call::GiveUp, SERVING, Answer::SayFailed),
-    (PINGED, Call::Crash, GONE, Answer::Heard),
-    (MAKING, Call::OfferOfVersion9, MAKING, Answer::SayBusy),
-    (MAKING, Call::Offer, MAKING, Answer::SayBusy),
-    (MAKING, Call::DataMade, HANDED, Answer::SayData),
-    (MAKING, Call::DataFailed, SERVING, Answer::SayFailed),
-    (MAKING, Call::Failed, SERVING, Answer::Heard),
-    (MAKING, Call::GiveUp, SERVING, Answer::SayFailed),
-    (MAKING, Call::Crash, GONE, Answer::Heard),
-    (HANDED, Call::OfferOfVersion9, HANDED, Answer::SayBusy),
-    (HANDED, Call::Offer, HANDED, Answer::SayBusy),
-    (HANDED, Call::Failed, HOLDING, Answer::Heard),
-    (HANDED, Call::GiveUp, HOLDING, Answer::SayFailed),
-    (HANDED, Call::Crash, GONE, Answer::Heard),
-    (HOLDING, Call::ClaimedAt7, SERVING_AT_7, Answer::Heard),
-    (HOLDING, Call::ClaimUnanswered, HOLDING, Answer::Heard),
-    (HOLDING, Call::ClaimEnded, GONE, Answer::Heard),
-    (HOLDING, Call::ClaimStale, GONE, Answer::Heard),
-    (HOLDING, Call::ClaimLastGeneration, GONE, Answer::Heard),
-    (HOLDING, Call::Crash, GONE, Answer::Heard),
-    (GONE, Call::Crash, GONE, Answer::Heard),
-];
+mod rows;
 
 /// Returns the next phase and the answer.
 fn row_of(phase: Phase, call: Call) -> (Phase, Answer) {
@@ -225,6 +47,17 @@ fn in_full(alloc: Global, answer: Answer) -> Heard {
             generation: 5,
             version: 1,
         },
+        Answer::GotPart {
+            generation,
+            position,
+            count,
+        } => Heard::GotPart {
+            session: 3,
+            generation,
+            version: 2,
+            position,
+            count,
+        },
     }
 }
 
@@ -245,6 +78,10 @@ fn message(alloc: Global, call: Call) -> Option<Message> {
             session: 3,
             version: 1,
         }),
+        Call::ChoiceOfVersion2 => Some(Message::Choice {
+            session: 3,
+            version: 2,
+        }),
         Call::ChoiceOfVersion9 => Some(Message::Choice {
             session: 3,
             version: 9,
@@ -263,6 +100,18 @@ fn message(alloc: Global, call: Call) -> Option<Message> {
         Call::PongOfSession4 => Some(Message::Pong { session: 4 }),
         Call::Data => Some(data(alloc, 3)),
         Call::DataOfSession4 => Some(data(alloc, 4)),
+        Call::Part {
+            session,
+            generation,
+            position,
+            count,
+        } => Some(Message::Part {
+            session,
+            generation,
+            position,
+            count,
+            bytes: Bytes::of(Vec::new(alloc)),
+        }),
         Call::Failed => Some(Message::Failed { session: 3 }),
         Call::FailedOfSession4 => Some(Message::Failed { session: 4 }),
         _ => None,
@@ -296,13 +145,19 @@ fn make(alloc: Global, node: &mut Node, call: Call) -> Heard {
             node.mounted(5);
             Heard::Heard
         }
+        (Call::Fed, _) => feed(node, true),
+        (Call::NotFed, _) => feed(node, false),
         (Call::Raised, _) => raise(node, true),
         (Call::NotRaised, _) => raise(node, false),
         (Call::Drained, _) => drain(node, 0, 0),
         (Call::DrainedButForOneAsk, _) => drain(node, 1, 0),
         (Call::DrainedButForOneReply, _) => drain(node, 0, 1),
-        (Call::DataMade, Phase::Making { .. }) => {
+        (Call::DataMade, Phase::Making { version: 1, .. }) => {
             Heard::Say(node.data_made(Bytes::of(Vec::new(alloc))))
+        }
+        (Call::PartsMade, Phase::Making { version: 2, .. }) => {
+            node.parts_made();
+            Heard::Heard
         }
         (Call::DataFailed, Phase::Making { .. }) => Heard::Say(node.data_failed()),
         (Call::GiveUp, _) => node.give_up(),
@@ -324,6 +179,16 @@ fn claim(node: &mut Node, answer: Result<u64, ClaimFault>) -> Heard {
     }
 }
 
+fn feed(node: &mut Node, succeeded: bool) -> Heard {
+    match node.phase() {
+        Phase::Taking { .. } => match node.fed(succeeded) {
+            Some(message) => Heard::Say(message),
+            None => Heard::Heard,
+        },
+        _ => Heard::Ignored,
+    }
+}
+
 fn raise(node: &mut Node, succeeded: bool) -> Heard {
     match node.phase() {
         Phase::Raising { .. } => match node.raised(succeeded) {
@@ -341,13 +206,13 @@ fn drain(node: &mut Node, in_hand: usize, unposted: usize) -> Heard {
     }
 }
 
-/// Makes a call in a phase, of a daemon that reads and writes version 1 and has begun two sessions, and returns whether
-/// it goes by its row.
+/// Makes a call in a phase, of a daemon that reads and writes versions 1 and 2 and has begun two sessions, and returns
+/// whether it goes by its row.
 fn goes_by_row(alloc: Global, phase: Phase, call: Call) -> bool {
     let (next, answer) = row_of(phase, call);
     let mut node = Node {
         phase,
-        versions: Versions::of(&[1]),
+        versions: Versions::of(&[1, 2]),
         sessions: 2,
     };
     let heard = make(alloc, &mut node, call);

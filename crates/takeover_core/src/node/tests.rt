@@ -203,7 +203,7 @@ fn drains(node: &mut Node, expected: Message) -> bool {
 /// Returns whether this comes of the data, of no bytes, that one daemon makes and the other hears.
 fn hands_data(alloc: Global, old: &mut Node, new: &mut Node, expected: Heard) -> bool {
     match old.phase() {
-        Phase::Making { .. } => {
+        Phase::Making { version: 1, .. } => {
             let data = old.data_made(Bytes::of(Vec::new(alloc)));
             comes(new, data, expected)
         }
@@ -238,6 +238,61 @@ fn hands_the_data_over(rt: HostRuntime) {
     let mut new = Node::waiting(Versions::of(&[1]));
     let so = hands_over(rt.alloc(), &mut old, &mut new);
     drop(old);
+    drop(new);
+    assert!(rt; so);
+}
+
+/// Returns whether a daemon that reads the part of this position of two is then in this phase.
+fn reads_part(alloc: Global, node: &mut Node, position: u32, reached: Phase) -> bool {
+    let (session, generation, version, count) = (1, 1, 2, 2);
+    let part = Message::Part {
+        session,
+        generation,
+        position,
+        count,
+        bytes: Bytes::of(Vec::new(alloc)),
+    };
+    let got = Heard::GotPart {
+        session,
+        generation,
+        version,
+        position,
+        count,
+    };
+    comes(node, part, got) && feeds(node) && node.phase() == reached
+}
+
+/// Returns whether a daemon that has read its part says nothing.
+fn feeds(node: &mut Node) -> bool {
+    let Phase::Taking { .. } = node.phase() else {
+        return false;
+    };
+    let told = node.fed(true);
+    let is_silent = told.is_none();
+    drop(told);
+    is_silent
+}
+
+#[test]
+fn reads_the_data_in_parts(rt: HostRuntime) {
+    let (session, generation, version) = (1, 1, 2);
+    let next = Phase::Reading {
+        session,
+        generation,
+        version,
+        position: 2,
+        count: 2,
+    };
+    let all = Phase::Raising {
+        session,
+        generation,
+    };
+    let mut new = Node {
+        phase: Phase::Chosen { session, version },
+        versions: Versions::of(&[1, 2]),
+        sessions: 0,
+    };
+    let so = reads_part(rt.alloc(), &mut new, 1, next) && reads_part(rt.alloc(), &mut new, 2, all);
     drop(new);
     assert!(rt; so);
 }
