@@ -1,6 +1,6 @@
 -- A stream ends in one way.
 use Rattle.std.proofs.Common.{◌≡◌, List, ℕ, Option, refl, sym, subst, ◌∙◌}
-use Rattle.frames.specs.declared.fault.LinkFault.{LinkFault}
+use Rattle.frames.specs.declared.fault.FrameFault.{FrameFault}
 use Rattle.frames.specs.declared.frame.Frame.{Frame}
 use Rattle.frames.specs.Reading.{First, said}
 use Rattle.frames.specs.Stream.{Ends, Whole, Cut, Bad, Behind}
@@ -8,7 +8,7 @@ use Rattle.frames.specs.Stream.{Ends, Whole, Cut, Bad, Behind}
 same_rest : (frame other : Frame) (rest left : List ℕ) → First frame rest ≡ First other left → rest ≡ left
 same_rest frame other rest left e = cc
 
-pub one_end : {bytes : List ℕ} {end other : Option LinkFault} → Ends bytes end → Ends bytes other → end ≡ other
+pub one_end : {bytes : List ℕ} {end other : Option FrameFault} → Ends bytes end → Ends bytes other → end ≡ other
 unfolding said
 one_end Whole Whole = refl
 one_end Whole (Cut some is) = absurd (some refl)

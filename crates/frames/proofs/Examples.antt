@@ -1,7 +1,7 @@
 -- Frames and streams whose bytes were written out by hand.
 use Rattle.std.proofs.Common.{◌≡◌, [], ◌∷◌, Some, refl}
 use Rattle.byte_codec.specs.Field.{number_in, number_bytes}
-use Rattle.frames.specs.declared.fault.LinkFault.TheVariants.{TooLong, BadKind, BadBody}
+use Rattle.frames.specs.declared.fault.FrameFault.TheVariants.{TooLong, BadKind, BadBody}
 use Rattle.frames.specs.declared.frame.Frame.TheVariants.{Claim}
 use Rattle.frames.specs.FrameText.{frame_text}
 use Rattle.frames.specs.Kind.{kind_with, message_kind_with}

@@ -10,7 +10,7 @@ use Rattle.byte_codec.specs.Field.{AreBytes, number_bytes, number_in}
 use Rattle.byte_codec.proofs.ByteLemmas.{AreBytes-drop, AreBytes-take}
 use Rattle.byte_codec.proofs.FieldLaws.{IsSpelled, two_back}
 use Rattle.byte_codec.proofs.YieldLemmas.{Only, Yields, Value, Fault, if_yields}
-use Rattle.frames.specs.declared.fault.LinkFault.TheVariants.{BadBody}
+use Rattle.frames.specs.declared.fault.FrameFault.TheVariants.{BadBody}
 use Rattle.frames.specs.FrameText.{FitsVersion, version_text}
 use Rattle.frames.specs.Reading.{alone, nothing, numbers_at, versions_of}
 

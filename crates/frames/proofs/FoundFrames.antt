@@ -1,12 +1,12 @@
 -- A frame that was read is spelled as its body stood, and a body that is no frame's is at fault by BadBody alone.
 use Rattle.std.proofs.Common.{◌≡◌, ℕ, Bool, true, false, cond, eqb, List, [], ◌∷◌, ◌++◌, Option, Some, None, refl, sym, ap, ◌∙◌}
-use Rattle.std.specs.Int.{w32}
+use Rattle.std.specs.Int.{w32, w64}
 use Rattle.std.proofs.lemmas.Bool.{eqb-true}
 use Rattle.byte_codec.specs.Field.{AreBytes, number_bytes}
 use Rattle.byte_codec.proofs.FieldLaws.{two_back, four_back, eight_back}
 use Rattle.byte_codec.proofs.YieldLemmas.{Only, Yields, Value, number_yields, then_yields}
 use Rattle.takeover_core.specs.declared.message.Message.{Message}
-use Rattle.frames.specs.declared.fault.LinkFault.TheVariants.{BadBody}
+use Rattle.frames.specs.declared.fault.FrameFault.TheVariants.{BadBody}
 use Rattle.frames.specs.declared.frame.Frame.{Frame}
 use Rattle.frames.specs.declared.kind.Kind.{Kind}
 use Rattle.frames.specs.declared.kind.Kind.TheVariants as kinds
@@ -41,6 +41,20 @@ message_yields messages.Data body are =
     then_yields _ _ (number_yields BadBody four_back body are) (λ session first.
     then_yields _ _ (number_yields BadBody eight_back session.1 first.rest) (λ generation second.
     Value (record { kind_is = refl; body_is = ap (λ (t : List ℕ). number_bytes w32 session.0 ++ t) (sym second.parts) ∙ sym first.parts; fits = (first.good, second.good) })))
+message_yields messages.Part body are =
+    then_yields _ _ (number_yields BadBody four_back body are) (λ session first.
+    then_yields _ _ (number_yields BadBody eight_back session.1 first.rest) (λ generation second.
+    then_yields _ _ (number_yields BadBody four_back generation.1 second.rest) (λ position third.
+    then_yields _ _ (number_yields BadBody four_back position.1 third.rest) (λ count last.
+    Value (record {
+      kind_is = refl;
+      body_is =
+          ap (λ (t : List ℕ). number_bytes w32 session.0 ++ (number_bytes w64 generation.0 ++ (number_bytes w32 position.0 ++ t))) (sym last.parts)
+          ∙ ap (λ (t : List ℕ). number_bytes w32 session.0 ++ (number_bytes w64 generation.0 ++ t)) (sym third.parts)
+          ∙ ap (λ (t : List ℕ). number_bytes w32 session.0 ++ t) (sym second.parts)
+          ∙ sym first.parts;
+      fits = (first.good, second.good, third.good, last.good);
+    })))))
 message_yields messages.Failed body are = then_yields _ _ (alone_yields four_back body are) (λ session is. Value (record { kind_is = refl; body_is = is.text; fits = is.fits }))
 
 -- a frame of a kind and a body

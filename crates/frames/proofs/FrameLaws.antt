@@ -4,8 +4,8 @@ use Rattle.std.specs.Int.{w16, w32, w64}
 use Rattle.byte_codec.specs.Field.{number_bytes}
 use Rattle.byte_codec.proofs.FieldLaws.{two, four, eight, number_again}
 use Rattle.takeover_core.specs.declared.message.Message.{Message}
-use Rattle.takeover_core.specs.declared.message.Message.TheVariants.{Offer, Choice, NoCommon, Busy, Ready, Pong, Data, Failed}
-use Rattle.frames.specs.declared.fault.LinkFault.TheVariants.{BadBody}
+use Rattle.takeover_core.specs.declared.message.Message.TheVariants.{Offer, Choice, NoCommon, Busy, Ready, Pong, Data, Part, Failed}
+use Rattle.frames.specs.declared.fault.FrameFault.TheVariants.{BadBody}
 use Rattle.frames.specs.declared.frame.Frame.{Frame}
 use Rattle.frames.specs.declared.frame.Frame.TheVariants.{Take, Ask, Empty, Post, Posted, Ended, Stale, NotAsked, Claim, Claimed, Unanswered, LastGeneration, Mount, Mounted, Seated, Attach, Attached, Takeover}
 use Rattle.frames.specs.declared.kind.Kind.{Kind}
@@ -28,6 +28,7 @@ message_kind_again messages.Ready = refl
 message_kind_again messages.Pong = refl
 message_kind_again messages.Data = refl
 message_kind_again messages.Failed = refl
+message_kind_again messages.Part = refl
 
 pub kind_again : (kind : Kind) → kind_with (number_of kind) ≡ Some kind
 unfolding kind_with message_kind_with
@@ -56,6 +57,7 @@ kind_again (kinds.Takeover messages.Ready) = refl
 kind_again (kinds.Takeover messages.Pong) = refl
 kind_again (kinds.Takeover messages.Data) = refl
 kind_again (kinds.Takeover messages.Failed) = refl
+kind_again (kinds.Takeover messages.Part) = refl
 
 pub message_again : (message : Message) → FitsMessage message → message_of (message_kind message) (message_body message) ≡ Ok message
 unfolding message_of nothing
@@ -69,6 +71,13 @@ message_again (Ready session generation) fit =
 message_again (Pong session) fit = rw (alone_again four session fit) refl
 message_again (Data session generation bytes) fit =
     rw (number_again BadBody w32 (2 ^ 32) session (number_bytes w64 generation ++ bytes) four fit.0, number_again BadBody w64 (2 ^ 64) generation bytes eight fit.1) refl
+message_again (Part session generation position count bytes) fit =
+    rw (
+      number_again BadBody w32 (2 ^ 32) session (number_bytes w64 generation ++ (number_bytes w32 position ++ (number_bytes w32 count ++ bytes))) four fit.0,
+      number_again BadBody w64 (2 ^ 64) generation (number_bytes w32 position ++ (number_bytes w32 count ++ bytes)) eight fit.1,
+      number_again BadBody w32 (2 ^ 32) position (number_bytes w32 count ++ bytes) four fit.2,
+      number_again BadBody w32 (2 ^ 32) count bytes four fit.3,
+    ) refl
 message_again (Failed session) fit = rw (alone_again four session fit) refl
 
 pub body_again : (frame : Frame) → Fits frame → frame_of (kind_of frame) (body_of frame) ≡ Ok frame

@@ -2,8 +2,8 @@
 use Rattle.std.proofs.Common.{◌≡◌, ◌≢◌, ℕ, Bool, true, false, cond, ltb, List, [], ◌∷◌, ◌++◌, length, take, drop, Option, Some, None, Result, Ok, Err, refl, sym, ap, ◌∙◌, inl, inr, length-append, arith}
 use Rattle.std.proofs.lemmas.Bool.{cases_lt, le-ltb, lt-ltb}
 use Rattle.std.proofs.lemmas.List.{take-append-le, drop-append-le}
-use Rattle.frames.specs.declared.fault.LinkFault.{LinkFault}
-use Rattle.frames.specs.declared.fault.LinkFault.TheVariants.{TooLong}
+use Rattle.frames.specs.declared.fault.FrameFault.{FrameFault}
+use Rattle.frames.specs.declared.fault.FrameFault.TheVariants.{TooLong}
 use Rattle.frames.specs.declared.frame.Frame.{Frame}
 use Rattle.frames.specs.declared.kind.Kind.{Kind}
 use Rattle.frames.specs.FrameText.{longest_body}
@@ -12,7 +12,7 @@ use Rattle.frames.specs.Laws.{grown}
 use Rattle.frames.specs.Reading.{Said, Faulty, NotYet, frame_of, said, said_frame}
 use Rattle.frames.proofs.StreamLaws.{of_four, said_behind, said_long, is_long}
 
-frame_grows : (read : Result Frame LinkFault) (rest more : List ℕ) → said_frame read (rest ++ more) ≡ grown (said_frame read rest) more
+frame_grows : (read : Result Frame FrameFault) (rest more : List ℕ) → said_frame read (rest ++ more) ≡ grown (said_frame read rest) more
 frame_grows (Ok frame) rest more = refl
 frame_grows (Err fault) rest more = refl
 

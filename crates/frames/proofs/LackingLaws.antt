@@ -4,17 +4,17 @@ use Rattle.std.specs.Prelude.{slice_index}
 use Rattle.std.proofs.lemmas.Bool.{cases_lt, le-ltb, lt-ltb, ltb-false}
 use Rattle.std.proofs.lemmas.List.{take_at, drop_at, get_or_append_left, get_or-append_right}
 use Rattle.byte_codec.specs.Field.{AreBytes}
-use Rattle.frames.specs.declared.fault.LinkFault.{LinkFault}
-use Rattle.frames.specs.declared.fault.LinkFault.TheVariants.{TooLong, BadKind}
+use Rattle.frames.specs.declared.fault.FrameFault.{FrameFault}
+use Rattle.frames.specs.declared.fault.FrameFault.TheVariants.{TooLong, BadKind}
 use Rattle.frames.specs.declared.frame.Frame.{Frame}
 use Rattle.frames.specs.declared.kind.Kind.{Kind}
 use Rattle.frames.specs.FrameText.{longest_body}
 use Rattle.frames.specs.Kind.{kind_with}
 use Rattle.frames.specs.Lacking.{IsHeadFault, lacking, lacking_by}
-use Rattle.frames.specs.Reading.{Said, First, Faulty, NotYet, frame_of, said, said_frame}
+use Rattle.frames.specs.Reading.{First, Faulty, NotYet, frame_of, said, said_frame}
 use Rattle.frames.specs.Says.{IsFirst}
 use Rattle.frames.proofs.SaysLaws.{first_says}
-use Rattle.frames.proofs.StreamLaws.{of_four, said_behind, said_long, is_long}
+use Rattle.frames.proofs.StreamLaws.{of_four, said_behind, is_long}
 
 -- bytes without a whole length say nothing
 pub few_say_nothing : (bytes : List ℕ) → length bytes < 4 → said bytes ≡ NotYet
@@ -23,11 +23,11 @@ few_say_nothing bytes few = rw (lt-ltb (length bytes) 4 few) refl
 
 -- ---- five bytes and more
 
-abbrev lacking_behind : Option Kind → ℕ → ℕ → Result ℕ LinkFault
+abbrev lacking_behind : Option Kind → ℕ → ℕ → Result ℕ FrameFault
 lacking_behind None len count = Err BadKind
 lacking_behind (Some kind) len count = Ok (len - count)
 
-abbrev lacking_long : ℕ → ℕ → ℕ → Result ℕ LinkFault
+abbrev lacking_long : ℕ → ℕ → ℕ → Result ℕ FrameFault
 lacking_long len n count = cond (ltb longest_body len) (Err TooLong) (lacking_behind (kind_with n) len count)
 
 by_kind : (kind : Option Kind) (a b c d n : ℕ) (bytes : List ℕ) → lacking_by kind (a ∷ b ∷ c ∷ d ∷ n ∷ bytes) ≡ lacking_behind kind (of_four a b c d) (length bytes)
@@ -46,11 +46,11 @@ lacks_long a b c d n bytes =
 
 -- ---- what is said where a count of bytes is lacking
 
-fault_behind : (kind : Option Kind) (len : ℕ) (bytes : List ℕ) (fault : LinkFault) → lacking_behind kind len (length bytes) ≡ Err fault → said_behind kind len bytes ≡ Faulty fault
+fault_behind : (kind : Option Kind) (len : ℕ) (bytes : List ℕ) (fault : FrameFault) → lacking_behind kind len (length bytes) ≡ Err fault → said_behind kind len bytes ≡ Faulty fault
 fault_behind None len bytes fault e = let same : BadKind ≡ fault = cc in ap Faulty same
 fault_behind (Some kind) len bytes fault e = absurd cc
 
-fault_long : (over : Bool) (kind : Option Kind) (len : ℕ) (bytes : List ℕ) (fault : LinkFault) → cond over (Err TooLong) (lacking_behind kind len (length bytes)) ≡ Err fault → cond over (Faulty TooLong) (said_behind kind len bytes) ≡ Faulty fault
+fault_long : (over : Bool) (kind : Option Kind) (len : ℕ) (bytes : List ℕ) (fault : FrameFault) → cond over (Err TooLong) (lacking_behind kind len (length bytes)) ≡ Err fault → cond over (Faulty TooLong) (said_behind kind len bytes) ≡ Faulty fault
 fault_long true kind len bytes fault e = let same : TooLong ≡ fault = cc in ap Faulty same
 fault_long false kind len bytes fault e = fault_behind kind len bytes fault e
 
@@ -65,10 +65,10 @@ some_long true kind len n bytes e some = absurd cc
 some_long false kind len n bytes e some = some_behind kind len n bytes e some
 
 -- what four bytes lack
-abbrev four_lack : Bool → Result ℕ LinkFault
+abbrev four_lack : Bool → Result ℕ FrameFault
 four_lack over = cond over (Err TooLong) (Ok 1)
 
-four_faulty : (over : Bool) (fault : LinkFault) → four_lack over ≡ Err fault → cond over (Faulty TooLong) NotYet ≡ Faulty fault
+four_faulty : (over : Bool) (fault : FrameFault) → four_lack over ≡ Err fault → cond over (Faulty TooLong) NotYet ≡ Faulty fault
 four_faulty true fault e = let same : TooLong ≡ fault = cc in ap Faulty same
 four_faulty false fault e = absurd cc
 
@@ -77,7 +77,7 @@ four_lacking true n e = absurd cc
 four_lacking false n e = refl
 
 -- a fault that shows before the body is whole is that of the stream
-pub lacking_fault : (bytes : List ℕ) (fault : LinkFault) → lacking bytes ≡ Err fault → said bytes ≡ Faulty fault
+pub lacking_fault : (bytes : List ℕ) (fault : FrameFault) → lacking bytes ≡ Err fault → said bytes ≡ Faulty fault
 unfolding said lacking
 lacking_fault [] fault e = absurd cc
 lacking_fault (a ∷ []) fault e = absurd cc
@@ -88,20 +88,20 @@ lacking_fault (a ∷ b ∷ c ∷ d ∷ n ∷ bytes) fault e =
     is_long a b c d n bytes
     ∙ fault_long (ltb longest_body (of_four a b c d)) (kind_with n) (of_four a b c d) bytes fault (sym (lacks_long a b c d n bytes) ∙ e)
 
-faults_behind : (kind : Option Kind) (len count : ℕ) (fault : LinkFault) → lacking_behind kind len count ≡ Err fault → IsHeadFault fault
+faults_behind : (kind : Option Kind) (len count : ℕ) (fault : FrameFault) → lacking_behind kind len count ≡ Err fault → IsHeadFault fault
 faults_behind None len count fault e = let same : BadKind ≡ fault = cc in subst IsHeadFault same tt
 faults_behind (Some kind) len count fault e = absurd cc
 
-faults_long : (over : Bool) (kind : Option Kind) (len count : ℕ) (fault : LinkFault) → cond over (Err TooLong) (lacking_behind kind len count) ≡ Err fault → IsHeadFault fault
+faults_long : (over : Bool) (kind : Option Kind) (len count : ℕ) (fault : FrameFault) → cond over (Err TooLong) (lacking_behind kind len count) ≡ Err fault → IsHeadFault fault
 faults_long true kind len count fault e = let same : TooLong ≡ fault = cc in subst IsHeadFault same tt
 faults_long false kind len count fault e = faults_behind kind len count fault e
 
-four_faults : (over : Bool) (fault : LinkFault) → four_lack over ≡ Err fault → IsHeadFault fault
+four_faults : (over : Bool) (fault : FrameFault) → four_lack over ≡ Err fault → IsHeadFault fault
 four_faults true fault e = let same : TooLong ≡ fault = cc in subst IsHeadFault same tt
 four_faults false fault e = absurd cc
 
 -- and it is one that a head can have
-pub lacking_faults : (bytes : List ℕ) (fault : LinkFault) → lacking bytes ≡ Err fault → IsHeadFault fault
+pub lacking_faults : (bytes : List ℕ) (fault : FrameFault) → lacking bytes ≡ Err fault → IsHeadFault fault
 unfolding lacking
 lacking_faults [] fault e = absurd cc
 lacking_faults (a ∷ []) fault e = absurd cc

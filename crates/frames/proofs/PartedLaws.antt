@@ -2,8 +2,8 @@
 use Rattle.std.proofs.Common.{◌≡◌, ◌<◌, ◌≤◌, ℕ, zero, suc, Bool, true, false, cond, ltb, List, [], ◌∷◌, length, take, drop, Option, Some, None, Result, Ok, Err, refl, sym, ap, subst, ◌∙◌, arith}
 use Rattle.std.specs.Prelude.{◌↔◌}
 use Rattle.std.proofs.lemmas.List.{length-drop}
-use Rattle.frames.specs.declared.fault.LinkFault.{LinkFault}
-use Rattle.frames.specs.declared.fault.LinkFault.TheVariants.{TooLong, Torn}
+use Rattle.frames.specs.declared.fault.FrameFault.{FrameFault}
+use Rattle.frames.specs.declared.fault.FrameFault.TheVariants.{TooLong, Torn}
 use Rattle.frames.specs.declared.frame.Frame.{Frame}
 use Rattle.frames.specs.declared.kind.Kind.{Kind}
 use Rattle.frames.specs.FrameText.{longest_body}
@@ -17,7 +17,7 @@ use Rattle.frames.proofs.StreamLaws.{is_long, of_four, said_behind}
 
 -- ---- a frame in front takes bytes up
 
-its_rest : (read : Result Frame LinkFault) (rest left : List ℕ) (frame : Frame) → said_frame read rest ≡ First frame left → left ≡ rest
+its_rest : (read : Result Frame FrameFault) (rest left : List ℕ) (frame : Frame) → said_frame read rest ≡ First frame left → left ≡ rest
 its_rest (Ok first) rest left frame e = cc
 its_rest (Err fault) rest left frame e = absurd cc
 
@@ -77,7 +77,7 @@ a_parting bytes = parted (suc (length bytes)) bytes (omega arith)
 
 -- ---- a stream ends as its parting does
 
-ends_behind : (bytes rest : List ℕ) (frames : List Frame) (end : Option LinkFault) → AreFirst bytes frames rest → Ends rest end → Ends bytes end
+ends_behind : (bytes rest : List ℕ) (frames : List Frame) (end : Option FrameFault) → AreFirst bytes frames rest → Ends rest end → Ends bytes end
 ends_behind bytes rest [] end are ends = subst (λ (t : List ℕ). Ends t end) (sym are) ends
 ends_behind bytes rest (frame ∷ frames) end are ends = Behind are.1 (ends_behind are.0 rest frames end are.2 ends)
 
@@ -86,6 +86,6 @@ tail_ends bytes frames (Rest []) are = ends_behind bytes [] frames None are.0 Wh
 tail_ends bytes frames (Rest (byte ∷ rest)) are = ends_behind bytes (byte ∷ rest) frames (Some Torn) are.0 (Cut (λ e. absurd cc) are.1)
 tail_ends bytes frames (FaultyRest fault rest) are = ends_behind bytes rest frames None are.0 (Bad are.1)
 
-pub ends_as_it_parts : (bytes : List ℕ) (frames : List Frame) (tail : Tail) (end : Option LinkFault) → Parts bytes frames tail → (Ends bytes end ↔ (end ≡ end_with tail))
+pub ends_as_it_parts : (bytes : List ℕ) (frames : List Frame) (tail : Tail) (end : Option FrameFault) → Parts bytes frames tail → (Ends bytes end ↔ (end ≡ end_with tail))
 ends_as_it_parts bytes frames tail end are =
     (λ ends. one_end ends (tail_ends bytes frames tail are), λ e. subst (Ends bytes) (sym e) (tail_ends bytes frames tail are))

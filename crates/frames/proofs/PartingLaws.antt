@@ -1,6 +1,6 @@
 -- Frames that stand at the front of a stream, one behind the other.
 use Rattle.std.proofs.Common.{◌≡◌, ◌≢◌, ℕ, List, [], ◌∷◌, ◌++◌, refl, sym, ap, subst, ◌∙◌}
-use Rattle.frames.specs.declared.fault.LinkFault.{LinkFault}
+use Rattle.frames.specs.declared.fault.FrameFault.{FrameFault}
 use Rattle.frames.specs.declared.frame.Frame.{Frame}
 use Rattle.frames.specs.Laws.{AreFirst, FaultyRest, Parts, Rest, Tail, grown}
 use Rattle.frames.specs.Reading.{Faulty, First, NotYet, said}
@@ -22,12 +22,12 @@ frames_join bytes rest left [] frame are is = (left, ap said are ∙ is, refl)
 frames_join bytes rest left (first ∷ frames) frame are is = (are.0, are.1, frames_join are.0 rest left frames frame are.2 is)
 
 -- a fault stays with more behind it
-fault_grows : (rest more : List ℕ) (fault : LinkFault) → said rest ≡ Faulty fault → said (rest ++ more) ≡ Faulty fault
+fault_grows : (rest more : List ℕ) (fault : FrameFault) → said rest ≡ Faulty fault → said (rest ++ more) ≡ Faulty fault
 fault_grows rest more fault is =
     let some : said rest ≢ NotYet = λ none. absurd cc in
     grows rest more some ∙ ap (λ what. grown what more) is
 
-pub fault_stays : (bytes rest more : List ℕ) (frames : List Frame) (fault : LinkFault) → Parts bytes frames (FaultyRest fault rest) → Parts (bytes ++ more) frames (FaultyRest fault (rest ++ more))
+pub fault_stays : (bytes rest more : List ℕ) (frames : List Frame) (fault : FrameFault) → Parts bytes frames (FaultyRest fault rest) → Parts (bytes ++ more) frames (FaultyRest fault (rest ++ more))
 fault_stays bytes rest more frames fault are = (pieces_join bytes rest more frames are.0, fault_grows rest more fault are.1)
 
 -- ---- a stream has one parting
@@ -42,7 +42,7 @@ IsTail rest = (frame : Frame) (left : List ℕ) → said rest ≢ First frame le
 not_yet_is_tail : (rest : List ℕ) → said rest ≡ NotYet → IsTail rest
 not_yet_is_tail rest is frame left e = absurd cc
 
-faulty_is_tail : (rest : List ℕ) (fault : LinkFault) → said rest ≡ Faulty fault → IsTail rest
+faulty_is_tail : (rest : List ℕ) (fault : FrameFault) → said rest ≡ Faulty fault → IsTail rest
 faulty_is_tail rest fault is frame left e = absurd cc
 
 one_front : (bytes rest left : List ℕ) (frames others : List Frame) → AreFirst bytes frames rest → AreFirst bytes others left → IsTail rest → IsTail left → (frames ≡ others) × (rest ≡ left)
@@ -54,10 +54,10 @@ one_front bytes rest left (frame ∷ frames) (other ∷ others) are its none her
     let later = one_front are.0 rest left frames others are.2 (subst (λ (t : List ℕ). AreFirst t others left) (sym same.1) its.2) none here in
     (ap (λ (x : Frame). x ∷ frames) same.0 ∙ ap (λ (t : List Frame). other ∷ t) later.0, later.1)
 
-same_fault : (rest left : List ℕ) (fault other : LinkFault) → rest ≡ left → said rest ≡ Faulty fault → said left ≡ Faulty other → fault ≡ other
+same_fault : (rest left : List ℕ) (fault other : FrameFault) → rest ≡ left → said rest ≡ Faulty fault → said left ≡ Faulty other → fault ≡ other
 same_fault rest left fault other e is its = cc
 
-not_both : (rest left : List ℕ) (fault : LinkFault) → rest ≡ left → said rest ≡ NotYet → said left ≡ Faulty fault → ⊥
+not_both : (rest left : List ℕ) (fault : FrameFault) → rest ≡ left → said rest ≡ NotYet → said left ≡ Faulty fault → ⊥
 not_both rest left fault e is its = absurd cc
 
 pub one_parting : (bytes : List ℕ) (frames others : List Frame) (tail other : Tail) → Parts bytes frames tail → Parts bytes others other → (frames ≡ others) × (tail ≡ other)
@@ -73,4 +73,4 @@ one_parting bytes frames others (FaultyRest fault rest) (Rest left) are its =
 one_parting bytes frames others (FaultyRest fault rest) (FaultyRest other left) are its =
     let same = one_front bytes rest left frames others are.0 its.0 (faulty_is_tail rest fault are.1) (faulty_is_tail left other its.1) in
     let fault_is = same_fault rest left fault other same.1 are.1 its.1 in
-    (same.0, ap (λ (f : LinkFault). FaultyRest f rest) fault_is ∙ ap (FaultyRest other) same.1)
+    (same.0, ap (λ (f : FrameFault). FaultyRest f rest) fault_is ∙ ap (FaultyRest other) same.1)

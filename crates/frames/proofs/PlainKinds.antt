@@ -1,12 +1,11 @@
 -- Kinds of frames that have no bytes of any length.
-use Rattle.std.proofs.Common.{◌≡◌, ℕ, ◌+◌, ◌≤◌, Bool, true, List, Result, Ok, Err, take, drop, length}
+use Rattle.std.proofs.Common.{◌≡◌, ℕ, true, List, Result, Ok, Err}
 use Rattle.std.specs.Prelude.{IsOkAnd, is_ok}
 use Rattle.std.specs.Int.{w32, w64}
 use Rattle.byte_codec.specs.Reading.{◌>>=◌}
 use Rattle.takeover_core.specs.declared.message.Message.{Message}
-use Rattle.takeover_core.specs.declared.message.Message.TheVariants.{Offer, Choice, NoCommon, Busy, Ready, Pong, Failed}
-use Rattle.frames.specs.declared.fault.LinkFault.{LinkFault}
-use Rattle.frames.specs.declared.fault.LinkFault.TheVariants.{TooLong, BadKind, BadBody, Torn, Read, Write, NoMemory}
+use Rattle.frames.specs.declared.fault.FrameFault.{FrameFault}
+use Rattle.frames.specs.declared.fault.FrameFault.TheVariants.{TooLong, BadKind, BadBody, Torn, Read, Write, NoMemory}
 use Rattle.frames.specs.declared.frame.Frame.{Frame}
 use Rattle.frames.specs.declared.frame.Frame.TheVariants as frames
 use Rattle.frames.specs.declared.kind.Kind.{Kind}
@@ -17,6 +16,7 @@ use Rattle.frames.specs.Reading.{Gives, HasBytes, HasImage, Is, alone, front, fr
 
 abbrev pub IsPlainMessage : MessageKind → Type 0
 IsPlainMessage messages.Data = ⊥
+IsPlainMessage messages.Part = ⊥
 IsPlainMessage kind = Unit {0}
 
 abbrev pub IsPlain : Kind → Type 0
@@ -26,7 +26,7 @@ IsPlain (kinds.Takeover kind) = IsPlainMessage kind
 IsPlain kind = Unit {0}
 
 -- what is made of a value has no bytes
-then_none : {A B : Type 0} (Has : B → Type 0) (read : Result A LinkFault) (next : A → Result B LinkFault) → ((x : A) → IsOkAnd (next x) Has → ⊥) → IsOkAnd (read >>= next) Has → ⊥
+then_none : {A B : Type 0} (Has : B → Type 0) (read : Result A FrameFault) (next : A → Result B FrameFault) → ((x : A) → IsOkAnd (next x) Has → ⊥) → IsOkAnd (read >>= next) Has → ⊥
 then_none Has (Ok x) next none has = none x has
 then_none Has (Err fault) next none has = has
 
@@ -39,9 +39,10 @@ no_image messages.Busy body plain = then_none HasImage (nothing body) _ (λ _ ha
 no_image messages.Ready body plain = then_none HasImage (front w32 body) _ (λ session. then_none HasImage (alone w64 session.1) _ (λ generation has. has))
 no_image messages.Pong body plain = then_none HasImage (alone w32 body) _ (λ session has. has)
 no_image messages.Data body plain = absurd plain
+no_image messages.Part body plain = absurd plain
 no_image messages.Failed body plain = then_none HasImage (alone w32 body) _ (λ session has. has)
 
-takeover_none : (read : Result Message LinkFault) → (IsOkAnd read HasImage → ⊥) → IsOkAnd (read >>= λ message. Ok (frames.Takeover message)) HasBytes → ⊥
+takeover_none : (read : Result Message FrameFault) → (IsOkAnd read HasImage → ⊥) → IsOkAnd (read >>= λ message. Ok (frames.Takeover message)) HasBytes → ⊥
 takeover_none (Ok message) none has = none has
 takeover_none (Err fault) none has = has
 
@@ -67,7 +68,7 @@ no_bytes kinds.Attached body plain = then_none HasBytes (alone w64 body) _ (λ n
 no_bytes (kinds.Takeover kind) body plain = takeover_none (message_of kind body) (no_image kind body plain)
 
 -- a plain frame is read without memory, where its body is right
-pub plain_is : (kind : Kind) (body : List ℕ) (result : Result Frame LinkFault) → IsPlain kind → is_ok (frame_of kind body) ≡ true → Gives HasBytes result (frame_of kind body) → Is (λ x. x) result (frame_of kind body)
+pub plain_is : (kind : Kind) (body : List ℕ) (result : Result Frame FrameFault) → IsPlain kind → is_ok (frame_of kind body) ≡ true → Gives HasBytes result (frame_of kind body) → Is (λ x. x) result (frame_of kind body)
 plain_is kind body (Ok frame) plain ok gives = gives
 plain_is kind body (Err TooLong) plain ok gives = absurd cc
 plain_is kind body (Err BadKind) plain ok gives = absurd cc

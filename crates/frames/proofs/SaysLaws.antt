@@ -8,8 +8,8 @@ use Rattle.byte_codec.specs.Field.{AreBytes, number_bytes}
 use Rattle.byte_codec.proofs.ByteLemmas.{AreBytes-drop, AreBytes-take}
 use Rattle.byte_codec.proofs.FieldLaws.{four_back}
 use Rattle.byte_codec.proofs.YieldLemmas.{faulted, yielded}
-use Rattle.frames.specs.declared.fault.LinkFault.{LinkFault}
-use Rattle.frames.specs.declared.fault.LinkFault.TheVariants.{TooLong, BadKind, BadBody, Torn, Read, Write, NoMemory}
+use Rattle.frames.specs.declared.fault.FrameFault.{FrameFault}
+use Rattle.frames.specs.declared.fault.FrameFault.TheVariants.{TooLong, BadKind, BadBody, Torn, Read, Write, NoMemory}
 use Rattle.frames.specs.declared.frame.Frame.{Frame}
 use Rattle.frames.specs.declared.kind.Kind.{Kind}
 use Rattle.frames.specs.FrameText.{body_of, framed, kind_of, longest_body}
@@ -32,7 +32,7 @@ no_number n (Some kind) e none = absurd (none kind (number_found_again n kind e)
 its_kind : (n : ℕ) (kind : Kind) → n ≡ number_of kind → kind_with n ≡ Some kind
 its_kind n kind e = ap kind_with e ∙ kind_again kind
 
-no_frame : (kind : Kind) (body : List ℕ) (read : Result Frame LinkFault) → frame_of kind body ≡ read → AreBytes body → IsNoBody kind body → frame_of kind body ≡ Err BadBody
+no_frame : (kind : Kind) (body : List ℕ) (read : Result Frame FrameFault) → frame_of kind body ≡ read → AreBytes body → IsNoBody kind body → frame_of kind body ≡ Err BadBody
 no_frame kind body (Ok frame) e are none = let found = yielded (frame_of kind body) frame (frame_yields kind body are) e in absurd (none frame found.fits found.kind_is found.body_is)
 no_frame kind body (Err fault) e are none = let is = faulted (frame_of kind body) fault (frame_yields kind body are) e in cc
 
@@ -118,7 +118,7 @@ first_is bytes kind frame are has whole found =
 abbrev Something : List ℕ → Type 0
 Something bytes = (what : Said) × Says bytes what
 
-by_frame : (bytes : List ℕ) (kind : Kind) (read : Result Frame LinkFault) → frame_of kind (body_in bytes) ≡ read → AreBytes bytes → HasKind bytes kind → 5 + body_len bytes ≤ length bytes → Something bytes
+by_frame : (bytes : List ℕ) (kind : Kind) (read : Result Frame FrameFault) → frame_of kind (body_in bytes) ≡ read → AreBytes bytes → HasKind bytes kind → 5 + body_len bytes ≤ length bytes → Something bytes
 by_frame bytes kind (Ok frame) e are has whole =
     (First frame (behind bytes), first_is bytes kind frame are has whole (yielded (frame_of kind (body_in bytes)) frame (frame_yields kind (body_in bytes) (are_body bytes are)) e))
 by_frame bytes kind (Err fault) e are has whole = (

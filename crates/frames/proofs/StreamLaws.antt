@@ -5,7 +5,7 @@ use Rattle.std.proofs.lemmas.Bool.{cases_lt, le-ltb, lt-ltb, ltb-false}
 use Rattle.std.proofs.lemmas.List.{take_at, drop_at, drop-drop}
 use Rattle.byte_codec.specs.Field.{number_bytes, number_in}
 use Rattle.byte_codec.proofs.FieldLaws.{four}
-use Rattle.frames.specs.declared.fault.LinkFault.TheVariants.{TooLong, BadKind}
+use Rattle.frames.specs.declared.fault.FrameFault.TheVariants.{TooLong, BadKind}
 use Rattle.frames.specs.declared.frame.Frame.{Frame}
 use Rattle.frames.specs.declared.kind.Kind.{Kind}
 use Rattle.frames.specs.FrameText.{Fits, body_of, framed, frame_text, kind_of, longest_body}

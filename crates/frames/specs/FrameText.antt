@@ -5,9 +5,9 @@ use Rattle.std.specs.Int.{w16, w32, w64}
 use Rattle.std.specs.List.{All, flat_map}
 use Rattle.byte_codec.specs.Field.{number_bytes}
 use Rattle.takeover_core.specs.declared.message.Message.{Message}
-use Rattle.takeover_core.specs.declared.message.Message.TheVariants.{Offer, Choice, NoCommon, Busy, Ready, Pong, Data, Failed}
-use Rattle.frames.specs.declared.fault.LinkFault.{LinkFault}
-use Rattle.frames.specs.declared.fault.LinkFault.TheVariants.{TooLong, NoMemory}
+use Rattle.takeover_core.specs.declared.message.Message.TheVariants.{Offer, Choice, NoCommon, Busy, Ready, Pong, Data, Part, Failed}
+use Rattle.frames.specs.declared.fault.FrameFault.{FrameFault}
+use Rattle.frames.specs.declared.fault.FrameFault.TheVariants.{TooLong, NoMemory}
 use Rattle.frames.specs.declared.frame.Frame.{Frame}
 use Rattle.frames.specs.declared.frame.Frame.TheVariants.{Take, Ask, Empty, Post, Posted, Ended, Stale, NotAsked, Claim, Claimed, Unanswered, LastGeneration, Mount, Mounted, Seated, Attach, Attached, Takeover}
 use Rattle.frames.specs.declared.kind.Kind.{Kind}
@@ -30,6 +30,7 @@ message_kind Busy = messages.Busy
 message_kind (Ready session generation) = messages.Ready
 message_kind (Pong session) = messages.Pong
 message_kind (Data session generation bytes) = messages.Data
+message_kind (Part session generation position count bytes) = messages.Part
 message_kind (Failed session) = messages.Failed
 
 abbrev pub kind_of : Frame → Kind
@@ -67,6 +68,9 @@ message_body Busy = []
 message_body (Ready session generation) = number_bytes w32 session ++ number_bytes w64 generation
 message_body (Pong session) = number_bytes w32 session
 message_body (Data session generation bytes) = number_bytes w32 session ++ (number_bytes w64 generation ++ bytes)
+message_body (Part session generation position count bytes) =
+    number_bytes w32 session
+    ++ (number_bytes w64 generation ++ (number_bytes w32 position ++ (number_bytes w32 count ++ bytes)))
 message_body (Failed session) = number_bytes w32 session
 
 -- the fields of a frame
@@ -103,7 +107,7 @@ frame_text frame =
     else Some (framed (kind_of frame) (body_of frame))
 
 -- a frame is not written where it has no text; out of memory comes only where it has one
-abbrev pub IsNotWritten : Frame → LinkFault → Type 0
+abbrev pub IsNotWritten : Frame → FrameFault → Type 0
 IsNotWritten frame TooLong = frame_text frame ≡ None
 IsNotWritten frame NoMemory = IsSome (frame_text frame)
 IsNotWritten frame fault = ⊥
@@ -120,6 +124,8 @@ FitsMessage (Choice session version) = (session < 2 ^ 32) × (version < 2 ^ 16)
 FitsMessage (Ready session generation) = (session < 2 ^ 32) × (generation < 2 ^ 64)
 FitsMessage (Pong session) = session < 2 ^ 32
 FitsMessage (Data session generation bytes) = (session < 2 ^ 32) × (generation < 2 ^ 64)
+FitsMessage (Part session generation position count bytes) =
+    (session < 2 ^ 32) × (generation < 2 ^ 64) × (position < 2 ^ 32) × (count < 2 ^ 32)
 FitsMessage (Failed session) = session < 2 ^ 32
 FitsMessage message = Unit {0}
 

@@ -15,6 +15,7 @@ message_number messages.Ready = 36
 message_number messages.Pong = 37
 message_number messages.Data = 38
 message_number messages.Failed = 39
+message_number messages.Part = 40
 
 -- the numbers of all frames
 abbrev pub number_of : Kind → ℕ
@@ -44,7 +45,7 @@ first_with number n (kind ∷ others) left = if n == number kind then Some kind 
 
 -- all kinds of messages
 abbrev pub message_kinds : List MessageKind
-message_kinds = messages.Offer ∷ messages.Choice ∷ messages.NoCommon ∷ messages.Busy ∷ messages.Ready ∷ messages.Pong ∷ messages.Data ∷ messages.Failed ∷ []
+message_kinds = messages.Offer ∷ messages.Choice ∷ messages.NoCommon ∷ messages.Busy ∷ messages.Ready ∷ messages.Pong ∷ messages.Data ∷ messages.Failed ∷ messages.Part ∷ []
 
 -- the kind of message that has a number, if one has
 unfoldable pub message_kind_with : ℕ → Option MessageKind

@@ -1,19 +1,19 @@
 -- How many bytes the frame at the front of a stream lacks. (This project's own.)
 use Rattle.std.specs.Prelude.{ℕ, ◌+◌, ◌-◌, nat_lt, List, length, slice_index, Option, Some, None, Result, Ok, Err, if◌then◌else◌}
-use Rattle.frames.specs.declared.fault.LinkFault.{LinkFault}
-use Rattle.frames.specs.declared.fault.LinkFault.TheVariants.{TooLong, BadKind}
+use Rattle.frames.specs.declared.fault.FrameFault.{FrameFault}
+use Rattle.frames.specs.declared.fault.FrameFault.TheVariants.{TooLong, BadKind}
 use Rattle.frames.specs.declared.kind.Kind.{Kind}
 use Rattle.frames.specs.FrameText.{longest_body}
 use Rattle.frames.specs.Kind.{kind_with}
 use Rattle.frames.specs.Reading.{body_len}
 
 -- behind the number of a kind, the bytes of its body that are not there
-abbrev pub lacking_by : Option Kind → List ℕ → Result ℕ LinkFault
+abbrev pub lacking_by : Option Kind → List ℕ → Result ℕ FrameFault
 lacking_by None bytes = Err BadKind
 lacking_by (Some kind) bytes = Ok (5 + body_len bytes - length bytes)
 
 -- first those up to the kind, then those of the body; or the fault that shows before the body is whole
-unfoldable pub lacking : List ℕ → Result ℕ LinkFault
+unfoldable pub lacking : List ℕ → Result ℕ FrameFault
 lacking bytes =
     if nat_lt (length bytes) 4 then Ok (5 - length bytes)
     else if nat_lt longest_body (body_len bytes) then Err TooLong
@@ -21,7 +21,7 @@ lacking bytes =
     else lacking_by (kind_with (slice_index bytes 4)) bytes
 
 -- a fault that shows before the body is whole
-abbrev pub IsHeadFault : LinkFault → Type 0
+abbrev pub IsHeadFault : FrameFault → Type 0
 IsHeadFault TooLong = Unit {0}
 IsHeadFault BadKind = Unit {0}
 IsHeadFault fault = ⊥

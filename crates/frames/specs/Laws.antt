@@ -1,8 +1,8 @@
 -- The laws of frames and streams.
 use Rattle.std.specs.Prelude.{◌≡◌, ◌≢◌, ◌↔◌, List, ℕ, [], ◌∷◌, ◌++◌, Option, Some, None}
 use Rattle.byte_codec.specs.Field.{AreBytes}
-use Rattle.frames.specs.declared.fault.LinkFault.{LinkFault}
-use Rattle.frames.specs.declared.fault.LinkFault.TheVariants.{Torn}
+use Rattle.frames.specs.declared.fault.FrameFault.{FrameFault}
+use Rattle.frames.specs.declared.fault.FrameFault.TheVariants.{Torn}
 use Rattle.frames.specs.declared.frame.Frame.{Frame}
 use Rattle.frames.specs.FrameText.{Fits, frame_text}
 use Rattle.frames.specs.Reading.{Said, First, Faulty, NotYet, said}
@@ -31,7 +31,7 @@ SaysWhatIsRead = (bytes : List ℕ) (what : Said) → AreBytes bytes → (Says b
 
 -- a stream ends in one way
 abbrev pub EndsOneWay : Type 0
-EndsOneWay = (bytes : List ℕ) (end other : Option LinkFault) → Ends bytes end → Ends bytes other → end ≡ other
+EndsOneWay = (bytes : List ℕ) (end other : Option FrameFault) → Ends bytes end → Ends bytes other → end ≡ other
 
 -- these frames stand at the front of the bytes, one behind the other, and then comes this rest
 abbrev pub AreFirst : List ℕ → List Frame → List ℕ → Type 0
@@ -54,7 +54,7 @@ FramesJoin =
 -- what is left of a stream behind its whole frames: bytes in which no frame is whole, or bytes with a faulty one in front
 pub data Tail : Type 0 where
   Rest : (rest : List ℕ) → Tail
-  FaultyRest : (fault : LinkFault) (rest : List ℕ) → Tail
+  FaultyRest : (fault : FrameFault) (rest : List ℕ) → Tail
 
 -- a stream parts so: into these frames, one behind the other, and this tail
 abbrev pub Parts : List ℕ → List Frame → Tail → Type 0
@@ -74,11 +74,11 @@ HasOneParting =
 -- a faulty frame stays where it is, with the frames before it, whatever comes behind
 abbrev pub FaultStays : Type 0
 FaultStays =
-    (bytes rest more : List ℕ) (frames : List Frame) (fault : LinkFault) →
+    (bytes rest more : List ℕ) (frames : List Frame) (fault : FrameFault) →
     Parts bytes frames (FaultyRest fault rest) → Parts (bytes ++ more) frames (FaultyRest fault (rest ++ more))
 
 -- how a stream with this tail ends: torn where bytes are left of which no frame is whole
-abbrev pub end_with : Tail → Option LinkFault
+abbrev pub end_with : Tail → Option FrameFault
 end_with (Rest []) = None
 end_with (Rest (byte ∷ rest)) = Some Torn
 end_with (FaultyRest fault rest) = None
@@ -86,5 +86,5 @@ end_with (FaultyRest fault rest) = None
 -- a stream ends as its parting does
 abbrev pub EndsAsItParts : Type 0
 EndsAsItParts =
-    (bytes : List ℕ) (frames : List Frame) (tail : Tail) (end : Option LinkFault) →
+    (bytes : List ℕ) (frames : List Frame) (tail : Tail) (end : Option FrameFault) →
     Parts bytes frames tail → (Ends bytes end ↔ (end ≡ end_with tail))

@@ -4,9 +4,9 @@ use Rattle.std.specs.Int.{Width, w16, w32, w64, byte_len}
 use Rattle.byte_codec.specs.Field.{number_in}
 use Rattle.byte_codec.specs.Reading.{◌>>=◌, number_at}
 use Rattle.takeover_core.specs.declared.message.Message.{Message}
-use Rattle.takeover_core.specs.declared.message.Message.TheVariants.{Offer, Choice, NoCommon, Busy, Ready, Pong, Data, Failed}
-use Rattle.frames.specs.declared.fault.LinkFault.{LinkFault}
-use Rattle.frames.specs.declared.fault.LinkFault.TheVariants.{TooLong, BadKind, BadBody, NoMemory}
+use Rattle.takeover_core.specs.declared.message.Message.TheVariants.{Offer, Choice, NoCommon, Busy, Ready, Pong, Data, Part, Failed}
+use Rattle.frames.specs.declared.fault.FrameFault.{FrameFault}
+use Rattle.frames.specs.declared.fault.FrameFault.TheVariants.{TooLong, BadKind, BadBody, NoMemory}
 use Rattle.frames.specs.declared.frame.Frame.{Frame}
 use Rattle.frames.specs.declared.frame.Frame.TheVariants.{Take, Ask, Empty, Post, Posted, Ended, Stale, NotAsked, Claim, Claimed, Unanswered, LastGeneration, Mount, Mounted, Seated, Attach, Attached, Takeover}
 use Rattle.frames.specs.declared.kind.Kind.{Kind}
@@ -19,13 +19,14 @@ use Rattle.frames.specs.Kind.{kind_with}
 -- ---- bodies, as they are read
 
 -- a call gave, seen by a view, what reading gives: a value, or BadBody
-abbrev pub Is : {X Y : Type 0} → (X → Y) → Result X LinkFault → Result Y LinkFault → Type 0
+abbrev pub Is : {X Y : Type 0} → (X → Y) → Result X FrameFault → Result Y FrameFault → Type 0
 Is view (Ok x) read = read ≡ Ok (view x)
 Is view (Err fault) read = (fault ≡ BadBody) × (read ≡ Err BadBody)
 
 -- a message with bytes that are copied when it is read, at least one
 abbrev pub HasImage : Message → Type 0
 HasImage (Data session generation bytes) = bytes ≢ []
+HasImage (Part session generation position count bytes) = bytes ≢ []
 HasImage message = ⊥
 
 -- a frame with bytes that are copied when it is read, at least one
@@ -36,21 +37,21 @@ HasBytes (Takeover message) = HasImage message
 HasBytes frame = ⊥
 
 -- a call gave what reading gives; out of memory comes in place of a frame with bytes alone
-abbrev pub Gives : {X : Type 0} → (X → Type 0) → Result X LinkFault → Result X LinkFault → Type 0
+abbrev pub Gives : {X : Type 0} → (X → Type 0) → Result X FrameFault → Result X FrameFault → Type 0
 Gives Copied (Ok x) read = read ≡ Ok x
 Gives Copied (Err NoMemory) read = IsOkAnd read Copied
 Gives Copied (Err fault) read = read ≡ Err fault
 
 -- the number that a body is
-unfoldable pub alone : Width → List ℕ → Result ℕ LinkFault
+unfoldable pub alone : Width → List ℕ → Result ℕ FrameFault
 alone width body = if length body == byte_len width then Ok (number_in width body) else Err BadBody
 
 -- the number at the front of a body, and what follows it
-abbrev pub front : Width → List ℕ → Result (ℕ × List ℕ) LinkFault
+abbrev pub front : Width → List ℕ → Result (ℕ × List ℕ) FrameFault
 front width body = number_at BadBody width body
 
 -- nothing where the body is empty
-unfoldable pub nothing : List ℕ → Result (Unit {0}) LinkFault
+unfoldable pub nothing : List ℕ → Result (Unit {0}) FrameFault
 nothing [] = Ok tt
 nothing (byte ∷ rest) = Err BadBody
 
@@ -60,13 +61,13 @@ numbers_at zero bytes = []
 numbers_at (suc n) bytes = number_in w16 (take 2 bytes) ∷ numbers_at n (drop 2 bytes)
 
 -- at most eight versions behind their count
-unfoldable pub versions_of : List ℕ → Result (List ℕ) LinkFault
+unfoldable pub versions_of : List ℕ → Result (List ℕ) FrameFault
 versions_of [] = Err BadBody
 versions_of (count ∷ rest) =
     if nat_le count 8 && length rest == 2 * count then Ok (numbers_at count rest) else Err BadBody
 
 -- the message of a kind and a body
-unfoldable pub message_of : MessageKind → List ℕ → Result Message LinkFault
+unfoldable pub message_of : MessageKind → List ℕ → Result Message FrameFault
 message_of messages.Offer body = versions_of body >>= λ versions. Ok (Offer versions)
 message_of messages.Choice body = do
   session ← front w32 body
@@ -83,14 +84,20 @@ message_of messages.Data body = do
   session ← front w32 body
   generation ← front w64 session.1
   Ok (Data session.0 generation.0 generation.1)
+message_of messages.Part body = do
+  session ← front w32 body
+  generation ← front w64 session.1
+  position ← front w32 generation.1
+  count ← front w32 position.1
+  Ok (Part session.0 generation.0 position.0 count.0 count.1)
 message_of messages.Failed body = alone w32 body >>= λ session. Ok (Failed session)
 
 -- a frame that has no field, where the body is empty
-abbrev pub bare : Frame → List ℕ → Result Frame LinkFault
+abbrev pub bare : Frame → List ℕ → Result Frame FrameFault
 bare frame body = nothing body >>= λ _. Ok frame
 
 -- the frame of a kind and a body
-unfoldable pub frame_of : Kind → List ℕ → Result Frame LinkFault
+unfoldable pub frame_of : Kind → List ℕ → Result Frame FrameFault
 frame_of kinds.Take body = alone w64 body >>= λ generation. Ok (Take generation)
 frame_of kinds.Ask body = Ok (Ask body)
 frame_of kinds.Empty body = bare Empty body
@@ -115,7 +122,7 @@ frame_of (kinds.Takeover kind) body = message_of kind body >>= λ message. Ok (T
 -- a stream begins with this frame, and has this rest behind it; or with a faulty one; or holds no whole frame yet
 pub data Said : Type 0 where
   First : (frame : Frame) (rest : List ℕ) → Said
-  Faulty : (fault : LinkFault) → Said
+  Faulty : (fault : FrameFault) → Said
   NotYet : Said
 
 -- how long the first body is, as the first four bytes say
@@ -130,7 +137,7 @@ abbrev pub behind : List ℕ → List ℕ
 behind bytes = drop (5 + body_len bytes) bytes
 
 -- a frame with a rest, or its fault
-abbrev pub said_frame : Result Frame LinkFault → List ℕ → Said
+abbrev pub said_frame : Result Frame FrameFault → List ℕ → Said
 said_frame (Ok frame) rest = First frame rest
 said_frame (Err fault) rest = Faulty fault
 
@@ -156,12 +163,12 @@ IsFound bytes found =
     × (said bytes ≡ said_frame (frame_of found.0 (take found.1 (drop 5 bytes))) (drop (5 + found.1) bytes))
 
 -- a fault that bytes can have
-abbrev pub IsFaulty : List ℕ → LinkFault → Type 0
+abbrev pub IsFaulty : List ℕ → FrameFault → Type 0
 IsFaulty bytes NoMemory = ⊥
 IsFaulty bytes fault = said bytes ≡ Faulty fault
 
 -- what a look at the front finds
-abbrev pub Finds : List ℕ → Result (Option (Kind × ℕ)) LinkFault → Type 0
+abbrev pub Finds : List ℕ → Result (Option (Kind × ℕ)) FrameFault → Type 0
 Finds bytes (Ok None) = said bytes ≡ NotYet
 Finds bytes (Ok (Some found)) = IsFound bytes found
 Finds bytes (Err fault) = IsFaulty bytes fault
@@ -172,14 +179,14 @@ SaysCopied (First frame rest) = HasBytes frame
 SaysCopied what = ⊥
 
 -- what is read at the front: a frame, and how many bytes it takes up; or none yet; or a fault
-abbrev pub Reads : List ℕ → Result (Option (Frame × ℕ)) LinkFault → Type 0
+abbrev pub Reads : List ℕ → Result (Option (Frame × ℕ)) FrameFault → Type 0
 Reads bytes (Ok None) = said bytes ≡ NotYet
 Reads bytes (Ok (Some first)) = (first.1 ≤ length bytes) × (said bytes ≡ First first.0 (drop first.1 bytes))
 Reads bytes (Err NoMemory) = SaysCopied (said bytes)
 Reads bytes (Err fault) = said bytes ≡ Faulty fault
 
 -- how long the whole frame at the front is; or none yet; or a fault
-abbrev pub Measures : List ℕ → Result (Option ℕ) LinkFault → Type 0
+abbrev pub Measures : List ℕ → Result (Option ℕ) FrameFault → Type 0
 Measures bytes (Ok None) = said bytes ≡ NotYet
 Measures bytes (Ok (Some used)) =
     (0 < used) × (used ≤ length bytes) × (frame : Frame) × (said bytes ≡ First frame (drop used bytes))

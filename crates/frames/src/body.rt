@@ -1,13 +1,13 @@
 //! Bodies, as they are read.
 ghost use Rattle.std.specs.Prelude.{◌≡◌, ◌≢◌, ◌*◌, ◌≤◌, [], length, IfOk, IfErr, OnErr};
-ghost use Rattle.frames.specs.declared.fault.LinkFault.TheVariants.{NoMemory};
+ghost use Rattle.frames.specs.declared.fault.FrameFault.TheVariants.{NoMemory};
 ghost use Rattle.frames.specs.declared.kind.Kind.TheVariants as kinds;
 ghost use Rattle.frames.specs.declared.kind.MessageKind.TheVariants as messages;
 ghost use Rattle.frames.specs.Reading.{Gives, HasBytes, HasImage, Is, bare, frame_of, message_of, numbers_at, versions_of};
 
 use crate::field::{nothing, u16_alone, u32_alone, u64_alone};
 use crate::kind::{Kind, MessageKind};
-use crate::{Frame, LinkFault};
+use crate::{Frame, FrameFault};
 use arrayvec::ArrayVec;
 use byte_codec::{Bytes, u16_in, u32_at, u64_at};
 use eden_base::DaemonId;
@@ -15,7 +15,7 @@ use std::alloc::Global;
 use takeover_core::{Message, Versions};
 
 /// Copies bytes that are kept.
-fn copy(alloc: Global, bytes: &[u8]) -> Result<Vec<u8>, LinkFault>
+fn copy(alloc: Global, bytes: &[u8]) -> Result<Vec<u8>, FrameFault>
     ensures copied { IfOk result (λ copied. copied.items ≡ bytes.now) }
     ensures refused { IfErr result (λ fault. fault ≡ NoMemory) }
     ensures some { OnErr result (bytes.now ≢ []) }
@@ -25,7 +25,7 @@ fn copy(alloc: Global, bytes: &[u8]) -> Result<Vec<u8>, LinkFault>
     }
     match bytes.to_vec(alloc) {
         Ok(copied) => Ok(copied),
-        Err(_refused) => Err(LinkFault::NoMemory),
+        Err(_refused) => Err(FrameFault::NoMemory),
     }
 }
 
@@ -48,15 +48,15 @@ fn read_each(count: usize, bytes: &[u8]) -> Versions
 
 /// Reads the versions of an offer.
 #[tactic(auto, unfolding(crate::specs::Reading::versions_of))]
-fn read_versions(body: &[u8]) -> Result<Versions, LinkFault>
+fn read_versions(body: &[u8]) -> Result<Versions, FrameFault>
     ensures { Is (λ x. x) result (versions_of body.now) }
 {
     match body {
-        [] => Err(LinkFault::BadBody),
+        [] => Err(FrameFault::BadBody),
         [count, rest @ ..] => {
             let count = *count as usize;
             if count > Versions::MAX_LEN || rest.len() != 2 * count {
-                return Err(LinkFault::BadBody);
+                return Err(FrameFault::BadBody);
             }
             Ok(read_each(count, rest))
         }
@@ -65,11 +65,11 @@ fn read_versions(body: &[u8]) -> Result<Versions, LinkFault>
 
 /// Reads the image that a message carries.
 #[tactic(auto, unfolding(crate::specs::Reading::message_of))]
-fn read_data(alloc: Global, body: &[u8]) -> Result<Message, LinkFault>
+fn read_data(alloc: Global, body: &[u8]) -> Result<Message, FrameFault>
     ensures { Gives HasImage result (message_of messages.Data body.now) }
 {
-    let (session, rest) = u32_at(body, LinkFault::BadBody)?;
-    let (generation, image) = u64_at(rest, LinkFault::BadBody)?;
+    let (session, rest) = u32_at(body, FrameFault::BadBody)?;
+    let (generation, image) = u64_at(rest, FrameFault::BadBody)?;
     let bytes = Bytes::of(copy(alloc, image)?);
     Ok(Message::Data {
         session,
@@ -78,15 +78,34 @@ fn read_data(alloc: Global, body: &[u8]) -> Result<Message, LinkFault>
     })
 }
 
+/// Reads the numbered part of a text that a message carries.
+#[tactic(auto, unfolding(crate::specs::Reading::message_of))]
+fn read_part(alloc: Global, body: &[u8]) -> Result<Message, FrameFault>
+    ensures { Gives HasImage result (message_of messages.Part body.now) }
+{
+    let (session, rest) = u32_at(body, FrameFault::BadBody)?;
+    let (generation, rest) = u64_at(rest, FrameFault::BadBody)?;
+    let (position, rest) = u32_at(rest, FrameFault::BadBody)?;
+    let (count, part) = u32_at(rest, FrameFault::BadBody)?;
+    let bytes = Bytes::of(copy(alloc, part)?);
+    Ok(Message::Part {
+        session,
+        generation,
+        position,
+        count,
+        bytes,
+    })
+}
+
 /// Reads the message of a kind and a body.
 #[tactic(auto, unfolding(crate::specs::Reading::message_of))]
-fn read_message(alloc: Global, kind: MessageKind, body: &[u8]) -> Result<Message, LinkFault>
+fn read_message(alloc: Global, kind: MessageKind, body: &[u8]) -> Result<Message, FrameFault>
     ensures { Gives HasImage result (message_of kind body.now) }
 {
     match kind {
         MessageKind::Offer => Ok(Message::Offer(read_versions(body)?)),
         MessageKind::Choice => {
-            let (session, rest) = u32_at(body, LinkFault::BadBody)?;
+            let (session, rest) = u32_at(body, FrameFault::BadBody)?;
             let version = u16_alone(rest)?;
             Ok(Message::Choice { session, version })
         }
@@ -99,7 +118,7 @@ fn read_message(alloc: Global, kind: MessageKind, body: &[u8]) -> Result<Message
             Ok(Message::Busy)
         }
         MessageKind::Ready => {
-            let (session, rest) = u32_at(body, LinkFault::BadBody)?;
+            let (session, rest) = u32_at(body, FrameFault::BadBody)?;
             let generation = u64_alone(rest)?;
             Ok(Message::Ready {
                 session,
@@ -111,6 +130,7 @@ fn read_message(alloc: Global, kind: MessageKind, body: &[u8]) -> Result<Message
             Ok(Message::Pong { session })
         }
         MessageKind::Data => read_data(alloc, body),
+        MessageKind::Part => read_part(alloc, body),
         MessageKind::Failed => {
             let session = u32_alone(body)?;
             Ok(Message::Failed { session })
@@ -120,16 +140,16 @@ fn read_message(alloc: Global, kind: MessageKind, body: &[u8]) -> Result<Message
 
 /// Reads a FUSE reply behind its generation.
 #[tactic(auto, unfolding(crate::specs::Reading::frame_of))]
-fn read_post(alloc: Global, body: &[u8]) -> Result<Frame, LinkFault>
+fn read_post(alloc: Global, body: &[u8]) -> Result<Frame, FrameFault>
     ensures { Gives HasBytes result (frame_of kinds.Post body.now) }
 {
-    let (generation, bytes) = u64_at(body, LinkFault::BadBody)?;
+    let (generation, bytes) = u64_at(body, FrameFault::BadBody)?;
     let reply = Bytes::of(copy(alloc, bytes)?);
     Ok(Frame::Post { generation, reply })
 }
 
 /// Returns a frame that has no field, where the body is empty.
-fn bare(frame: Frame, body: &[u8]) -> Result<Frame, LinkFault>
+fn bare(frame: Frame, body: &[u8]) -> Result<Frame, FrameFault>
     ensures { Is (λ x. x) result (bare frame body.now) }
 {
     nothing(body)?;
@@ -138,7 +158,7 @@ fn bare(frame: Frame, body: &[u8]) -> Result<Frame, LinkFault>
 
 /// Reads the frame of a kind and a body.
 #[tactic(auto, unfolding(crate::specs::Reading::frame_of))]
-pub(crate) fn read_frame(alloc: Global, kind: Kind, body: &[u8]) -> Result<Frame, LinkFault>
+pub(crate) fn read_frame(alloc: Global, kind: Kind, body: &[u8]) -> Result<Frame, FrameFault>
     ensures { Gives HasBytes result (frame_of kind body.now) }
 {
     match kind {

@@ -1,9 +1,9 @@
-//! What can go wrong on a link.
+//! What can go wrong with frames on a connection.
 use thiserror::Error;
 
-/// Why a link does not go on.
+/// Why a connection does not go on.
 #[derive(Clone, Copy, Debug, PartialEq, Eq, Error)]
-pub enum LinkFault {
+pub enum FrameFault {
     /// The body of a frame would be longer than 65,536 bytes.
     #[error("frame too long")]
     TooLong,

@@ -1,4 +1,4 @@
-//! What one end of a link says to the other.
+//! What one end of a connection says to the other.
 use byte_codec::Bytes;
 use eden_base::DaemonId;
 use takeover_core::Message;
@@ -37,7 +37,7 @@ pub enum Frame {
     Mounted { generation: u64 },
     /// Another daemon has the seat.
     Seated,
-    /// A daemon opens the link. A new one has number 0.
+    /// A daemon opens the connection. A new one has number 0.
     Attach(DaemonId),
     /// The daemon at this end has this number.
     Attached(DaemonId),

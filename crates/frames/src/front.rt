@@ -1,12 +1,12 @@
 //! The frame at the front of a stream.
 ghost use Rattle.std.specs.Prelude.{◌≡◌, ◌≤◌, drop, is_ok, length, Err, IsFalse};
-ghost use Rattle.frames.specs.declared.fault.LinkFault.TheVariants.{BadBody};
+ghost use Rattle.frames.specs.declared.fault.FrameFault.TheVariants.{BadBody};
 ghost use Rattle.frames.specs.Reading.{Finds, Measures, Reads, frame_of, message_of};
 ghost use Rattle.frames.specs.Stream.{Ends, ReadsText, fault_of};
 
 use crate::body::read_frame;
 use crate::kind::{Kind, MessageKind};
-use crate::{Frame, LinkFault};
+use crate::{Frame, FrameFault};
 use byte_codec::u32_in;
 use std::alloc::Global;
 use takeover_core::Versions;
@@ -22,7 +22,7 @@ pub(crate) const BEFORE_BODY: usize = 5;
 
 /// Finds the frame at the front: its kind, and how many bytes its body has.
 #[tactic(auto, unfolding(crate::specs::Reading::said))]
-fn find(bytes: &[u8]) -> Result<Option<(Kind, usize)>, LinkFault>
+fn find(bytes: &[u8]) -> Result<Option<(Kind, usize)>, FrameFault>
     ensures found { Finds bytes.now result }
 {
     if bytes.len() < LENGTH {
@@ -31,13 +31,13 @@ fn find(bytes: &[u8]) -> Result<Option<(Kind, usize)>, LinkFault>
     let (field, _) = bytes.split_at(LENGTH);
     let len = u32_in(field) as usize;
     if len > LONGEST_BODY {
-        return Err(LinkFault::TooLong);
+        return Err(FrameFault::TooLong);
     }
     if bytes.len() < BEFORE_BODY {
         return Ok(None);
     }
     let Some(kind) = Kind::with(bytes[LENGTH]) else {
-        return Err(LinkFault::BadKind);
+        return Err(FrameFault::BadKind);
     };
     if bytes.len() < BEFORE_BODY + len {
         return Ok(None);
@@ -47,7 +47,7 @@ fn find(bytes: &[u8]) -> Result<Option<(Kind, usize)>, LinkFault>
 
 /// Reads the frame at the front, and how many bytes it takes up.
 #[tactic(auto, using(crate::proofs::SaysLaws::first_says, crate::proofs::TextLaws::reads_text))]
-pub(crate) fn read_first(alloc: Global, bytes: &[u8]) -> Result<Option<(Frame, usize)>, LinkFault>
+pub(crate) fn read_first(alloc: Global, bytes: &[u8]) -> Result<Option<(Frame, usize)>, FrameFault>
     ensures read { Reads bytes.now result }
     ensures text { ReadsText bytes.now result }
 {
@@ -83,6 +83,7 @@ fn is_message(kind: MessageKind, body: &[u8]) -> bool
         MessageKind::Ready => body.len() == 4 + 8,
         MessageKind::Pong | MessageKind::Failed => body.len() == 4,
         MessageKind::Data => body.len() >= 4 + 8,
+        MessageKind::Part => body.len() >= 4 + 8 + 4 + 4,
     }
 }
 
@@ -115,7 +116,7 @@ pub(crate) fn is_body(kind: Kind, body: &[u8]) -> bool
 }
 
 /// Returns how long the whole frame at the front is.
-fn first_len(bytes: &[u8]) -> Result<Option<usize>, LinkFault>
+fn first_len(bytes: &[u8]) -> Result<Option<usize>, FrameFault>
     ensures len { Measures bytes.now result }
 {
     match find(bytes) {
@@ -123,7 +124,7 @@ fn first_len(bytes: &[u8]) -> Result<Option<usize>, LinkFault>
         Ok(Some((kind, len))) => {
             let used = BEFORE_BODY + len;
             if !is_body(kind, &bytes[BEFORE_BODY..used]) {
-                return Err(LinkFault::BadBody);
+                return Err(FrameFault::BadBody);
             }
             Ok(Some(used))
         }
@@ -132,7 +133,7 @@ fn first_len(bytes: &[u8]) -> Result<Option<usize>, LinkFault>
 }
 
 /// Returns how long the whole frame is that begins at a place.
-fn len_at(bytes: &[u8], at: usize) -> Result<Option<usize>, LinkFault>
+fn len_at(bytes: &[u8], at: usize) -> Result<Option<usize>, FrameFault>
     requires within { at ≤ length bytes.now }
     ensures len { Measures (drop at bytes.now) result }
 {
@@ -142,7 +143,7 @@ fn len_at(bytes: &[u8], at: usize) -> Result<Option<usize>, LinkFault>
 
 /// Returns whether a stream may end behind these bytes, of which those before a place were read.
 #[tactic(auto, using(crate::proofs::Ending::passed, crate::proofs::Ending::torn, crate::proofs::Ending::faulty, crate::proofs::Ending::whole))]
-pub(crate) fn end_of(bytes: &[u8], read: usize) -> Result<(), LinkFault>
+pub(crate) fn end_of(bytes: &[u8], read: usize) -> Result<(), FrameFault>
     requires within { read ≤ length bytes.now }
     ensures ends { Ends (drop read bytes.now) (fault_of result) }
 {
@@ -150,7 +151,7 @@ pub(crate) fn end_of(bytes: &[u8], read: usize) -> Result<(), LinkFault>
     while at < bytes.len() {
         match len_at(bytes, at) {
             Ok(Some(used)) => at += used,
-            Ok(None) => return Err(LinkFault::Torn),
+            Ok(None) => return Err(FrameFault::Torn),
             Err(_fault) => return Ok(()),
         }
     }

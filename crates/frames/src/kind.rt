@@ -13,6 +13,7 @@ pub(crate) enum MessageKind {
     Pong,
     Data,
     Failed,
+    Part,
 }
 
 /// What a frame is, without its fields.
@@ -53,6 +54,7 @@ impl MessageKind {
             37 => Some(MessageKind::Pong),
             38 => Some(MessageKind::Data),
             39 => Some(MessageKind::Failed),
+            40 => Some(MessageKind::Part),
             _ => None,
         }
     }
@@ -70,6 +72,7 @@ impl MessageKind {
             MessageKind::Pong => 37,
             MessageKind::Data => 38,
             MessageKind::Failed => 39,
+            MessageKind::Part => 40,
         }
     }
 }

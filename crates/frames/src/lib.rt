@@ -12,7 +12,7 @@ mod parts;
 mod reader;
 mod writer;
 
-pub use fault::LinkFault;
+pub use fault::FrameFault;
 pub use frame::Frame;
 pub use parts::missing;
 pub use reader::FrameReader;

@@ -1,7 +1,7 @@
 //! A frame whose head and body are read one after the other.
 ghost use Rattle.std.specs.Prelude.{◌≡◌, ◌<◌, ◌≤◌, ◌++◌, ℕ, List, [], Ok, length, IfOk, IfErr};
 ghost use Rattle.byte_codec.specs.Field.{AreBytes};
-ghost use Rattle.frames.specs.declared.fault.LinkFault.TheVariants.{BadBody};
+ghost use Rattle.frames.specs.declared.fault.FrameFault.TheVariants.{BadBody};
 ghost use Rattle.frames.specs.declared.kind.Kind.TheVariants as kinds;
 ghost use Rattle.frames.specs.declared.kind.MessageKind.TheVariants as messages;
 ghost use Rattle.frames.specs.Lacking.{IsHeadFault, lacking};
@@ -11,13 +11,13 @@ ghost use Rattle.frames.specs.Says.{IsFirst};
 use crate::body::read_frame;
 use crate::front::{BEFORE_BODY, LENGTH, LONGEST_BODY, is_body};
 use crate::kind::{Kind, MessageKind};
-use crate::{Frame, LinkFault};
+use crate::{Frame, FrameFault};
 use byte_codec::{Bytes, u32_in, u64_in};
 use takeover_core::Message;
 
 /// Tells what `missing` does.
 #[tactic(auto, unfolding(crate::specs::Lacking::lacking))]
-fn lacked(bytes: &[u8]) -> Result<usize, LinkFault>
+fn lacked(bytes: &[u8]) -> Result<usize, FrameFault>
     ensures lacks { result ≡ lacking bytes.now }
 {
     if bytes.len() < LENGTH {
@@ -26,20 +26,20 @@ fn lacked(bytes: &[u8]) -> Result<usize, LinkFault>
     let (field, _) = bytes.split_at(LENGTH);
     let len = u32_in(field) as usize;
     if len > LONGEST_BODY {
-        return Err(LinkFault::TooLong);
+        return Err(FrameFault::TooLong);
     }
     if bytes.len() < BEFORE_BODY {
         return Ok(BEFORE_BODY - bytes.len());
     }
     if Kind::with(bytes[LENGTH]).is_none() {
-        return Err(LinkFault::BadKind);
+        return Err(FrameFault::BadKind);
     }
     Ok((BEFORE_BODY + len).saturating_sub(bytes.len()))
 }
 
 /// Returns how many bytes the frame at the front lacks: those up to its kind first, then those of its body. It is 0
 /// where the body is whole, be it the right one or not.
-pub fn missing(bytes: &[u8]) -> Result<usize, LinkFault>
+pub fn missing(bytes: &[u8]) -> Result<usize, FrameFault>
     ensures missing { result ≡ lacking bytes.now }
     ensures not_yet { IfOk result (λ count. 0 < count → said bytes.now ≡ NotYet) }
     ensures faulty { IfErr result (λ fault. said bytes.now ≡ Faulty fault) }
@@ -54,11 +54,11 @@ pub fn missing(bytes: &[u8]) -> Result<usize, LinkFault>
 
 /// Reads a FUSE reply behind its generation. The reply stays in the body's memory.
 #[tactic(auto, unfolding(crate::specs::Reading::frame_of, byte_codec::specs::Reading::number_at, byte_codec::specs::Reading::bytes_at))]
-fn post_of(body: Vec<u8>) -> Result<Frame, LinkFault>
+fn post_of(body: Vec<u8>) -> Result<Frame, FrameFault>
     ensures { Is (λ x. x) result (frame_of kinds.Post body.items) }
 {
     if body.len() < 8 {
-        return Err(LinkFault::BadBody);
+        return Err(FrameFault::BadBody);
     }
     let generation = u64_in(&body[..8]);
     let mut reply = body;
@@ -71,11 +71,11 @@ fn post_of(body: Vec<u8>) -> Result<Frame, LinkFault>
 
 /// Reads an image behind its session and generation. The image stays in the body's memory.
 #[tactic(auto, unfolding(crate::specs::Reading::message_of, byte_codec::specs::Reading::number_at, byte_codec::specs::Reading::bytes_at))]
-fn data_of(body: Vec<u8>) -> Result<Message, LinkFault>
+fn data_of(body: Vec<u8>) -> Result<Message, FrameFault>
     ensures { Is (λ x. x) result (message_of messages.Data body.items) }
 {
     if body.len() < 12 {
-        return Err(LinkFault::BadBody);
+        return Err(FrameFault::BadBody);
     }
     let session = u32_in(&body[..4]);
     let generation = u64_in(&body[4..12]);
@@ -88,19 +88,46 @@ fn data_of(body: Vec<u8>) -> Result<Message, LinkFault>
     })
 }
 
+/// Reads the numbered part of a text behind its session, generation, position and count. It stays in the body's memory.
+#[tactic(auto, unfolding(crate::specs::Reading::message_of, byte_codec::specs::Reading::number_at, byte_codec::specs::Reading::bytes_at))]
+fn part_of(body: Vec<u8>) -> Result<Message, FrameFault>
+    ensures { Is (λ x. x) result (message_of messages.Part body.items) }
+{
+    if body.len() < 20 {
+        return Err(FrameFault::BadBody);
+    }
+    let session = u32_in(&body[..4]);
+    let generation = u64_in(&body[4..12]);
+    let position = u32_in(&body[12..16]);
+    let count = u32_in(&body[16..20]);
+    let mut part = body;
+    drop(part.drain(..20));
+    Ok(Message::Part {
+        session,
+        generation,
+        position,
+        count,
+        bytes: Bytes::of(part),
+    })
+}
+
 /// Reads the frame of a kind and a body, whose memory it keeps where the frame has bytes.
 #[tactic(auto, using(crate::proofs::PlainKinds::plain_is), unfolding(crate::specs::Reading::frame_of))]
-fn frame_of(kind: Kind, body: Vec<u8>) -> Result<Frame, LinkFault>
+fn frame_of(kind: Kind, body: Vec<u8>) -> Result<Frame, FrameFault>
     ensures frame { Is (λ x. x) result (frame_of kind body.items) }
     ensures bytes { AreBytes body.items }
 {
     if !is_body(kind, body.as_slice()) {
-        return Err(LinkFault::BadBody);
+        return Err(FrameFault::BadBody);
     }
     match kind {
         Kind::Ask => Ok(Frame::Ask(Bytes::of(body))),
         Kind::Post => post_of(body),
         Kind::Takeover(MessageKind::Data) => match data_of(body) {
+            Ok(message) => Ok(Frame::Takeover(message)),
+            Err(fault) => Err(fault),
+        },
+        Kind::Takeover(MessageKind::Part) => match part_of(body) {
             Ok(message) => Ok(Frame::Takeover(message)),
             Err(fault) => Err(fault),
         },
@@ -112,7 +139,7 @@ impl Frame {
     /// Reads the frame of a head of five bytes and of the body that `missing` tells of it. It takes no memory: bytes that
     /// the frame has stay in the body's.
     #[tactic(auto, using(crate::proofs::LackingLaws::body_says, crate::proofs::LackingLaws::kind_there, crate::proofs::LackingLaws::parts_text))]
-    pub fn of_parts(head: &[u8], body: Vec<u8>) -> Result<Frame, LinkFault>
+    pub fn of_parts(head: &[u8], body: Vec<u8>) -> Result<Frame, FrameFault>
         requires head { length head.now ≡ 5 }
         requires body { lacking head.now ≡ Ok (length body.items) }
         ensures read { said (head.now ++ body.items) ≡ said_frame result [] }
@@ -124,7 +151,7 @@ impl Frame {
                 Ok(frame) => Ok(frame),
                 Err(fault) => Err(fault),
             },
-            None => Err(LinkFault::BadKind),
+            None => Err(FrameFault::BadKind),
         }
     }
 }

@@ -1,10 +1,10 @@
 //! A stream of frames that comes in pieces.
 ghost use Rattle.std.specs.Prelude.{◌≡◌, ◌≢◌, ◌++◌, [], None, Ok, IfErr, IsNone, IsSome, OnOk, OnErr, unwrap_or};
-ghost use Rattle.frames.specs.declared.fault.LinkFault.TheVariants.{NoMemory};
+ghost use Rattle.frames.specs.declared.fault.FrameFault.TheVariants.{NoMemory};
 ghost use Rattle.frames.specs.Stream.{Ends, TakesBeside, TakesText, fault_of};
 
 use crate::front::{end_of, read_first};
-use crate::{Frame, LinkFault};
+use crate::{Frame, FrameFault};
 use std::alloc::Global;
 use std::marker::Model;
 
@@ -15,7 +15,7 @@ pub struct FrameReader {
     alloc: Global,
     bytes: Vec<u8>,
     read: usize,
-    fault: Option<LinkFault>,
+    fault: Option<FrameFault>,
 }
 
 impl Model for FrameReader {
@@ -64,7 +64,7 @@ impl FrameReader {
     }
 
     /// Appends a piece of the stream.
-    pub fn feed(&mut self, piece: &[u8]) -> Result<(), LinkFault>
+    pub fn feed(&mut self, piece: &[u8]) -> Result<(), FrameFault>
         ensures fed { OnOk result (self.new.unread ≡ self.old.unread ++ piece.now) }
         ensures sound { OnOk result (self.old.fault ≡ None) }
         ensures refused { IfErr result (λ fault. fault ≡ unwrap_or self.old.fault NoMemory) }
@@ -78,12 +78,12 @@ impl FrameReader {
         self.drop_read();
         match self.bytes.extend_from_slice(piece) {
             Ok(()) => Ok(()),
-            Err(_refused) => Err(LinkFault::NoMemory),
+            Err(_refused) => Err(FrameFault::NoMemory),
         }
     }
 
     /// Takes the first frame off the unread bytes, if it is whole. It moves none of those behind it.
-    pub fn next(&mut self) -> Result<Option<Frame>, LinkFault>
+    pub fn next(&mut self) -> Result<Option<Frame>, FrameFault>
         ensures takes { TakesBeside self.old.fault self.old result self.new }
         ensures text { TakesText self.old.unread result self.new.unread }
     {
@@ -96,7 +96,7 @@ impl FrameReader {
                 Ok(Some(frame))
             }
             Ok(None) => Ok(None),
-            Err(LinkFault::NoMemory) => Err(LinkFault::NoMemory),
+            Err(FrameFault::NoMemory) => Err(FrameFault::NoMemory),
             Err(fault) => {
                 self.fault = Some(fault);
                 Err(fault)
@@ -106,7 +106,7 @@ impl FrameReader {
 
     /// Returns whether the stream may end here: it is Torn where it ends within a frame. A faulty frame is none such:
     /// `next` tells its fault. Frames that were not taken are passed over.
-    pub fn finish(self) -> Result<(), LinkFault>
+    pub fn finish(self) -> Result<(), FrameFault>
         ensures ends { Ends self.unread (fault_of result) }
         ensures faulty { IsSome self.fault → result ≡ Ok tt }
     {

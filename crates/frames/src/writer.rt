@@ -7,7 +7,7 @@ ghost use Rattle.frames.specs.Reading.{First, said};
 
 use crate::front::{BEFORE_BODY, LONGEST_BODY};
 use crate::kind::{Kind, MessageKind};
-use crate::{Frame, LinkFault};
+use crate::{Frame, FrameFault};
 use byte_codec::{put_byte, put_slice, put_u16, put_u32, put_u64};
 use std::alloc::Global;
 use takeover_core::Message;
@@ -24,6 +24,7 @@ fn message_kind(message: &Message) -> MessageKind
         Message::Ready { .. } => MessageKind::Ready,
         Message::Pong { .. } => MessageKind::Pong,
         Message::Data { .. } => MessageKind::Data,
+        Message::Part { .. } => MessageKind::Part,
         Message::Failed { .. } => MessageKind::Failed,
     }
 }
@@ -66,6 +67,7 @@ fn message_len(message: &Message) -> usize
         Message::Ready { .. } => 4 + 8,
         Message::Pong { .. } | Message::Failed { .. } => 4,
         Message::Data { bytes, .. } => 4 + 8 + bytes.as_slice().len(),
+        Message::Part { bytes, .. } => 4 + 8 + 4 + 4 + bytes.as_slice().len(),
     }
 }
 
@@ -143,6 +145,19 @@ fn put_message(out: &mut Vec<u8>, message: &Message)
             put_u64(out, *generation);
             put_slice(out, bytes.as_slice());
         }
+        Message::Part {
+            session,
+            generation,
+            position,
+            count,
+            bytes: part,
+        } => {
+            put_u32(out, *session);
+            put_u64(out, *generation);
+            put_u32(out, *position);
+            put_u32(out, *count);
+            put_slice(out, part.as_slice());
+        }
     }
 }
 
@@ -193,17 +208,17 @@ fn put_frame(out: &mut Vec<u8>, len: u32, frame: &Frame)
 impl Frame {
     /// Writes the text of the frame. It is all the memory that the call takes, at once.
     #[tactic(auto, using(crate::proofs::Written::lengths, crate::proofs::StreamLaws::framed_again))]
-    pub fn write(&self, alloc: Global) -> Result<Vec<u8>, LinkFault>
+    pub fn write(&self, alloc: Global) -> Result<Vec<u8>, FrameFault>
         ensures text { IfOk result (λ bytes. frame_text self.now ≡ Some bytes.items) }
         ensures read_again { IfOk result (λ bytes. (rest : List ℕ) → said (bytes.items ++ rest) ≡ First self.now rest) }
         ensures refused { IfErr result (IsNotWritten self.now) }
     {
         let len = body_len(self);
         if len > LONGEST_BODY {
-            return Err(LinkFault::TooLong);
+            return Err(FrameFault::TooLong);
         }
         let Ok(mut out) = Vec::with_capacity(alloc, BEFORE_BODY + len) else {
-            return Err(LinkFault::NoMemory);
+            return Err(FrameFault::NoMemory);
         };
         put_frame(&mut out, len as u32, self);
         Ok(out)
