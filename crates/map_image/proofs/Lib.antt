@@ -1,5 +1,7 @@
 pub mod CountLaws
+pub mod FedLaws
 pub mod FieldLaws
+pub mod Ghosts
 pub mod HeaderLaws
 pub mod ImageLaws
 pub mod Lengths
@@ -8,8 +10,13 @@ pub mod LongestLaws
 pub mod Loop
 pub mod MemberLaws
 pub mod Members
+pub mod PartsLaws
 pub mod Perms
+pub mod ReadingLaws
 pub mod RiseLaws
+pub mod SteadyLaws
+pub mod SteadyMembers
 pub mod UsageLaws
 pub mod VersionLaws
+pub mod WholeLaws
 pub mod Written

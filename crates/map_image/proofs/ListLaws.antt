@@ -13,7 +13,7 @@ use Rattle.map_image.specs.ImageText.{list_text}
 use Rattle.map_image.specs.ImageReading.{members_at, list_at}
 use Rattle.map_image.specs.Versions.{length_limit}
 use Rattle.map_image.proofs.FieldLaws.{of_four}
-use Rattle.map_image.proofs.Loop.{Member}
+use Rattle.map_image.specs.Feeding.{Member}
 use Rattle.map_image.proofs.MemberLaws.{Next}
 
 -- members are read and spelled, each behind the last one

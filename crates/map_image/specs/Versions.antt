@@ -1,10 +1,10 @@
 -- The versions of an image: what a text differs in from one version to another, a row for each. (This project's own.)
-use Rattle.std.specs.Prelude.{◌≡◌, ◌<◌, ◌≤◌, ℕ, ◌-◌, ◌^◌, ◌==◌, List, length, Option, Some, None, if◌then◌else◌}
+use Rattle.std.specs.Prelude.{◌≡◌, ◌<◌, ◌≤◌, ℕ, ◌*◌, ◌-◌, ◌^◌, ◌==◌, List, length, Option, Some, None, if◌then◌else◌}
 use Rattle.std.specs.Int.{Width, w32, w64}
 use Rattle.eden_base.specs.Limits.{greatest_count as greatest_held}
 use Rattle.map_image.specs.declared.version.CountWidth.{CountWidth}
 use Rattle.map_image.specs.declared.version.CountWidth.TheVariants.{Four, Eight}
-use Rattle.map_image.specs.declared.version.Sending.TheVariants.{Whole}
+use Rattle.map_image.specs.declared.version.Sending.TheVariants.{Parts, Whole}
 use Rattle.map_image.specs.declared.version.VersionForm.{VersionForm}
 
 -- ---- how many bytes a count takes
@@ -18,15 +18,32 @@ abbrev pub limit_of : CountWidth → ℕ
 limit_of Four = 2 ^ 32
 limit_of Eight = 2 ^ 64
 
+-- ---- the parts of a text that doesn't go whole
+
+-- the bytes of each part but the last
+abbrev pub part_len : ℕ
+part_len = 4096
+
+-- the most parts that a text goes in
+abbrev pub most_parts : ℕ
+most_parts = 65536
+
 -- ---- the versions
 
 -- counts of four bytes, and a text that goes in one message
 abbrev pub first_form : VersionForm
 first_form = record { count_width = Four; greatest_count = 2 ^ 32 - 1; longest = 65000; sending = Whole }
 
+-- the same counts, and a longer text, which goes in parts
+abbrev pub second_form : VersionForm
+second_form = record first_form { longest = 268435456; sending = Parts }
+
 -- the form of a version; where there is no row there is no such version
 abbrev pub form_of : ℕ → Option VersionForm
-form_of version = if version == 1 then Some first_form else None
+form_of version =
+    if version == 1 then Some first_form
+    else if version == 2 then Some second_form
+    else None
 
 -- ---- the same in each version
 
@@ -41,12 +58,13 @@ length_limit = limit_of Four
 -- ---- what each row keeps
 
 -- a count has room in its field and is one that the kernel may hold; a header with three empty lists is not too long,
--- and a list of a text can be counted
+-- a list of a text can be counted, and a text has few parts
 pub record IsForm (form : VersionForm) : Type 0 where
   pub count_has_room : form.greatest_count < limit_of form.count_width
   pub count_is_held : form.greatest_count ≤ greatest_held
   pub empty_has_room : 62 ≤ form.longest
   pub lists_are_few : form.longest < length_limit
+  pub parts_are_few : form.longest ≤ most_parts * part_len
 
 -- bytes are no longer than the longest text of a version that there is
 pub record IsNoLonger (version : ℕ) (bytes : List ℕ) : Type 0 where

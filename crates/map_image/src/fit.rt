@@ -38,7 +38,7 @@ fn entries_rise(entries: &[Kept]) -> bool
     true
 }
 
-/// Returns whether made files rise.
+/// Returns whether each made file has a higher id than the one before it.
 fn made_rise(files: &[Made]) -> bool
     ensures rise { result ≡ rises made_follows None files.now }
 {

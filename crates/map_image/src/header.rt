@@ -10,9 +10,9 @@ use byte_codec::{u16_at, u64_at};
 /// What is known of an image before its lists are read.
 #[derive(Clone, Copy)]
 pub struct Header {
-    /// Names the manifest that the checkout stands on.
+    /// The manifest's commit.
     pub commit: [u8; 20],
-    /// At which the daemon has the seat.
+    /// The generation at which the daemon has the seat.
     pub generation: u64,
     /// The number that is given next.
     pub next_number: u64,

@@ -46,9 +46,9 @@ impl Entries {
 /// All that a daemon knows of its mount, as it travels to the next one.
 #[derive(Drop)]
 pub struct Image {
-    /// Names the manifest that the checkout stands on.
+    /// The manifest's commit.
     pub commit: [u8; 20],
-    /// At which the daemon has the seat.
+    /// The generation at which the daemon has the seat.
     pub generation: u64,
     /// The number that is given next.
     pub next_number: u64,

@@ -1,78 +1,144 @@
-//! Images read from their bytes.
-ghost use Rattle.std.specs.Prelude.{◌≡◌, ℕ, IfErr, IfOk, Ok, OnOk};
+//! Images read from their bytes, whole or in pieces.
+ghost use Rattle.std.specs.Prelude.{◌≡◌, ℕ, [], ◌++◌, IfErr, IfOk, Ok, Err, Some};
+ghost use Rattle.byte_codec.specs.Field.{AreBytes};
+ghost use Rattle.map_image.specs.Feeding.{IsAnswer, Takes, standing_fault};
 ghost use Rattle.map_image.specs.Fit.{CountsFit, IsFit};
 ghost use Rattle.map_image.specs.ImageText.{IsImageText};
-ghost use Rattle.map_image.specs.ImageReading.{Gives, HasHeader, IsLate, changes_at, fields_at, image_of_bytes};
+ghost use Rattle.map_image.specs.ImageReading.{Gives, IsLate, Tells, image_of_bytes};
+ghost use Rattle.map_image.specs.declared.fault.ImageFault.{ImageFault};
 ghost use Rattle.map_image.specs.declared.image.Image.{Image};
 
-use crate::header::{form_at, header_at, magic_at};
-use crate::list_reader::{entries_at, links_at, made_files_at};
-use crate::usage::are_of_use;
-use crate::{Entries, Image, ImageFault};
-use checkout::{Changes, LinkList, MadeList};
-use eden_base::{FileId, NoMemory};
+use crate::copying::copied_bytes;
+use crate::feeding::feed;
+use crate::reading::Reading;
+use crate::taken::Taken;
+use crate::{Image, ImageFault, read_header};
+use eden_base::NoMemory;
 use std::alloc::Global;
+use std::marker::Model;
 
-/// Takes made files and changed names.
-#[tactic(auto, unfolding(crate::specs::ImageReading::changes_at))]
-fn changes_at(alloc: Global, next_file: u64, bytes: &[u8]) -> Result<(Changes, &[u8]), ImageFault>
-    ensures { Gives (λ x. (x.0, x.1.now)) result (changes_at next_file bytes.now) }
-{
-    let (made, rest) = made_files_at(alloc, bytes)?;
-    let (links, rest) = links_at(alloc, rest)?;
-    let changes = Changes {
-        made: MadeList::of(made),
-        links: LinkList::of(links),
-        next_file: FileId(next_file),
-    };
-    Ok((changes, rest))
+/// Reads an image whose bytes come in pieces. Contracts see the bytes that it took. What is whole of them is kept as
+/// lists, and what is cut off waits for the next piece.
+#[derive(Drop)]
+pub struct ImageReader {
+    taken: Taken,
+    reading: Reading,
+    tail: Vec<u8>,
+    fault: Option<ImageFault>,
 }
 
-/// Takes every field.
-#[tactic(auto, unfolding(crate::specs::ImageReading::fields_at, crate::specs::ImageReading::header_of_bytes))]
-fn fields_at(alloc: Global, bytes: &[u8]) -> Result<(Image, &[u8]), ImageFault>
-    ensures gives { Gives (λ x. (x.0, x.1.now)) result (fields_at bytes.now) }
-    ensures header { OnOk result (HasHeader bytes.now) }
-    ensures late { IfErr result (λ fault. IsLate fault bytes.now) }
-{
-    let rest = magic_at(bytes)?;
-    let (form, rest) = form_at(rest)?;
-    let (header, rest) = header_at(rest)?;
-    let (entries, rest) = entries_at(alloc, form, rest)?;
-    let (changes, rest) = changes_at(alloc, header.next_file, rest)?;
-    let commit = header.commit;
-    let image = Image {
-        commit,
-        generation: header.generation,
-        next_number: header.next_number,
-        entries: Entries::of(entries),
-        changes,
-    };
-    Ok((image, rest))
+impl Model for ImageReader {
+    ghost use Rattle.std.specs.Prelude.{ℕ, List};
+    ghost use Rattle.map_image.specs.Feeding.{IsReader};
+
+    ghost Value = { List ℕ };
+
+    ghost view = { λ a. a.taken.bytes };
+
+    ghost invariant = { λ a. IsReader a.taken.bytes a.reading a.tail.items a.fault };
 }
 
-/// Reads every field, and then looks at the whole.
-#[tactic(auto, unfolding(crate::specs::ImageReading::image_of_bytes))]
+impl ImageReader {
+    /// Returns a reader that took nothing.
+    pub fn new(alloc: Global) -> Result<ImageReader, NoMemory>
+        ensures nothing { IfOk result (λ reader. reader ≡ []) }
+    {
+        Ok(ImageReader {
+            taken: Taken::new(),
+            reading: Reading::new(alloc),
+            tail: Vec::new(alloc),
+            fault: None,
+        })
+    }
+
+    /// Takes a piece, and tells the fault of what it took as soon as the field is whole. Such a fault stands. Where
+    /// memory runs out, the reader is as it was.
+    pub fn feed(&mut self, piece: &[u8]) -> Result<(), ImageFault>
+        ensures takes { Takes self.old piece.now result self.new }
+        ensures exact { IsAnswer result (self.old ++ piece.now) }
+        ensures stands { (fault : ImageFault) → standing_fault self.old ≡ Some fault → result ≡ Err fault }
+    {
+        if let Some(fault) = self.fault {
+            self.taken.add(piece);
+            return Err(fault);
+        }
+        match feed(&mut self.reading, &mut self.tail, piece) {
+            Ok(()) => {
+                self.taken.add(piece);
+                Ok(())
+            }
+            Err(fault) => match fault {
+                ImageFault::NoMemory => Err(ImageFault::NoMemory),
+                _ => {
+                    self.taken.add(piece);
+                    self.fault = Some(fault);
+                    Err(fault)
+                }
+            },
+        }
+    }
+
+    /// Returns a reader that took the same bytes, in memory of its own.
+    pub fn copy(&self) -> Result<ImageReader, NoMemory>
+        ensures copy { IfOk result (λ copy. copy ≡ self.now) }
+    {
+        let reading = self.reading.copy()?;
+        let tail = copied_bytes(self.reading.alloc, self.tail.as_slice())?;
+        Ok(ImageReader {
+            taken: self.taken.copy(),
+            reading,
+            tail,
+            fault: self.fault,
+        })
+    }
+
+    /// Returns the image that the bytes are, or their first fault. Takes no memory.
+    pub fn finish(self) -> Result<Image, ImageFault>
+        // What was read is spelled so, in a version.
+        ensures text { IfOk result (λ image. (version : ℕ) × IsImageText image version self) }
+        ensures fit { IfOk result IsFit }
+        ensures counts { IfOk result (λ image. CountsFit image.entries) }
+        // What is spelled so is read.
+        ensures only { (image : Image) (version : ℕ) → IsImageText image version self
+            → Tells (λ image. image) result (Ok image) }
+        // Which fault it is; it is never that memory ran out.
+        ensures exact { Tells (λ image. image) result (image_of_bytes self) }
+    {
+        self.into_image()
+    }
+
+    /// Returns the image that the bytes are, or their first fault.
+    fn into_image(self) -> Result<Image, ImageFault>
+        ensures are { AreBytes self }
+        ensures exact { Tells (λ image. image) result (image_of_bytes self) }
+    {
+        let ImageReader {
+            reading,
+            tail,
+            fault,
+            ..
+        } = self;
+        if let Some(fault) = fault {
+            return Err(fault);
+        }
+        if !tail.as_slice().is_empty() {
+            return Err(ImageFault::Short);
+        }
+        reading.finish()
+    }
+}
+
+/// Reads the image that the bytes are, as one piece. Takes no memory before the header was looked at.
 fn read_image(alloc: Global, bytes: &[u8]) -> Result<Image, ImageFault>
     ensures gives { Gives (λ image. image) result (image_of_bytes bytes.now) }
     ensures late { IfErr result (λ fault. IsLate fault bytes.now) }
 {
-    let (image, rest) = fields_at(alloc, bytes)?;
-    if !rest.is_empty() {
-        drop(image);
-        return Err(ImageFault::Rest);
-    }
-    match are_of_use(alloc, image.entries.as_slice()) {
-        Ok(true) => Ok(image),
-        Ok(false) => {
-            drop(image);
-            Err(ImageFault::ZeroUse)
-        }
-        Err(NoMemory) => {
-            drop(image);
-            Err(ImageFault::NoMemory)
-        }
-    }
+    let _header = read_header(bytes)?;
+    let Ok(mut reader) = ImageReader::new(alloc) else {
+        return Err(ImageFault::NoMemory);
+    };
+    reader.feed(bytes)?;
+    reader.finish()
 }
 
 /// Reads the image that the bytes are, from front to back. Its lists grow as their members come, and a name takes

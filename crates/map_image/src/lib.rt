@@ -1,23 +1,30 @@
 //! The image of what a daemon knows of its mount, and its one spelling as bytes.
 #![tactic(auto)]
 
+mod copying;
 mod fault;
+mod feeding;
 mod fit;
 mod header;
 mod image;
 mod image_reader;
 mod image_writer;
+pub mod laws;
 mod list_reader;
 mod measure;
 mod member_reader;
 mod member_writer;
+mod parts;
 mod reader;
+mod reading;
+mod taken;
 mod usage;
 mod version;
 
 pub use fault::{ImageFault, WriteFault};
 pub use header::{Header, read_header};
 pub use image::{Entries, Image};
-pub use image_reader::read;
+pub use image_reader::{ImageReader, read};
 pub use image_writer::write;
+pub use parts::{PART_LEN, cut};
 pub use version::{CountWidth, Sending, VersionForm, form_of, is_version};

@@ -1,99 +1,117 @@
 //! The lists of an image, taken off the front of bytes. They grow as members come.
-ghost use Rattle.std.specs.Prelude.{None};
-ghost use Rattle.map_image.specs.ImageReading.{Gives, entry_at, made_at, link_at, members_at, list_at};
+ghost use Rattle.std.specs.Prelude.{◌≡◌, [], ◌∷◌, ◌++◌, OnOk};
+ghost use Rattle.map_image.specs.Feeding.{Extends, ReadsIn};
+ghost use Rattle.map_image.specs.ImageReading.{entry_at, made_at, link_at};
+ghost use Rattle.map_image.specs.Usage.{HasParents};
 
 use crate::member_reader::{entry_at, link_at, made_at};
+use crate::usage::add_parent;
 use crate::{ImageFault, VersionForm};
-use byte_codec::u32_at;
 use checkout::Made;
+use eden_base::NoMemory;
 use entry_table::Kept;
 use manifest::LinkChange;
 use std::alloc::Global;
 
-/// Takes `count` entries.
-fn each_entry(
+/// Adds an entry, and its directory.
+fn add_entry(entries: &mut Vec<Kept>, parents: &mut Vec<u64>, entry: Kept) -> Result<(), NoMemory>
+    ensures entries { OnOk result (entries.new.items ≡ entries.old.items ++ entry ∷ []) }
+    ensures parents { HasParents entries.old.items parents.old.items
+        → OnOk result (HasParents entries.new.items parents.new.items) }
+    ensures adds { Extends entries.old.items entries.new.items × Extends parents.old.items parents.new.items }
+{
+    add_parent(parents, &entry.place)?;
+    match entries.push(entry) {
+        Ok(()) => Ok(()),
+        Err(_refused) => Err(NoMemory),
+    }
+}
+
+/// Takes entries, of which `left` are left, as far as they are whole. Returns how many are left then, and the rest.
+pub(crate) fn more_entries<'a>(
     alloc: Global,
     form: VersionForm,
-    count: u32,
-    bytes: &[u8],
-) -> Result<(Vec<Kept>, &[u8]), ImageFault>
-    ensures { Gives (λ x. (x.0.items, x.1.now)) result (members_at (entry_at form) None count bytes.now) }
+    left: u32,
+    entries: &mut Vec<Kept>,
+    parents: &mut Vec<u64>,
+    bytes: &'a [u8],
+) -> Result<(u32, &'a [u8]), ImageFault>
+    ensures reads { ReadsIn (λ x. (x.0, x.1.now)) (entry_at form) entries.old.items left bytes.now entries.new.items
+        result }
+    ensures parents { HasParents entries.old.items parents.old.items
+        → OnOk result (HasParents entries.new.items parents.new.items) }
+    ensures adds { Extends entries.old.items entries.new.items × Extends parents.old.items parents.new.items }
 {
-    let mut entries = Vec::new(alloc);
     let mut rest = bytes;
-    for _ in 0..count {
-        let (entry, after) = entry_at(alloc, form, entries.as_slice(), rest)?;
-        let Ok(()) = entries.push(entry) else {
-            return Err(ImageFault::NoMemory);
-        };
-        rest = after;
+    for i in 0..left {
+        match entry_at(alloc, form, entries.as_slice(), rest) {
+            Ok((entry, after)) => {
+                let Ok(()) = add_entry(entries, parents, entry) else {
+                    return Err(ImageFault::NoMemory);
+                };
+                rest = after;
+            }
+            Err(fault) => match fault {
+                ImageFault::Short => return Ok((left - i, rest)),
+                _ => return Err(fault),
+            },
+        }
     }
-    Ok((entries, rest))
+    Ok((0, rest))
 }
 
-/// Takes `count` made files.
-fn each_made(alloc: Global, count: u32, bytes: &[u8]) -> Result<(Vec<Made>, &[u8]), ImageFault>
-    ensures { Gives (λ x. (x.0.items, x.1.now)) result (members_at made_at None count bytes.now) }
+/// Takes made files, of which `left` are left, as far as they are whole. Returns how many are left then, and the rest.
+pub(crate) fn more_made<'a>(
+    left: u32,
+    files: &mut Vec<Made>,
+    bytes: &'a [u8],
+) -> Result<(u32, &'a [u8]), ImageFault>
+    ensures reads { ReadsIn (λ x. (x.0, x.1.now)) made_at files.old.items left bytes.now files.new.items result }
+    ensures adds { Extends files.old.items files.new.items }
 {
-    let mut files = Vec::new(alloc);
     let mut rest = bytes;
-    for _ in 0..count {
-        let (made, after) = made_at(files.as_slice(), rest)?;
-        let Ok(()) = files.push(made) else {
-            return Err(ImageFault::NoMemory);
-        };
-        rest = after;
+    for i in 0..left {
+        match made_at(files.as_slice(), rest) {
+            Ok((made, after)) => {
+                let Ok(()) = files.push(made) else {
+                    return Err(ImageFault::NoMemory);
+                };
+                rest = after;
+            }
+            Err(fault) => match fault {
+                ImageFault::Short => return Ok((left - i, rest)),
+                _ => return Err(fault),
+            },
+        }
     }
-    Ok((files, rest))
+    Ok((0, rest))
 }
 
-/// Takes `count` changed names.
-fn each_link(
+/// Takes changed names, of which `left` are left, as far as they are whole. Returns how many are left then, and the
+/// rest.
+pub(crate) fn more_links<'a>(
     alloc: Global,
-    count: u32,
-    bytes: &[u8],
-) -> Result<(Vec<LinkChange>, &[u8]), ImageFault>
-    ensures { Gives (λ x. (x.0.items, x.1.now)) result (members_at link_at None count bytes.now) }
+    left: u32,
+    links: &mut Vec<LinkChange>,
+    bytes: &'a [u8],
+) -> Result<(u32, &'a [u8]), ImageFault>
+    ensures reads { ReadsIn (λ x. (x.0, x.1.now)) link_at links.old.items left bytes.now links.new.items result }
+    ensures adds { Extends links.old.items links.new.items }
 {
-    let mut links = Vec::new(alloc);
     let mut rest = bytes;
-    for _ in 0..count {
-        let (link, after) = link_at(alloc, links.as_slice(), rest)?;
-        let Ok(()) = links.push(link) else {
-            return Err(ImageFault::NoMemory);
-        };
-        rest = after;
+    for i in 0..left {
+        match link_at(alloc, links.as_slice(), rest) {
+            Ok((link, after)) => {
+                let Ok(()) = links.push(link) else {
+                    return Err(ImageFault::NoMemory);
+                };
+                rest = after;
+            }
+            Err(fault) => match fault {
+                ImageFault::Short => return Ok((left - i, rest)),
+                _ => return Err(fault),
+            },
+        }
     }
-    Ok((links, rest))
-}
-
-/// Takes how many entries there are, and each.
-#[tactic(auto, unfolding(crate::specs::ImageReading::list_at))]
-pub(crate) fn entries_at(
-    alloc: Global,
-    form: VersionForm,
-    bytes: &[u8],
-) -> Result<(Vec<Kept>, &[u8]), ImageFault>
-    ensures { Gives (λ x. (x.0.items, x.1.now)) result (list_at (entry_at form) bytes.now) }
-{
-    let (count, rest) = u32_at(bytes, ImageFault::Short)?;
-    each_entry(alloc, form, count, rest)
-}
-
-/// Takes how many made files there are, and each.
-#[tactic(auto, unfolding(crate::specs::ImageReading::list_at))]
-pub(crate) fn made_files_at(alloc: Global, bytes: &[u8]) -> Result<(Vec<Made>, &[u8]), ImageFault>
-    ensures { Gives (λ x. (x.0.items, x.1.now)) result (list_at made_at bytes.now) }
-{
-    let (count, rest) = u32_at(bytes, ImageFault::Short)?;
-    each_made(alloc, count, rest)
-}
-
-/// Takes how many changed names there are, and each.
-#[tactic(auto, unfolding(crate::specs::ImageReading::list_at))]
-pub(crate) fn links_at(alloc: Global, bytes: &[u8]) -> Result<(Vec<LinkChange>, &[u8]), ImageFault>
-    ensures { Gives (λ x. (x.0.items, x.1.now)) result (list_at link_at bytes.now) }
-{
-    let (count, rest) = u32_at(bytes, ImageFault::Short)?;
-    each_link(alloc, count, rest)
+    Ok((0, rest))
 }

@@ -92,7 +92,7 @@ pub(crate) fn entry_at<'a>(
     Ok((kept, rest))
 }
 
-/// Returns whether a file rises above the last made one.
+/// Returns whether a file's id is above that of the last file in `done`.
 pub(crate) fn is_next_file(done: &[Made], file: u64) -> bool
     ensures { result ≡ is_next_file (last_of done.now) file }
 {

@@ -3,6 +3,7 @@ ghost use Rattle.std.specs.Prelude.{◌≡◌, ◌||◌, ℕ, List, IfOk, OnOk};
 ghost use Rattle.std.specs.List.{list_any};
 ghost use Rattle.entry_table.specs.Entries.{is_in, is_kid_of, is_of_use};
 ghost use Rattle.entry_table.specs.declared.kept.Kept.{Kept};
+ghost use Rattle.map_image.specs.Feeding.{Extends};
 ghost use Rattle.map_image.specs.ImageReading.{are_of_use};
 ghost use Rattle.map_image.specs.Usage.{is_number, AreParents, HasParents};
 
@@ -11,9 +12,10 @@ use entry_table::Kept;
 use std::alloc::Global;
 
 /// Adds the directory of a place that has one.
-fn add_parent(parents: &mut Vec<u64>, place: &Place) -> Result<(), NoMemory>
-    ensures { OnOk result ((n : ℕ) → list_any (is_number n) parents.new.items
+pub(crate) fn add_parent(parents: &mut Vec<u64>, place: &Place) -> Result<(), NoMemory>
+    ensures has { OnOk result ((n : ℕ) → list_any (is_number n) parents.new.items
         ≡ (list_any (is_number n) parents.old.items || is_in n place.now)) }
+    ensures adds { Extends parents.old.items parents.new.items }
 {
     match place {
         Place::Linked { parent, .. } => {
@@ -35,13 +37,13 @@ fn parents_in_turn(alloc: Global, entries: &[Kept]) -> Result<Vec<u64>, NoMemory
     Ok(parents)
 }
 
-/// Returns the directories in which entries stand, so that they can be searched.
-fn parents_of(alloc: Global, entries: &[Kept]) -> Result<Vec<u64>, NoMemory>
-    ensures { IfOk result (λ parents. AreParents entries.now parents.items) }
+/// Returns the directories in which entries stand, so that they can be searched. Takes no memory.
+pub(crate) fn sorted(parents: Vec<u64>) -> Vec<u64>
+    ensures { (entries : List Kept) → HasParents entries parents.items → AreParents entries result.items }
 {
-    let mut parents = parents_in_turn(alloc, entries)?;
-    parents.sort_unstable();
-    Ok(parents)
+    let mut sorted = parents;
+    sorted.sort_unstable();
+    sorted
 }
 
 /// Returns whether an entry is of use, by the directories in which entries stand.
@@ -58,7 +60,7 @@ fn is_of_use(kept: &Kept, parents: &[u64]) -> bool
 }
 
 /// Returns whether each entry is of use.
-fn all_of_use(entries: &[Kept], parents: &[u64]) -> bool
+pub(crate) fn all_of_use(entries: &[Kept], parents: &[u64]) -> bool
     requires { AreParents entries.now parents.now }
     ensures { result ≡ are_of_use entries.now }
 {
@@ -74,6 +76,6 @@ fn all_of_use(entries: &[Kept], parents: &[u64]) -> bool
 pub(crate) fn are_of_use(alloc: Global, entries: &[Kept]) -> Result<bool, NoMemory>
     ensures { IfOk result (λ all. all ≡ are_of_use entries.now) }
 {
-    let parents = parents_of(alloc, entries)?;
+    let parents = sorted(parents_in_turn(alloc, entries)?);
     Ok(all_of_use(entries, parents.as_slice()))
 }

@@ -15,6 +15,8 @@ pub enum CountWidth {
 pub enum Sending {
     /// In one message.
     Whole,
+    /// In numbered messages, a part in each.
+    Parts,
 }
 
 /// What a text of one version differs in from another's.
@@ -36,15 +38,23 @@ const FIRST: VersionForm = VersionForm {
     sending: Sending::Whole,
 };
 
+/// The form of version 2: a longer text, which doesn't go whole.
+const SECOND: VersionForm = VersionForm {
+    longest: 268_435_456,
+    sending: Sending::Parts,
+    ..FIRST
+};
+
 /// Returns the form of `version`, if there is such a version.
 pub fn form_of(version: u16) -> Option<VersionForm>
     ensures row { result ≡ form_of version }
     ensures keeps { IfSome result IsForm }
 {
-    if version == 1 {
-        return Some(FIRST);
+    match version {
+        1 => Some(FIRST),
+        2 => Some(SECOND),
+        _ => None,
     }
-    None
 }
 
 /// Returns whether there is such a version.

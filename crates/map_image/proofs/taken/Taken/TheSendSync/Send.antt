@@ -1,0 +1,6 @@
+-- They own nothing, so they may go to another thread.
+use denote.Param.Send.{IsSend, owning_send, sendable}
+use Rattle.map_image.specs.contracts.taken.Taken.{the_row, the_type}
+
+pub send : IsSend the_row
+send = owning_send the_type (search sendable, tt) (λ d. tt) (λ k x w. tt)

@@ -1,0 +1,40 @@
+//! The bytes that a reader took, which clauses alone read.
+ghost use Rattle.std.specs.Prelude.{◌≡◌, ℕ, List, [], ◌++◌};
+ghost use Rattle.std.specs.Borrow.{ftrue};
+
+use std::marker::{Model, PhantomData, Send};
+
+/// The bytes that were taken, in their order. They are kept nowhere: contracts name them, and nothing is done for them
+/// while the program runs.
+#[derive(Drop)]
+pub struct Taken {
+    mark: PhantomData<u8>,
+    pub ghost bytes: { List ℕ },
+}
+
+impl Model for Taken {
+    ghost also_owns = { λ _. ftrue };
+}
+
+unsafe impl Send for Taken {}
+
+impl Taken {
+    /// Returns no bytes.
+    pub(crate) fn new() -> Taken
+        ensures { result.bytes ≡ [] }
+    {
+        Taken { mark: PhantomData }
+    }
+
+    /// Adds a piece.
+    pub(crate) fn add(&mut self, _piece: &[u8])
+        ensures { self.new.bytes ≡ self.old.bytes ++ _piece.now }
+    {}
+
+    /// Returns the same bytes.
+    pub(crate) fn copy(&self) -> Taken
+        ensures { result.bytes ≡ self.now.bytes }
+    {
+        Taken { mark: PhantomData }
+    }
+}
