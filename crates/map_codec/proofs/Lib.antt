@@ -10,6 +10,7 @@ pub mod RaisedLaws
 pub mod RaisingLaws
 pub mod RightHeader
 pub mod SoundRaises
+pub mod TakenOver
 pub mod Told
 pub mod TwiceLaws
 pub mod WayLaws

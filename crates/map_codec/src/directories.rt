@@ -22,7 +22,7 @@ fn place_of(entries: &[Kept], near: usize, number: Number) -> Option<usize>
         .ok()
 }
 
-/// Where the directory of a place has its entry, as far as it wants one.
+/// The index of the entry of a place's directory, if that directory needs an entry.
 pub(crate) enum DirectoryEntry {
     /// The directory is the root, or the place is a mark and in none.
     Unwanted,
@@ -30,7 +30,7 @@ pub(crate) enum DirectoryEntry {
     Missing,
 }
 
-/// Returns where the directory of a place has its entry: at `near`, or where a search finds it.
+/// Returns the index of the entry of a place's directory. It looks at index `near` first, and then searches.
 fn directory_of(entries: &[Kept], near: usize, place: &Place) -> DirectoryEntry
     requires rise { rises entry_follows None entries.now ≡ true }
     ensures { TellsDirectory entries.now place.now result }

@@ -16,4 +16,4 @@ pub use fault::{HandoverFault, RaiseFault};
 pub use giver::hand_over;
 pub use raising::raise;
 pub use served_image::image_of;
-pub use taker::take_over;
+pub use taker::{take_over, take_over_read};

@@ -4,12 +4,13 @@ ghost use Rattle.fuse_ops.specs.Soundness.{IsSound};
 ghost use Rattle.map_image.specs.Fit.{CountsFit, IsFit};
 ghost use Rattle.map_image.specs.ImageText.{IsImageText};
 ghost use Rattle.map_codec.specs.Raising.{raised, IsRaisable};
+ghost use Rattle.map_codec.specs.declared.fault.HandoverFault.TheVariants.{Refused};
 ghost use Rattle.map_codec.specs.Handover.{told_of_raise, told_of_read, HasRightHeader, IsReadRefusal, IsServingRefusal, IsTakenOver, IsTakingRefusal};
 
 use crate::{HandoverFault, RaiseFault, raise};
 use fuse_ops::Served;
 use manifest::Manifest;
-use map_image::{Image, ImageFault, read, read_header};
+use map_image::{Image, ImageFault, ImageReader, read, read_header};
 use std::alloc::Global;
 
 /// Returns whether the header of bytes is whole and right, of this generation and of the manifest's commit.
@@ -22,7 +23,7 @@ fn has_right_header(bytes: &[u8], manifest: &Manifest, generation: u64) -> bool
     }
 }
 
-/// Returns what is told where reading has this fault.
+/// Converts a fault of reading to the fault of the takeover.
 fn read_told(fault: ImageFault) -> HandoverFault
     ensures { result ≡ told_of_read fault }
 {
@@ -32,7 +33,7 @@ fn read_told(fault: ImageFault) -> HandoverFault
     }
 }
 
-/// Reads the image that the bytes are.
+/// Reads an image from bytes that are all of it.
 fn image_told(alloc: Global, bytes: &[u8]) -> Result<Image, HandoverFault>
     ensures text { IfOk result (λ image. (version : ℕ) × IsImageText image version bytes.now) }
     ensures fit { IfOk result IsFit }
@@ -42,6 +43,20 @@ fn image_told(alloc: Global, bytes: &[u8]) -> Result<Image, HandoverFault>
     match read(alloc, bytes) {
         Ok(image) => Ok(image),
         Err(fault) => Err(read_told(fault)),
+    }
+}
+
+/// Returns the image that a reader took. Takes no memory, so what is told is never that it ran out.
+fn image_fed(reader: ImageReader) -> Result<Image, HandoverFault>
+    ensures text { IfOk result (λ image. (version : ℕ) × IsImageText image version reader) }
+    ensures fit { IfOk result IsFit }
+    ensures counts { IfOk result (λ image. CountsFit image.entries) }
+    ensures refused { IfErr result (IsReadRefusal reader) }
+    ensures told { IfErr result (λ fault. fault ≡ Refused) }
+{
+    match reader.finish() {
+        Ok(image) => Ok(image),
+        Err(_) => Err(HandoverFault::Refused),
     }
 }
 
@@ -92,4 +107,24 @@ pub fn take_over(
     }
     let image = image_told(alloc, bytes)?;
     served_again(alloc, image, manifest, limit)
+}
+
+/// Takes over what the bytes tell that a reader took, as `take_over` does. Memory is taken once the image is whole and
+/// of this generation.
+pub fn take_over_read(
+    alloc: Global,
+    reader: ImageReader,
+    manifest: &Manifest,
+    limit: usize,
+    generation: u64,
+) -> Result<Served, HandoverFault>
+    ensures taken { IfOk result (IsTakenOver manifest.now limit generation reader) }
+    ensures refused { IfErr result (IsTakingRefusal manifest.now generation reader) }
+{
+    let image = image_fed(reader)?;
+    if image.generation == generation {
+        return served_again(alloc, image, manifest, limit);
+    }
+    drop(image);
+    Err(HandoverFault::Refused)
 }
