@@ -1,4 +1,7 @@
-pub mod Places
+pub mod Positions
 pub mod ServingLemmas
 pub mod DaemonCalls
 pub mod BeginningLemmas
+pub mod PhaseLemmas
+pub mod PartLemmas
+pub mod HandingLemmas

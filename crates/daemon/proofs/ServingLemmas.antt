@@ -2,7 +2,7 @@
 use Rattle.std.proofs.Common.{◌≡◌, ℕ, ◌+◌, ◌<◌, Bool, List, [], ◌∷◌, ◌++◌, length, Option, Some, None, get_or, refl, sym, ap, ◌∙◌, subst}
 use Rattle.std.proofs.lemmas.List.{append-nil, map-append, take_more}
 use Rattle.std.proofs.lemmas.Option.{slice_get_read}
-use Rattle.std.specs.Prelude.{remove, map, take, ◌≢◌, true, false, ◌||◌, is_some, if◌then◌else◌}
+use Rattle.std.specs.Prelude.{remove, map, take, true, false, ◌||◌, is_some, if◌then◌else◌}
 use Rattle.std.specs.List.{AllByRecursion}
 use Rattle.eden_base.specs.declared.number.DaemonId.{DaemonId}
 use Rattle.fuse_wire.specs.Request.{is_ask, item_of, items_of}
@@ -14,44 +14,44 @@ use Rattle.fuse_ops.proofs.Asking.{asks-ask}
 use Rattle.fuse_ops.specs.Served.{ServedState, Replay}
 use Rattle.fuse_wire.specs.declared.reply.Reply.{Reply}
 use Rattle.broker_core.specs.Broker.{BrokerState, post_fault}
-use Rattle.daemon.specs.Server.{ServerState, at_place, without_place, single, is_single, handed, told_item}
+use Rattle.daemon.specs.Server.{ServerState, at_position, without_position, single, is_single, handed, told_item}
 use Rattle.daemon.specs.Serving.{IsIndex, HasNone, FailsSo, WorksBy, WorksOff, PostsBy, PostsReply}
 use Rattle.daemon.specs.declared.happened.Happened.{Happened}
 use Rattle.daemon.specs.declared.happened.Happened.TheVariants.{Refused, Made}
 use Rattle.daemon.specs.declared.happened.Refusal.TheVariants.{NoSuch}
-use Rattle.daemon.proofs.Places.{at-none, at-index}
+use Rattle.daemon.proofs.Positions.{at-none, at-index}
 
--- what was read at an index stands at its place
-pub at-read : {X : Type 0} (xs : List X) (place index : ℕ) (x : X) → IsIndex (length xs) place index → x ≡ get_or xs index x → at_place xs place ≡ Some x
-at-read xs place index x at read = at-index xs place index at ∙ slice_get_read xs (length xs) index x refl at.within read
+-- what was read at an index stands at its position
+pub at-read : {X : Type 0} (xs : List X) (position index : ℕ) (x : X) → IsIndex (length xs) position index → x ≡ get_or xs index x → at_position xs position ≡ Some x
+at-read xs position index x at read = at-index xs position index at ∙ slice_get_read xs (length xs) index x refl at.within read
 
--- a list without the member at an index is without that of its place
-pub without-index : {X : Type 0} (xs : List X) (count place index : ℕ) → IsIndex count place index → remove xs index ≡ without_place xs place
-without-index xs count place index at = ap (λ (i : ℕ). remove xs i) at.is
+-- a list without the member at an index is without that of its position
+pub without-index : {X : Type 0} (xs : List X) (count position index : ℕ) → IsIndex count position index → remove xs index ≡ without_position xs position
+without-index xs count position index at = ap (λ (i : ℕ). remove xs i) at.is
 
--- nothing of that place is in hand
-pub WorksBy-none : (s : ServerState) (place : ℕ) (fails : Bool) (told : Happened) → HasNone (length s.hand) place → told ≡ Refused NoSuch →
-    WorksBy (at_place s.hand place) s place fails told s
-WorksBy-none s place fails told none tells = subst (λ (o : Option Ask). WorksBy o s place fails told s) (sym (at-none s.hand place none)) (record { tells = tells; same = refl })
+-- nothing of that position is in hand
+pub WorksBy-none : (s : ServerState) (position : ℕ) (fails : Bool) (told : Happened) → HasNone (length s.hand) position → told ≡ Refused NoSuch →
+    WorksBy (at_position s.hand position) s position fails told s
+WorksBy-none s position fails told none tells = subst (λ (o : Option Ask). WorksBy o s position fails told s) (sym (at-none s.hand position none)) (record { tells = tells; same = refl })
 
 -- a member of the hand was worked
-pub WorksBy-some : (s n : ServerState) (place : ℕ) (fails : Bool) (index : ℕ) (task : Ask) (told : Happened) → IsIndex (length s.hand) place index → task ≡ get_or s.hand index task →
-    WorksOff s place fails task told n → WorksBy (at_place s.hand place) s place fails told n
-WorksBy-some s n place fails index task told at read works =
-    subst (λ (o : Option Ask). WorksBy o s place fails told n) (sym (at-read s.hand place index task at read)) works
+pub WorksBy-some : (s n : ServerState) (position : ℕ) (fails : Bool) (index : ℕ) (task : Ask) (told : Happened) → IsIndex (length s.hand) position index → task ≡ get_or s.hand index task →
+    WorksOff s position fails task told n → WorksBy (at_position s.hand position) s position fails told n
+WorksBy-some s n position fails index task told at read works =
+    subst (λ (o : Option Ask). WorksBy o s position fails told n) (sym (at-read s.hand position index task at read)) works
 
--- no reply of that place is unposted
-pub PostsBy-none : (s : ServerState) (broker : BrokerState) (d : DaemonId) (place : ℕ) (told : Happened) → HasNone (length s.unposted) place → told ≡ Refused NoSuch →
-    PostsBy (at_place s.unposted place) s broker d place told s broker
-PostsBy-none s broker d place told none tells =
-    subst (λ (o : Option Reply). PostsBy o s broker d place told s broker) (sym (at-none s.unposted place none)) (record { tells = tells; same = refl; same_broker = refl })
+-- no reply of that position is unposted
+pub PostsBy-none : (s : ServerState) (broker : BrokerState) (d : DaemonId) (position : ℕ) (told : Happened) → HasNone (length s.unposted) position → told ≡ Refused NoSuch →
+    PostsBy (at_position s.unposted position) s broker d position told s broker
+PostsBy-none s broker d position told none tells =
+    subst (λ (o : Option Reply). PostsBy o s broker d position told s broker) (sym (at-none s.unposted position none)) (record { tells = tells; same = refl; same_broker = refl })
 
 -- a reply was posted, or refused
-pub PostsBy-some : (s n : ServerState) (broker left : BrokerState) (d : DaemonId) (place index : ℕ) (reply : Reply) (told : Happened) →
-    IsIndex (length s.unposted) place index → reply ≡ get_or s.unposted index reply → PostsReply (post_fault broker d s.generation reply) s broker place reply told n left →
-    PostsBy (at_place s.unposted place) s broker d place told n left
-PostsBy-some s n broker left d place index reply told at read posts =
-    subst (λ (o : Option Reply). PostsBy o s broker d place told n left) (sym (at-read s.unposted place index reply at read)) posts
+pub PostsBy-some : (s n : ServerState) (broker left : BrokerState) (d : DaemonId) (position index : ℕ) (reply : Reply) (told : Happened) →
+    IsIndex (length s.unposted) position index → reply ≡ get_or s.unposted index reply → PostsReply (post_fault broker d s.generation reply) s broker position reply told n left →
+    PostsBy (at_position s.unposted position) s broker d position told n left
+PostsBy-some s n broker left d position index reply told at read posts =
+    subst (λ (o : Option Reply). PostsBy o s broker d position told n left) (sym (at-read s.unposted position index reply at read)) posts
 
 -- ---- what was worked
 
@@ -69,30 +69,30 @@ forget_fails served fails request answer later none replay = (
 )
 
 -- a request without an answer
-pub WorksOff-forgets : (old : ServerState) (count place index : ℕ) (fails : Bool) (task : Ask) (item : Option Item) (told : Happened) (answer : Option Answer) (later : ServedState) (hand : List Ask) (unposted : List Reply) →
-    IsIndex count place index → answer ≡ None → Replay old.served task.what answer later → told ≡ told_item old.served item → item ≡ item_of task.what →
-    hand ≡ remove old.hand index → unposted ≡ old.unposted → WorksOff old place fails task told (record old { served = later; hand = hand; unposted = unposted })
-WorksOff-forgets old count place index fails task item told answer later hand unposted at none replay tells is left same = record {
+pub WorksOff-forgets : (old : ServerState) (count position index : ℕ) (fails : Bool) (task : Ask) (item : Option Item) (told : Happened) (answer : Option Answer) (later : ServedState) (hand : List Ask) (unposted : List Reply) →
+    IsIndex count position index → answer ≡ None → Replay old.served task.what answer later → told ≡ told_item old.served item → item ≡ item_of task.what →
+    hand ≡ remove old.hand index → unposted ≡ old.unposted → WorksOff old position fails task told (record old { served = later; hand = hand; unposted = unposted })
+WorksOff-forgets old count position index fails task item told answer later hand unposted at none replay tells is left same = record {
   later = later;
   answer = None;
   replay = subst (λ (o : Option Answer). Replay old.served task.what o later) none replay;
   fails_so = forget_fails old.served fails task.what answer later none replay;
   tells = tells ∙ ap (told_item old.served) is;
-  makes = worked-fields old later hand _ unposted _ (left ∙ without-index old.hand count place index at) (same ∙ sym (append-nil old.unposted));
+  makes = worked-fields old later hand _ unposted _ (left ∙ without-index old.hand count position index at) (same ∙ sym (append-nil old.unposted));
 }
 
 -- a request with one
-pub WorksOff-answers : (old : ServerState) (count place index : ℕ) (fails : Bool) (task : Ask) (answer : Answer) (given : Option Answer) (later : ServedState) (hand : List Ask) (before unposted : List Reply) →
-    IsIndex count place index → given ≡ Some answer → Replay old.served task.what given later → FailsSo fails old.served task.what given →
+pub WorksOff-answers : (old : ServerState) (count position index : ℕ) (fails : Bool) (task : Ask) (answer : Answer) (given : Option Answer) (later : ServedState) (hand : List Ask) (before unposted : List Reply) →
+    IsIndex count position index → given ≡ Some answer → Replay old.served task.what given later → FailsSo fails old.served task.what given →
     hand ≡ remove old.hand index → before ≡ old.unposted → unposted ≡ before ++ record { unique = task.unique; answer = answer } ∷ [] →
-    WorksOff old place fails task (Made (record { unique = task.unique; answer = answer })) (record old { served = later; hand = hand; unposted = unposted })
-WorksOff-answers old count place index fails task answer given later hand before unposted at is replay fails_so left same pushed = record {
+    WorksOff old position fails task (Made (record { unique = task.unique; answer = answer })) (record old { served = later; hand = hand; unposted = unposted })
+WorksOff-answers old count position index fails task answer given later hand before unposted at is replay fails_so left same pushed = record {
   later = later;
   answer = Some answer;
   replay = subst (λ (o : Option Answer). Replay old.served task.what o later) is replay;
   fails_so = subst (FailsSo fails old.served task.what) is fails_so;
   tells = refl;
-  makes = worked-fields old later hand _ unposted _ (left ∙ without-index old.hand count place index at) (pushed ∙ ap (λ (rs : List Reply). rs ++ record { unique = task.unique; answer = answer } ∷ []) same);
+  makes = worked-fields old later hand _ unposted _ (left ∙ without-index old.hand count position index at) (pushed ∙ ap (λ (rs : List Reply). rs ++ record { unique = task.unique; answer = answer } ∷ []) same);
 }
 
 -- one item more, each by itself

@@ -1,40 +1,24 @@
 -- One daemon of the world: its part in takeovers, and what it serves. (This project's own.)
-use Rattle.std.specs.Prelude.{◌≡◌, ℕ, Bool, true, false, List, [], ◌∷◌, length, Option, Some, None}
-use Rattle.std.specs.List.{AllByRecursion}
+use Rattle.std.specs.Prelude.{ℕ, Bool, true, false, List, [], length, Option, Some, None}
 use Rattle.std.specs.Option.{option_map_or}
-use Rattle.map_image.specs.Versions.{form_of}
-use Rattle.map_image.specs.declared.version.Sending.TheVariants.{Whole}
-use Rattle.map_image.specs.declared.version.VersionForm.{VersionForm}
 use Rattle.takeover_core.specs.Node.{NodeState, new_node}
 use Rattle.takeover_core.specs.declared.phase.Phase.{Phase}
-use Rattle.takeover_core.specs.declared.phase.Phase.TheVariants.{Waiting}
+use Rattle.takeover_core.specs.declared.phase.Phase.TheVariants.{Waiting, Reading}
 use Rattle.fuse_wire.specs.declared.reply.Reply.{Reply}
 use Rattle.fuse_wire.specs.declared.request.Ask.{Ask}
 use Rattle.daemon.specs.Server.{ServerState}
 use Rattle.daemon.specs.declared.lease.Lease.{Lease}
 
--- its phase, with the versions that it has; and what it serves and has in hand: nothing before it mounted or took
--- over, and nothing once it is gone
+-- its phase, with the versions that it has; what it serves and has in hand: nothing before it mounted or took over, and
+-- nothing once it is gone; and the bytes of the parts that it read, while it waits for others
 pub record DaemonState : Type 0 where
   pub node : NodeState
   pub server : Option ServerState
+  pub reading : Option (List ℕ)
 
--- the versions of the image that every daemon has
-abbrev pub versions : List ℕ
-versions = 1 ∷ []
-
--- there is such a version, and its text goes in one message, as that of `Data`
-abbrev pub IsSentWhole : Option VersionForm → Type 0
-IsSentWhole None = ⊥
-IsSentWhole (Some form) = form.sending ≡ Whole
-
--- so it is of each version
-abbrev pub AreSentWhole : List ℕ → Type 0
-AreSentWhole versions = AllByRecursion (λ (version : ℕ). IsSentWhole (form_of version)) versions
-
--- a daemon that was just started
-abbrev pub new_daemon : DaemonState
-new_daemon = record { node = new_node versions; server = None }
+-- a daemon that was just started, with these versions of the image
+abbrev pub new_daemon : List ℕ → DaemonState
+new_daemon versions = record { node = new_node versions; server = None; reading = None }
 
 -- a phase in which a daemon may mount
 abbrev pub is_waiting_in : Phase → Bool
@@ -48,6 +32,16 @@ is_waiting daemon = is_waiting_in daemon.node.phase
 -- the daemon with this part in takeovers
 abbrev pub with_node : DaemonState → NodeState → DaemonState
 with_node daemon node = record daemon { node = node }
+
+-- what was read is kept while other parts are waited for
+abbrev pub read_in : Phase → Option (List ℕ) → Option (List ℕ)
+read_in (Reading session generation version position count) read = read
+read_in phase read = None
+
+-- the daemon turned to this part in takeovers by a message, or where it gave up
+abbrev pub turned_to : DaemonState → NodeState → DaemonState
+turned_to daemon node =
+    record { node = node; server = daemon.server; reading = read_in node.phase daemon.reading }
 
 -- the daemon with this in hand
 abbrev pub with_server : DaemonState → ServerState → DaemonState

@@ -32,13 +32,13 @@ abbrev pub new_server : Manifest → ℕ → ℕ → ServerState
 new_server manifest limit generation =
     record { generation = generation; served = new_served manifest limit; hand = []; unposted = [] }
 
--- the member at a place, of which the first is 1
-abbrev pub at_place : {X : Type 0} → List X → ℕ → Option X
-at_place xs place = if place == 0 then None else slice_get xs (place - 1)
+-- the member at a position, of which the first is 1
+abbrev pub at_position : {X : Type 0} → List X → ℕ → Option X
+at_position xs position = if position == 0 then None else slice_get xs (position - 1)
 
 -- the list without that member
-abbrev pub without_place : {X : Type 0} → List X → ℕ → List X
-without_place xs place = remove xs (place - 1)
+abbrev pub without_position : {X : Type 0} → List X → ℕ → List X
+without_position xs position = remove xs (position - 1)
 
 -- ---- what it takes
 
@@ -80,16 +80,16 @@ abbrev pub told_worked : ServedState → Ask → Option Answer → Happened
 told_worked served task (Some answer) = happened.Made (record { unique = task.unique; answer = answer })
 told_worked served task None = told_item served (item_of task.what)
 
--- after a request at a place of the hand was worked
+-- after a request at a position of the hand was worked
 abbrev pub with_worked : ServerState → ℕ → Ask → Option Answer → ServedState → ServerState
-with_worked server place task answer later = record server {
+with_worked server position task answer later = record server {
   served = later;
-  hand = without_place server.hand place;
+  hand = without_position server.hand position;
   unposted = server.unposted ++ reply_to task answer;
 }
 
 -- ---- what it posts
 
--- after the reply at a place was posted
+-- after the reply at a position was posted
 abbrev pub with_posted : ServerState → ℕ → ServerState
-with_posted server place = record server { unposted = without_place server.unposted place }
+with_posted server position = record server { unposted = without_position server.unposted position }

@@ -13,7 +13,7 @@ use Rattle.fuse_wire.specs.declared.reply.Answer.TheVariants.{Error}
 use Rattle.fuse_wire.specs.declared.reply.Reply.{Reply}
 use Rattle.fuse_ops.specs.Loading.{AsksBacking}
 use Rattle.fuse_ops.specs.Served.{ServedState, Replay}
-use Rattle.daemon.specs.Server.{ServerState, at_place, told_taken, with_taken, told_worked, with_worked, with_posted}
+use Rattle.daemon.specs.Server.{ServerState, at_position, told_taken, with_taken, told_worked, with_worked, with_posted}
 use Rattle.takeover_core.specs.Phases.{may_take}
 use Rattle.daemon.specs.Daemon.{DaemonState, with_server}
 use Rattle.daemon.specs.Refusals.{refusal_of_take, refusal_of_post}
@@ -22,17 +22,17 @@ use Rattle.daemon.specs.declared.happened.Happened.TheVariants.{Refused, Posted}
 use Rattle.daemon.specs.declared.happened.Refusal.{Refusal}
 use Rattle.daemon.specs.declared.happened.Refusal.TheVariants.{NoSuch, NoMemory, WrongPhase}
 
--- ---- places
+-- ---- positions
 
--- the member of a place stands at this index
-pub record IsIndex (count place index : ℕ) : Type 0 where
-  pub counted : (place == 0) ≡ false
-  pub is : index ≡ place - 1
+-- the member of a position stands at this index
+pub record IsIndex (count position index : ℕ) : Type 0 where
+  pub counted : (position == 0) ≡ false
+  pub is : index ≡ position - 1
   pub within : index < count
 
 -- a list of this count has no member at the position
 abbrev pub HasNone : ℕ → ℕ → Type 0
-HasNone count place = (place ≡ 0) ⊎ (count ≤ place - 1)
+HasNone count position = (position ≡ 0) ⊎ (count ≤ position - 1)
 
 -- ---- calls of a serving daemon
 
@@ -66,44 +66,44 @@ abbrev pub FailsSo : Bool → ServedState → Request → Option Answer → Type
 FailsSo fails served request answer = (answer ≡ Some (Error EIO)) ↔ ((fails ≡ true) × AsksBacking served request)
 
 -- a request was worked
-pub record WorksOff (old : ServerState) (place : ℕ) (fails : Bool) (task : Ask) (told : Happened)
+pub record WorksOff (old : ServerState) (position : ℕ) (fails : Bool) (task : Ask) (told : Happened)
     (new : ServerState) : Type 0 where
   pub later : ServedState
   pub answer : Option Answer
   pub replay : Replay old.served task.what answer later
   pub fails_so : FailsSo fails old.served task.what answer
   pub tells : told ≡ told_worked old.served task answer
-  pub makes : new ≡ with_worked old place task answer later
+  pub makes : new ≡ with_worked old position task answer later
 
 -- a call that the kernel's side has no part in is refused, and nothing changes
 pub record Keeps {X : Type 0} (old : X) (refusal : Refusal) (told : Happened) (new : X) : Type 0 where
   pub tells : told ≡ Refused refusal
   pub same : new ≡ old
 
--- by what stands at the place; the room for a reply was made at the take
+-- by what stands at the position; the room for a reply was made at the take
 abbrev pub WorksBy : Option Ask → ServerState → ℕ → Bool → Happened → ServerState → Type 0
-WorksBy None old place fails told new = Keeps old NoSuch told new
-WorksBy (Some task) old place fails told new = WorksOff old place fails task told new
+WorksBy None old position fails told new = Keeps old NoSuch told new
+WorksBy (Some task) old position fails told new = WorksOff old position fails task told new
 
 -- a reply waits for the kernel
-pub record PostsOff (old : ServerState) (broker : BrokerState) (place : ℕ) (reply : Reply) (told : Happened)
+pub record PostsOff (old : ServerState) (broker : BrokerState) (position : ℕ) (reply : Reply) (told : Happened)
     (new : ServerState) (left : BrokerState) : Type 0 where
   pub tells : told ≡ Posted reply.unique
-  pub makes : new ≡ with_posted old place
+  pub makes : new ≡ with_posted old position
   pub leaves : left ≡ posted broker reply
 
 -- by the first fault of a reply
 abbrev pub PostsReply :
     Option PostFault → ServerState → BrokerState → ℕ → Reply → Happened → ServerState → BrokerState → Type 0
-PostsReply (Some fault) old broker place reply told new left = Stays old broker (refusal_of_post fault) told new left
-PostsReply None old broker place reply told new left = PostsOff old broker place reply told new left
+PostsReply (Some fault) old broker position reply told new left = Stays old broker (refusal_of_post fault) told new left
+PostsReply None old broker position reply told new left = PostsOff old broker position reply told new left
 
--- by what stands at the place
+-- by what stands at the position
 abbrev pub PostsBy :
     Option Reply → ServerState → BrokerState → DaemonId → ℕ → Happened → ServerState → BrokerState → Type 0
-PostsBy None old broker daemon place told new left = Stays old broker NoSuch told new left
-PostsBy (Some reply) old broker daemon place told new left =
-    PostsReply (post_fault broker daemon old.generation reply) old broker place reply told new left
+PostsBy None old broker daemon position told new left = Stays old broker NoSuch told new left
+PostsBy (Some reply) old broker daemon position told new left =
+    PostsReply (post_fault broker daemon old.generation reply) old broker position reply told new left
 
 -- ---- calls of a daemon
 
@@ -125,33 +125,33 @@ DaemonTakes broker daemon told left old new =
     TakesIf broker daemon told left (may_take old.node.phase) old.server old new
 
 -- what is served works
-pub record WorksWith (place : ℕ) (fails : Bool) (told : Happened) (server : ServerState)
+pub record WorksWith (position : ℕ) (fails : Bool) (told : Happened) (server : ServerState)
     (old new : DaemonState) : Type 0 where
   pub later : ServerState
-  pub works : WorksBy (at_place server.hand place) server place fails told later
+  pub works : WorksBy (at_position server.hand position) server position fails told later
   pub makes : new ≡ with_server old later
 
 abbrev pub WorksIf : ℕ → Bool → Happened → Option ServerState → DaemonState → DaemonState → Type 0
-WorksIf place fails told (Some server) old new = WorksWith place fails told server old new
-WorksIf place fails told None old new = Keeps old NoSuch told new
+WorksIf position fails told (Some server) old new = WorksWith position fails told server old new
+WorksIf position fails told None old new = Keeps old NoSuch told new
 
 -- a daemon works
 abbrev pub DaemonWorks : ℕ → Bool → Happened → DaemonState → DaemonState → Type 0
-DaemonWorks place fails told old new = WorksIf place fails told old.server old new
+DaemonWorks position fails told old new = WorksIf position fails told old.server old new
 
 -- what is served posts
-pub record PostsWith (broker : BrokerState) (daemon : DaemonId) (place : ℕ) (told : Happened) (left : BrokerState)
+pub record PostsWith (broker : BrokerState) (daemon : DaemonId) (position : ℕ) (told : Happened) (left : BrokerState)
     (server : ServerState) (old new : DaemonState) : Type 0 where
   pub later : ServerState
-  pub posts : PostsBy (at_place server.unposted place) server broker daemon place told later left
+  pub posts : PostsBy (at_position server.unposted position) server broker daemon position told later left
   pub makes : new ≡ with_server old later
 
 abbrev pub PostsIf :
     BrokerState → DaemonId → ℕ → Happened → BrokerState → Option ServerState → DaemonState → DaemonState → Type 0
-PostsIf broker daemon place told left (Some server) old new =
-    PostsWith broker daemon place told left server old new
-PostsIf broker daemon place told left None old new = Stays old broker NoSuch told new left
+PostsIf broker daemon position told left (Some server) old new =
+    PostsWith broker daemon position told left server old new
+PostsIf broker daemon position told left None old new = Stays old broker NoSuch told new left
 
 -- a daemon posts
 abbrev pub DaemonPosts : BrokerState → DaemonId → ℕ → Happened → BrokerState → DaemonState → DaemonState → Type 0
-DaemonPosts broker daemon place told left old new = PostsIf broker daemon place told left old.server old new
+DaemonPosts broker daemon position told left old new = PostsIf broker daemon position told left old.server old new

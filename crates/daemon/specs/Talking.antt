@@ -1,12 +1,14 @@
 -- What a daemon makes of a message that it hears, and of its own program's calls in a takeover. What it says and
 -- becomes is the table's (`takeover_core`); what is added here is the data, which is made of what the daemon serves,
 -- and what is raised from it. (EdenFS's documents on takeover; the table is this project's own.)
-use Rattle.std.specs.Prelude.{◌≡◌, ℕ, ◌⊎◌, Bool, true, false, List, [], Option, Some, None, Result, Ok, Err}
+use Rattle.std.specs.Prelude.{◌≡◌, ℕ, ◌+◌, ◌==◌, nat_lt, ◌⊎◌, Bool, true, false, List, [], ◌∷◌, ◌++◌, length, Option, Some, None, unwrap_or, IsSome, Result, Ok, Err, if◌then◌else◌}
 use Rattle.std.specs.Option.{option_map}
 use Rattle.eden_base.specs.declared.claim.ClaimFault.{ClaimFault}
 use Rattle.eden_base.specs.declared.claim.ClaimFault.TheVariants as claim
 use Rattle.manifest.specs.Manifest.{Manifest}
 use Rattle.fuse_ops.specs.Served.{ServedState}
+use Rattle.map_image.specs.Feeding.{standing_fault}
+use Rattle.map_image.specs.Parts.{AreParts}
 use Rattle.map_codec.specs.Handover.{IsHandedOver, CannotBeHandedOver, IsTakenOver, CannotBeTakenOver}
 use Rattle.takeover_core.specs.Node.{NodeState}
 use Rattle.takeover_core.specs.Phases as table
@@ -15,11 +17,12 @@ use Rattle.takeover_core.specs.declared.heard.Heard.TheVariants as answer
 use Rattle.takeover_core.specs.declared.message.Message.{Message}
 use Rattle.takeover_core.specs.declared.message.Message.TheVariants as message
 use Rattle.takeover_core.specs.declared.node.DrainFault.{DrainFault}
-use Rattle.daemon.specs.Daemon.{DaemonState, with_node, in_hand, unposted}
+use Rattle.daemon.specs.Daemon.{DaemonState, with_node, turned_to, read_in, in_hand, unposted}
 use Rattle.daemon.specs.Server.{ServerState}
+use Rattle.daemon.specs.Saying.{TurnState, what_is_said}
 use Rattle.daemon.specs.Serving.{beginning}
-use Rattle.daemon.specs.declared.daemon.Reaction.{Reaction}
-use Rattle.daemon.specs.declared.daemon.Reaction.TheVariants.{Ignores, Heeds, Says}
+use Rattle.daemon.specs.declared.turn.Reaction.{Reaction}
+use Rattle.daemon.specs.declared.turn.Reaction.TheVariants.{Ignores, Heeds, Says}
 
 -- ---- the data is made
 
@@ -33,15 +36,46 @@ abbrev pub HasNoData : Option ServerState → ℕ → ℕ → Type 0
 HasNoData None generation version = Unit {0}
 HasNoData (Some server) generation version = CannotBeHandedOver server.served generation version
 
--- what a daemon serves is handed over; from here on it does not serve without a claim
+-- what a daemon serves is handed over in one message; from here on it does not serve without a claim
 pub record HandsOver (old : DaemonState) (node : NodeState) (generation version : ℕ) (reaction : Reaction)
     (new : DaemonState) : Type 0 where
   pub bytes : List ℕ
   pub said : Message
+  pub whole : table.goes_whole version ≡ true
   pub has : HasData old.server generation version bytes
   pub says : table.said (table.heard node (table.DataMade bytes)) ≡ Some said
   pub reacts : reaction ≡ Says said []
-  pub becomes : new ≡ with_node old (table.after node (table.DataMade bytes))
+  pub becomes : new ≡ turned_to old (table.after node (table.DataMade bytes))
+
+-- parts as messages of a session at a generation: each with its position, from this one on, and with how many there are
+abbrev pub numbered : (session generation count position : ℕ) → List (List ℕ) → List Message
+numbered session generation count position [] = []
+numbered session generation count position (part ∷ parts) =
+    message.Part session generation position count part
+    ∷ numbered session generation count (position + 1) parts
+
+-- the messages in which a text goes in parts
+abbrev pub in_parts : (session generation : ℕ) → List (List ℕ) → List Message
+in_parts session generation parts = numbered session generation (length parts) 1 parts
+
+-- the turn of a daemon that says a text in parts
+pub record GoesInParts (node : NodeState) (session generation : ℕ) (text : List ℕ) (turn : TurnState) : Type 0 where
+  pub parts : List (List ℕ)
+  pub are : AreParts text parts
+  pub says : what_is_said turn.reaction ≡ in_parts session generation parts
+  pub node_is : turn.node ≡ table.after node table.PartsMade
+  pub holds_nothing : turn.held ≡ None
+
+-- what a daemon serves is handed over in parts, all of them at once
+pub record HandsOverInParts (old : DaemonState) (node : NodeState) (session generation version : ℕ)
+    (reaction : Reaction) (new : DaemonState) : Type 0 where
+  pub bytes : List ℕ
+  pub parts : List (List ℕ)
+  pub cut : table.goes_in_parts version ≡ true
+  pub has : HasData old.server generation version bytes
+  pub are : AreParts bytes parts
+  pub says : what_is_said reaction ≡ in_parts session generation parts
+  pub becomes : new ≡ turned_to old (table.after node table.PartsMade)
 
 -- a daemon that has no data to hand over serves on
 pub record ServesOn (old : DaemonState) (node : NodeState) (generation version : ℕ) (reaction : Reaction)
@@ -50,30 +84,34 @@ pub record ServesOn (old : DaemonState) (node : NodeState) (generation version :
   pub no_data : HasNoData old.server generation version
   pub says : table.said (table.heard node table.DataFailed) ≡ Some said
   pub reacts : reaction ≡ Says said []
-  pub becomes : new ≡ with_node old (table.after node table.DataFailed)
+  pub becomes : new ≡ turned_to old (table.after node table.DataFailed)
 
 -- ---- the data is taken
 
 -- the bytes that a message carries
 abbrev pub bytes_of : Message → List ℕ
 bytes_of (message.Data session generation bytes) = bytes
+bytes_of (message.Part session generation position count bytes) = bytes
 bytes_of other = []
 
 -- what is raised from the data is held, until the seat is claimed
-pub record TakesOver (manifest : Manifest) (limit : ℕ) (bytes : List ℕ) (node : NodeState) (generation : ℕ)
-    (reaction : Reaction) (new : DaemonState) : Type 0 where
+pub record TakesOver (old : DaemonState) (manifest : Manifest) (limit : ℕ) (bytes : List ℕ) (node : NodeState)
+    (generation : ℕ) (reaction : Reaction) (new : DaemonState) : Type 0 where
   pub served : ServedState
   pub taken : IsTakenOver manifest limit generation bytes served
   pub reacts : reaction ≡ Heeds
-  pub becomes :
-      new ≡ record { node = table.after node (table.Raised true); server = Some (beginning generation served) }
+  pub becomes : new ≡ record {
+    node = table.after node (table.Raised true);
+    server = Some (beginning generation served);
+    reading = read_in (table.after node (table.Raised true)).phase old.reading;
+  }
 
 -- a daemon that raised nothing is gone
 pub record Loses (old : DaemonState) (node : NodeState) (reaction : Reaction) (new : DaemonState) : Type 0 where
   pub said : Message
   pub says : table.said (table.heard node (table.Raised false)) ≡ Some said
   pub reacts : reaction ≡ Says said []
-  pub becomes : new ≡ with_node old (table.after node (table.Raised false))
+  pub becomes : new ≡ turned_to old (table.after node (table.Raised false))
 
 -- nothing is raised from the data
 pub record CannotTakeOver (old : DaemonState) (manifest : Manifest) (text : List ℕ) (node : NodeState) (generation : ℕ)
@@ -81,12 +119,57 @@ pub record CannotTakeOver (old : DaemonState) (manifest : Manifest) (text : List
   pub cannot : CannotBeTakenOver manifest generation text
   pub loses : Loses old node reaction new
 
+-- it is raised, or nothing is
+abbrev pub TakesData : Manifest → ℕ → DaemonState → List ℕ → NodeState → ℕ → Reaction → DaemonState → Type 0
+TakesData manifest limit old bytes node generation reaction new =
+    TakesOver old manifest limit bytes node generation reaction new
+    ⊎ CannotTakeOver old manifest bytes node generation reaction new
+
+-- ---- a part is taken
+
+-- what was read of the parts before the one of a position
+abbrev pub read_before : ℕ → DaemonState → List ℕ
+read_before position old = if position == 1 then [] else unwrap_or old.reading []
+
+-- what was read is kept, and the next part is waited for
+pub record ReadsOn (old : DaemonState) (node : NodeState) (read : List ℕ) (reaction : Reaction)
+    (new : DaemonState) : Type 0 where
+  pub reacts : reaction ≡ Heeds
+  pub becomes : new ≡ record old { node = table.after node (table.Fed true); reading = Some read }
+
+-- no image begins with what was read, and the daemon is gone
+pub record LosesPart (old : DaemonState) (node : NodeState) (read : List ℕ) (reaction : Reaction)
+    (new : DaemonState) : Type 0 where
+  pub said : Message
+  pub faulty : IsSome (standing_fault read)
+  pub says : table.said (table.heard node (table.Fed false)) ≡ Some said
+  pub reacts : reaction ≡ Says said []
+  pub becomes : new ≡ turned_to old (table.after node (table.Fed false))
+
+-- whether others follow; behind the last the data is whole
+abbrev pub ReadsBy : Bool → Manifest → ℕ → DaemonState → List ℕ → NodeState → ℕ → Reaction → DaemonState → Type 0
+ReadsBy true manifest limit old read node generation reaction new = ReadsOn old node read reaction new
+ReadsBy false manifest limit old read node generation reaction new =
+    TakesData manifest limit old read (table.after node (table.Fed true)) generation reaction new
+
+-- a part is read behind those before it
+pub record ReadsPart (manifest : Manifest) (limit : ℕ) (old : DaemonState) (read : List ℕ) (node : NodeState)
+    (generation position count : ℕ) (reaction : Reaction) (new : DaemonState) : Type 0 where
+  pub no_fault : standing_fault read ≡ None
+  pub reads : ReadsBy (nat_lt position count) manifest limit old read node generation reaction new
+
+abbrev pub TakesPart : Manifest → ℕ → DaemonState → List ℕ → NodeState → (generation position count : ℕ) → Reaction
+    → DaemonState → Type 0
+TakesPart manifest limit old read node generation position count reaction new =
+    ReadsPart manifest limit old read node generation position count reaction new
+    ⊎ LosesPart old node read reaction new
+
 -- ---- by what the table answers
 
 -- nothing but the part in takeovers changes
 pub record Turns (old : DaemonState) (node : NodeState) (is reaction : Reaction) (new : DaemonState) : Type 0 where
   pub reacts : reaction ≡ is
-  pub becomes : new ≡ with_node old node
+  pub becomes : new ≡ turned_to old node
 
 -- what a daemon makes of an answer that brings no data
 abbrev pub TurnsBy : DaemonState → NodeState → Answer → Reaction → DaemonState → Type 0
@@ -98,17 +181,31 @@ TurnsBy old node other reaction new = ⊥
 -- what it makes of any answer
 abbrev pub ReactsBy : Manifest → ℕ → List ℕ → DaemonState → NodeState → Answer → Reaction → DaemonState → Type 0
 ReactsBy manifest limit bytes old node (answer.MakeData session generation version) reaction new =
-    HandsOver old node generation version reaction new ⊎ ServesOn old node generation version reaction new
+    HandsOver old node generation version reaction new
+    ⊎ (HandsOverInParts old node session generation version reaction new
+    ⊎ ServesOn old node generation version reaction new)
 ReactsBy manifest limit bytes old node (answer.GotData session generation version) reaction new =
-    TakesOver manifest limit bytes node generation reaction new
-    ⊎ CannotTakeOver old manifest bytes node generation reaction new
+    TakesData manifest limit old bytes node generation reaction new
+ReactsBy manifest limit bytes old node (answer.GotPart session generation version position count) reaction new =
+    TakesPart manifest limit old (read_before position old ++ bytes) node generation position count reaction new
 ReactsBy manifest limit bytes old node other reaction new = TurnsBy old node other reaction new
 
 -- an answer that wants memory: data is to be made, or to be read and raised
 abbrev pub brings_data : Answer → Bool
 brings_data (answer.MakeData session generation version) = true
 brings_data (answer.GotData session generation version) = true
+brings_data (answer.GotPart session generation version position count) = true
 brings_data other = false
+
+-- data is to be made that goes in parts
+abbrev pub makes_parts : Answer → Bool
+makes_parts (answer.MakeData session generation version) = table.goes_in_parts version
+makes_parts other = false
+
+-- a part that others follow is to be read
+abbrev pub brings_part : Answer → Bool
+brings_part (answer.GotPart session generation version position count) = nat_lt position count
+brings_part other = false
 
 -- a daemon hears a message
 abbrev pub HearsSo : Manifest → ℕ → DaemonState → Message → Reaction → DaemonState → Type 0
@@ -148,11 +245,11 @@ DrainsSo old result new = DrainsBy (table.drain_fault old.node.phase (in_hand ol
 -- it serves from here on
 abbrev pub MountsSo : ℕ → ServerState → DaemonState → DaemonState → Type 0
 MountsSo generation server old new =
-    new ≡ record { node = table.after old.node (table.Mounted generation); server = Some server }
+    new ≡ record old { node = table.after old.node (table.Mounted generation); server = Some server }
 
 -- it is gone
 abbrev pub EndsSo : DaemonState → DaemonState → Type 0
-EndsSo old new = new ≡ record { node = table.after old.node table.Crash; server = None }
+EndsSo old new = new ≡ record { node = table.after old.node table.Crash; server = None; reading = None }
 
 -- ---- a claim
 
@@ -163,13 +260,14 @@ at_generation generation server = record server { generation = generation }
 -- the daemon after the answer to its claim: it serves at the next generation; or may claim once more, where asks were
 -- unanswered; or is gone with all that it had
 abbrev pub after_claim : DaemonState → Result ℕ ClaimFault → DaemonState
-after_claim old (Ok next) = record {
+after_claim old (Ok next) = record old {
   node = table.after old.node (table.Claimed (Ok next));
   server = option_map (at_generation next) old.server;
 }
 after_claim old (Err (claim.Unanswered asks)) =
     with_node old (table.after old.node (table.Claimed (Err (claim.Unanswered asks))))
-after_claim old (Err fault) = record { node = table.after old.node (table.Claimed (Err fault)); server = None }
+after_claim old (Err fault) =
+    record old { node = table.after old.node (table.Claimed (Err fault)); server = None }
 
 abbrev pub ClaimsSo : Result ℕ ClaimFault → DaemonState → DaemonState → Type 0
 ClaimsSo answer old new = new ≡ after_claim old answer

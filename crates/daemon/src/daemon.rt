@@ -1,96 +1,38 @@
 //! One daemon of the world.
 ghost use Rattle.std.specs.Option.{option_copied, option_map};
-ghost use Rattle.std.specs.Prelude.{◌≡◌, ◌≤◌, ◌⊎◌, true, Some, None, length, IsTrue, IfOk, IfErr, OnErr};
-ghost use Rattle.takeover_core.specs.Phases.{after, heard, Hear, Raised, is_making, is_raising, is_holding, drain_fault, claim_wanted};
-ghost use Rattle.daemon.specs.Daemon.{AreSentWhole, new_daemon, is_waiting, in_hand, unposted, lendable, lent_server, with_lent, with_server};
+ghost use Rattle.std.specs.Prelude.{◌≡◌, ◌≤◌, ◌⊎◌, ◌++◌, ℕ, true, false, Some, None, is_none, length, IsTrue, IfOk, OnErr, OnOk};
+ghost use Rattle.manifest.specs.Manifest.{Manifest};
+ghost use Rattle.map_image.specs.Feeding.{standing_fault};
+ghost use Rattle.takeover_core.specs.Phases.{heard, Hear, is_holding, drain_fault, claim_wanted};
+ghost use Rattle.daemon.specs.Daemon.{new_daemon, turned_to, is_waiting, in_hand, unposted, lendable, lent_server, with_lent, with_server};
 ghost use Rattle.daemon.specs.Saying.{turned, what_is_said};
 ghost use Rattle.daemon.specs.Beginning.{DaemonBegins, NobodyBegins};
 ghost use Rattle.daemon.specs.Serving.{beginning, DaemonTakes, DaemonWorks, DaemonPosts};
-ghost use Rattle.daemon.specs.declared.daemon.Reaction.TheVariants.{Heeds};
-ghost use Rattle.daemon.specs.Talking.{MountsSo, EndsSo, HandsOver, ServesOn, TakesOver, CannotTakeOver, Loses, HearsSo, GivesUpSo, DrainsSo, ClaimsSo, HasData, HasNoData, brings_data, bytes_of, at_generation};
+ghost use Rattle.daemon.specs.Talking.{MountsSo, EndsSo, HearsSo, GivesUpSo, DrainsSo, ClaimsSo, brings_data, brings_part, makes_parts, read_before, at_generation};
 
+use crate::handing::make_data;
 use crate::happened::{Begun, Happened, Refusal};
 use crate::lease::Lease;
 use crate::messages::Messages;
 use crate::server::Server;
+use crate::taking::{bytes_of, feed, read_first, take_data, take_last};
+use crate::turn::{Reaction, Turn};
 use broker_core::Broker;
-use byte_codec::Bytes;
 use eden_base::{ClaimFault, DaemonId, NoMemory};
 use fuse_wire::Request;
 use manifest::Manifest;
-use map_codec::{HandoverFault, hand_over, take_over};
+use map_image::ImageReader;
 use std::alloc::Global;
 use std::marker::Model;
 use takeover_core::{DrainFault, Heard, Message, Node, Phase, Versions};
 
-/// The versions of the image that every daemon reads and writes.
-const VERSIONS: [u16; 1] = [1];
-
-/// What a daemon makes of a message, or of a call in a takeover.
-#[derive(Drop)]
-pub enum Reaction {
-    /// It is not for this phase or session.
-    Ignores,
-    /// It is taken, and has no answer.
-    Heeds,
-    /// It says this message, and the others behind it.
-    Says(Message, Messages),
-}
-
-/// What a daemon is to become of a message, and what it makes of it. Clauses see it as a `TurnState`.
-#[derive(Drop)]
-pub struct Turn {
-    node: Node,
-    /// What it holds from then on, if it took data over.
-    held: Option<Server>,
-    reaction: Reaction,
-}
-
-impl Model for Turn {
-    ghost use Rattle.std.specs.Coded.{codes};
-    ghost use Rattle.manifest.specs.Codes.{tree_code};
-    ghost use Rattle.takeover_core.specs.Node.{node_state_code};
-    ghost use Rattle.daemon.specs.Saying.{TurnState};
-
-    ghost Value = { TurnState };
-
-    ghost coded = { Prim.hlevel (codes, tree_code, node_state_code) };
-
-    ghost view = { λ turn. record {
-      node = turn.node;
-      held = turn.held;
-      reaction = turn.reaction;
-    } };
-}
-
-impl Turn {
-    /// Returns a turn to this part in takeovers, and to nothing else.
-    fn to(node: Node, reaction: Reaction) -> Turn
-        ensures to { result ≡ record { node = node; held = None; reaction = reaction } }
-    {
-        Turn {
-            node,
-            held: None,
-            reaction,
-        }
-    }
-
-    /// Returns how many messages are said then.
-    pub fn count(&self) -> usize
-        ensures count { result ≡ length (what_is_said self.now.reaction) }
-    {
-        match &self.reaction {
-            Reaction::Says(_, others) => others.len() + 1,
-            Reaction::Ignores | Reaction::Heeds => 0,
-        }
-    }
-}
-
-/// A daemon's part in takeovers, and what it serves, if it does. Clauses see it as a `DaemonState`.
+/// A daemon's part in takeovers, what it serves, if it does, and the parts that it read, while it waits for others.
+/// Clauses see it as a `DaemonState`.
 #[derive(Drop)]
 pub struct Daemon {
     node: Node,
     server: Option<Server>,
+    reading: Option<ImageReader>,
 }
 
 impl Model for Daemon {
@@ -106,18 +48,19 @@ impl Model for Daemon {
     ghost view = { λ daemon. record {
       node = daemon.node;
       server = daemon.server;
+      reading = daemon.reading;
     } };
 }
 
 impl Daemon {
-    /// Returns a daemon that was just started.
-    pub fn new() -> Daemon
-        ensures new { result ≡ new_daemon }
-        ensures whole { AreSentWhole result.node.versions }
+    /// Returns a daemon that was just started, with these versions of the image.
+    pub fn new(versions: Versions) -> Daemon
+        ensures new { result ≡ new_daemon versions }
     {
         Daemon {
-            node: Node::waiting(Versions::of(&VERSIONS)),
+            node: Node::waiting(versions),
             server: None,
+            reading: None,
         }
     }
 
@@ -147,6 +90,13 @@ impl Daemon {
         ensures server { option_copied result ≡ self.now.server }
     {
         self.server.as_ref()
+    }
+
+    /// Returns what it read of the parts before the next one, if it waits for one.
+    pub(crate) fn reading(&self) -> Option<&ImageReader>
+        ensures reading { option_copied result ≡ self.now.reading }
+    {
+        self.reading.as_ref()
     }
 
     /// Lends what it serves, with its share of the manifest, where nothing is in hand and everything is posted. It
@@ -189,24 +139,24 @@ impl Daemon {
         server.take(broker, daemon)
     }
 
-    /// Works what stands at a place of its hand.
-    pub fn work(&mut self, place: u64, fails: bool) -> Happened
-        ensures works { DaemonWorks place fails result self.old self.new }
+    /// Works what stands at a position of its hand.
+    pub fn work(&mut self, position: u64, fails: bool) -> Happened
+        ensures works { DaemonWorks position fails result self.old self.new }
     {
         let Some(server) = &mut self.server else {
             return Happened::Refused(Refusal::NoSuch);
         };
-        server.work(place, fails)
+        server.work(position, fails)
     }
 
-    /// Posts the reply at a place of those that it did not post yet.
-    pub fn post(&mut self, broker: &mut Broker, daemon: DaemonId, place: u64) -> Happened
-        ensures posts { DaemonPosts broker.old daemon place result broker.new self.old self.new }
+    /// Posts the reply at a position of those that it did not post yet.
+    pub fn post(&mut self, broker: &mut Broker, daemon: DaemonId, position: u64) -> Happened
+        ensures posts { DaemonPosts broker.old daemon position result broker.new self.old self.new }
     {
         let Some(server) = &mut self.server else {
             return Happened::Refused(Refusal::NoSuch);
         };
-        server.post(broker, daemon, place)
+        server.post(broker, daemon, position)
     }
 
     /// Issues a request, and takes what waits first then. The room that it needs for the take comes before the issue.
@@ -237,10 +187,26 @@ impl Daemon {
     {
         self.node.crash();
         drop(self.server.take());
+        drop(self.reading.take());
     }
 
-    /// Returns what it is to become of a message of another daemon. Data that it is to hand over is made of what it
-    /// serves, and data that is handed to it is read and raised over the manifest.
+    /// Returns whether a message is to it a part that others follow, as `hear_part` takes it.
+    pub fn is_fed_by(&self, message: &Message) -> bool
+        ensures part { result ≡ brings_part (heard self.now.node (Hear message.now)) }
+    {
+        match self.node.copy().hear(message) {
+            Heard::GotPart {
+                position,
+                count,
+                ..
+            } => position < count,
+            _ => false,
+        }
+    }
+
+    /// Returns what it is to become of a message of another daemon, other than a part that others follow. Data that it
+    /// is to hand over is made of what it serves, and data that is handed to it is read and raised over the manifest.
+    /// The last part is read by a copy of what read the others. So it may be heard again where memory is refused.
     pub fn hear(
         &self,
         alloc: Global,
@@ -248,9 +214,11 @@ impl Daemon {
         limit: usize,
         message: &Message,
     ) -> Result<Turn, NoMemory>
+        requires no_part { brings_part (heard self.now.node (Hear message.now)) ≡ false }
         ensures hears { IfOk result (λ turn.
             HearsSo manifest.now limit self.now message.now turn.reaction (turned self.now turn)) }
-        ensures at_most_one { IfOk result (λ turn. length (what_is_said turn.reaction) ≤ 1) }
+        ensures at_most_one { makes_parts (heard self.now.node (Hear message.now)) ≡ false
+            → IfOk result (λ turn. length (what_is_said turn.reaction) ≤ 1) }
         ensures memory { OnErr result (IsTrue (brings_data (heard self.now.node (Hear message.now)))) }
     {
         let mut node = self.node.copy();
@@ -259,13 +227,35 @@ impl Daemon {
             Heard::Heard => Ok(Turn::to(node, Reaction::Heeds)),
             Heard::Say(said) => Ok(Turn::to(node, Reaction::Says(said, Messages::none()))),
             Heard::MakeData {
+                session,
                 generation,
                 version,
-                ..
-            } => self.make_data(alloc, node, generation, version),
+            } => make_data(alloc, self, node, session, generation, version),
             Heard::GotData { generation, .. } => {
-                self.take_data(alloc, manifest, limit, node, generation, bytes_of(message))
+                take_data(
+                    alloc,
+                    self,
+                    manifest,
+                    limit,
+                    node,
+                    generation,
+                    bytes_of(message),
+                )
             }
+            Heard::GotPart {
+                generation,
+                position,
+                ..
+            } => take_last(
+                alloc,
+                self,
+                manifest,
+                limit,
+                node,
+                generation,
+                position,
+                bytes_of(message),
+            ),
         }
     }
 
@@ -274,12 +264,8 @@ impl Daemon {
         ensures reacts { result ≡ turn.reaction }
         ensures becomes { self.new ≡ turned self.old turn }
     {
-        let Turn {
-            node,
-            held,
-            reaction,
-        } = turn;
-        self.node = node;
+        let (node, held, reaction) = turn.into_parts();
+        self.turn_to(node);
         if let Some(server) = held {
             let before = self.server.replace(server);
             drop(before);
@@ -287,87 +273,51 @@ impl Daemon {
         reaction
     }
 
-    /// Hands over what it serves, or serves on where that cannot be written in this version.
-    fn make_data(
-        &self,
-        alloc: Global,
-        node: Node,
-        generation: u64,
-        version: u16,
-    ) -> Result<Turn, NoMemory>
-        requires making { IsTrue (is_making node.phase) }
-        ensures made { IfOk result (λ turn.
-            HandsOver self.now node generation version turn.reaction (turned self.now turn)
-            ⊎ ServesOn self.now node generation version turn.reaction (turned self.now turn)) }
-        ensures at_most_one { IfOk result (λ turn. length (what_is_said turn.reaction) ≤ 1) }
+    /// Hears a part that others follow. It is read behind those before it, where they were read, and is not copied.
+    pub fn hear_part(&mut self, alloc: Global, message: &Message) -> Result<Reaction, NoMemory>
+        requires part { IsTrue (brings_part (heard self.old.node (Hear message.now))) }
+        ensures hears { IfOk result (λ reaction. (manifest : Manifest) (limit : ℕ) →
+            HearsSo manifest limit self.old message.now reaction self.new) }
+        ensures at_most_one { IfOk result (λ reaction. length (what_is_said reaction) ≤ 1) }
+        ensures unchanged { OnErr result (self.new ≡ self.old) }
     {
-        let mut node = node;
-        match self.data(alloc, generation, version) {
-            Ok(bytes) => {
-                let said = node.data_made(Bytes::of(bytes));
-                Ok(Turn::to(node, Reaction::Says(said, Messages::none())))
-            }
-            Err(HandoverFault::Refused) => {
-                let said = node.data_failed();
-                Ok(Turn::to(node, Reaction::Says(said, Messages::none())))
-            }
-            Err(HandoverFault::NoMemory) => Err(NoMemory),
-        }
+        let mut node = self.node.copy();
+        let Heard::GotPart { position, .. } = node.hear(message) else {
+            unreachable!();
+        };
+        let fits = self.read(alloc, position, bytes_of(message))?;
+        let said = node.fed(fits);
+        self.turn_to(node);
+        Ok(Reaction::saying(said))
     }
 
-    /// Returns the image of what it serves, as bytes.
-    fn data(&self, alloc: Global, generation: u64, version: u16) -> Result<Vec<u8>, HandoverFault>
-        ensures data { IfOk result (λ bytes. HasData self.now.server generation version bytes.items) }
-        ensures refused { IfErr result (λ fault. fault ≡ HandoverFault.Refused
-            → HasNoData self.now.server generation version) }
+    /// Reads the bytes of a part behind those before it, and returns whether an image may begin so.
+    fn read(&mut self, alloc: Global, position: u32, bytes: &[u8]) -> Result<bool, NoMemory>
+        ensures reads { OnOk result (self.new ≡ record self.old {
+          reading = Some (read_before position self.old ++ bytes.now);
+        }) }
+        ensures fits { IfOk result (λ fits.
+            fits ≡ is_none (standing_fault (read_before position self.old ++ bytes.now))) }
+        ensures unchanged { OnErr result (self.new ≡ self.old) }
     {
-        match &self.server {
-            Some(server) => hand_over(alloc, server.served(), generation, version),
-            None => Err(HandoverFault::Refused),
-        }
-    }
-
-    /// Holds what is raised from the data, or is gone where nothing can be raised from it.
-    fn take_data(
-        &self,
-        alloc: Global,
-        manifest: &Manifest,
-        limit: usize,
-        node: Node,
-        generation: u64,
-        bytes: &[u8],
-    ) -> Result<Turn, NoMemory>
-        requires raising { IsTrue (is_raising node.phase) }
-        ensures taken { IfOk result (λ turn.
-            TakesOver manifest.now limit bytes.now node generation turn.reaction (turned self.now turn)
-            ⊎ CannotTakeOver self.now manifest.now bytes.now node generation turn.reaction (turned self.now turn)) }
-        ensures at_most_one { IfOk result (λ turn. length (what_is_said turn.reaction) ≤ 1) }
-    {
-        let shared = manifest.share()?;
-        match take_over(alloc, bytes, manifest, limit, generation) {
-            Ok(served) => Ok(hold(node, Server::new(alloc, generation, shared, served))),
-            Err(HandoverFault::Refused) => {
-                drop(shared);
-                Ok(self.lose(node))
-            }
-            Err(HandoverFault::NoMemory) => {
-                drop(shared);
-                Err(NoMemory)
+        if position != 1 {
+            if let Some(reader) = &mut self.reading {
+                return feed(reader, bytes);
             }
         }
+        let (reader, fits) = read_first(alloc, bytes)?;
+        drop(self.reading.replace(reader));
+        Ok(fits)
     }
 
-    /// Takes in that nothing was raised.
-    fn lose(&self, node: Node) -> Turn
-        requires raising { IsTrue (is_raising node.phase) }
-        ensures loses { Loses self.now node result.reaction (turned self.now result) }
-        ensures at_most_one { length (what_is_said result.reaction) ≤ 1 }
+    /// Turns to this part in takeovers. What was read is dropped, unless another part is waited for.
+    fn turn_to(&mut self, node: Node)
+        ensures turns { self.new ≡ turned_to self.old node }
     {
-        let mut node = node;
-        match node.raised(false) {
-            Some(said) => Turn::to(node, Reaction::Says(said, Messages::none())),
-            None => unreachable!(),
+        if !matches!(node.phase(), Phase::Reading { .. }) {
+            drop(self.reading.take());
         }
+        self.node = node;
     }
 
     /// Returns what stops the daemon from handing over: it does not drain, or has something left.
@@ -435,11 +385,13 @@ impl Daemon {
         ensures gives_up { GivesUpSo self.old result self.new }
         ensures at_most_one { length (what_is_said result) ≤ 1 }
     {
+        drop(self.reading.take());
         match self.node.give_up() {
             Heard::Ignored => Reaction::Ignores,
             Heard::Heard => Reaction::Heeds,
             Heard::Say(said) => Reaction::Says(said, Messages::none()),
-            Heard::MakeData { .. } | Heard::GotData { .. } => unreachable!(),
+            Heard::MakeData { .. } | Heard::GotData { .. } | Heard::GotPart { .. } =>
+                unreachable!(),
         }
     }
 }
@@ -454,30 +406,5 @@ fn issue_untaken(broker: &mut Broker, request: &Request) -> Begun
             taken: Happened::Refused(Refusal::WrongPhase),
         },
         Err(fault) => Begun::Refused(Refusal::from(fault)),
-    }
-}
-
-/// Holds what was raised, until it claims the seat.
-fn hold(node: Node, server: Server) -> Turn
-    requires raising { IsTrue (is_raising node.phase) }
-    ensures holds { result ≡ record { node = after node (Raised true); held = Some server; reaction = Heeds } }
-    ensures at_most_one { length (what_is_said result.reaction) ≤ 1 }
-{
-    let mut node = node;
-    drop(node.raised(true));
-    Turn {
-        node,
-        held: Some(server),
-        reaction: Reaction::Heeds,
-    }
-}
-
-/// Returns the bytes that a message carries: none, where it is no data.
-fn bytes_of(message: &Message) -> &[u8]
-    ensures bytes { result.now ≡ bytes_of message.now }
-{
-    match message {
-        Message::Data { bytes, .. } => bytes.as_slice(),
-        _ => &[],
     }
 }

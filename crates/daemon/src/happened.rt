@@ -1,4 +1,4 @@
-//! What came of an event.
+//! The outcomes of events.
 ghost use Rattle.std.specs.Prelude.{◌≡◌};
 ghost use Rattle.daemon.specs.Refusals.{refusal_name, refusal_of_mount, refusal_of_issue, refusal_of_take, refusal_of_post, refusal_of_drain, refusal_of_claim, is_made, is_begun};
 
@@ -8,12 +8,13 @@ use fuse_wire::{Item, Reply};
 use inode_map::Forgot;
 use takeover_core::DrainFault;
 
-/// Why an event was refused. A refusal changes nothing, but that a daemon is gone whose claim cannot succeed any more.
+/// Why an event was refused. A refusal changes nothing, with one exception: a daemon whose claim can never succeed is
+/// gone.
 #[derive(Clone, Copy, PartialEq, Eq)]
 pub enum Refusal {
     NoDaemon,
     WrongPhase,
-    /// There is no such place in the list.
+    /// There is no such position in the list.
     NoSuch,
     Seated,
     LastGeneration,
@@ -26,9 +27,9 @@ pub enum Refusal {
     Stale(u64),
     Empty,
     NotAsked,
-    /// This count of the asks that were taken have no reply yet.
+    /// Asks that were taken have no reply yet: their count.
     Unanswered(u64),
-    /// The daemon has requests in hand, or replies that it did not post: these counts of them.
+    /// The daemon has requests in hand, or replies that it did not post.
     Undrained { in_hand: usize, unposted: usize },
     NoMemory,
 }
@@ -67,19 +68,19 @@ pub enum Happened {
     Mounted(u64),
     /// The kernel's ask waits under this unique, or its forget waits without one.
     Asked(Option<u64>),
-    /// The ask of this unique is in the daemon's hand.
+    /// The ask with this unique is in the daemon's hand.
     Took(u64),
-    /// This count of items joined the daemon's hand.
+    /// The items of a forget joined the daemon's hand: their count.
     TookForgets(usize),
     /// The daemon answered.
     Made(Reply),
     /// The daemon applied the item.
     Forgot { item: Item, forgot: Forgot },
-    /// The reply of this unique waits for the kernel.
+    /// The reply with this unique waits for the kernel.
     Posted(u64),
     /// The reply reached the kernel.
     Answered(Reply),
-    /// The daemon said the message of this place.
+    /// The daemon said the message at this position.
     Said(usize),
     /// The daemon took the message in, or gave up, and said nothing.
     Heard,
@@ -92,12 +93,12 @@ pub enum Happened {
     Refused(Refusal),
 }
 
-/// What came of a request that a daemon was to take as soon as it was issued.
+/// The result of issuing a request that a daemon takes at once.
 #[derive(Clone, Copy)]
 pub enum Begun {
-    /// It was not issued.
+    /// The request was not issued.
     Refused(Refusal),
-    /// It was issued, an ask under this unique, and this came of the take.
+    /// The request was issued: `unique` is an ask's, and `taken` is the result of the take.
     Issued {
         unique: Option<u64>,
         taken: Happened,
@@ -198,7 +199,7 @@ impl From<DrainFault> for Refusal {
     }
 }
 
-/// The value of the unused places of an outcome.
+/// The value in the unused part of an outcome.
 impl Default for Happened {
     fn default() -> Happened {
         Happened::Refused(Refusal::NoMemory)

@@ -4,7 +4,7 @@ ghost use Rattle.std.specs.Prelude.{◌≡◌};
 use fuse_ops::Served;
 use manifest::Manifest;
 
-/// What a daemon lends to workers: what it serves from a generation on, over its share of the manifest.
+/// What a daemon lends to workers: the served state, its generation, and its share of the manifest.
 #[derive(Drop)]
 pub struct Lease {
     pub generation: u64,

@@ -3,15 +3,19 @@
 
 mod backing;
 mod daemon;
+mod handing;
 mod happened;
 mod lease;
 mod messages;
-mod place;
+mod position;
 mod server;
+mod taking;
+mod turn;
 
-pub use daemon::{Daemon, Reaction, Turn};
+pub use daemon::Daemon;
 pub use happened::{Begun, Happened, Refusal};
 pub use lease::Lease;
 pub use messages::Messages;
-pub use place::index_of;
+pub use position::index_of;
 pub use server::{Server, opening};
+pub use turn::{Reaction, Turn};

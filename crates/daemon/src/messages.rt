@@ -1,13 +1,14 @@
 //! Messages one behind another.
-ghost use Rattle.std.specs.Prelude.{◌≡◌, ◌+◌, ◌^◌, ◌<◌, ◌≤◌, ◌++◌, [], length, vec_len, vec_capacity};
+ghost use Rattle.std.specs.Prelude.{◌≡◌, ◌+◌, ◌^◌, ◌<◌, ◌≤◌, [], ◌∷◌, ◌++◌, length, vec_len, vec_capacity, MatchOption};
 
+use std::collections::VecDeque;
 use std::marker::Model;
 use takeover_core::Message;
 
 /// Messages in their order. Clauses see them as a list.
 #[derive(Drop)]
 pub struct Messages {
-    list: Option<Vec<Message>>,
+    list: Option<VecDeque<Message>>,
 }
 
 impl Model for Messages {
@@ -21,18 +22,20 @@ impl Model for Messages {
 }
 
 impl Messages {
-    /// Returns that there is none. It takes no memory.
+    /// Makes an empty list. It takes no memory.
     pub fn none() -> Messages
         ensures none { result ≡ [] }
     {
         Messages { list: None }
     }
 
-    /// Returns those of a list.
+    /// Makes messages of a list, in the same memory.
     pub fn of(list: Vec<Message>) -> Messages
         ensures of { result ≡ list.items }
     {
-        Messages { list: Some(list) }
+        Messages {
+            list: Some(VecDeque::from_vec(list)),
+        }
     }
 
     /// Returns how many there are.
@@ -46,18 +49,29 @@ impl Messages {
         }
     }
 
-    /// Puts them behind others that have room for them.
+    /// Takes the first message off, if there is one.
+    pub fn next(&mut self) -> Option<Message>
+        ensures next { MatchOption result ((self.old ≡ []) × (self.new ≡ []))
+            (λ message. self.old ≡ message ∷ self.new) }
+    {
+        match &mut self.list {
+            Some(list) => list.pop_front(),
+            None => None,
+        }
+    }
+
+    /// Appends the messages to `others`, which has room for them.
     pub fn append_to(self, others: &mut Vec<Message>)
         requires room { vec_len others.old + length self ≤ vec_capacity others.old }
         ensures appended { others.new.items ≡ others.old.items ++ self }
     {
         if let Some(list) = self.list {
-            put_behind(others, list);
+            put_behind(others, list.into_vec());
         }
     }
 }
 
-/// Puts a list behind another that has room for it.
+/// Appends `list` to `others`, which has room for it.
 fn put_behind(others: &mut Vec<Message>, list: Vec<Message>)
     requires room { vec_len others.old + vec_len list ≤ vec_capacity others.old }
     ensures appended { others.new.items ≡ others.old.items ++ list.items }

@@ -2,7 +2,7 @@
 ghost use Rattle.std.specs.Prelude.{◌≡◌, ◌++◌, ◌+◌, ◌≤◌, map, length, vec_len, vec_capacity, IfOk, OnOk};
 ghost use Rattle.broker_core.specs.Broker.{take_fault};
 ghost use Rattle.fuse_ops.specs.Served.{new_served};
-ghost use Rattle.daemon.specs.Server.{at_place, handed, single, told_taken, told_item};
+ghost use Rattle.daemon.specs.Server.{at_position, handed, single, told_taken, told_item};
 ghost use Rattle.daemon.specs.Beginning.{PutsBy, ServerBegins};
 ghost use Rattle.daemon.specs.Serving.{beginning, TakesBy, WorksBy, PostsBy};
 ghost use Rattle.daemon.specs.Talking.{at_generation};
@@ -10,7 +10,7 @@ ghost use Rattle.daemon.specs.Talking.{at_generation};
 use crate::backing::apply;
 use crate::happened::{Begun, Happened, Refusal};
 use crate::lease::Lease;
-use crate::place::index_of;
+use crate::position::index_of;
 use broker_core::Broker;
 use eden_base::{DaemonId, NoMemory};
 use fuse_ops::Served;
@@ -114,8 +114,8 @@ impl Server {
         self.unposted.as_slice()
     }
 
-    /// Takes what waits first at the broker. The room for it and for its reply comes first, but the broker's refusals
-    /// before out of memory.
+    /// Takes what waits first at the broker. It looks for the broker's refusals, then makes room for the ask and its
+    /// reply, then takes.
     pub(crate) fn take(&mut self, broker: &mut Broker, daemon: DaemonId) -> Happened
         ensures takes { TakesBy (take_fault broker.old daemon self.old.generation)
             self.old broker.old result self.new broker.new }
@@ -153,11 +153,11 @@ impl Server {
         }
     }
 
-    /// Answers the ask, or applies the item, at a place of the hand, counted from 1. The room for the reply is there.
-    pub(crate) fn work(&mut self, place: u64, fails: bool) -> Happened
-        ensures works { WorksBy (at_place self.old.hand place) self.old place fails result self.new }
+    /// Answers the ask, or applies the item, at a position of the hand, from 1. The room for the reply is there.
+    pub(crate) fn work(&mut self, position: u64, fails: bool) -> Happened
+        ensures works { WorksBy (at_position self.old.hand position) self.old position fails result self.new }
     {
-        let Some(index) = index_of(place, self.hand.len()) else {
+        let Some(index) = index_of(position, self.hand.len()) else {
             return Happened::Refused(Refusal::NoSuch);
         };
         let task = self.hand.remove(index);
@@ -179,12 +179,12 @@ impl Server {
         Happened::Made(reply)
     }
 
-    /// Posts the reply at a place of those that are not posted, counted from 1. It takes no memory.
-    pub(crate) fn post(&mut self, broker: &mut Broker, daemon: DaemonId, place: u64) -> Happened
-        ensures posts { PostsBy (at_place self.old.unposted place)
-            self.old broker.old daemon place result self.new broker.new }
+    /// Posts the reply at a position of those that are not posted, counted from 1. It takes no memory.
+    pub(crate) fn post(&mut self, broker: &mut Broker, daemon: DaemonId, position: u64) -> Happened
+        ensures posts { PostsBy (at_position self.old.unposted position)
+            self.old broker.old daemon position result self.new broker.new }
     {
-        let Some(index) = index_of(place, self.unposted.len()) else {
+        let Some(index) = index_of(position, self.unposted.len()) else {
             return Happened::Refused(Refusal::NoSuch);
         };
         let reply = self.unposted[index];
@@ -196,7 +196,7 @@ impl Server {
     }
 }
 
-/// Makes what a daemon serves that mounts, and its share of the manifest.
+/// Makes the served state of a daemon that mounts, and its share of the manifest.
 pub fn opening(
     alloc: Global,
     manifest: &Manifest,
@@ -210,7 +210,7 @@ pub fn opening(
     Ok((shared, served))
 }
 
-/// Returns what becomes of an item; what is no item is refused.
+/// Returns the outcome of an item. Without one it is a refusal.
 fn told_of_item(served: &Served, item: Option<Item>) -> Happened
     ensures { result ≡ told_item served.now item }
 {
@@ -223,7 +223,7 @@ fn told_of_item(served: &Served, item: Option<Item>) -> Happened
     }
 }
 
-/// Makes room for what a take may bring: for a whole batch in the hand, and for a reply to each that is in it then.
+/// Makes room for what a take may bring: a whole batch in the hand, and a reply to each member of the hand.
 fn make_room(hand: &mut Vec<Ask>, unposted: &mut Vec<Reply>) -> Result<(), NoMemory>
     ensures same_hand { hand.new.items ≡ hand.old.items }
     ensures same_replies { unposted.new.items ≡ unposted.old.items }

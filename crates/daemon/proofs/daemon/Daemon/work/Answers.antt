@@ -7,8 +7,8 @@ use Rattle.daemon.proofs.daemon.Daemon.work.Goals as goal
 
 pub returns : goal.returns
 returns c =
-    let was : DaemonState = record { node = c.self.inside.node; server = c.self.inside.server } in
+    let was : DaemonState = record { node = c.self.inside.node; server = c.self.inside.server; reading = c.self.inside.reading } in
     record {
-      works = subst (λ (d : DaemonState). DaemonWorks c.args.place c.args.fails c.work.result d (record { node = c.self.inside.node; server = Some c.work.new.self })) c.self.view_is
-          (works-with c.args.place c.args.fails c.work.result was c.in-Some.server c.work.new.self c.in-Some.is c.work.ensures.works);
+      works = subst (λ (d : DaemonState). DaemonWorks c.args.position c.args.fails c.work.result d (record { node = c.self.inside.node; server = Some c.work.new.self; reading = c.self.inside.reading })) c.self.view_is
+          (works-with c.args.position c.args.fails c.work.result was c.in-Some.server c.work.new.self c.in-Some.is c.work.ensures.works);
     }

@@ -2,9 +2,10 @@
 use Rattle.std.proofs.Common.{true, Some, inl, inr, ap, subst, ◌∙◌}
 use Rattle.map_codec.specs.Handover.{IsTakingRefusal}
 use Rattle.takeover_core.specs.Phases as table
+use Rattle.daemon.specs.Daemon.{read_in}
 use Rattle.daemon.specs.Saying.{TurnState, turned}
 use Rattle.daemon.specs.Server.{ServerState}
-use Rattle.daemon.proofs.daemon.Daemon.take_data.Goals as goal
+use Rattle.daemon.proofs.taking.take_data.Goals as goal
 
 pub returns-in-Ok : goal.returns-in-Ok
 returns-in-Ok c = record {
@@ -12,8 +13,8 @@ returns-in-Ok c = record {
     served = c.in-Ok.served;
     taken = c.in-Ok.ensures.taken;
     reacts = ap (λ (t : TurnState). t.reaction) c.hold.ensures.holds;
-    becomes = ap (turned c.args.self.now) c.hold.ensures.holds
-        ∙ ap (λ (s : ServerState). record { node = table.after c.args.node (table.Raised true); server = Some s }) c.new.ensures.new;
+    becomes = ap (turned c.args.daemon.now) c.hold.ensures.holds
+        ∙ ap (λ (s : ServerState). record { node = table.after c.args.node (table.Raised true); server = Some s; reading = read_in (table.after c.args.node (table.Raised true)).phase c.args.daemon.now.reading }) c.new.ensures.new;
   });
   at_most_one = c.hold.ensures.at_most_one;
 }

@@ -1,0 +1,16 @@
+//! Positions of a list, of which the first is 1.
+ghost use Rattle.std.specs.Prelude.{MatchOption};
+ghost use Rattle.daemon.specs.Serving.{IsIndex, HasNone};
+
+/// Converts a position, counted from 1, to an index in a list of `count`.
+pub fn index_of(position: u64, count: usize) -> Option<usize>
+    ensures index { MatchOption result (HasNone count position) (IsIndex count position) }
+{
+    if position == 0 {
+        return None;
+    }
+    if position - 1 >= count as u64 {
+        return None;
+    }
+    Some((position - 1) as usize)
+}

@@ -1,0 +1,184 @@
+//! What a daemon takes over: data that comes whole, or part by part, is read and raised.
+ghost use Rattle.std.specs.Prelude.{◌≡◌, ◌≤◌, ◌++◌, ℕ, nat_lt, false, true, Some, is_none, length, IsTrue, IfOk, OnErr, OnOk};
+ghost use Rattle.map_image.specs.Feeding.{standing_fault};
+ghost use Rattle.takeover_core.specs.Phases.{after, is_raising, is_taking, phase_after, Fed, Raised};
+ghost use Rattle.daemon.specs.Saying.{turned, what_is_said};
+ghost use Rattle.daemon.specs.Talking.{bytes_of, read_before, Loses, TakesData, TakesPart};
+
+use crate::daemon::Daemon;
+use crate::messages::Messages;
+use crate::server::Server;
+use crate::turn::{Reaction, Turn};
+use eden_base::NoMemory;
+use manifest::Manifest;
+use map_codec::{HandoverFault, take_over, take_over_read};
+use map_image::{ImageFault, ImageReader};
+use std::alloc::Global;
+use takeover_core::{Message, Node};
+
+/// Returns the bytes that a message carries: none, where it is no data.
+pub(crate) fn bytes_of(message: &Message) -> &[u8]
+    ensures bytes { result.now ≡ bytes_of message.now }
+{
+    match message {
+        Message::Data { bytes, .. } => bytes.as_slice(),
+        Message::Part { bytes, .. } => bytes.as_slice(),
+        _ => &[],
+    }
+}
+
+/// Reads bytes behind those that were read, and returns whether an image may begin so.
+pub(crate) fn feed(reader: &mut ImageReader, bytes: &[u8]) -> Result<bool, NoMemory>
+    ensures reads { OnOk result (reader.new ≡ reader.old ++ bytes.now) }
+    ensures fits { IfOk result (λ fits. fits ≡ is_none (standing_fault (reader.old ++ bytes.now))) }
+    ensures unchanged { OnErr result (reader.new ≡ reader.old) }
+{
+    match reader.feed(bytes) {
+        Ok(()) => Ok(true),
+        Err(ImageFault::NoMemory) => Err(NoMemory),
+        Err(_) => Ok(false),
+    }
+}
+
+/// Reads the bytes of a first part, and returns what read them, and whether an image may begin so.
+pub(crate) fn read_first(alloc: Global, bytes: &[u8]) -> Result<(ImageReader, bool), NoMemory>
+    ensures reads { IfOk result (λ read. read.0 ≡ bytes.now) }
+    ensures fits { IfOk result (λ read. read.1 ≡ is_none (standing_fault bytes.now)) }
+{
+    let mut reader = ImageReader::new(alloc)?;
+    let fits = feed(&mut reader, bytes)?;
+    Ok((reader, fits))
+}
+
+/// Reads the bytes of the last part behind a copy of those before it, and returns what read them, and whether an image
+/// may begin so.
+fn read_last(
+    alloc: Global,
+    daemon: &Daemon,
+    position: u32,
+    bytes: &[u8],
+) -> Result<(ImageReader, bool), NoMemory>
+    ensures reads { IfOk result (λ read. read.0 ≡ read_before position daemon.now ++ bytes.now) }
+    ensures fits { IfOk result (λ read.
+        read.1 ≡ is_none (standing_fault (read_before position daemon.now ++ bytes.now))) }
+{
+    if position != 1 {
+        if let Some(reader) = daemon.reading() {
+            let mut reader = reader.copy()?;
+            let fits = feed(&mut reader, bytes)?;
+            return Ok((reader, fits));
+        }
+    }
+    read_first(alloc, bytes)
+}
+
+/// Holds what is raised from the data, or is gone where nothing can be raised from it.
+pub(crate) fn take_data(
+    alloc: Global,
+    daemon: &Daemon,
+    manifest: &Manifest,
+    limit: usize,
+    node: Node,
+    generation: u64,
+    bytes: &[u8],
+) -> Result<Turn, NoMemory>
+    requires raising { IsTrue (is_raising node.phase) }
+    ensures taken { IfOk result (λ turn.
+        TakesData manifest.now limit daemon.now bytes.now node generation turn.reaction (turned daemon.now turn)) }
+    ensures at_most_one { IfOk result (λ turn. length (what_is_said turn.reaction) ≤ 1) }
+{
+    let shared = manifest.share()?;
+    match take_over(alloc, bytes, manifest, limit, generation) {
+        Ok(served) => Ok(hold(node, Server::new(alloc, generation, shared, served))),
+        Err(HandoverFault::Refused) => {
+            drop(shared);
+            Ok(lose(daemon, node))
+        }
+        Err(HandoverFault::NoMemory) => {
+            drop(shared);
+            Err(NoMemory)
+        }
+    }
+}
+
+/// Reads the last part behind those before it, and then does with all that was read as `take_data` with its bytes.
+pub(crate) fn take_last(
+    alloc: Global,
+    daemon: &Daemon,
+    manifest: &Manifest,
+    limit: usize,
+    node: Node,
+    generation: u64,
+    position: u32,
+    bytes: &[u8],
+) -> Result<Turn, NoMemory>
+    requires taking { IsTrue (is_taking node.phase) }
+    requires raising { IsTrue (is_raising (phase_after node (Fed true))) }
+    ensures taken { (count : ℕ) → nat_lt position count ≡ false → IfOk result (λ turn.
+        TakesPart manifest.now limit daemon.now (read_before position daemon.now ++ bytes.now) node generation position
+        count turn.reaction (turned daemon.now turn)) }
+    ensures at_most_one { IfOk result (λ turn. length (what_is_said turn.reaction) ≤ 1) }
+{
+    let (reader, fits) = read_last(alloc, daemon, position, bytes)?;
+    let mut node = node;
+    match node.fed(fits) {
+        None => take_read(alloc, daemon, manifest, limit, node, generation, reader),
+        Some(said) => {
+            drop(reader);
+            Ok(Turn::to(node, Reaction::Says(said, Messages::none())))
+        }
+    }
+}
+
+/// Holds what is raised from what was read, or is gone where nothing can be raised from it.
+fn take_read(
+    alloc: Global,
+    daemon: &Daemon,
+    manifest: &Manifest,
+    limit: usize,
+    node: Node,
+    generation: u64,
+    reader: ImageReader,
+) -> Result<Turn, NoMemory>
+    requires raising { IsTrue (is_raising node.phase) }
+    ensures taken { IfOk result (λ turn.
+        TakesData manifest.now limit daemon.now reader node generation turn.reaction (turned daemon.now turn)) }
+    ensures at_most_one { IfOk result (λ turn. length (what_is_said turn.reaction) ≤ 1) }
+{
+    let shared = manifest.share()?;
+    match take_over_read(alloc, reader, manifest, limit, generation) {
+        Ok(served) => Ok(hold(node, Server::new(alloc, generation, shared, served))),
+        Err(HandoverFault::Refused) => {
+            drop(shared);
+            Ok(lose(daemon, node))
+        }
+        Err(HandoverFault::NoMemory) => {
+            drop(shared);
+            Err(NoMemory)
+        }
+    }
+}
+
+/// Holds what was raised, until it claims the seat.
+fn hold(node: Node, server: Server) -> Turn
+    requires raising { IsTrue (is_raising node.phase) }
+    ensures holds { result ≡ record { node = after node (Raised true); held = Some server; reaction = Reaction.Heeds } }
+    ensures at_most_one { length (what_is_said result.reaction) ≤ 1 }
+{
+    let mut node = node;
+    drop(node.raised(true));
+    Turn::holding(node, server)
+}
+
+/// Takes in that nothing was raised.
+fn lose(daemon: &Daemon, node: Node) -> Turn
+    requires raising { IsTrue (is_raising node.phase) }
+    ensures loses { Loses daemon.now node result.reaction (turned daemon.now result) }
+    ensures at_most_one { length (what_is_said result.reaction) ≤ 1 }
+{
+    let mut node = node;
+    match node.raised(false) {
+        Some(said) => Turn::to(node, Reaction::Says(said, Messages::none())),
+        None => unreachable!(),
+    }
+}
