@@ -1,141 +1,35 @@
 -- What a desk keeps over each call of its daemon.
-use Rattle.std.proofs.Common.{◌≡◌, ℕ, Bool, true, false, List, Option, Some, None, IsSome, Result, Ok, Err, inl, inr, refl, sym, ap, subst, rules}
+use Rattle.std.proofs.Common.{◌≡◌, ℕ, Bool, true, false, List, Option, Some, None, IsSome, Result, Ok, Err, refl, sym, subst, rules}
 use Rattle.std.specs.Option.{IfSome, option_map}
 use Rattle.eden_base.specs.declared.claim.ClaimFault.{ClaimFault}
 use Rattle.eden_base.specs.declared.claim.ClaimFault.TheVariants as claim
-use Rattle.manifest.specs.Manifest.{Manifest}
 use Rattle.fuse_ops.specs.Served.{ServedState}
-use Rattle.takeover_core.specs.Node.{NodeState}
 use Rattle.takeover_core.specs.Phases.{Claimed, is_holding, may_take, phase_after}
 use Rattle.takeover_core.specs.declared.phase.Phase.{Phase}
-use Rattle.takeover_core.specs.declared.phase.Phase.TheVariants.{Waiting, Chosen, Raising, Holding, Serving, Draining, Pinged, Making, Handed, Gone}
+use Rattle.takeover_core.specs.declared.phase.Phase.TheVariants.{Waiting, Chosen, Taking, Reading, Raising, Holding, Serving, Draining, Pinged, Making, Handed, Gone}
 use Rattle.takeover_core.specs.Phases as table
-use Rattle.takeover_core.specs.declared.heard.Heard.{Heard as Answer}
-use Rattle.takeover_core.specs.declared.heard.Heard.TheVariants as answer
-use Rattle.takeover_core.specs.declared.message.Message.{Message}
 use Rattle.takeover_core.specs.declared.node.DrainFault.{DrainFault}
 use Rattle.daemon.specs.Daemon.{DaemonState, with_node, with_server, in_hand, unposted, is_waiting, is_waiting_in}
 use Rattle.daemon.specs.Server.{ServerState, IsIdle}
 use Rattle.daemon.specs.Serving.{beginning}
-use Rattle.daemon.specs.Talking.{HearsSo, ReactsBy, TurnsBy, GivesUpSo, DrainsSo, DrainsBy, MountsSo, ClaimsSo, after_claim, at_generation, brings_data, bytes_of}
-use Rattle.daemon.specs.declared.daemon.Reaction.{Reaction}
-use Rattle.daemon_desk.specs.Inside.{IsOrderly, IsLentBy, knows}
-use Rattle.daemon_desk.proofs.Knowing.{knew, knew_at_end, knew_drained, knew_making, lost}
-use Rattle.daemon_desk.proofs.Quiet.{IsQuiet, node_of, quiet, quiet_end}
-
-not_both : (b : Bool) → b ≡ true → b ≡ false → ⊥
-not_both b is none = cc
-
--- ---- nothing is in hand
-
--- of what is served
-abbrev pub IsAllIdle : DaemonState → Type 0
-IsAllIdle daemon = IfSome daemon.server IsIdle
-
-idle_with : (old new : DaemonState) (node : NodeState) → new ≡ with_node old node → IsAllIdle old → IsAllIdle new
-idle_with old new node is idle = subst IsAllIdle (sym is) idle
-
-turns_idle : (old new : DaemonState) (node : NodeState) (a : Answer) (reaction : Reaction) → TurnsBy old node a reaction new → IsAllIdle old → IsAllIdle new
-turns_idle old new node answer.Ignored reaction h idle = idle_with old new node h.becomes idle
-turns_idle old new node answer.Heard reaction h idle = idle_with old new node h.becomes idle
-turns_idle old new node (answer.Say said) reaction h idle = idle_with old new node h.becomes idle
-turns_idle old new node (answer.MakeData session generation version) reaction h idle = absurd h
-turns_idle old new node (answer.GotData session generation version) reaction h idle = absurd h
-
-reacts_idle : (manifest : Manifest) (limit : ℕ) (bytes : List ℕ) (old new : DaemonState) (node : NodeState) (a : Answer) (reaction : Reaction) → ReactsBy manifest limit bytes old node a reaction new → IsAllIdle old → IsAllIdle new
-reacts_idle manifest limit bytes old new node (answer.MakeData session generation version) reaction (inl h) idle = idle_with old new (table.after node (table.DataMade h.bytes)) h.becomes idle
-reacts_idle manifest limit bytes old new node (answer.MakeData session generation version) reaction (inr h) idle = idle_with old new (table.after node table.DataFailed) h.becomes idle
-reacts_idle manifest limit bytes old new node (answer.GotData session generation version) reaction (inl h) idle = subst IsAllIdle (sym h.becomes) (record { hand = refl; unposted = refl })
-reacts_idle manifest limit bytes old new node (answer.GotData session generation version) reaction (inr h) idle = idle_with old new (table.after node (table.Raised false)) h.loses.becomes idle
-reacts_idle manifest limit bytes old new node answer.Ignored reaction h idle = turns_idle old new node answer.Ignored reaction h idle
-reacts_idle manifest limit bytes old new node answer.Heard reaction h idle = turns_idle old new node answer.Heard reaction h idle
-reacts_idle manifest limit bytes old new node (answer.Say said) reaction h idle = turns_idle old new node (answer.Say said) reaction h idle
-
--- ---- what is lent stays so
-
-turns : (old new : DaemonState) (node : NodeState) (a : Answer) (reaction : Reaction) → TurnsBy old node a reaction new → new ≡ with_node old node
-turns old new node answer.Ignored reaction h = h.becomes
-turns old new node answer.Heard reaction h = h.becomes
-turns old new node (answer.Say said) reaction h = h.becomes
-turns old new node (answer.MakeData session generation version) reaction h = absurd h
-turns old new node (answer.GotData session generation version) reaction h = absurd h
-
-reacts_quietly : (manifest : Manifest) (limit : ℕ) (bytes : List ℕ) (old new : DaemonState) (node : NodeState) (a : Answer) (reaction : Reaction) → brings_data a ≡ false → ReactsBy manifest limit bytes old node a reaction new → new ≡ with_node old node
-reacts_quietly manifest limit bytes old new node answer.Ignored reaction none h = h.becomes
-reacts_quietly manifest limit bytes old new node answer.Heard reaction none h = h.becomes
-reacts_quietly manifest limit bytes old new node (answer.Say said) reaction none h = h.becomes
-reacts_quietly manifest limit bytes old new node (answer.MakeData session generation version) reaction none h = absurd (let no : ⊥ = cc in no)
-reacts_quietly manifest limit bytes old new node (answer.GotData session generation version) reaction none h = absurd (let no : ⊥ = cc in no)
-
-stays_lent : (old new : DaemonState) (event : table.Event) → IsQuiet old.node event → new ≡ with_node old (table.after old.node event) → IsLentBy old → IsLentBy new
-stays_lent old new event calm is lent =
-    subst IsLentBy (sym is) (record { may_take = calm.may_take; serves_nothing = lent.serves_nothing })
-
--- ---- what is served is there
-
--- unless it is lent, in each phase in which the daemon knows it
-abbrev pub IsThere : Bool → DaemonState → Type 0
-IsThere is_lent daemon = knows daemon.node.phase ≡ true → is_lent ≡ false → IsSome daemon.server
-
--- it was known, and still is served
-there_still : (is_lent : Bool) (old new : DaemonState) (node : NodeState) → new ≡ with_node old node → (knows node.phase ≡ true → knows old.node.phase ≡ true) → IsThere is_lent old → IsThere is_lent new
-there_still is_lent old new node is knew there = subst (IsThere is_lent) (sym is) (λ later own. there (knew later) own)
-
-there_lost : (is_lent : Bool) (old new : DaemonState) (node : NodeState) → new ≡ with_node old node → knows node.phase ≡ false → IsThere is_lent new
-there_lost is_lent old new node is none = subst (IsThere is_lent) (sym is) (λ later own. absurd (not_both _ later none))
-
-there_heard : (is_lent : Bool) (manifest : Manifest) (limit : ℕ) (bytes : List ℕ) (old new : DaemonState) (said : Message) (a : Answer) (reaction : Reaction) → table.heard old.node (table.Hear said) ≡ a → ReactsBy manifest limit bytes old (table.after old.node (table.Hear said)) a reaction new → IsThere is_lent old → IsThere is_lent new
-there_heard is_lent manifest limit bytes old new said (answer.MakeData s g v) reaction is (inl h) there =
-    there_still is_lent old new (table.after (table.after old.node (table.Hear said)) (table.DataMade h.bytes)) h.becomes (λ later. knew_making old.node.versions old.node.sessions old.node.phase said s g v is) there
-there_heard is_lent manifest limit bytes old new said (answer.MakeData s g v) reaction is (inr h) there =
-    there_still is_lent old new (table.after (table.after old.node (table.Hear said)) table.DataFailed) h.becomes (λ later. knew_making old.node.versions old.node.sessions old.node.phase said s g v is) there
-there_heard is_lent manifest limit bytes old new said (answer.GotData s g v) reaction is (inl h) there = subst (IsThere is_lent) (sym h.becomes) (λ later own. refl)
-there_heard is_lent manifest limit bytes old new said (answer.GotData s g v) reaction is (inr h) there =
-    there_lost is_lent old new (table.after (table.after old.node (table.Hear said)) (table.Raised false)) h.loses.becomes (lost old.node.versions old.node.sessions old.node.phase said s g v is)
-there_heard is_lent manifest limit bytes old new said answer.Ignored reaction is h there =
-    there_still is_lent old new (table.after old.node (table.Hear said)) h.becomes (knew old.node.versions old.node.sessions old.node.phase said (ap brings_data is)) there
-there_heard is_lent manifest limit bytes old new said answer.Heard reaction is h there =
-    there_still is_lent old new (table.after old.node (table.Hear said)) h.becomes (knew old.node.versions old.node.sessions old.node.phase said (ap brings_data is)) there
-there_heard is_lent manifest limit bytes old new said (answer.Say what) reaction is h there =
-    there_still is_lent old new (table.after old.node (table.Hear said)) h.becomes (knew old.node.versions old.node.sessions old.node.phase said (ap brings_data is)) there
+use Rattle.daemon.specs.Talking.{DrainsSo, DrainsBy, MountsSo, ClaimsSo, after_claim, at_generation}
+use Rattle.daemon.specs.declared.turn.Reaction.{Reaction}
+use Rattle.daemon_desk.specs.Inside.{IsOrderly, knows}
+use Rattle.daemon_desk.proofs.HearingKeeps.{IsAllIdle, IsThere, idle_still, kept, not_both, there_still}
+use Rattle.daemon_desk.proofs.Knowing.{knew_drained}
+use Rattle.daemon_desk.proofs.Quiet.{node_of}
 
 -- ---- over each call
 
-pub hears_keeps : (is_lent : Bool) (manifest : Manifest) (limit : ℕ) (old new : DaemonState) (said : Message) (reaction : Reaction) → IsOrderly is_lent old → HearsSo manifest limit old said reaction new → IsOrderly is_lent new
-hears_keeps is_lent manifest limit old new said reaction orderly h =
-    let node = table.after old.node (table.Hear said) in
-    let a = table.heard old.node (table.Hear said) in
-    record {
-      lent = λ e.
-          let lent : IsLentBy old = orderly.lent e in
-          let calm : IsQuiet old.node (table.Hear said) = quiet old.node.versions old.node.sessions old.node.phase said lent.may_take in
-          stays_lent old new (table.Hear said) calm (reacts_quietly manifest limit (bytes_of said) old new node a reaction calm.no_data h) lent;
-      idle = reacts_idle manifest limit (bytes_of said) old new node a reaction h orderly.idle;
-      known = there_heard is_lent manifest limit (bytes_of said) old new said a reaction refl h orderly.known;
-    }
-
-pub gives_up_keeps : (is_lent : Bool) (old new : DaemonState) (reaction : Reaction) → IsOrderly is_lent old → GivesUpSo old reaction new → IsOrderly is_lent new
-gives_up_keeps is_lent old new reaction orderly h =
-    let node = table.after old.node table.GiveUp in
-    let a = table.heard old.node table.GiveUp in
-    record {
-      lent = λ e.
-          let lent : IsLentBy old = orderly.lent e in
-          let calm : IsQuiet old.node table.GiveUp = quiet_end old.node.versions old.node.sessions old.node.phase lent.may_take in
-          stays_lent old new table.GiveUp calm (turns old new node a reaction h) lent;
-      idle = turns_idle old new node a reaction h orderly.idle;
-      known = there_still is_lent old new node (turns old new node a reaction h) (knew_at_end old.node.versions old.node.sessions old.node.phase) orderly.known;
-    }
-
 drains_there : (fault : Option DrainFault) (old new : DaemonState) (result : Result Reaction DrainFault) → DrainsBy fault old result new → IsThere false old → IsThere false new
 drains_there None old new (Ok reaction) h there =
-    there_still false old new (table.after old.node (table.Drained (in_hand old) (unposted old))) h.becomes (knew_drained old.node.versions old.node.sessions old.node.phase (in_hand old) (unposted old)) there
+    there_still false old new (table.after old.node (table.Drained (in_hand old) (unposted old))) (kept old (with_node old (table.after old.node (table.Drained (in_hand old) (unposted old)))) new h.becomes refl) (knew_drained old.node.versions old.node.sessions old.node.phase (in_hand old) (unposted old)) there
 drains_there (Some fault) old new (Err told) h there = subst (IsThere false) (sym h.1) there
 drains_there None old new (Err told) h there = absurd h
 drains_there (Some fault) old new (Ok reaction) h there = absurd h
 
 drains_idle : (fault : Option DrainFault) (old new : DaemonState) (result : Result Reaction DrainFault) → DrainsBy fault old result new → IsAllIdle old → IsAllIdle new
-drains_idle None old new (Ok reaction) h idle = idle_with old new (table.after old.node (table.Drained (in_hand old) (unposted old))) h.becomes idle
+drains_idle None old new (Ok reaction) h idle = idle_still old new (table.after old.node (table.Drained (in_hand old) (unposted old))) (kept old (with_node old (table.after old.node (table.Drained (in_hand old) (unposted old)))) new h.becomes refl) idle
 drains_idle (Some fault) old new (Err told) h idle = subst IsAllIdle (sym h.1) idle
 drains_idle None old new (Err told) h idle = absurd h
 drains_idle (Some fault) old new (Ok reaction) h idle = absurd h
@@ -195,6 +89,8 @@ none_known : (versions : List ℕ) (sessions : ℕ) (phase : Phase) → is_holdi
 none_known versions sessions (Holding generation) holds = (refl, refl, λ now. refl)
 none_known versions sessions Waiting holds = absurd (let no : ⊥ = cc in no)
 none_known versions sessions (Chosen s v) holds = absurd (let no : ⊥ = cc in no)
+none_known versions sessions (Taking s g v i n) holds = absurd (let no : ⊥ = cc in no)
+none_known versions sessions (Reading s g v i n) holds = absurd (let no : ⊥ = cc in no)
 none_known versions sessions (Raising s g) holds = absurd (let no : ⊥ = cc in no)
 none_known versions sessions (Serving g) holds = absurd (let no : ⊥ = cc in no)
 none_known versions sessions (Draining g s v) holds = absurd (let no : ⊥ = cc in no)

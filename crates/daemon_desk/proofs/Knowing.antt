@@ -1,11 +1,11 @@
 -- A daemon that knows what is served knew it before the event, but where data was raised.
 use Rattle.std.proofs.Common.{◌≡◌, ℕ, true, false, List, rules}
-use Rattle.takeover_core.specs.declared.heard.Heard.TheVariants.{MakeData, GotData}
+use Rattle.takeover_core.specs.declared.heard.Heard.TheVariants.{MakeData}
 use Rattle.takeover_core.specs.declared.message.Message.{Message}
-use Rattle.takeover_core.specs.declared.message.Message.TheVariants.{Offer, Choice, Ready, Pong, Data, Failed}
+use Rattle.takeover_core.specs.declared.message.Message.TheVariants.{Choice, Ready, Data, Part, Failed}
 use Rattle.takeover_core.specs.declared.phase.Phase.{Phase}
-use Rattle.takeover_core.specs.declared.phase.Phase.TheVariants.{Waiting, Chosen, Serving, Draining, Pinged, Making, Handed}
-use Rattle.takeover_core.specs.Phases.{Hear, GiveUp, Raised, Drained, after, heard, phase_after}
+use Rattle.takeover_core.specs.declared.phase.Phase.TheVariants.{Waiting, Chosen, Reading}
+use Rattle.takeover_core.specs.Phases.{Hear, GiveUp, Drained, heard, phase_after}
 use Rattle.daemon.specs.Talking.{brings_data}
 use Rattle.daemon_desk.specs.Inside.{knows}
 use Rattle.daemon_desk.proofs.Quiet.{node_of}
@@ -14,28 +14,21 @@ pub knew : (versions : List ℕ) (sessions : ℕ) (phase : Phase) (said : Messag
 knew versions sessions Waiting (Choice t v) none later = grind rules
 knew versions sessions (Chosen s v) (Ready t g) none later = grind rules
 knew versions sessions (Chosen s v) (Data t g bytes) none later = grind rules
+knew versions sessions (Chosen s v) (Part t g i n bytes) none later = grind rules
+knew versions sessions (Reading s g v i n) (Part t h j m bytes) none later = grind rules
 knew versions sessions (Chosen s v) (Failed t) none later = grind rules
+knew versions sessions (Reading s g v i n) (Failed t) none later = grind rules
 knew versions sessions phase said none later = grind rules
 
 pub knew_making : (versions : List ℕ) (sessions : ℕ) (phase : Phase) (said : Message) (s g v : ℕ) → heard (node_of versions sessions phase) (Hear said) ≡ MakeData s g v → knows phase ≡ true
 knew_making versions sessions Waiting (Choice t w) s g v is = grind rules
 knew_making versions sessions (Chosen t w) (Ready u h) s g v is = grind rules
 knew_making versions sessions (Chosen t w) (Data u h bytes) s g v is = grind rules
+knew_making versions sessions (Chosen t w) (Part u h i n bytes) s g v is = grind rules
+knew_making versions sessions (Reading t h w i n) (Part u k j m bytes) s g v is = grind rules
 knew_making versions sessions (Chosen t w) (Failed u) s g v is = grind rules
+knew_making versions sessions (Reading t h w i n) (Failed u) s g v is = grind rules
 knew_making versions sessions phase said s g v is = grind rules
-
-pub lost : (versions : List ℕ) (sessions : ℕ) (phase : Phase) (said : Message) (s g v : ℕ) → heard (node_of versions sessions phase) (Hear said) ≡ GotData s g v → knows (phase_after (after (node_of versions sessions phase) (Hear said)) (Raised false)) ≡ false
-lost versions sessions Waiting (Choice t w) s g v is = grind rules
-lost versions sessions (Chosen t w) (Ready u h) s g v is = grind rules
-lost versions sessions (Chosen t w) (Data u h bytes) s g v is = grind rules
-lost versions sessions (Chosen t w) (Failed u) s g v is = grind rules
-lost versions sessions (Serving h) (Offer offered) s g v is = grind rules
-lost versions sessions (Draining h t w) (Failed u) s g v is = grind rules
-lost versions sessions (Pinged h t w) (Failed u) s g v is = grind rules
-lost versions sessions (Pinged h t w) (Pong u) s g v is = grind rules
-lost versions sessions (Making h t w) (Failed u) s g v is = grind rules
-lost versions sessions (Handed h t) (Failed u) s g v is = grind rules
-lost versions sessions phase said s g v is = grind rules
 
 pub knew_at_end : (versions : List ℕ) (sessions : ℕ) (phase : Phase) → knows (phase_after (node_of versions sessions phase) GiveUp) ≡ true → knows phase ≡ true
 knew_at_end versions sessions phase later = grind rules

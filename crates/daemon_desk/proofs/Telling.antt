@@ -1,5 +1,5 @@
 -- What is told, where a daemon says one message at most and has nothing in hand.
-use Rattle.std.proofs.Common.{◌≡◌, ℕ, ◌≤◌, Bool, false, List, [], ◌∷◌, length, Option, Some, None, Result, Ok, Err, refl, sym, ap, subst, ◌∙◌, arith, rules}
+use Rattle.std.proofs.Common.{◌≡◌, ℕ, ◌≤◌, false, List, [], ◌∷◌, length, Option, Some, None, Result, Ok, Err, refl, sym, ap, subst, ◌∙◌, arith, rules}
 use Rattle.std.specs.Option.{IfSome}
 use Rattle.manifest.specs.Manifest.{Manifest}
 use Rattle.takeover_core.specs.Node.{NodeState}
@@ -16,19 +16,15 @@ use Rattle.daemon.specs.Daemon.{DaemonState, in_hand, unposted}
 use Rattle.daemon.specs.Saying.{TurnState, turned, what_is_said}
 use Rattle.daemon.specs.Server.{ServerState, IsIdle}
 use Rattle.daemon.specs.Talking.{DrainsBy, DrainsSo, GivesUpSo, HearsSo}
-use Rattle.daemon.specs.declared.daemon.Reaction.{Reaction}
-use Rattle.daemon.specs.declared.daemon.Reaction.TheVariants.{Says}
+use Rattle.daemon.specs.declared.turn.Reaction.{Reaction}
+use Rattle.daemon.specs.declared.turn.Reaction.TheVariants.{Says}
 use Rattle.daemon_desk.specs.Desk.{DeskState, DrainsNow, GivesUp, HearsMessage, IsReadied, IsSaid, IsTold, ready_in, with_daemon}
 use Rattle.daemon_desk.specs.declared.answers.Hearing.{Hearing}
-use Rattle.daemon_desk.specs.declared.answers.Hearing.TheVariants.{Tells}
 use Rattle.daemon_desk.proofs.Quiet.{node_of}
 
 none_behind : (said : Message) (others : List Message) → length (said ∷ others) ≤ 1 → others ≡ []
 none_behind said [] few = refl
 none_behind said (other ∷ others) few = absurd (omega (arith, few))
-
-pub tells_one : (said : Message) (others : List Message) → length (what_is_said (Says said others)) ≤ 1 → IsTold (Says said others) (Tells (Takeover said))
-tells_one said others few = subst (λ (o : List Message). IsTold (Says said o) (Tells (Takeover said))) (sym (none_behind said others few)) refl
 
 pub says_one : (said : Message) (others : List Message) → length (what_is_said (Says said others)) ≤ 1 → IsSaid (Says said others) (Some (Takeover said))
 says_one said others few = subst (λ (o : List Message). IsSaid (Says said o) (Some (Takeover said))) (sym (none_behind said others few)) refl

@@ -1,7 +1,7 @@
--- A daemon behind its links: what it makes of each frame that it is sent, and of each call of its program. What it says
--- and becomes is the daemon's own table; what is added here are the frames, and what is lent to workers. (This
+-- A daemon behind its connections: what it makes of each frame that it is sent, and of each call of its program. What
+-- it says and becomes is the daemon's own table; what is added here are the frames, and what is lent to workers. (This
 -- project's own.)
-use Rattle.std.specs.Prelude.{◌≡◌, ◌⊎◌, ℕ, Bool, true, false, [], ◌∷◌, Option, Some, None, Result, Ok, Err, if◌then◌else◌}
+use Rattle.std.specs.Prelude.{◌≡◌, ◌⊎◌, ℕ, Bool, true, false, List, [], ◌∷◌, map, Option, Some, None, Result, Ok, Err, if◌then◌else◌}
 use Rattle.std.specs.Option.{option_map}
 use Rattle.eden_base.specs.declared.claim.ClaimFault.{ClaimFault}
 use Rattle.eden_base.specs.declared.claim.ClaimFault.TheVariants as claim
@@ -19,8 +19,8 @@ use Rattle.daemon.specs.Daemon.{DaemonState, new_daemon, is_waiting, with_server
 use Rattle.daemon.specs.Server.{ServerState}
 use Rattle.daemon.specs.Serving.{beginning}
 use Rattle.daemon.specs.Talking.{HearsSo, GivesUpSo, DrainsSo, MountsSo, ClaimsSo, brings_data}
-use Rattle.daemon.specs.declared.daemon.Reaction.{Reaction}
-use Rattle.daemon.specs.declared.daemon.Reaction.TheVariants as reaction
+use Rattle.daemon.specs.declared.turn.Reaction.{Reaction}
+use Rattle.daemon.specs.declared.turn.Reaction.TheVariants as reaction
 use Rattle.daemon_desk.specs.declared.answers.Hearing.{Hearing}
 use Rattle.daemon_desk.specs.declared.answers.Hearing.TheVariants as hearing
 use Rattle.daemon_desk.specs.declared.answers.Mounting.{Mounting}
@@ -37,10 +37,15 @@ pub record DeskState : Type 0 where
   pub prepared : Option ServedState
   pub is_lent : Bool
 
--- a daemon that was just started
-abbrev pub new_desk : Manifest → ℕ → DeskState
-new_desk manifest limit =
-    record { daemon = new_daemon; manifest = manifest; limit = limit; prepared = None; is_lent = false }
+-- a daemon that was just started, with these versions of the image
+abbrev pub new_desk : Manifest → ℕ → List ℕ → DeskState
+new_desk manifest limit versions = record {
+  daemon = new_daemon versions;
+  manifest = manifest;
+  limit = limit;
+  prepared = None;
+  is_lent = false;
+}
 
 -- the same with another daemon
 abbrev pub with_daemon : DeskState → DaemonState → DeskState
@@ -48,12 +53,11 @@ with_daemon desk daemon = record desk { daemon = daemon }
 
 -- ---- a frame of another daemon
 
--- what is told of what the daemon makes of a message: it says one at most
+-- what is told of what the daemon makes of a message: all that it says, each message as a frame
 abbrev pub IsTold : Reaction → Hearing → Type 0
 IsTold reaction.Ignores what = what ≡ hearing.Ignores
 IsTold reaction.Heeds what = what ≡ hearing.Heeds
-IsTold (reaction.Says said []) what = what ≡ hearing.Tells (frame.Takeover said)
-IsTold (reaction.Says said (other ∷ others)) what = ⊥
+IsTold (reaction.Says said others) what = what ≡ hearing.Tells (map frame.Takeover (said ∷ others))
 
 -- the daemon hears the message
 pub record HearsMessage (old : DeskState) (said : Message) (what : Hearing) (new : DeskState) : Type 0 where

@@ -3,7 +3,7 @@ use Rattle.std.specs.Prelude.{◌≡◌, Bool, true, false, None, IsSome}
 use Rattle.std.specs.Option.{IfSome}
 use Rattle.takeover_core.specs.Phases.{may_take}
 use Rattle.takeover_core.specs.declared.phase.Phase.{Phase}
-use Rattle.takeover_core.specs.declared.phase.Phase.TheVariants.{Waiting, Chosen, Raising, Gone}
+use Rattle.takeover_core.specs.declared.phase.Phase.TheVariants.{Waiting, Chosen, Taking, Reading, Raising, Gone}
 use Rattle.daemon.specs.Daemon.{DaemonState}
 use Rattle.daemon.specs.Server.{IsIdle}
 
@@ -16,6 +16,8 @@ pub record IsLentBy (daemon : DaemonState) : Type 0 where
 abbrev pub knows : Phase → Bool
 knows Waiting = false
 knows (Chosen session version) = false
+knows (Taking session generation version position count) = false
+knows (Reading session generation version position count) = false
 knows (Raising session generation) = false
 knows Gone = false
 knows phase = true

@@ -1,22 +1,22 @@
-//! What becomes of frames that a daemon is sent.
-use frames::Frame;
+//! The results of frames that a daemon is sent.
+use crate::frame_list::FrameList;
 
-/// What becomes of a frame of another daemon.
+/// The result of a frame of another daemon.
 #[derive(Drop)]
 pub enum Hearing {
-    /// The other daemon is told this.
-    Tells(Frame),
-    /// It is taken, and there is nothing to tell.
+    /// The other daemon is sent these frames, one behind the other.
+    Tells(FrameList),
+    /// The frame is taken, without an answer.
     Heeds,
-    /// It is not for this phase or session, and changes nothing.
+    /// The frame is not for this phase or session, and changes nothing.
     Ignores,
     /// No daemon sends such a frame: the connection is closed.
     Closes,
-    /// Memory was refused, and nothing changed: it may be heard again.
+    /// Memory was refused, and nothing changed: the frame may be heard again.
     NoMemory,
 }
 
-/// What becomes of the broker's answer to a Mount.
+/// The result of the broker's answer to a Mount.
 #[derive(Clone, Copy, PartialEq, Eq)]
 pub enum Mounting {
     /// The daemon serves at this generation.
@@ -27,11 +27,11 @@ pub enum Mounting {
     LastGeneration,
     /// The mount is over.
     Ended,
-    /// It answers no Mount, or the daemon cannot mount.
+    /// The frame is no answer to a Mount, or the daemon is in no phase to mount.
     Broken,
 }
 
-/// What becomes of the broker's answer to a Claim.
+/// The result of the broker's answer to a Claim.
 #[derive(Clone, Copy, PartialEq, Eq)]
 pub enum Claiming {
     /// The daemon serves at this generation.
@@ -44,6 +44,6 @@ pub enum Claiming {
     Ended,
     /// The seat is at the last generation, and the daemon is gone.
     LastGeneration,
-    /// It answers no Claim, or the daemon wants to claim nothing.
+    /// The frame is no answer to a Claim, or the daemon has nothing to claim.
     Broken,
 }

@@ -1,14 +1,16 @@
-//! A daemon behind its links.
+//! A daemon behind its connections.
 ghost use Rattle.std.specs.Option.{option_map, IfSome};
 ghost use Rattle.std.specs.Prelude.{◌≡◌, ◌≤◌, ◌⊎◌, Some, None, true, false, length, is_some, IsSome, IsTrue, OnOk, OnErr};
 ghost use Rattle.fuse_ops.specs.Served.{new_served};
-ghost use Rattle.takeover_core.specs.Phases.{may_take, claim_wanted};
+ghost use Rattle.takeover_core.specs.Phases.{heard, may_take, claim_wanted, Hear};
 ghost use Rattle.frames.specs.declared.frame.Frame.TheVariants.{Takeover};
 ghost use Rattle.daemon.specs.Daemon.{is_waiting, lent_server};
 ghost use Rattle.daemon.specs.Saying.{what_is_said};
+ghost use Rattle.daemon.specs.Talking.{brings_part};
 ghost use Rattle.daemon_desk.specs.Desk.{new_desk, taking_at, is_draining, lendable, lent, returned, ready_in, ready_of, claim_of, claim_answer, Hears, HearsMessage, LacksMemory, IsTold, IsSaid, MountsAt, Mounts, Drains, DrainsNow, GivesUp, ClaimsBy, Claims};
 
 use crate::answers::{Claiming, Hearing, Mounting};
+use crate::frame_list::FrameList;
 use daemon::{Daemon, Lease, Reaction, Server, opening};
 use eden_base::{ClaimFault, NoMemory};
 use frames::Frame;
@@ -16,9 +18,9 @@ use fuse_ops::Served;
 use manifest::Manifest;
 use std::alloc::Global;
 use std::marker::Model;
-use takeover_core::{Message, Phase};
+use takeover_core::{Message, Phase, Versions};
 
-/// What a daemon would serve if it mounted, with its share of the manifest.
+/// The state that a daemon serves once it is mounted, with its share of the manifest.
 #[derive(Drop)]
 struct Prepared {
     manifest: Manifest,
@@ -26,8 +28,8 @@ struct Prepared {
     ghost over: { served.tree.manifest ≡ manifest },
 }
 
-/// A daemon, the manifest of its checkout, what it prepared for a mount, and whether its workers have what it serves.
-/// Contracts see it as a `DeskState`.
+/// A daemon, the manifest of its checkout, the state that it prepared for a mount, and whether its lease is with
+/// workers. Contracts see it as a `DeskState`.
 #[derive(Drop)]
 pub struct DaemonDesk {
     alloc: Global,
@@ -62,13 +64,14 @@ impl Model for DaemonDesk {
 }
 
 impl DaemonDesk {
-    /// Returns a daemon that was just started. It has at most `limit` attributes loaded at once.
-    pub fn new(alloc: Global, manifest: Manifest, limit: usize) -> DaemonDesk
-        ensures new { result ≡ new_desk manifest limit }
+    /// Returns a daemon that was just started, with these versions of the image. It has at most `limit` attributes
+    /// loaded at once.
+    pub fn new(alloc: Global, manifest: Manifest, limit: usize, versions: Versions) -> DaemonDesk
+        ensures new { result ≡ new_desk manifest limit versions }
     {
         DaemonDesk {
             alloc,
-            daemon: Daemon::new(),
+            daemon: Daemon::new(versions),
             manifest,
             limit,
             prepared: None,
@@ -76,7 +79,7 @@ impl DaemonDesk {
         }
     }
 
-    /// Makes what the daemon would serve. So a mount that is granted wants no memory.
+    /// Makes the state to serve before the mount is asked for. So a mount that is granted takes no memory.
     pub fn prepare(&mut self) -> Result<(), NoMemory>
         ensures prepared { OnOk result (self.new ≡ record self.old {
           prepared = Some (new_served self.old.manifest self.old.limit);
@@ -129,8 +132,8 @@ impl DaemonDesk {
         Frame::Takeover(self.daemon.offer())
     }
 
-    /// Hears a frame of another daemon. Data that is to be handed over is made here, and data that comes is read and
-    /// raised here.
+    /// Hears a frame of another daemon. Here an image is written to be handed over, and one that comes is read and
+    /// restored.
     pub fn hear(&mut self, frame: &Frame) -> Hearing
         ensures hears { Hears self.old frame.now result self.new }
     {
@@ -145,6 +148,9 @@ impl DaemonDesk {
         ensures hears { HearsMessage self.old message.now result self.new
             ⊎ LacksMemory self.old message.now result self.new }
     {
+        if self.daemon.is_fed_by(message) {
+            return self.hear_part(message);
+        }
         let Ok(turn) = self
             .daemon
             .hear(self.alloc, &self.manifest, self.limit, message)
@@ -153,6 +159,18 @@ impl DaemonDesk {
         };
         let reaction = self.daemon.turn(turn);
         hearing_of(reaction)
+    }
+
+    /// Hears a part that others follow.
+    fn hear_part(&mut self, message: &Message) -> Hearing
+        requires part { IsTrue (brings_part (heard self.old.daemon.node (Hear message.now))) }
+        ensures hears { HearsMessage self.old message.now result self.new
+            ⊎ LacksMemory self.old message.now result self.new }
+    {
+        if let Ok(reaction) = self.daemon.hear_part(self.alloc, message) {
+            return hearing_of(reaction);
+        }
+        Hearing::NoMemory
     }
 
     /// Returns how far the daemon is in a takeover.
@@ -174,7 +192,7 @@ impl DaemonDesk {
         }
     }
 
-    /// Returns whether a takeover waits until nothing is in hand.
+    /// Returns whether a takeover waits for an empty hand.
     pub fn drains(&self) -> bool
         ensures drains { result ≡ is_draining self.now.daemon.node.phase }
     {
@@ -208,7 +226,7 @@ impl DaemonDesk {
         self.daemon.take_back(self.alloc, lease);
     }
 
-    /// Says that the daemon is ready to hand over, where it drains and nothing is lent.
+    /// Says that the daemon is ready to hand over, where it drains and has no lease out.
     pub fn drained(&mut self) -> Option<Frame>
         ensures drains { Drains self.old result self.new }
         ensures ready { result ≡ ready_of self.old }
@@ -231,8 +249,8 @@ impl DaemonDesk {
         frame_of(reaction)
     }
 
-    /// Ends the daemon's part in a takeover, as where the connection to the other daemon ended. Returns what that one is
-    /// to be told.
+    /// Ends the daemon's part in a takeover, as where the connection to the other daemon ended. Returns the frame to
+    /// send to that one.
     pub fn give_up(&mut self) -> Option<Frame>
         ensures gives_up { GivesUp self.old result self.new }
     {
@@ -278,22 +296,18 @@ impl DaemonDesk {
     }
 }
 
-/// Returns what is told of what a daemon makes of a message. It says one message at most.
+/// Converts a daemon's reaction to a hearing.
 fn hearing_of(reaction: Reaction) -> Hearing
-    requires at_most_one { length (what_is_said reaction) ≤ 1 }
     ensures told { IsTold reaction result }
 {
     match reaction {
         Reaction::Ignores => Hearing::Ignores,
         Reaction::Heeds => Hearing::Heeds,
-        Reaction::Says(said, others) => {
-            drop(others);
-            Hearing::Tells(Frame::Takeover(said))
-        }
+        Reaction::Says(said, others) => Hearing::Tells(FrameList::of(said, others)),
     }
 }
 
-/// Returns the frame of what a daemon says, if it says something. It says one message at most.
+/// Returns the frame of a reaction's message, if it has one. It has one at most.
 fn frame_of(reaction: Reaction) -> Option<Frame>
     requires at_most_one { length (what_is_said reaction) ≤ 1 }
     ensures said { IsSaid reaction result }
@@ -307,7 +321,7 @@ fn frame_of(reaction: Reaction) -> Option<Frame>
     }
 }
 
-/// Returns the answer to a Claim that a frame is, if it is one.
+/// Converts a frame to the answer to a Claim, if it is one.
 fn claim_answer(frame: &Frame) -> Option<Result<u64, ClaimFault>>
     ensures answer { result ≡ claim_answer frame.now }
 {

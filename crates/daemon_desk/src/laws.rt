@@ -1,12 +1,14 @@
-//! What holds of the definitions alone. A caller's proof that wants a law calls its function, which does nothing.
-ghost use Rattle.daemon_desk.specs.Handover.{HandedHasFrame, HandedIsShort, OneFrameIsRead, ReadCanBeTaken, ReadKnows};
+//! Laws of the definitions. A caller's proof cites a law by calling its function, which does nothing.
+ghost use Rattle.daemon_desk.specs.Handover.{FramesAreRead, HandedHasFrame, HandedIsShort, PartsHaveFrames, ReadCanBeTaken, ReadKnows};
 
-/// States that what is handed over in version 1 has a frame. In whatever pieces this comes, it alone is read of them.
-/// What is taken over of it knows the same as what was handed over, and nothing stands against taking it.
+/// States that an image is no longer than the longest text of its version. It has a frame, or one for each of its
+/// parts. Cut into any pieces, these are read as those frames alone. They are taken without a refusal, and the restored
+/// state knows the same as the one that was handed over.
 pub fn frames_keep_what_is_known()
     ensures short { HandedIsShort }
     ensures frame { HandedHasFrame }
-    ensures read { OneFrameIsRead }
+    ensures parts { PartsHaveFrames }
+    ensures read { FramesAreRead }
     ensures keeps { ReadKnows }
     ensures taken { ReadCanBeTaken }
 {}

@@ -1,7 +1,7 @@
 -- The daemon drains.
 use Rattle.std.proofs.Common.{None, Result, Ok, refl, sym, subst}
 use Rattle.takeover_core.specs.declared.node.DrainFault.{DrainFault}
-use Rattle.daemon.specs.declared.daemon.Reaction.{Reaction}
+use Rattle.daemon.specs.declared.turn.Reaction.{Reaction}
 use Rattle.daemon_desk.specs.Desk.{IsReadied}
 use Rattle.daemon_desk.proofs.Telling.{drains_by, readied}
 use Rattle.daemon_desk.proofs.desk.DaemonDesk.drain.Goals as goal

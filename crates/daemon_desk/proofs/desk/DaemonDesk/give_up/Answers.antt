@@ -1,6 +1,6 @@
 -- The daemon gives up, and what is lent stays so.
 use Rattle.std.proofs.Common.{refl}
-use Rattle.daemon_desk.proofs.Keeping.{gives_up_keeps}
+use Rattle.daemon_desk.proofs.HearingKeeps.{gives_up_keeps}
 use Rattle.daemon_desk.proofs.Telling.{gives_up_by}
 use Rattle.daemon_desk.proofs.desk.DaemonDesk.give_up.Goals as goal
 

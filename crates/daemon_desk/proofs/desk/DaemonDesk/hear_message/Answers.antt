@@ -1,6 +1,6 @@
 -- The daemon hears the message, and what is lent stays so.
 use Rattle.std.proofs.Common.{inl, refl}
-use Rattle.daemon_desk.proofs.Keeping.{hears_keeps}
+use Rattle.daemon_desk.proofs.HearingKeeps.{hears_keeps}
 use Rattle.daemon_desk.proofs.Telling.{hears_by, hears_turned}
 use Rattle.daemon_desk.proofs.desk.DaemonDesk.hear_message.Goals as goal
 

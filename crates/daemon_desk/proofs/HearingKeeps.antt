@@ -1,0 +1,169 @@
+-- What a desk keeps where its daemon hears a message, or gives up.
+use Rattle.std.proofs.Common.{◌≡◌, ◌+◌, ℕ, Bool, true, false, List, ◌++◌, Option, Some, IsSome, inl, inr, refl, sym, ap, subst, ◌∙◌}
+use Rattle.std.specs.Prelude.{nat_lt, if◌then◌else◌}
+use Rattle.std.specs.Option.{IfSome}
+use Rattle.manifest.specs.Manifest.{Manifest}
+use Rattle.takeover_core.specs.Node.{NodeState}
+use Rattle.takeover_core.specs.Phases as table
+use Rattle.takeover_core.specs.declared.heard.Heard.{Heard as Answer}
+use Rattle.takeover_core.specs.declared.heard.Heard.TheVariants as answer
+use Rattle.takeover_core.specs.declared.message.Message.{Message}
+use Rattle.takeover_core.specs.declared.phase.Phase.{Phase}
+use Rattle.takeover_core.specs.declared.phase.Phase.TheVariants.{Taking, Reading, Raising}
+use Rattle.daemon.specs.Daemon.{DaemonState, turned_to}
+use Rattle.daemon.specs.Server.{ServerState, IsIdle}
+use Rattle.daemon.specs.Talking.{HearsSo, ReactsBy, ReadsBy, TakesData, TurnsBy, GivesUpSo, brings_data, bytes_of, read_before}
+use Rattle.daemon.specs.declared.turn.Reaction.{Reaction}
+use Rattle.daemon.proofs.PhaseLemmas.{phase_for}
+use Rattle.daemon_desk.specs.Inside.{IsOrderly, IsLentBy, knows}
+use Rattle.daemon_desk.proofs.Knowing.{knew, knew_at_end, knew_making}
+use Rattle.daemon_desk.proofs.Quiet.{IsQuiet, quiet, quiet_end}
+
+pub not_both : (b : Bool) → b ≡ true → b ≡ false → ⊥
+not_both b is none = cc
+
+-- ---- by the phase and what is served alone
+
+-- what is served stays, in another part in takeovers
+pub record Keeps (old : DaemonState) (node : NodeState) (new : DaemonState) : Type 0 where
+  pub node_is : new.node ≡ node
+  pub server_is : new.server ≡ old.server
+
+pub kept : (old later new : DaemonState) → new ≡ later → later.server ≡ old.server → Keeps old later.node new
+kept old later new is same = record {
+  node_is = ap (λ (d : DaemonState). d.node) is;
+  server_is = ap (λ (d : DaemonState). d.server) is ∙ same;
+}
+
+-- nothing is in hand
+abbrev pub IsAllIdle : DaemonState → Type 0
+IsAllIdle daemon = IfSome daemon.server IsIdle
+
+-- what is served is there, unless it is lent, in each phase in which the daemon knows it
+abbrev pub IsThere : Bool → DaemonState → Type 0
+IsThere is_lent daemon = knows daemon.node.phase ≡ true → is_lent ≡ false → IsSome daemon.server
+
+pub idle_still : (old new : DaemonState) (node : NodeState) → Keeps old node new → IsAllIdle old → IsAllIdle new
+idle_still old new node keeps idle = subst (λ (server : Option ServerState). IfSome server IsIdle) (sym keeps.server_is) idle
+
+pub there_still : (is_lent : Bool) (old new : DaemonState) (node : NodeState) → Keeps old node new → (knows node.phase ≡ true → knows old.node.phase ≡ true) → IsThere is_lent old → IsThere is_lent new
+there_still is_lent old new node keeps knew there = λ later own.
+    subst IsSome (sym keeps.server_is) (there (knew (ap (λ (n : NodeState). knows n.phase) (sym keeps.node_is) ∙ later)) own)
+
+there_unknown : (is_lent : Bool) (old new : DaemonState) (node : NodeState) → Keeps old node new → knows node.phase ≡ false → IsThere is_lent new
+there_unknown is_lent old new node keeps none = λ later own.
+    absurd (not_both _ (ap (λ (n : NodeState). knows n.phase) (sym keeps.node_is) ∙ later) none)
+
+there_held : (is_lent : Bool) (new : DaemonState) (server : ServerState) → new.server ≡ Some server → IsThere is_lent new
+there_held is_lent new server held = λ later own. subst IsSome (sym held) refl
+
+stays_lent : (old new : DaemonState) (event : table.Event) → IsQuiet old.node event → Keeps old (table.after old.node event) new → IsLentBy old → IsLentBy new
+stays_lent old new event calm keeps lent = record {
+  may_take = ap (λ (n : NodeState). table.may_take n.phase) keeps.node_is ∙ calm.may_take;
+  serves_nothing = keeps.server_is ∙ lent.serves_nothing;
+}
+
+-- ---- by what the table answers
+
+turns : (old new : DaemonState) (node : NodeState) (a : Answer) (reaction : Reaction) → TurnsBy old node a reaction new → Keeps old node new
+turns old new node answer.Ignored reaction h = kept old (turned_to old node) new h.becomes refl
+turns old new node answer.Heard reaction h = kept old (turned_to old node) new h.becomes refl
+turns old new node (answer.Say said) reaction h = kept old (turned_to old node) new h.becomes refl
+turns old new node (answer.MakeData session generation version) reaction h = absurd h
+turns old new node (answer.GotData session generation version) reaction h = absurd h
+turns old new node (answer.GotPart session generation version position count) reaction h = absurd h
+
+reacts_quietly : (manifest : Manifest) (limit : ℕ) (bytes : List ℕ) (old new : DaemonState) (node : NodeState) (a : Answer) (reaction : Reaction) → brings_data a ≡ false → ReactsBy manifest limit bytes old node a reaction new → Keeps old node new
+reacts_quietly manifest limit bytes old new node answer.Ignored reaction none h = turns old new node answer.Ignored reaction h
+reacts_quietly manifest limit bytes old new node answer.Heard reaction none h = turns old new node answer.Heard reaction h
+reacts_quietly manifest limit bytes old new node (answer.Say said) reaction none h = turns old new node (answer.Say said) reaction h
+reacts_quietly manifest limit bytes old new node (answer.MakeData session generation version) reaction none h = absurd (let no : ⊥ = cc in no)
+reacts_quietly manifest limit bytes old new node (answer.GotData session generation version) reaction none h = absurd (let no : ⊥ = cc in no)
+reacts_quietly manifest limit bytes old new node (answer.GotPart session generation version position count) reaction none h = absurd (let no : ⊥ = cc in no)
+
+-- what a daemon serves once it heard a message: what it served; or what it took over, with nothing in hand
+pub record Serves (is_lent : Bool) (old new : DaemonState) : Type 0 where
+  pub idle : IsAllIdle old → IsAllIdle new
+  pub there : IsThere is_lent old → IsThere is_lent new
+
+still : (is_lent : Bool) (old new : DaemonState) (node : NodeState) → Keeps old node new → (knows node.phase ≡ true → knows old.node.phase ≡ true) → Serves is_lent old new
+still is_lent old new node keeps knew =
+    record { idle = idle_still old new node keeps; there = there_still is_lent old new node keeps knew }
+
+unknown : (is_lent : Bool) (old new : DaemonState) (node : NodeState) → Keeps old node new → knows node.phase ≡ false → Serves is_lent old new
+unknown is_lent old new node keeps none =
+    record { idle = idle_still old new node keeps; there = λ there. there_unknown is_lent old new node keeps none }
+
+-- who got all of it
+takes_serve : (is_lent : Bool) (manifest : Manifest) (limit : ℕ) (bytes : List ℕ) (old new : DaemonState) (node : NodeState) (s g : ℕ) (reaction : Reaction) → node.phase ≡ Raising s g → TakesData manifest limit old bytes node g reaction new → Serves is_lent old new
+takes_serve is_lent manifest limit bytes old new node s g reaction at (inl h) = record {
+  idle = λ idle. subst IsAllIdle (sym h.becomes) (record { hand = refl; unposted = refl });
+  there = λ there. subst (IsThere is_lent) (sym h.becomes) (λ later own. refl);
+}
+takes_serve is_lent manifest limit bytes old new node s g reaction at (inr h) =
+    unknown is_lent old new (table.after node (table.Raised false)) (kept old (turned_to old (table.after node (table.Raised false))) new h.loses.becomes refl)
+    (ap (λ (p : Phase). knows (table.after_row node (table.row node p (table.Raised false))).phase) at)
+
+-- who got a part, by whether others follow
+part_serves : (is_lent : Bool) (manifest : Manifest) (limit : ℕ) (read : List ℕ) (old new : DaemonState) (node : NodeState) (s g v i n : ℕ) (reaction : Reaction) (follow : Bool) → nat_lt i n ≡ follow → node.phase ≡ Taking s g v i n → ReadsBy follow manifest limit old read node g reaction new → Serves is_lent old new
+part_serves is_lent manifest limit read old new node s g v i n reaction true follow at h =
+    unknown is_lent old new (table.after node (table.Fed true)) (kept old (record old { node = table.after node (table.Fed true); reading = Some read }) new h.becomes refl)
+    (ap (λ (p : Phase). knows (table.after_row node (table.row node p (table.Fed true))).phase) at ∙ ap (λ (b : Bool). knows (if b then Reading s g v (i + 1) n else Raising s g)) follow)
+part_serves is_lent manifest limit read old new node s g v i n reaction false follow at h =
+    takes_serve is_lent manifest limit read old new (table.after node (table.Fed true)) s g reaction
+    (ap (λ (p : Phase). (table.after_row node (table.row node p (table.Fed true))).phase) at ∙ ap (λ (b : Bool). if b then Reading s g v (i + 1) n else Raising s g) follow) h
+
+heard_serves : (is_lent : Bool) (manifest : Manifest) (limit : ℕ) (bytes : List ℕ) (old new : DaemonState) (said : Message) (a : Answer) (reaction : Reaction) → table.heard old.node (table.Hear said) ≡ a → ReactsBy manifest limit bytes old (table.after old.node (table.Hear said)) a reaction new → Serves is_lent old new
+heard_serves is_lent manifest limit bytes old new said (answer.MakeData s g v) reaction is (inl h) =
+    let node : NodeState = table.after (table.after old.node (table.Hear said)) (table.DataMade h.bytes) in
+    still is_lent old new node (kept old (turned_to old node) new h.becomes refl) (λ later. knew_making old.node.versions old.node.sessions old.node.phase said s g v is)
+heard_serves is_lent manifest limit bytes old new said (answer.MakeData s g v) reaction is (inr (inl h)) =
+    let node : NodeState = table.after (table.after old.node (table.Hear said)) table.PartsMade in
+    still is_lent old new node (kept old (turned_to old node) new h.becomes refl) (λ later. knew_making old.node.versions old.node.sessions old.node.phase said s g v is)
+heard_serves is_lent manifest limit bytes old new said (answer.MakeData s g v) reaction is (inr (inr h)) =
+    let node : NodeState = table.after (table.after old.node (table.Hear said)) table.DataFailed in
+    still is_lent old new node (kept old (turned_to old node) new h.becomes refl) (λ later. knew_making old.node.versions old.node.sessions old.node.phase said s g v is)
+heard_serves is_lent manifest limit bytes old new said (answer.GotData s g v) reaction is h =
+    takes_serve is_lent manifest limit bytes old new (table.after old.node (table.Hear said)) s g reaction (phase_for old.node said (answer.GotData s g v) is) h
+heard_serves is_lent manifest limit bytes old new said (answer.GotPart s g v i n) reaction is (inl h) =
+    part_serves is_lent manifest limit (read_before i old ++ bytes) old new (table.after old.node (table.Hear said)) s g v i n reaction (nat_lt i n) refl (phase_for old.node said (answer.GotPart s g v i n) is) h.reads
+heard_serves is_lent manifest limit bytes old new said (answer.GotPart s g v i n) reaction is (inr h) =
+    let taking : NodeState = table.after old.node (table.Hear said) in
+    let node : NodeState = table.after taking (table.Fed false) in
+    unknown is_lent old new node (kept old (turned_to old node) new h.becomes refl)
+    (ap (λ (p : Phase). knows (table.after_row taking (table.row taking p (table.Fed false))).phase) (phase_for old.node said (answer.GotPart s g v i n) is))
+heard_serves is_lent manifest limit bytes old new said answer.Ignored reaction is h =
+    still is_lent old new (table.after old.node (table.Hear said)) (turns old new (table.after old.node (table.Hear said)) answer.Ignored reaction h) (knew old.node.versions old.node.sessions old.node.phase said (ap brings_data is))
+heard_serves is_lent manifest limit bytes old new said answer.Heard reaction is h =
+    still is_lent old new (table.after old.node (table.Hear said)) (turns old new (table.after old.node (table.Hear said)) answer.Heard reaction h) (knew old.node.versions old.node.sessions old.node.phase said (ap brings_data is))
+heard_serves is_lent manifest limit bytes old new said (answer.Say what) reaction is h =
+    still is_lent old new (table.after old.node (table.Hear said)) (turns old new (table.after old.node (table.Hear said)) (answer.Say what) reaction h) (knew old.node.versions old.node.sessions old.node.phase said (ap brings_data is))
+
+-- ---- over both calls
+
+pub hears_keeps : (is_lent : Bool) (manifest : Manifest) (limit : ℕ) (old new : DaemonState) (said : Message) (reaction : Reaction) → IsOrderly is_lent old → HearsSo manifest limit old said reaction new → IsOrderly is_lent new
+hears_keeps is_lent manifest limit old new said reaction orderly h =
+    let node = table.after old.node (table.Hear said) in
+    let a = table.heard old.node (table.Hear said) in
+    let serves : Serves is_lent old new = heard_serves is_lent manifest limit (bytes_of said) old new said a reaction refl h in
+    record {
+      lent = λ e.
+          let lent : IsLentBy old = orderly.lent e in
+          let calm : IsQuiet old.node (table.Hear said) = quiet old.node.versions old.node.sessions old.node.phase said lent.may_take in
+          stays_lent old new (table.Hear said) calm (reacts_quietly manifest limit (bytes_of said) old new node a reaction calm.no_data h) lent;
+      idle = serves.idle orderly.idle;
+      known = serves.there orderly.known;
+    }
+
+pub gives_up_keeps : (is_lent : Bool) (old new : DaemonState) (reaction : Reaction) → IsOrderly is_lent old → GivesUpSo old reaction new → IsOrderly is_lent new
+gives_up_keeps is_lent old new reaction orderly h =
+    let node = table.after old.node table.GiveUp in
+    let keeps : Keeps old node new = turns old new node (table.heard old.node table.GiveUp) reaction h in
+    record {
+      lent = λ e.
+          let lent : IsLentBy old = orderly.lent e in
+          let calm : IsQuiet old.node table.GiveUp = quiet_end old.node.versions old.node.sessions old.node.phase lent.may_take in
+          stays_lent old new table.GiveUp calm keeps lent;
+      idle = idle_still old new node keeps orderly.idle;
+      known = there_still is_lent old new node keeps (knew_at_end old.node.versions old.node.sessions old.node.phase) orderly.known;
+    }
