@@ -1,6 +1,6 @@
 -- Who serves has the seat, and the broker waits for what the seat's daemon has to answer, over a change of one daemon, or
 -- of none.
-use Rattle.std.proofs.Common.{◌≡◌, Bool, true, false, List, [], ◌∷◌, ◌++◌, Option, Some, None, refl, sym, ap, ◌∙◌, subst, inl, inr, ◌⊎◌}
+use Rattle.std.proofs.Common.{◌≡◌, ℕ, Bool, true, false, List, [], ◌∷◌, ◌++◌, Option, Some, None, refl, sym, ap, ◌∙◌, subst, inl, inr, ◌⊎◌}
 use Rattle.std.specs.Prelude.{if◌then◌else◌}
 use Rattle.std.specs.Option.{option_map_or, option_and_then}
 use Rattle.eden_base.specs.declared.number.DaemonId.{DaemonId}
@@ -13,7 +13,7 @@ use Rattle.broker_core.specs.declared.seat.Seat.{Seat}
 use Rattle.takeover_core.specs.declared.message.Message.{Message}
 use Rattle.takeover_core.specs.declared.message.Message.TheVariants.{Offer}
 use Rattle.takeover_core.specs.declared.phase.Phase.TheVariants.{Gone}
-use Rattle.daemon.specs.Daemon.{DaemonState, versions, new_daemon}
+use Rattle.daemon.specs.Daemon.{DaemonState, new_daemon}
 use Rattle.daemon.specs.Server.{ServerState}
 use Rattle.daemon.specs.declared.happened.Happened.{Happened}
 use Rattle.world.specs.Attending.{serving_at, ServesSeated, IsAwaited, IsAttended}
@@ -87,18 +87,18 @@ issues-attended old request told new a (tells, makes) = subst IsAttended (sym ma
   in_ false None = broker-attended old old.broker refl refl a
   in_ false (Some item) = broker-attended old (forgot old.broker item) refl refl a
 
-pub starts-attended : (old : State) (told : Happened) (new : State) → IsAttended old → Starts old told new → IsAttended new
-starts-attended old told new a (tells, makes) = subst IsAttended (sym makes) (record {
-  daemons = λ daemon now there. in_ daemon now (started-there old messages daemon now there);
-  asked = λ seat server has. a.asked seat server (record { has_seat = has.has_seat; serves = sym (server_of-more old messages seat.daemon) ∙ has.serves });
+pub starts-attended : (old : State) (versions : List ℕ) (told : Happened) (new : State) → IsAttended old → Starts old versions told new → IsAttended new
+starts-attended old versions told new a (tells, makes) = subst IsAttended (sym makes) (record {
+  daemons = λ daemon now there. in_ daemon now (started-there old versions messages daemon now there);
+  asked = λ seat server has. a.asked seat server (record { has_seat = has.has_seat; serves = sym (server_of-more old versions messages seat.daemon) ∙ has.serves });
 }) where
   messages : List Message
   messages = old.messages ++ Offer versions ∷ []
 
   later : State
-  later = record old { daemons = old.daemons ++ new_daemon ∷ []; messages = messages }
+  later = record old { daemons = old.daemons ++ new_daemon versions ∷ []; messages = messages }
 
-  in_ : (daemon : DaemonId) (now : DaemonState) → (daemon_of old daemon ≡ Some now) ⊎ ((daemon_of old daemon ≡ None) × (now ≡ new_daemon)) → ServesSeated later daemon now
+  in_ : (daemon : DaemonId) (now : DaemonState) → (daemon_of old daemon ≡ Some now) ⊎ ((daemon_of old daemon ≡ None) × (now ≡ new_daemon versions)) → ServesSeated later daemon now
   in_ daemon now (inl e) = serves-along old later daemon now refl (a.daemons daemon now e)
   in_ daemon now (inr (nobody, is)) = record {
     at = λ server serves. absurd (let two : None ≡ Some server = sym (ap (λ (d : DaemonState). d.server) is) ∙ serves in let none : ⊥ = cc in none);

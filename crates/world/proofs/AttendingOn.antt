@@ -16,14 +16,14 @@ use Rattle.world.proofs.AttendingTalks.{hears-attended, gives-up-attended, drain
 use Rattle.world.proofs.AttendingWork.{takes-attended, works-attended, posts-attended}
 
 makes-attended : (w : World) (old : State) (event : Event) (told : Happened) (new : State) → Follows w old → IsHanding old → IsAttended old → fault old event ≡ None → Makes old event told new → IsAttended new
-makes-attended w old Start told new m h a clear made = starts-attended old told new a made
+makes-attended w old (Start versions) told new m h a clear made = starts-attended old versions told new a made
 makes-attended w old (Mount daemon) told new m h a clear made = mounts-attended w old daemon told new m a clear made
 makes-attended w old (Issue request) told new m h a clear made = issues-attended old request told new a made
 makes-attended w old (Take daemon) told new m h a clear made = takes-attended w old daemon told new m a clear made
-makes-attended w old (Work daemon place fails) told new m h a clear made = works-attended w old daemon place fails told new m a made
-makes-attended w old (Post daemon place) told new m h a clear made = posts-attended w old daemon place told new m a made
+makes-attended w old (Work daemon position fails) told new m h a clear made = works-attended w old daemon position fails told new m a made
+makes-attended w old (Post daemon position) told new m h a clear made = posts-attended w old daemon position told new m a made
 makes-attended w old Deliver told new m h a clear made = subst IsAttended (sym made.makes) (broker-attended old _ refl refl a)
-makes-attended w old (Hear daemon place) told new m h a clear made = hears-attended old daemon place told new h a made
+makes-attended w old (Hear daemon position) told new m h a clear made = hears-attended old daemon position told new h a made
 makes-attended w old (Drained daemon) told new m h a clear made = drains-attended old daemon told new a made
 makes-attended w old (GiveUp daemon) told new m h a clear made = gives-up-attended old daemon told new a made
 makes-attended w old (Claim daemon) told new m h a clear made = claims-attended w old daemon told new m h a clear made

@@ -1,6 +1,6 @@
 -- The same after a message was heard, and after a daemon was drained or gave up.
-use Rattle.std.proofs.Common.{◌≡◌, ℕ, Bool, true, false, ◌&&◌, List, Some, None, refl, sym, ap, ◌∙◌, subst, inl, inr}
-use Rattle.std.specs.Prelude.{◌==◌}
+use Rattle.std.proofs.Common.{◌≡◌, ℕ, ◌+◌, Bool, true, false, ◌&&◌, List, ◌++◌, Some, None, refl, sym, ap, ◌∙◌, subst, inl, inr}
+use Rattle.std.specs.Prelude.{◌==◌, nat_lt}
 use Rattle.eden_base.specs.declared.number.DaemonId.{DaemonId}
 use Rattle.broker_core.specs.Broker.{has_seat}
 use Rattle.broker_core.specs.declared.seat.Seat.{Seat}
@@ -10,19 +10,20 @@ use Rattle.takeover_core.specs.declared.heard.Heard.{Heard as Answer}
 use Rattle.takeover_core.specs.declared.heard.Heard.TheVariants as answer
 use Rattle.takeover_core.specs.declared.message.Message.{Message}
 use Rattle.takeover_core.specs.declared.phase.Phase.{Phase}
-use Rattle.takeover_core.specs.declared.phase.Phase.TheVariants.{Serving, Gone, Handed, Holding}
-use Rattle.daemon.specs.Daemon.{DaemonState, with_node, in_hand, unposted}
+use Rattle.takeover_core.specs.declared.phase.Phase.TheVariants.{Serving, Gone, Handed, Holding, Raising, Reading}
+use Rattle.daemon.specs.Daemon.{DaemonState, turned_to, in_hand, unposted}
 use Rattle.daemon.specs.Server.{ServerState}
 use Rattle.daemon.specs.Serving.{beginning}
-use Rattle.daemon.specs.Talking.{GivesUpSo, IsReady, ReactsBy, TurnsBy, bytes_of}
-use Rattle.daemon.specs.declared.daemon.Reaction.{Reaction}
+use Rattle.daemon.specs.Talking.{GivesUpSo, IsReady, ReactsBy, TakesData, ReadsBy, TurnsBy, bytes_of, read_before}
+use Rattle.daemon.specs.declared.turn.Reaction.{Reaction}
 use Rattle.daemon.specs.declared.happened.Happened.{Happened}
 use Rattle.world.specs.Attending.{serving_at, IsAttended}
 use Rattle.world.specs.Handing.{part_at, IsHanding}
 use Rattle.world.specs.State.{State, daemon_of}
 use Rattle.world.specs.Step.{Reacts, Hears}
 use Rattle.world.proofs.Attending.{after_one, serves-along, attended-one, seated-back}
-use Rattle.world.proofs.Turns.{IsTurn, node_of, turn-hear, turn-give_up, turn-drained, turn-made, turn-failed, turn-gone, MakesIt, makes-it, TakesIt, takes-it}
+use Rattle.world.proofs.HandingTalks.{HandsText, whole-text, parts-text, no-seat, waits-alone, behind-more, behind-last}
+use Rattle.world.proofs.Turns.{IsTurn, node_of, turn-hear, turn-give_up, turn-drained, turn-made, turn-failed, turn-gone, MakesIt, makes-it, takes-it, PartIt, part-it}
 
 -- a daemon turned, and serves what it served
 turned-attended : (old : State) (messages : List Message) (daemon : DaemonId) (was later : DaemonState) (idle : Bool) → daemon_of old daemon ≡ Some was → later.server ≡ was.server → ((g : ℕ) → IsTurn g idle was.node.phase later.node.phase) → IsAttended old → IsAttended (after_one old old.broker messages daemon later)
@@ -39,7 +40,7 @@ turned-attended old messages daemon was later idle there same turn a =
 by-turn : (old : State) (messages : List Message) (daemon : DaemonId) (was : DaemonState) (node : NodeState) (said : Answer) (reaction : Reaction) (later : DaemonState) → daemon_of old daemon ≡ Some was → ((g : ℕ) → IsTurn g false was.node.phase node.phase) → IsAttended old →
     TurnsBy was node said reaction later → IsAttended (after_one old old.broker messages daemon later)
 by-turn old messages daemon was node said reaction later there turn a t = in_ said t where
-  turned : later ≡ with_node was node → IsAttended (after_one old old.broker messages daemon later)
+  turned : later ≡ turned_to was node → IsAttended (after_one old old.broker messages daemon later)
   turned becomes = turned-attended old messages daemon was later false there (ap (λ (d : DaemonState). d.server) becomes) (λ g. subst (λ (d : DaemonState). IsTurn g false was.node.phase d.node.phase) (sym becomes) (turn g)) a
 
   in_ : (x : Answer) → TurnsBy was node x reaction later → IsAttended (after_one old old.broker messages daemon later)
@@ -48,31 +49,22 @@ by-turn old messages daemon was node said reaction later there turn a t = in_ sa
   in_ (answer.Say message) t = turned t.becomes
   in_ (answer.MakeData s g v) t = absurd t
   in_ (answer.GotData s g v) t = absurd t
+  in_ (answer.GotPart s g v i n) t = absurd t
 
--- a message that was heard
-heard-attended : (old : State) (messages : List Message) (daemon : DaemonId) (was : DaemonState) (said : Message) (told : Answer) (reaction : Reaction) (later : DaemonState) → IsHanding old → IsAttended old → daemon_of old daemon ≡ Some was → table.heard was.node (table.Hear said) ≡ told →
-    ReactsBy old.manifest old.limit (bytes_of said) was (table.after was.node (table.Hear said)) told reaction later → IsAttended (after_one old old.broker messages daemon later)
-heard-attended old messages daemon was said (answer.MakeData s g v) reaction later h a there e (inl t) =
-    turned-attended old messages daemon was later false there (ap (λ (d : DaemonState). d.server) t.becomes) (λ x. subst (λ (p : Phase). IsTurn x false was.node.phase p) (sym phase) (subst (λ (p : Phase). IsTurn x false p (Handed g s)) (sym it.was) (turn-made s v g x))) a where
-      it : MakesIt was.node.versions was.node.sessions was.node.phase said s g v
-      it = makes-it was.node.versions was.node.sessions was.node.phase said s g v e
+-- a daemon handed over
+hands-attended : (old : State) (messages : List Message) (daemon : DaemonId) (was : DaemonState) (s g v : ℕ) (text : List ℕ) (reaction : Reaction) (later : DaemonState) → IsAttended old → HandsText old daemon was s g v text reaction later → IsAttended (after_one old old.broker messages daemon later)
+hands-attended old messages daemon was s g v text reaction later a t =
+    turned-attended old messages daemon was later false t.there t.same (λ x. subst (λ (p : Phase). IsTurn x false was.node.phase p) (sym t.phase) (subst (λ (p : Phase). IsTurn x false p (Handed g s)) (sym t.drained) (turn-made s v g x))) a
 
-      made : NodeState
-      made = table.after was.node (table.Hear said)
+-- a daemon turned to this phase, and serves what it served
+turns-attended : (old : State) (messages : List Message) (daemon : DaemonId) (was later : DaemonState) (phase : Phase) → daemon_of old daemon ≡ Some was → later.server ≡ was.server → later.node.phase ≡ phase → ((x : ℕ) → IsTurn x false was.node.phase phase) → IsAttended old → IsAttended (after_one old old.broker messages daemon later)
+turns-attended old messages daemon was later phase there same is turn a =
+    turned-attended old messages daemon was later false there same (λ x. subst (λ (p : Phase). IsTurn x false was.node.phase p) (sym is) (turn x)) a
 
-      phase : later.node.phase ≡ Handed g s
-      phase = ap (λ (d : DaemonState). d.node.phase) t.becomes ∙ ap (λ (p : Phase). (table.after (node_of made.versions made.sessions p) (table.DataMade t.bytes)).phase) it.now
-heard-attended old messages daemon was said (answer.MakeData s g v) reaction later h a there e (inr t) =
-    turned-attended old messages daemon was later false there (ap (λ (d : DaemonState). d.server) t.becomes) (λ x. subst (λ (p : Phase). IsTurn x false was.node.phase p) (sym phase) (subst (λ (p : Phase). IsTurn x false p (Serving g)) (sym it.was) (turn-failed s v g x))) a where
-      it : MakesIt was.node.versions was.node.sessions was.node.phase said s g v
-      it = makes-it was.node.versions was.node.sessions was.node.phase said s g v e
-
-      made : NodeState
-      made = table.after was.node (table.Hear said)
-
-      phase : later.node.phase ≡ Serving g
-      phase = ap (λ (d : DaemonState). d.node.phase) t.becomes ∙ ap (λ (p : Phase). (table.after (node_of made.versions made.sessions p) table.DataFailed).phase) it.now
-heard-attended old messages daemon was said (answer.GotData s g v) reaction later h a there e (inl t) =
+-- a daemon took data, or could not
+takes-attended : (old : State) (messages : List Message) (daemon : DaemonId) (was : DaemonState) (bytes : List ℕ) (node : NodeState) (s g : ℕ) (reaction : Reaction) (later : DaemonState) → IsHanding old → IsAttended old → daemon_of old daemon ≡ Some was → part_at was.node.phase ≡ None → ((x : ℕ) → IsTurn x false was.node.phase Gone) → node.phase ≡ Raising s g →
+    TakesData old.manifest old.limit was bytes node g reaction later → IsAttended (after_one old old.broker messages daemon later)
+takes-attended old messages daemon was bytes node s g reaction later h a there alone turn raising (inl t) =
     attended-one old old.broker messages daemon was later there
     (record {
       at = λ server serves.
@@ -82,35 +74,68 @@ heard-attended old messages daemon was said (answer.GotData s g v) reaction late
       has_seat = λ x f. absurd (let two : None ≡ Some x = sym (ap serving_at phase) ∙ f in let none : ⊥ = cc in none);
     })
     (λ other d apart f. serves-along old _ other d refl (a.daemons other d f))
-    (λ seat server at. a.asked seat server (seated-back old old.broker messages daemon was later there refl (λ x f here. absurd (no_seat x f here)) seat server at)) where
-      it : TakesIt was.node.versions was.node.sessions was.node.phase said s g v
-      it = takes-it was.node.versions was.node.sessions was.node.phase said s g v e
-
-      got : NodeState
-      got = table.after was.node (table.Hear said)
-
+    (λ seat server at. a.asked seat server (seated-back old old.broker messages daemon was later there refl (λ x f here. absurd (no-seat old daemon was h there alone x f here)) seat server at)) where
       phase : later.node.phase ≡ Holding g
-      phase = ap (λ (d : DaemonState). d.node.phase) t.becomes ∙ ap (λ (p : Phase). (table.after (node_of got.versions got.sessions p) (table.Raised true)).phase) it.now
+      phase = ap (λ (d : DaemonState). d.node.phase) t.becomes ∙ ap (λ (p : Phase). (table.after (node_of node.versions node.sessions p) (table.Raised true)).phase) raising
+takes-attended old messages daemon was bytes node s g reaction later h a there alone turn raising (inr t) =
+    turns-attended old messages daemon was later Gone there (ap (λ (d : DaemonState). d.server) (t.loses).becomes)
+    (ap (λ (d : DaemonState). d.node.phase) (t.loses).becomes ∙ ap (λ (p : Phase). (table.after (node_of node.versions node.sessions p) (table.Raised false)).phase) raising) turn a
 
-      no_seat : (seat : Seat) → old.broker.seat ≡ Some seat → daemon ≡ seat.daemon → ⊥
-      no_seat seat f here =
-          let two : None ≡ Some seat.generation = sym (ap part_at it.was) ∙ (h.daemons daemon was there).part seat f here in
-          let none : ⊥ = cc in none
-heard-attended old messages daemon was said (answer.GotData s g v) reaction later h a there e (inr t) =
-    turned-attended old messages daemon was later false there (ap (λ (d : DaemonState). d.server) (t.loses).becomes) (λ x. subst (λ (p : Phase). IsTurn x false was.node.phase p) (sym phase) (subst (λ (p : Phase). IsTurn x false p Gone) (sym it.was) (turn-gone s v x))) a where
-      it : TakesIt was.node.versions was.node.sessions was.node.phase said s g v
-      it = takes-it was.node.versions was.node.sessions was.node.phase said s g v e
+-- a daemon waits for the next part
+reads-attended : (old : State) (messages : List Message) (daemon : DaemonId) (was : DaemonState) (s g v i n : ℕ) (later : DaemonState) → IsAttended old → daemon_of old daemon ≡ Some was → part_at was.node.phase ≡ None → later.server ≡ was.server → later.node.phase ≡ Reading s g v i n → IsAttended (after_one old old.broker messages daemon later)
+reads-attended old messages daemon was s g v i n later a there alone same phase =
+    attended-one old old.broker messages daemon was later there
+    (record {
+      at = λ server serves. absurd (
+          let two : None ≡ Some server.generation = sym alone ∙ (a.daemons daemon was there).at server (sym same ∙ serves) in
+          let none : ⊥ = cc in none);
+      has_seat = λ x f. absurd (let two : None ≡ Some x = sym (ap serving_at phase) ∙ f in let none : ⊥ = cc in none);
+    })
+    (λ other d apart f. serves-along old _ other d refl (a.daemons other d f))
+    (λ seat server at. a.asked seat server (seated-back old old.broker messages daemon was later there refl (λ x f here. same) seat server at))
 
-      got : NodeState
-      got = table.after was.node (table.Hear said)
+-- a message that was heard
+heard-attended : (old : State) (messages : List Message) (daemon : DaemonId) (was : DaemonState) (said : Message) (told : Answer) (reaction : Reaction) (later : DaemonState) → IsHanding old → IsAttended old → daemon_of old daemon ≡ Some was → table.heard was.node (table.Hear said) ≡ told →
+    ReactsBy old.manifest old.limit (bytes_of said) was (table.after was.node (table.Hear said)) told reaction later → IsAttended (after_one old old.broker messages daemon later)
+heard-attended old messages daemon was said (answer.MakeData s g v) reaction later h a there e (inl t) = hands-attended old messages daemon was s g v t.bytes reaction later a (whole-text old daemon was said s g v reaction later there e t)
+heard-attended old messages daemon was said (answer.MakeData s g v) reaction later h a there e (inr (inl t)) = hands-attended old messages daemon was s g v t.bytes reaction later a (parts-text old daemon was said s g v reaction later there e t)
+heard-attended old messages daemon was said (answer.MakeData s g v) reaction later h a there e (inr (inr t)) =
+    turns-attended old messages daemon was later (Serving g) there (ap (λ (d : DaemonState). d.server) t.becomes)
+    (ap (λ (d : DaemonState). d.node.phase) t.becomes ∙ ap (λ (p : Phase). (table.after (node_of made.versions made.sessions p) table.DataFailed).phase) it.now)
+    (λ x. subst (λ (p : Phase). IsTurn x false p (Serving g)) (sym it.was) (turn-failed s v g x)) a where
+      it : MakesIt was.node.versions was.node.sessions was.node.phase said s g v
+      it = makes-it was.node.versions was.node.sessions was.node.phase said s g v e
 
-      phase : later.node.phase ≡ Gone
-      phase = ap (λ (d : DaemonState). d.node.phase) (t.loses).becomes ∙ ap (λ (p : Phase). (table.after (node_of got.versions got.sessions p) (table.Raised false)).phase) it.now
+      made : NodeState
+      made = table.after was.node (table.Hear said)
+heard-attended old messages daemon was said (answer.GotData s g v) reaction later h a there e t =
+    let it = takes-it was.node.versions was.node.sessions was.node.phase said s g v e in
+    takes-attended old messages daemon was (bytes_of said) (table.after was.node (table.Hear said)) s g reaction later h a there (ap part_at it.was) (λ x. subst (λ (p : Phase). IsTurn x false p Gone) (sym it.was) (turn-gone s v x)) it.now t
+heard-attended old messages daemon was said (answer.GotPart s g v i n) reaction later h a there e (inr l) =
+    let it = part-it was.node.versions was.node.sessions was.node.phase said s g v i n e in
+    let got = table.after was.node (table.Hear said) in
+    turns-attended old messages daemon was later Gone there (ap (λ (d : DaemonState). d.server) l.becomes)
+    (ap (λ (d : DaemonState). d.node.phase) l.becomes ∙ ap (λ (p : Phase). (table.after (node_of got.versions got.sessions p) (table.Fed false)).phase) it.now)
+    (waits-alone s g v i n was.node.phase it.was).1 a
+heard-attended old messages daemon was said (answer.GotPart s g v i n) reaction later h a there e (inl r) = in_ (nat_lt i n) refl r.reads where
+  it : PartIt was.node.versions was.node.sessions was.node.phase said s g v i n
+  it = part-it was.node.versions was.node.sessions was.node.phase said s g v i n e
+
+  got : NodeState
+  got = table.after was.node (table.Hear said)
+
+  alone : (part_at was.node.phase ≡ None) × ((x : ℕ) → IsTurn x false was.node.phase Gone)
+  alone = waits-alone s g v i n was.node.phase it.was
+
+  in_ : (b : Bool) → nat_lt i n ≡ b → ReadsBy b old.manifest old.limit was (read_before i was ++ bytes_of said) got g reaction later → IsAttended (after_one old old.broker messages daemon later)
+  in_ true more on = reads-attended old messages daemon was s g v (i + 1) n later a there alone.0 (ap (λ (d : DaemonState). d.server) on.becomes)
+      (ap (λ (d : DaemonState). d.node.phase) on.becomes ∙ behind-more got s g v i n it.now more)
+  in_ false last taken = takes-attended old messages daemon was (read_before i was ++ bytes_of said) (table.after got (table.Fed true)) s g reaction later h a there alone.0 alone.1 (behind-last got s g v i n it.now last) taken
 heard-attended old messages daemon was said told reaction later h a there e t =
     by-turn old messages daemon was (table.after was.node (table.Hear said)) told reaction later there (λ g. turn-hear was.node.versions was.node.sessions was.node.phase said g) a t
 
-pub hears-attended : (old : State) (daemon : DaemonId) (place : ℕ) (told : Happened) (new : State) → IsHanding old → IsAttended old → Hears old daemon place told new → IsAttended new
-hears-attended old daemon place told new h a t =
+pub hears-attended : (old : State) (daemon : DaemonId) (position : ℕ) (told : Happened) (new : State) → IsHanding old → IsAttended old → Hears old daemon position told new → IsAttended new
+hears-attended old daemon position told new h a t =
     let r = t.reacts in
     subst IsAttended (sym r.makes) (heard-attended old _ daemon r.was t.said (table.heard (r.was).node (table.Hear t.said)) r.reaction r.later h a r.there refl r.does)
 

@@ -13,14 +13,14 @@ use Rattle.broker_core.specs.Broker.{BrokerState, taken, posted}
 use Rattle.broker_core.specs.Traffic.{TrafficState, left_by_take}
 use Rattle.broker_core.specs.declared.seat.Seat.{Seat}
 use Rattle.broker_core.proofs.TakeLaws.{IsAskTaken, AreItemsTaken, take-is}
-use Rattle.fuse_ops.specs.Served.{Replay}
+use Rattle.fuse_ops.specs.Served.{ServedState, Replay}
 use Rattle.daemon.specs.Daemon.{DaemonState, with_server}
-use Rattle.daemon.specs.Server.{ServerState, single, handed, with_taken, with_worked, with_posted}
+use Rattle.daemon.specs.Server.{ServerState, at_position, single, handed, with_taken, with_worked, with_posted}
 use Rattle.daemon.specs.declared.happened.Happened.{Happened}
 use Rattle.world.specs.Attending.{of_ask, of_reply, of_taken, IsAwaited, IsAttended}
 use Rattle.world.specs.Agreement.{asks_in, Follows}
 use Rattle.world.specs.Handing.{part_at}
-use Rattle.world.specs.State.{State, daemon_of, server_of, IsSeated, fault, take_refusal}
+use Rattle.world.specs.State.{State, daemon_of, with_daemon, server_of, IsSeated, fault, take_refusal}
 use Rattle.world.specs.Step.{Takes, Works, Posts}
 use Rattle.world.specs.World.{World, is_asked, is_replied}
 use Rattle.world.specs.declared.event.Event.TheVariants.{Take}
@@ -81,10 +81,10 @@ few-in w old server unique m holder =
     omega arith
 
 -- what joins the hand
-handed-one : (ask : Ask) → is_ask ask.what ≡ true → handed ask ≡ ask ∷ []
+pub handed-one : (ask : Ask) → is_ask ask.what ≡ true → handed ask ≡ ask ∷ []
 handed-one ask e = rw e refl
 
-handed-each : (ask : Ask) → is_ask ask.what ≡ false → handed ask ≡ map single (items_of ask.what)
+pub handed-each : (ask : Ask) → is_ask ask.what ≡ false → handed ask ≡ map single (items_of ask.what)
 handed-each ask e = rw e refl
 
 pub takes-attended : (w : World) (old : State) (daemon : DaemonId) (told : Happened) (new : State) → Follows w old → IsAttended old → fault old (Take daemon) ≡ None → Takes old daemon told new → IsAttended new
@@ -129,31 +129,35 @@ takes-attended w old daemon told new m a clear t = subst IsAttended (sym t.makes
       in_ (inr is) true e = absurd (let two : true ≡ false = sym e ∙ is.no_ask in let none : ⊥ = cc in none)
       in_ (inr is) false e = subst (λ (more : List Ask). IsAwaited left (record t.server { hand = (t.server).hand ++ more })) (sym (handed-each t.ask e)) (awaited-items old.broker.traffic left t.server (items_of (t.ask).what) is.taken awaited)
 
-pub works-attended : (w : World) (old : State) (daemon : DaemonId) (place : ℕ) (fails : Bool) (told : Happened) (new : State) → Follows w old → IsAttended old → Works old daemon place fails told new → IsAttended new
-works-attended w old daemon place fails told new m a t = subst IsAttended (sym t.makes)
-    (busy-attended old old.broker daemon t.was t.server (with_worked t.server place t.task t.answer t.later) h.0 a t.there t.serves h.1 (h.2).has_seat refl refl (by_answer t.answer t.replay)) where
-      h : (seat : Seat) × (seat.daemon ≡ daemon) × IsSeated old seat t.server
-      h = hand-seated old daemon t.server (λ (s : ServerState). s.hand) place t.task m.others_idle (λ s idle. idle.hand) (ap (option_and_then (λ (d : DaemonState). d.server)) t.there ∙ t.serves) t.at
+pub worked-attended : (w : World) (old : State) (daemon : DaemonId) (seat : Seat) (was : DaemonState) (server : ServerState) (position : ℕ) (task : Ask) (answer : Option Answer) (later : ServedState) → Follows w old → IsAttended old → daemon_of old daemon ≡ Some was → was.server ≡ Some server → seat.daemon ≡ daemon → IsSeated old seat server →
+    at_position server.hand position ≡ Some task → Replay server.served task.what answer later → IsAttended (with_daemon old daemon (with_server was (with_worked server position task answer later)))
+worked-attended w old daemon seat was server position task answer later m a there serves here seated at replay =
+    busy-attended old old.broker daemon was server (with_worked server position task answer later) seat a there serves here seated.has_seat refl refl (by_answer answer replay) where
+      awaited : IsAwaited old.broker.traffic server
+      awaited = a.asked seat server seated
 
-      awaited : IsAwaited old.broker.traffic t.server
-      awaited = a.asked h.0 t.server h.2
-
-      by_answer : (answer : Option Answer) → Replay (t.server).served (t.task).what answer t.later → IsAwaited old.broker.traffic (with_worked t.server place t.task answer t.later)
-      by_answer (Some answer) (is, legal) =
-          let k = (holder-is w old h.0 t.server m.knows h.2).knows in
-          let x = awaited-worked old.broker.traffic t.server (place - 1) t.task (record { unique = (t.task).unique; answer = answer }) (at-is (t.server).hand place t.task t.at) is refl
-          (legal-taken (t.server).served (t.task).what answer k.sound t.later legal) awaited in
+      by_answer : (o : Option Answer) → Replay server.served task.what o later → IsAwaited old.broker.traffic (with_worked server position task o later)
+      by_answer (Some reply) (is, legal) =
+          let k = (holder-is w old seat server m.knows seated).knows in
+          let x = awaited-worked old.broker.traffic server (position - 1) task (record { unique = task.unique; answer = reply }) (at-is server.hand position task at) is refl
+          (legal-taken server.served task.what reply k.sound later legal) awaited in
           record { uniques = x.uniques; forms = x.forms; replies = x.replies }
       by_answer None (is, same) =
-          let x = awaited-applied old.broker.traffic t.server (place - 1) t.task (at-is (t.server).hand place t.task t.at) is awaited in
+          let x = awaited-applied old.broker.traffic server (position - 1) task (at-is server.hand position task at) is awaited in
           record { uniques = x.uniques; forms = x.forms; replies = x.replies }
 
-pub posts-attended : (w : World) (old : State) (daemon : DaemonId) (place : ℕ) (told : Happened) (new : State) → Follows w old → IsAttended old → Posts old daemon place told new → IsAttended new
-posts-attended w old daemon place told new m a t = subst IsAttended (sym t.makes)
-    (busy-attended old (posted old.broker t.reply) daemon t.was t.server (with_posted t.server place) h.0 a t.there t.serves h.1 (h.2).has_seat refl refl
-    (awaited-posted old.broker.traffic t.server (place - 1) t.reply (at-is (t.server).unposted place t.reply t.at) few (a.asked h.0 t.server h.2))) where
+pub works-attended : (w : World) (old : State) (daemon : DaemonId) (position : ℕ) (fails : Bool) (told : Happened) (new : State) → Follows w old → IsAttended old → Works old daemon position fails told new → IsAttended new
+works-attended w old daemon position fails told new m a t = subst IsAttended (sym t.makes)
+    (worked-attended w old daemon h.0 t.was t.server position t.task t.answer t.later m a t.there t.serves h.1 h.2 t.at t.replay) where
       h : (seat : Seat) × (seat.daemon ≡ daemon) × IsSeated old seat t.server
-      h = hand-seated old daemon t.server (λ (s : ServerState). s.unposted) place t.reply m.others_idle (λ s idle. idle.unposted) (ap (option_and_then (λ (d : DaemonState). d.server)) t.there ∙ t.serves) t.at
+      h = hand-seated old daemon t.server (λ (s : ServerState). s.hand) position t.task m.others_idle (λ s idle. idle.hand) (ap (option_and_then (λ (d : DaemonState). d.server)) t.there ∙ t.serves) t.at
+
+pub posts-attended : (w : World) (old : State) (daemon : DaemonId) (position : ℕ) (told : Happened) (new : State) → Follows w old → IsAttended old → Posts old daemon position told new → IsAttended new
+posts-attended w old daemon position told new m a t = subst IsAttended (sym t.makes)
+    (busy-attended old (posted old.broker t.reply) daemon t.was t.server (with_posted t.server position) h.0 a t.there t.serves h.1 (h.2).has_seat refl refl
+    (awaited-posted old.broker.traffic t.server (position - 1) t.reply (at-is (t.server).unposted position t.reply t.at) few (a.asked h.0 t.server h.2))) where
+      h : (seat : Seat) × (seat.daemon ≡ daemon) × IsSeated old seat t.server
+      h = hand-seated old daemon t.server (λ (s : ServerState). s.unposted) position t.reply m.others_idle (λ s idle. idle.unposted) (ap (option_and_then (λ (d : DaemonState). d.server)) t.there ∙ t.serves) t.at
 
       few : times_in t.server (t.reply).unique ≤ 1
       few = let f : times_in t.server (t.reply).unique + count_by (is_asked (t.reply).unique) old.broker.traffic.untaken ≤ 1 = few-in w old t.server (t.reply).unique m (holder-is w old h.0 t.server m.knows h.2) in omega arith

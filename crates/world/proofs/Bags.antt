@@ -77,7 +77,7 @@ same-measure p xs ys x y same a b few f =
     let g : sum_by (part p f) ys ≡ f y = sum-only f p ys y b (omega (arith, few)) in
     omega arith
 
--- at a place of a list
+-- at a position of a list
 pub sum-at : {X : Type 0} (f : X → ℕ) (xs : List X) (i : ℕ) (x : X) → slice_get xs i ≡ Some x → sum_by f xs ≡ f x + sum_by f (remove xs i)
 sum-at f [] i x e = absurd (let none : ⊥ = cc in none)
 sum-at f (y ∷ ys) zero x e = let same : y ≡ x = cc in sum_by-cons f y ys ∙ ap (λ z. f z + sum_by f ys) same

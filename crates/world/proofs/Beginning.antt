@@ -17,7 +17,7 @@ use Rattle.daemon.specs.declared.happened.Happened.{Happened}
 use Rattle.daemon.specs.declared.happened.Happened.TheVariants.{Refused, Asked}
 use Rattle.daemon.specs.declared.happened.Refusal.{Refusal}
 use Rattle.daemon.specs.declared.happened.Refusal.TheVariants.{NoDaemon, NoMemory}
-use Rattle.daemon.proofs.Places.{set-there, at-none}
+use Rattle.daemon.proofs.Positions.{set-there, at-none}
 use Rattle.world.specs.State.{State, daemon_of, fault, take_refusal}
 use Rattle.world.specs.Step.{OnceBy, Once}
 use Rattle.world.specs.Beginning.{Begins}

@@ -18,7 +18,7 @@ use Rattle.takeover_core.specs.declared.phase.Phase.{Phase}
 use Rattle.takeover_core.specs.declared.phase.Phase.TheVariants.{Serving, Draining}
 use Rattle.daemon.specs.Daemon.{DaemonState}
 use Rattle.daemon.specs.Refusals.{refusal_of_take, refusal_of_post, refusal_of_claim}
-use Rattle.daemon.specs.Server.{ServerState, at_place}
+use Rattle.daemon.specs.Server.{ServerState, at_position}
 use Rattle.daemon.specs.declared.happened.Happened.{Happened}
 use Rattle.daemon.specs.declared.happened.Refusal.{Refusal}
 use Rattle.daemon.specs.declared.happened.Refusal.TheVariants as refusal
@@ -61,11 +61,11 @@ module _ (w : World) (old : State) (m : Matches w old) where
     in_ false s may serves e = comes (Take daemon) refusal.WrongPhase r refl e
 
   -- a reply that is there is posted
-  reply-comes : (daemon : DaemonId) (place : ℕ) (was : DaemonState) (server : ServerState) (o : Option Reply) (r : Refusal) → daemon_of old daemon ≡ Some was → was.server ≡ Some server → at_place server.unposted place ≡ o → reply_refusal old daemon server o ≡ Some r → may_come r (Post daemon place) ≡ true
-  reply-comes daemon place was server None r there serves at e = comes (Post daemon place) refusal.NoSuch r refl e
-  reply-comes daemon place was server (Some reply) r there serves at e = absurd (let two : None ≡ Some r = sym none ∙ e in let x : ⊥ = cc in x) where
+  reply-comes : (daemon : DaemonId) (position : ℕ) (was : DaemonState) (server : ServerState) (o : Option Reply) (r : Refusal) → daemon_of old daemon ≡ Some was → was.server ≡ Some server → at_position server.unposted position ≡ o → reply_refusal old daemon server o ≡ Some r → may_come r (Post daemon position) ≡ true
+  reply-comes daemon position was server None r there serves at e = comes (Post daemon position) refusal.NoSuch r refl e
+  reply-comes daemon position was server (Some reply) r there serves at e = absurd (let two : None ≡ Some r = sym none ∙ e in let x : ⊥ = cc in x) where
     h : (seat : Seat) × (seat.daemon ≡ daemon) × IsSeated old seat server
-    h = hand-seated old daemon server (λ (s : ServerState). s.unposted) place reply (m.follows).others_idle (λ s idle. idle.unposted) (ap (option_and_then (λ (d : DaemonState). d.server)) there ∙ serves) at
+    h = hand-seated old daemon server (λ (s : ServerState). s.unposted) position reply (m.follows).others_idle (λ s idle. idle.unposted) (ap (option_and_then (λ (d : DaemonState). d.server)) there ∙ serves) at
 
     generation : (h.0).generation ≡ server.generation
     generation =
@@ -76,18 +76,18 @@ module _ (w : World) (old : State) (m : Matches w old) where
     seated = (h.2).has_seat ∙ (λ i. Some (record { generation = generation i; daemon = h.1 i }))
 
     its : is_asked old.broker.traffic reply ≡ true
-    its = all-at (λ (x : Reply). is_asked old.broker.traffic x ≡ true) server.unposted (place - 1) reply (((m.attended).asked) h.0 server h.2).replies (at-is server.unposted place reply at)
+    its = all-at (λ (x : Reply). is_asked old.broker.traffic x ≡ true) server.unposted (position - 1) reply (((m.attended).asked) h.0 server h.2).replies (at-is server.unposted position reply at)
 
     none : reply_refusal old daemon server (Some reply) ≡ None
     none = ap (option_map refusal_of_post) (seated-posted old.broker daemon server.generation reply seated)
         ∙ ap (λ (b : Bool). option_map refusal_of_post (if b then None else Some post.NotAsked)) its
 
-  post-comes : (daemon : DaemonId) (place : ℕ) (o : Option DaemonState) (r : Refusal) → daemon_of old daemon ≡ o → post_refusal old daemon place o ≡ Some r → may_come r (Post daemon place) ≡ true
-  post-comes daemon place None r there e = comes (Post daemon place) refusal.NoDaemon r refl e
-  post-comes daemon place (Some was) r there e = in_ was.server refl e where
-    in_ : (s : Option ServerState) → was.server ≡ s → unposted_refusal old daemon place s ≡ Some r → may_come r (Post daemon place) ≡ true
-    in_ None serves e = comes (Post daemon place) refusal.NoSuch r refl e
-    in_ (Some server) serves e = reply-comes daemon place was server (at_place server.unposted place) r there serves refl e
+  post-comes : (daemon : DaemonId) (position : ℕ) (o : Option DaemonState) (r : Refusal) → daemon_of old daemon ≡ o → post_refusal old daemon position o ≡ Some r → may_come r (Post daemon position) ≡ true
+  post-comes daemon position None r there e = comes (Post daemon position) refusal.NoDaemon r refl e
+  post-comes daemon position (Some was) r there e = in_ was.server refl e where
+    in_ : (s : Option ServerState) → was.server ≡ s → unposted_refusal old daemon position s ≡ Some r → may_come r (Post daemon position) ≡ true
+    in_ None serves e = comes (Post daemon position) refusal.NoSuch r refl e
+    in_ (Some server) serves e = reply-comes daemon position was server (at_position server.unposted position) r there serves refl e
 
   -- ---- who claims from the seat's generation
 
@@ -120,14 +120,14 @@ module _ (w : World) (old : State) (m : Matches w old) where
   -- ---- every event
 
   fault-comes : (event : Event) (r : Refusal) → fault old event ≡ Some r → may_come r event ≡ true
-  fault-comes Start r e = tested Start refusal.Full r (nat_le most_daemons (length old.daemons)) refl e
+  fault-comes (Start versions) r e = tested (Start versions) refusal.Full r (nat_le most_daemons (length old.daemons)) refl e
   fault-comes (Mount daemon) r e = mount-comes (Mount daemon) old (daemon_of old daemon) r e
   fault-comes (Issue request) r e = issue-comes (Issue request) (issue_fault old.broker request) r e
   fault-comes (Take daemon) r e = take-comes daemon (daemon_of old daemon) r refl e
-  fault-comes (Work daemon place fails) r e = work-comes (Work daemon place fails) place (daemon_of old daemon) r e
-  fault-comes (Post daemon place) r e = post-comes daemon place (daemon_of old daemon) r refl e
+  fault-comes (Work daemon position fails) r e = work-comes (Work daemon position fails) position (daemon_of old daemon) r e
+  fault-comes (Post daemon position) r e = post-comes daemon position (daemon_of old daemon) r refl e
   fault-comes Deliver r e = tested Deliver refusal.Empty r (is_none (front old.broker.traffic.posted)) refl e
-  fault-comes (Hear daemon place) r e = hear-comes (Hear daemon place) old place (daemon_of old daemon) r e
+  fault-comes (Hear daemon position) r e = hear-comes (Hear daemon position) old position (daemon_of old daemon) r e
   fault-comes (Drained daemon) r e = drained-comes (Drained daemon) (daemon_of old daemon) r e
   fault-comes (GiveUp daemon) r e = absence-comes (GiveUp daemon) (daemon_of old daemon) r e
   fault-comes (Claim daemon) r e = claim-comes daemon (daemon_of old daemon) r refl e

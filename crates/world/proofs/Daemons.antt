@@ -12,7 +12,7 @@ use Rattle.broker_core.specs.declared.broker.MountFault.{MountFault}
 use Rattle.broker_core.specs.declared.seat.Seat.{Seat}
 use Rattle.takeover_core.specs.declared.message.Message.{Message}
 use Rattle.daemon.specs.Daemon.{DaemonState, new_daemon, is_waiting}
-use Rattle.daemon.specs.Server.{ServerState, IsIdle, at_place}
+use Rattle.daemon.specs.Server.{ServerState, IsIdle, at_position}
 use Rattle.world.specs.World.{World, owed}
 use Rattle.world.specs.Agreement.{Knows, HolderKnows, Books, SeatIsLast, IsUnderWay, IsHolder, OthersAreIdle, IsOrderly, AnsweredBefore, Follows}
 use Rattle.daemon.specs.Refusals.{refusal_of_mount}
@@ -22,19 +22,19 @@ use Rattle.daemon.specs.declared.happened.Refusal.TheVariants as refusal
 -- ---- one of many
 
 -- a new one serves nothing, as if it were not there
-more_in : (ds : List DaemonState) (i : ℕ) → option_and_then (λ (d : DaemonState). d.server) (slice_get (ds ++ new_daemon ∷ []) i) ≡ option_and_then (λ (d : DaemonState). d.server) (slice_get ds i)
-more_in [] zero = refl
-more_in [] (suc i) = refl
-more_in (d ∷ ds) zero = refl
-more_in (d ∷ ds) (suc i) = more_in ds i
+more_in : (vs : List ℕ) (ds : List DaemonState) (i : ℕ) → option_and_then (λ (d : DaemonState). d.server) (slice_get (ds ++ new_daemon vs ∷ []) i) ≡ option_and_then (λ (d : DaemonState). d.server) (slice_get ds i)
+more_in vs [] zero = refl
+more_in vs [] (suc i) = refl
+more_in vs (d ∷ ds) zero = refl
+more_in vs (d ∷ ds) (suc i) = more_in vs ds i
 
-pub server_of-more : (old : State) (messages : List Message) (daemon : DaemonId) → server_of (record old { daemons = old.daemons ++ new_daemon ∷ []; messages = messages }) daemon ≡ server_of old daemon
-server_of-more old messages daemon = in_ (daemon.0 == 0) where
-  in_ : (b : Bool) → option_and_then (λ (d : DaemonState). d.server) (if b then None else slice_get (old.daemons ++ new_daemon ∷ []) (daemon.0 - 1)) ≡ option_and_then (λ (d : DaemonState). d.server) (if b then None else slice_get old.daemons (daemon.0 - 1))
+pub server_of-more : (old : State) (vs : List ℕ) (messages : List Message) (daemon : DaemonId) → server_of (record old { daemons = old.daemons ++ new_daemon vs ∷ []; messages = messages }) daemon ≡ server_of old daemon
+server_of-more old vs messages daemon = in_ (daemon.0 == 0) where
+  in_ : (b : Bool) → option_and_then (λ (d : DaemonState). d.server) (if b then None else slice_get (old.daemons ++ new_daemon vs ∷ []) (daemon.0 - 1)) ≡ option_and_then (λ (d : DaemonState). d.server) (if b then None else slice_get old.daemons (daemon.0 - 1))
   in_ true = refl
-  in_ false = more_in old.daemons (daemon.0 - 1)
+  in_ false = more_in vs old.daemons (daemon.0 - 1)
 
--- what was written at a daemon's place is there, and nowhere else
+-- what was written at a daemon's position is there, and nowhere else
 set_in : (ds : List DaemonState) (i : ℕ) (d later : DaemonState) → slice_get ds i ≡ Some d → slice_get (slice_set ds i later) i ≡ Some later
 set_in [] i d later h = absurd (let none : ⊥ = cc in none)
 set_in (x ∷ ds) zero d later h = refl
@@ -131,26 +131,26 @@ holder-or state daemon = in_ state.broker.seat refl where
     of_seat (inl same) = inl (seat, e, λ i. record { 0 = same i })
     of_seat (inr apart) = inr (λ h. let s : Some seat ≡ Some h.0 = sym e ∙ h.1 in let is : seat ≡ h.0 = cc in apart (ap (λ (x : Seat). x.daemon.0) is ∙ ap (λ (d : DaemonId). d.0) h.2))
 
-pub none-at : {X : Type 0} (place : ℕ) (x : X) → at_place [] place ≡ Some x → ⊥
-none-at {X = X} place x h = in_ (place == 0) h where
-  in_ : (b : Bool) → (if b then None else slice_get [] (place - 1)) ≡ Some x → ⊥
+pub none-at : {X : Type 0} (position : ℕ) (x : X) → at_position [] position ≡ Some x → ⊥
+none-at {X = X} position x h = in_ (position == 0) h where
+  in_ : (b : Bool) → (if b then None else slice_get [] (position - 1)) ≡ Some x → ⊥
   in_ true e = let none : ⊥ = cc in none
   in_ false e = let none : ⊥ = cc in none
 
--- a member at a place, by the place less 1
-pub at-is : {X : Type 0} (xs : List X) (place : ℕ) (x : X) → at_place xs place ≡ Some x → slice_get xs (place - 1) ≡ Some x
-at-is {X = X} xs place x h = in_ (place == 0) h where
-  in_ : (b : Bool) → (if b then None else slice_get xs (place - 1)) ≡ Some x → slice_get xs (place - 1) ≡ Some x
+-- a member at a position, by the position less 1
+pub at-is : {X : Type 0} (xs : List X) (position : ℕ) (x : X) → at_position xs position ≡ Some x → slice_get xs (position - 1) ≡ Some x
+at-is {X = X} xs position x h = in_ (position == 0) h where
+  in_ : (b : Bool) → (if b then None else slice_get xs (position - 1)) ≡ Some x → slice_get xs (position - 1) ≡ Some x
   in_ true e = absurd (let none : ⊥ = cc in none)
   in_ false e = e
 
 -- who has something in hand, or unposted, has the seat
-pub hand-seated : (state : State) (daemon : DaemonId) (server : ServerState) {X : Type 0} (of : ServerState → List X) (place : ℕ) (x : X) → OthersAreIdle state → ((s : ServerState) → IsIdle s → of s ≡ []) → server_of state daemon ≡ Some server →
-    at_place (of server) place ≡ Some x → (seat : Seat) × (seat.daemon ≡ daemon) × IsSeated state seat server
-hand-seated state daemon server of place x idle empty serves at = in_ (holder-or state daemon) where
+pub hand-seated : (state : State) (daemon : DaemonId) (server : ServerState) {X : Type 0} (of : ServerState → List X) (position : ℕ) (x : X) → OthersAreIdle state → ((s : ServerState) → IsIdle s → of s ≡ []) → server_of state daemon ≡ Some server →
+    at_position (of server) position ≡ Some x → (seat : Seat) × (seat.daemon ≡ daemon) × IsSeated state seat server
+hand-seated state daemon server of position x idle empty serves at = in_ (holder-or state daemon) where
   in_ : IsHolder state daemon ⊎ (IsHolder state daemon → ⊥) → (seat : Seat) × (seat.daemon ≡ daemon) × IsSeated state seat server
   in_ (inl h) = (h.0, h.2, record { has_seat = h.1; serves = ap (server_of state) h.2 ∙ serves })
-  in_ (inr other) = absurd (none-at place x (subst (λ xs. at_place xs place ≡ Some x) (empty server (idle daemon server serves other)) at))
+  in_ (inr other) = absurd (none-at position x (subst (λ xs. at_position xs position ≡ Some x) (empty server (idle daemon server serves other)) at))
 
 -- ---- after a call
 

@@ -12,7 +12,7 @@ use Rattle.broker_core.specs.declared.broker.IssueFault.{IssueFault}
 use Rattle.broker_core.specs.declared.seat.Seat.{Seat}
 use Rattle.broker_core.proofs.Accepted.{accepted-seated}
 use Rattle.takeover_core.specs.declared.message.Message.TheVariants.{Offer}
-use Rattle.daemon.specs.Daemon.{DaemonState, versions}
+use Rattle.daemon.specs.Daemon.{DaemonState}
 use Rattle.daemon.specs.Server.{new_server}
 use Rattle.world.specs.World.{World, Move, mount, owed, after}
 use Rattle.world.specs.Agreement.{Knows, IsQuiet, Follows, move_of}
@@ -40,14 +40,14 @@ use Rattle.world.proofs.Working.{works-moved}
 -- ---- one event
 
 refused-moves : (seat : Option Seat) (event : Event) (r : Refusal) → move_of seat event (happened.Refused r) ≡ []
-refused-moves seat Start r = refl
+refused-moves seat (Start versions) r = refl
 refused-moves seat (Mount daemon) r = refl
 refused-moves seat (Issue request) r = refl
 refused-moves seat (Take daemon) r = refl
-refused-moves seat (Work daemon place fails) r = refl
-refused-moves seat (Post daemon place) r = refl
+refused-moves seat (Work daemon position fails) r = refl
+refused-moves seat (Post daemon position) r = refl
 refused-moves seat Deliver r = refl
-refused-moves seat (Hear daemon place) r = refl
+refused-moves seat (Hear daemon position) r = refl
 refused-moves seat (Drained daemon) r = refl
 refused-moves seat (GiveUp daemon) r = refl
 refused-moves seat (Claim daemon) r = refl
@@ -64,8 +64,8 @@ refuses-moved w old (Claim daemon) r told new m h (is, same) = unclaimed-moved w
 refuses-moved w old event r told new m h (is, same) = lacks-moved w old event r told new m is same
 
 -- a daemon more leaves the broker, and whoever has the seat
-starts-moved : (w : World) (old : State) (told : Happened) (new : State) → Follows w old → Starts old told new → MovesBy w (move_of w.seat Start told) old told new
-starts-moved w old told new m (is, makes) = subst (λ (x : Happened). MovesBy w (move_of w.seat Start x) old x new) (sym is) (unmoved w old _ new tt refl (subst (λ (s : State). Follows w s) (sym makes) (record {
+starts-moved : (w : World) (old : State) (versions : List ℕ) (told : Happened) (new : State) → Follows w old → Starts old versions told new → MovesBy w (move_of w.seat (Start versions) told) old told new
+starts-moved w old versions told new m (is, makes) = subst (λ (x : Happened). MovesBy w (move_of w.seat (Start versions) x) old x new) (sym is) (unmoved w old _ new tt refl (subst (λ (s : State). Follows w s) (sym makes) (record {
   manifest = m.manifest;
   is_tree = m.is_tree;
   tree_is_tree = m.tree_is_tree;
@@ -75,8 +75,8 @@ starts-moved w old told new m (is, makes) = subst (λ (x : Happened). MovesBy w 
   quiet = m.quiet;
   orderly = m.orderly;
   answered = m.answered;
-  knows = λ seat at. let k = m.knows seat at in (k.0, record { has_seat = at; serves = server_of-more old (old.messages ++ Offer versions ∷ []) seat.daemon ∙ (k.1).serves }, k.2, k.3);
-  others_idle = λ daemon server serves other. m.others_idle daemon server (sym (server_of-more old (old.messages ++ Offer versions ∷ []) daemon) ∙ serves) other;
+  knows = λ seat at. let k = m.knows seat at in (k.0, record { has_seat = at; serves = server_of-more old versions (old.messages ++ Offer versions ∷ []) seat.daemon ∙ (k.1).serves }, k.2, k.3);
+  others_idle = λ daemon server serves other. m.others_idle daemon server (sym (server_of-more old versions (old.messages ++ Offer versions ∷ []) daemon) ∙ serves) other;
 })))
 
 -- nothing under way is owed for
@@ -129,14 +129,14 @@ issues-seated w old request told new m clear made = in_ old.broker.seat refl (ac
 
 -- an event that no cause stands against
 made-moved : (w : World) (old : State) (event : Event) (told : Happened) (new : State) → Follows w old → IsHanding old → fault old event ≡ None → Makes old event told new → MovesBy w (move_of w.seat event told) old told new
-made-moved w old Start told new m h clear made = starts-moved w old told new m made
+made-moved w old (Start versions) told new m h clear made = starts-moved w old versions told new m made
 made-moved w old (Mount daemon) told new m h clear made = mounts-moved w old daemon told new m clear made
 made-moved w old (Issue request) told new m h clear made = issues-seated w old request told new m clear made
 made-moved w old (Take daemon) told new m h clear made = takes-moved w old daemon told new m clear made
-made-moved w old (Work daemon place fails) told new m h clear made = works-moved w old daemon place fails told new m made
-made-moved w old (Post daemon place) told new m h clear made = posts-moved w old daemon place told new m clear made
+made-moved w old (Work daemon position fails) told new m h clear made = works-moved w old daemon position fails told new m made
+made-moved w old (Post daemon position) told new m h clear made = posts-moved w old daemon position told new m clear made
 made-moved w old Deliver told new m h clear made = delivers-moved w old told new m made
-made-moved w old (Hear daemon place) told new m h clear made = hears-moved w old daemon place told new m h made
+made-moved w old (Hear daemon position) told new m h clear made = hears-moved w old daemon position told new m h made
 made-moved w old (Drained daemon) told new m h clear made = drains-moved w old daemon told new m made
 made-moved w old (GiveUp daemon) told new m h clear made = gives-up-moved w old daemon told new m made
 made-moved w old (Claim daemon) told new m h clear made = claims-moved w old daemon told new m h clear made

@@ -1,6 +1,6 @@
 -- What stands of daemons and messages goes on standing, whatever happens to one daemon.
 use Rattle.std.proofs.Common.{◌≡◌, ℕ, suc, zero, ◌<◌, ◌≤◌, true, false, List, [], ◌∷◌, ◌++◌, Some, None, refl, sym, ap, ◌∙◌, subst, inl, inr, ◌⊎◌, arith}
-use Rattle.std.specs.Prelude.{slice_get, count_by}
+use Rattle.std.specs.Prelude.{slice_get}
 use Rattle.std.specs.List.{AllByRecursion}
 use Rattle.eden_base.specs.Limits.{last_generation}
 use Rattle.manifest.specs.Manifest.{Manifest, IsManifest}
@@ -11,15 +11,14 @@ use Rattle.map_codec.specs.Handover.{IsHandedOver}
 use Rattle.takeover_core.specs.Histories.{seat_of}
 use Rattle.takeover_core.specs.Phases.{claim_wanted}
 use Rattle.takeover_core.specs.declared.message.Message.{Message}
-use Rattle.takeover_core.specs.declared.message.Message.TheVariants.{Data}
+use Rattle.takeover_core.specs.declared.message.Message.TheVariants.{Data, Part}
 use Rattle.takeover_core.specs.declared.phase.Phase.{Phase}
 use Rattle.takeover_core.specs.declared.phase.Phase.TheVariants.{Holding, Serving, Draining, Pinged, Making, Handed}
 use Rattle.daemon.specs.Daemon.{DaemonState}
-use Rattle.world.specs.Handing.{part_at, is_drained, is_out, HasTheSeat, MessageStands, DaemonStands, IsHanding}
+use Rattle.world.specs.Handing.{part_at, is_drained, is_out, reads_at, data_of, HasTheSeat, HasHanded, IsHandedIn, IsPast, ReadsHanded, DaemonStands, HandsOnce, IsHanding}
 use Rattle.daemon.specs.Server.{ServerState}
-use Rattle.world.specs.State.{State, daemon_of, with_daemon, is_data_of}
+use Rattle.world.specs.State.{State, daemon_of, with_daemon}
 use Rattle.world.proofs.Daemons.{who}
-use Rattle.world.proofs.Turns.{is_data}
 
 -- ---- lists
 
@@ -74,6 +73,18 @@ pub record KeepsSeat (old new : State) : Type 0 where
   pub seat : new.broker.seat ≡ old.broker.seat
   pub last : new.broker.last ≡ old.broker.last
   pub holder : (seat : Seat) (now : DaemonState) (server : ServerState) → HasTheSeat new seat now server → WasHolder old seat now server
+  pub said : (seat : Seat) (was : DaemonState) (before : ServerState) → HasTheSeat old seat was before → is_out was.node.phase ≡ true → data_of seat.generation new.messages ≡ data_of seat.generation old.messages
+
+-- what is handed over now was handed over before
+abbrev pub handed-back : (old new : State) (seat : Seat) (was now : DaemonState) (before server : ServerState) → is_out was.node.phase ≡ true → server.served ≡ before.served → data_of seat.generation new.messages ≡ data_of seat.generation old.messages → HasHanded new seat now server → HasHanded old seat was before
+handed-back old new seat was now before server out served same over = record {
+  session = over.session;
+  version = over.version;
+  text = over.text;
+  out = out;
+  handed = subst (λ (x : ServedState). IsHandedOver x seat.generation over.version over.text) served over.handed;
+  said = subst (λ (ms : List Message). IsHandedIn over.session seat.generation over.text ms) same over.said;
+}
 
 pub daemon-along : (old new : State) (daemon : DaemonId) (was : DaemonState) → KeepsSeat old new → DaemonStands old daemon was → DaemonStands new daemon was
 daemon-along old new daemon was k s = record {
@@ -88,23 +99,40 @@ daemon-along old new daemon was k s = record {
       let d = s.held seat h.was h.before server h.has claims serves in
       let o = h.out d.0 in
       (o.0, d.1 ∙ ap plain (sym o.1));
+  past = λ g e. subst (λ (l : ℕ). g ≤ l) (sym k.last) (s.past g e);
+  reads = λ seat holder handed has e.
+      let h = k.holder seat holder handed has in
+      let r = s.reads seat h.was h.before h.has e in
+      let o = h.out r.out in
+      let same = k.said seat h.was h.before h.has r.out in
+      record {
+        out = o.0;
+        some = λ none. r.some (sym same ∙ none);
+        read = λ over. r.read (handed-back old new seat h.was holder h.before handed r.out o.1 same over);
+      };
 }
 
-pub message-along : (old new : State) (m : Message) → KeepsSeat old new → MessageStands old m → MessageStands new m
-message-along old new (Data s g bytes) k stands = (
-  subst (λ (l : ℕ). g ≤ l) (sym k.last) stands.0,
-  λ seat now server has same.
-      let h = k.holder seat now server has in
-      let d = stands.1 seat h.was h.before h.has same in
-      let o = h.out d.0 in
-      (o.0, d.1, subst (λ (x : ServedState). IsHandedOver x g d.1 bytes) (sym o.1) d.2),
-)
-message-along old new m k stands = tt
+-- what was handed over from the seat is handed over still
+pub once-at : (old new : State) (seat : Seat) (now : DaemonState) (server : ServerState) → KeepsSeat old new → data_of seat.generation new.messages ≡ data_of seat.generation old.messages → HandsOnce old → HasTheSeat new seat now server → (data_of seat.generation new.messages ≡ []) ⊎ HasHanded new seat now server
+once-at old new seat now server k same once has =
+    let h = k.holder seat now server has in
+    in_ h same (once seat h.was h.before h.has)
+  where
+    in_ : (h : WasHolder old seat now server) → data_of seat.generation new.messages ≡ data_of seat.generation old.messages → (data_of seat.generation old.messages ≡ []) ⊎ HasHanded old seat h.was h.before → (data_of seat.generation new.messages ≡ []) ⊎ HasHanded new seat now server
+    in_ h e (inl none) = inl (e ∙ none)
+    in_ h e (inr over) =
+        let o = h.out over.out in
+        inr (record {
+          session = over.session;
+          version = over.version;
+          text = over.text;
+          out = o.0;
+          handed = subst (λ (x : ServedState). IsHandedOver x seat.generation over.version over.text) (sym o.1) over.handed;
+          said = subst (λ (ms : List Message). IsHandedIn over.session seat.generation over.text ms) (sym e) over.said;
+        })
 
--- a message that is no data stands
-pub no-data-stands : (state : State) (m : Message) → is_data m ≡ false → MessageStands state m
-no-data-stands state (Data s g bytes) e = absurd (let none : ⊥ = cc in none)
-no-data-stands state m e = tt
+pub once-along : (old new : State) → KeepsSeat old new → ((seat : Seat) → old.broker.seat ≡ Some seat → data_of seat.generation new.messages ≡ data_of seat.generation old.messages) → HandsOnce old → HandsOnce new
+once-along old new k same once seat now server has = once-at old new seat now server k (same seat (sym k.seat ∙ has.seated)) once has
 
 -- ---- a later seat
 
@@ -123,6 +151,11 @@ daemon-later old new seat daemon was l apart s = record {
   part = λ other e x. absurd (apart (x ∙ ap (λ (y : Seat). y.daemon) (the_seat other e)));
   goes_on = λ other e x in_s. absurd (apart (x ∙ ap (λ (y : Seat). y.daemon) (the_seat other e)));
   held = λ other holder handed server has claims serves. absurd (too_late other has.seated (holding-part was.node.phase other.generation claims));
+  past = λ g e. let low : g ≤ old.broker.last = s.past g e in let last = l.last in omega arith;
+  reads = λ other holder handed has e. absurd (
+      let low : other.generation ≤ old.broker.last = s.past other.generation e in
+      let same : other.generation ≡ seat.generation = ap (λ (y : Seat). y.generation) (the_seat other has.seated) in
+      let later = l.later in omega arith);
 } where
   the_seat : (other : Seat) → new.broker.seat ≡ Some other → other ≡ seat
   the_seat other e = let two : Some other ≡ Some seat = sym e ∙ l.seated in let is : other ≡ seat = cc in is
@@ -133,17 +166,11 @@ daemon-later old new seat daemon was l apart s = record {
       let same : other.generation ≡ seat.generation = ap (λ (y : Seat). y.generation) (the_seat other e) in
       let later = l.later in omega arith
 
-pub message-later : (old new : State) (seat : Seat) (m : Message) → IsLater old new seat → MessageStands old m → MessageStands new m
-message-later old new seat (Data s g bytes) l stands = (
-  (let low : g ≤ old.broker.last = stands.0 in let last = l.last in omega arith),
-  λ other now server has same. absurd (
-      let two : Some other ≡ Some seat = sym has.seated ∙ l.seated in
-      let is : other ≡ seat = cc in
-      let low : g ≤ old.broker.last = stands.0 in
-      let also : other.generation ≡ seat.generation = ap (λ (y : Seat). y.generation) is in
-      let later = l.later in omega arith),
-)
-message-later old new seat m l stands = tt
+-- what was said is no later than it was
+pub past-later : (old new : ℕ) (m : Message) → old ≤ new → IsPast old m → IsPast new m
+past-later old new (Data s g bytes) later low = omega arith
+past-later old new (Part s g i n bytes) later low = omega arith
+past-later old new m later low = tt
 
 -- ---- no seat
 
@@ -156,16 +183,14 @@ daemon-free old new daemon was free last s = record {
   part = λ seat e x. absurd (nobody seat e);
   goes_on = λ seat e x in_s. absurd (nobody seat e);
   held = λ seat holder handed server has claims serves. absurd (nobody seat has.seated);
+  past = λ g e. subst (λ (l : ℕ). g ≤ l) (sym last) (s.past g e);
+  reads = λ seat holder handed has e. absurd (nobody seat has.seated);
 } where
   nobody : (seat : Seat) → new.broker.seat ≡ Some seat → ⊥
   nobody seat e = let two : None ≡ Some seat = sym free ∙ e in let none : ⊥ = cc in none
 
-pub message-free : (old new : State) (m : Message) → new.broker.seat ≡ None → new.broker.last ≡ old.broker.last → MessageStands old m → MessageStands new m
-message-free old new (Data s g bytes) free last stands = (
-  subst (λ (l : ℕ). g ≤ l) (sym last) stands.0,
-  λ seat now server has same. absurd (let two : None ≡ Some seat = sym free ∙ has.seated in let none : ⊥ = cc in none),
-)
-message-free old new m free last stands = tt
+pub once-free : (new : State) → new.broker.seat ≡ None → HandsOnce new
+once-free new free seat was server has = absurd (let two : None ≡ Some seat = sym free ∙ has.seated in let none : ⊥ = cc in none)
 
 -- ---- one daemon changed
 
@@ -174,12 +199,17 @@ pub record KeepsOut (was later : DaemonState) : Type 0 where
   pub server : (server : ServerState) → later.server ≡ Some server → (before : ServerState) × (was.server ≡ Some before)
       × (is_out was.node.phase ≡ true → (is_out later.node.phase ≡ true) × (server.served ≡ before.served))
 
+-- more was said, and none of it is data of the seat's generation where that is out
+abbrev pub SaysNoMore : State → List Message → Type 0
+SaysNoMore old said = (seat : Seat) (was : DaemonState) (before : ServerState) → HasTheSeat old seat was before → is_out was.node.phase ≡ true → data_of seat.generation said ≡ data_of seat.generation old.messages
+
 -- the holder after one daemon changed
-pub keeps-seat : (old base : State) (daemon : DaemonId) (was later : DaemonState) → base.daemons ≡ old.daemons → base.broker.seat ≡ old.broker.seat → base.broker.last ≡ old.broker.last → daemon_of old daemon ≡ Some was →
+pub keeps-seat : (old base : State) (daemon : DaemonId) (was later : DaemonState) → base.daemons ≡ old.daemons → base.broker.seat ≡ old.broker.seat → base.broker.last ≡ old.broker.last → SaysNoMore old base.messages → daemon_of old daemon ≡ Some was →
     ((seat : Seat) → old.broker.seat ≡ Some seat → daemon ≡ seat.daemon → KeepsOut was later) → KeepsSeat old (with_daemon base daemon later)
-keeps-seat old base daemon was later daemons seat last there keeps = record {
+keeps-seat old base daemon was later daemons seat last said there keeps = record {
   seat = seat;
   last = last;
+  said = said;
   holder = λ at now server has. holder_in at now server has (who base daemon at.daemon was later now base_there has.there);
 } where
   base_there : daemon_of base daemon ≡ Some was
@@ -228,24 +258,31 @@ module _ (old base new : State) (daemon : DaemonId) (was later : DaemonState) (m
   old_of : (other : DaemonId) (d : DaemonState) → daemon_of base other ≡ Some d → daemon_of old other ≡ Some d
   old_of other d e = subst (λ (ds : List DaemonState). daemon_of (record old { daemons = ds }) other ≡ Some d) is.daemons e
 
+  -- all that is said now
+  said_now : old.messages ++ more ≡ new.messages
+  said_now = sym (ap (λ (s : State). s.messages) makes ∙ is.messages)
+
   -- every other daemon and message stands as it did
-  pub handing-where : new.broker.last ≤ last_generation → DaemonStands new daemon later → ((other : DaemonId) (d : DaemonState) → (other ≡ daemon → ⊥) → DaemonStands old other d → DaemonStands new other d) →
-      ((m : Message) → MessageStands old m → MessageStands new m) → AllByRecursion (MessageStands new) more →
-      ((seat : Seat) → new.broker.seat ≡ Some seat → count_by (is_data_of seat.generation) (old.messages ++ more) ≤ 1) → IsHanding new
-  handing-where low stands others along said once = record {
+  pub handing-where : new.broker.last ≤ last_generation → old.broker.last ≤ new.broker.last → DaemonStands new daemon later → ((other : DaemonId) (d : DaemonState) → (other ≡ daemon → ⊥) → DaemonStands old other d → DaemonStands new other d) →
+      AllByRecursion (IsPast new.broker.last) more → HandsOnce new → IsHanding new
+  handing-where low on stands others said once = record {
     is_manifest = subst (λ (m : Manifest). IsManifest m) (sym (ap (λ (s : State). s.manifest) makes ∙ is.manifest)) h.is_manifest;
     low = low;
     daemons = every-daemon base new daemon was later makes (base_of daemon was there) stands (λ other d apart e. others other d apart (h.daemons other d (old_of other d e)));
-    messages = subst (λ (ms : List Message). AllByRecursion (MessageStands new) ms) (sym (ap (λ (s : State). s.messages) makes ∙ is.messages))
-        (all-append (MessageStands new) old.messages more (all-along (MessageStands old) (MessageStands new) along old.messages h.messages) said);
-    once = λ seat e. subst (λ (ms : List Message). count_by (is_data_of seat.generation) ms ≤ 1) (sym (ap (λ (s : State). s.messages) makes ∙ is.messages)) (once seat e);
+    messages = subst (λ (ms : List Message). AllByRecursion (IsPast new.broker.last) ms) said_now
+        (all-append (IsPast new.broker.last) old.messages more (all-along (IsPast old.broker.last) (IsPast new.broker.last) (λ m low. past-later old.broker.last new.broker.last m on low) old.messages h.messages) said);
+    once = once;
   }
 
   -- the seat stays
-  pub stays : base.broker.seat ≡ old.broker.seat → base.broker.last ≡ old.broker.last → ((seat : Seat) → old.broker.seat ≡ Some seat → daemon ≡ seat.daemon → KeepsOut was later) → KeepsSeat old new
-  stays seat last keeps = subst (λ (s : State). KeepsSeat old s) (sym makes) (keeps-seat old base daemon was later is.daemons seat last there keeps)
+  pub stays : base.broker.seat ≡ old.broker.seat → base.broker.last ≡ old.broker.last → SaysNoMore old (old.messages ++ more) → ((seat : Seat) → old.broker.seat ≡ Some seat → daemon ≡ seat.daemon → KeepsOut was later) → KeepsSeat old new
+  stays seat last said keeps = subst (λ (s : State). KeepsSeat old s) (sym makes) (keeps-seat old base daemon was later is.daemons seat last (subst (λ (ms : List Message). SaysNoMore old ms) (sym is.messages) said) there keeps)
 
-  pub handing-stays : KeepsSeat old new → DaemonStands old daemon later → AllByRecursion (MessageStands new) more →
-      ((seat : Seat) → old.broker.seat ≡ Some seat → count_by (is_data_of seat.generation) (old.messages ++ more) ≤ 1) → IsHanding new
-  handing-stays k stands said once = handing-where (subst (λ (l : ℕ). l ≤ last_generation) (sym k.last) h.low) (daemon-along old new daemon later k stands)
-      (λ other d apart s. daemon-along old new other d k s) (λ m s. message-along old new m k s) said (λ seat e. once seat (sym k.seat ∙ e))
+  pub handing-stays : KeepsSeat old new → DaemonStands old daemon later → AllByRecursion (IsPast old.broker.last) more → HandsOnce new → IsHanding new
+  handing-stays k stands said once = handing-where (subst (λ (l : ℕ). l ≤ last_generation) (sym k.last) h.low) (let same = k.last in omega arith) (daemon-along old new daemon later k stands)
+      (λ other d apart s. daemon-along old new other d k s) (subst (λ (l : ℕ). AllByRecursion (IsPast l) more) (sym k.last) said) once
+
+  -- nothing that was said is data of the seat's generation
+  pub handing-quiet : KeepsSeat old new → ((seat : Seat) → old.broker.seat ≡ Some seat → data_of seat.generation (old.messages ++ more) ≡ data_of seat.generation old.messages) → DaemonStands old daemon later → AllByRecursion (IsPast old.broker.last) more → IsHanding new
+  handing-quiet k quiet stands said = handing-stays k stands said
+      (once-along old new k (λ seat at. subst (λ (ms : List Message). data_of seat.generation ms ≡ data_of seat.generation old.messages) said_now (quiet seat at)) h.once)

@@ -44,14 +44,14 @@ issued-seat broker request false None = refl
 issued-seat broker request false (Some item) = refl
 
 made-seat : (old : State) (event : Event) (told : Happened) (new : State) → KeepsSeat event → Makes old event told new → new.broker.seat ≡ old.broker.seat
-made-seat old Start told new keeps made = ap (λ (s : State). s.broker.seat) made.1
+made-seat old (Start versions) told new keeps made = ap (λ (s : State). s.broker.seat) made.1
 made-seat old (Mount daemon) told new keeps made = absurd keeps
 made-seat old (Issue request) told new keeps made = ap (λ (s : State). s.broker.seat) made.1 ∙ issued-seat old.broker request (is_ask request) (item_of request)
 made-seat old (Take daemon) told new keeps made = ap (λ (s : State). s.broker.seat) made.makes
-made-seat old (Work daemon place fails) told new keeps made = ap (λ (s : State). s.broker.seat) made.makes
-made-seat old (Post daemon place) told new keeps made = ap (λ (s : State). s.broker.seat) made.makes
+made-seat old (Work daemon position fails) told new keeps made = ap (λ (s : State). s.broker.seat) made.makes
+made-seat old (Post daemon position) told new keeps made = ap (λ (s : State). s.broker.seat) made.makes
 made-seat old Deliver told new keeps made = ap (λ (s : State). s.broker.seat) made.makes
-made-seat old (Hear daemon place) told new keeps made = ap (λ (s : State). s.broker.seat) (made.reacts).makes
+made-seat old (Hear daemon position) told new keeps made = ap (λ (s : State). s.broker.seat) (made.reacts).makes
 made-seat old (Drained daemon) told new keeps made = ap (λ (s : State). s.broker.seat) made.makes
 made-seat old (GiveUp daemon) told new keeps made = ap (λ (s : State). s.broker.seat) made.makes
 made-seat old (Claim daemon) told new keeps made = absurd keeps
@@ -179,14 +179,14 @@ stays-do (Some seat) request = in_ (is_ask request) where
   in_ false = (tt, (tt, tt))
 
 stays-parts : (seat : Option Seat) (event : Event) → StaysSeated (parts_of seat event)
-stays-parts seat Start = tt
+stays-parts seat (Start versions) = tt
 stays-parts seat (Mount daemon) = tt
 stays-parts seat (Issue request) = tt
 stays-parts seat (Take daemon) = tt
-stays-parts seat (Work daemon place fails) = tt
-stays-parts seat (Post daemon place) = tt
+stays-parts seat (Work daemon position fails) = tt
+stays-parts seat (Post daemon position) = tt
 stays-parts seat Deliver = tt
-stays-parts seat (Hear daemon place) = tt
+stays-parts seat (Hear daemon position) = tt
 stays-parts seat (Drained daemon) = tt
 stays-parts seat (GiveUp daemon) = tt
 stays-parts seat (Claim daemon) = tt
@@ -196,14 +196,14 @@ stays-parts seat Show = tt
 
 -- the parts of an event are refused only as it may be
 covers-parts : (seat : Option Seat) (event : Event) → Covers event (parts_of seat event)
-covers-parts seat Start = (λ r may. may, tt)
+covers-parts seat (Start versions) = (λ r may. may, tt)
 covers-parts seat (Mount daemon) = (λ r may. may, tt)
 covers-parts seat (Issue request) = (λ r may. may, tt)
 covers-parts seat (Take daemon) = (λ r may. may, tt)
-covers-parts seat (Work daemon place fails) = (λ r may. may, tt)
-covers-parts seat (Post daemon place) = (λ r may. may, tt)
+covers-parts seat (Work daemon position fails) = (λ r may. may, tt)
+covers-parts seat (Post daemon position) = (λ r may. may, tt)
 covers-parts seat Deliver = (λ r may. may, tt)
-covers-parts seat (Hear daemon place) = (λ r may. may, tt)
+covers-parts seat (Hear daemon position) = (λ r may. may, tt)
 covers-parts seat (Drained daemon) = (λ r may. may, tt)
 covers-parts seat (GiveUp daemon) = (λ r may. may, tt)
 covers-parts seat (Claim daemon) = (λ r may. may, tt)

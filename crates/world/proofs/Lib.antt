@@ -23,6 +23,7 @@ mod Crashing
 mod Turns
 mod Handing
 mod Once
+mod Pieces
 mod Standing
 mod Claims
 mod HandingTalks
@@ -42,4 +43,5 @@ mod Coming
 mod Events
 pub mod InTurn
 pub mod WholeRun
+mod Journals
 pub mod LawProofs

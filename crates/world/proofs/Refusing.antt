@@ -18,9 +18,9 @@ use Rattle.takeover_core.specs.declared.node.DrainFault.{DrainFault}
 use Rattle.takeover_core.specs.declared.node.DrainFault.TheVariants as drain
 use Rattle.daemon.specs.Daemon.{DaemonState, is_waiting, in_hand, unposted}
 use Rattle.daemon.specs.Refusals.{refusal_of_mount, refusal_of_issue, refusal_of_drain}
-use Rattle.daemon.specs.Server.{ServerState, at_place, told_taken, told_worked, told_item}
-use Rattle.daemon.specs.declared.daemon.Reaction.{Reaction}
-use Rattle.daemon.specs.declared.daemon.Reaction.TheVariants.{Ignores, Heeds, Says}
+use Rattle.daemon.specs.Server.{ServerState, at_position, told_taken, told_worked, told_item}
+use Rattle.daemon.specs.declared.turn.Reaction.{Reaction}
+use Rattle.daemon.specs.declared.turn.Reaction.TheVariants.{Ignores, Heeds, Says}
 use Rattle.daemon.specs.declared.happened.Happened.{Happened}
 use Rattle.daemon.specs.declared.happened.Happened.TheVariants as happened
 use Rattle.daemon.specs.declared.happened.Refusal.{Refusal}
@@ -62,16 +62,16 @@ issue-comes event (Some issue.BadForget) r e = comes event refusal.BadForget r r
 issue-comes event (Some issue.Full) r e = comes event refusal.Full r refl e
 issue-comes event (Some issue.NoMemory) r e = comes event refusal.NoMemory r refl e
 
-pub work-comes : (event : Event) (place : ℕ) (o : Option DaemonState) (r : Refusal) → work_refusal place o ≡ Some r → may_come r event ≡ true
-work-comes event place None r e = comes event refusal.NoDaemon r refl e
-work-comes event place (Some d) r e = in_ d.server e where
-  in_ : (o : Option ServerState) → hand_refusal place o ≡ Some r → may_come r event ≡ true
+pub work-comes : (event : Event) (position : ℕ) (o : Option DaemonState) (r : Refusal) → work_refusal position o ≡ Some r → may_come r event ≡ true
+work-comes event position None r e = comes event refusal.NoDaemon r refl e
+work-comes event position (Some d) r e = in_ d.server e where
+  in_ : (o : Option ServerState) → hand_refusal position o ≡ Some r → may_come r event ≡ true
   in_ None e = comes event refusal.NoSuch r refl e
-  in_ (Some server) e = tested event refusal.NoSuch r (is_none (at_place server.hand place)) refl e
+  in_ (Some server) e = tested event refusal.NoSuch r (is_none (at_position server.hand position)) refl e
 
-pub hear-comes : (event : Event) (old : State) (place : ℕ) (o : Option DaemonState) (r : Refusal) → hear_refusal old place o ≡ Some r → may_come r event ≡ true
-hear-comes event old place None r e = comes event refusal.NoDaemon r refl e
-hear-comes event old place (Some d) r e = tested event refusal.NoSuch r (is_none (at_place old.messages place)) refl e
+pub hear-comes : (event : Event) (old : State) (position : ℕ) (o : Option DaemonState) (r : Refusal) → hear_refusal old position o ≡ Some r → may_come r event ≡ true
+hear-comes event old position None r e = comes event refusal.NoDaemon r refl e
+hear-comes event old position (Some d) r e = tested event refusal.NoSuch r (is_none (at_position old.messages position)) refl e
 
 pub drained-comes : (event : Event) (o : Option DaemonState) (r : Refusal) → drained_refusal o ≡ Some r → may_come r event ≡ true
 drained-comes event None r e = comes event refusal.NoDaemon r refl e
@@ -107,14 +107,14 @@ told-reaction event count Heeds = tt
 told-reaction event count (Says said others) = tt
 
 pub made-told : (old : State) (event : Event) (told : Happened) (new : State) → Makes old event told new → MayBeTold event told
-made-told old Start told new made = subst (MayBeTold Start) (sym made.0) tt
+made-told old (Start versions) told new made = subst (MayBeTold (Start versions)) (sym made.0) tt
 made-told old (Mount daemon) told new made = subst (MayBeTold (Mount daemon)) (sym made.tells) tt
 made-told old (Issue request) told new made = subst (MayBeTold (Issue request)) (sym made.0) tt
 made-told old (Take daemon) told new made = subst (MayBeTold (Take daemon)) (sym made.tells) (told-taken (Take daemon) made.ask)
-made-told old (Work daemon place fails) told new made = subst (MayBeTold (Work daemon place fails)) (sym made.tells) (told-worked (Work daemon place fails) (made.server).served made.task made.answer)
-made-told old (Post daemon place) told new made = subst (MayBeTold (Post daemon place)) (sym made.tells) tt
+made-told old (Work daemon position fails) told new made = subst (MayBeTold (Work daemon position fails)) (sym made.tells) (told-worked (Work daemon position fails) (made.server).served made.task made.answer)
+made-told old (Post daemon position) told new made = subst (MayBeTold (Post daemon position)) (sym made.tells) tt
 made-told old Deliver told new made = subst (MayBeTold Deliver) (sym made.tells) tt
-made-told old (Hear daemon place) told new made = let r = made.reacts in subst (MayBeTold (Hear daemon place)) (sym r.tells) (told-reaction (Hear daemon place) (length old.messages) r.reaction)
+made-told old (Hear daemon position) told new made = let r = made.reacts in subst (MayBeTold (Hear daemon position)) (sym r.tells) (told-reaction (Hear daemon position) (length old.messages) r.reaction)
 made-told old (Drained daemon) told new made = subst (MayBeTold (Drained daemon)) (sym made.tells) (told-reaction (Drained daemon) (length old.messages) made.reaction)
 made-told old (GiveUp daemon) told new made = subst (MayBeTold (GiveUp daemon)) (sym made.tells) (told-reaction (GiveUp daemon) (length old.messages) made.reaction)
 made-told old (Claim daemon) told new made = subst (MayBeTold (Claim daemon)) (sym made.tells) tt

@@ -1,5 +1,5 @@
 -- A daemon that turned to a phase, took, worked or posted, served, or is gone stands.
-use Rattle.std.proofs.Common.{◌≡◌, ℕ, ◌≤◌, Bool, true, false, Some, None, refl, sym, ap, ◌∙◌, subst, inl, inr, ◌⊎◌}
+use Rattle.std.proofs.Common.{◌≡◌, ℕ, ◌≤◌, Bool, true, false, List, Option, Some, None, refl, sym, ap, ◌∙◌, subst, inl, inr, ◌⊎◌}
 use Rattle.std.specs.Prelude.{◌==◌, ◌≢◌}
 use Rattle.eden_base.specs.Limits.{last_generation}
 use Rattle.eden_base.specs.declared.number.DaemonId.{DaemonId}
@@ -8,9 +8,10 @@ use Rattle.broker_core.specs.declared.seat.Seat.{Seat}
 use Rattle.fuse_ops.specs.Served.{plain}
 use Rattle.takeover_core.specs.Histories.{seat_of}
 use Rattle.takeover_core.specs.Phases.{claim_wanted}
-use Rattle.takeover_core.specs.declared.phase.Phase.TheVariants.{Serving, Gone}
-use Rattle.daemon.specs.Daemon.{DaemonState, with_server}
-use Rattle.world.specs.Handing.{part_at, is_drained, is_out, in_session, HasTheSeat, DaemonStands}
+use Rattle.takeover_core.specs.declared.phase.Phase.{Phase}
+use Rattle.takeover_core.specs.declared.phase.Phase.TheVariants.{Serving, Gone, Reading}
+use Rattle.daemon.specs.Daemon.{DaemonState, with_server, read_in}
+use Rattle.world.specs.Handing.{part_at, is_drained, is_out, in_session, reads_at, HasTheSeat, HasHanded, HasRead, ReadsHanded, DaemonStands}
 use Rattle.daemon.specs.Server.{ServerState, IsIdle}
 use Rattle.world.specs.State.{State, daemon_of}
 use Rattle.world.proofs.Handing.{KeepsOut, holding-out, out-drained}
@@ -18,12 +19,18 @@ use Rattle.world.proofs.Turns.{IsTurn}
 
 -- ---- a turn
 
+-- who waits for a part keeps what it read
+pub read-kept : (p : Phase) (g : ℕ) (read : Option (List ℕ)) → reads_at p ≡ Some g → read_in p read ≡ read
+read-kept (Reading s h v i n) g read e = refl
+read-kept p g read e = absurd (let none : ⊥ = cc in none)
+
 -- a daemon turned to a phase, and serves what it served
 pub record Turned (old : State) (daemon : DaemonId) (was later : DaemonState) (idle : Bool) : Type 0 where
   pub there : daemon_of old daemon ≡ Some was
   pub same : later.server ≡ was.server
   pub turn : (g : ℕ) → IsTurn g idle was.node.phase later.node.phase
   pub empty : idle ≡ true → (server : ServerState) → was.server ≡ Some server → IsIdle server
+  pub read : (g : ℕ) → reads_at later.node.phase ≡ Some g → later.reading ≡ was.reading
 
 pub turned-out : (old : State) (daemon : DaemonId) (was later : DaemonState) (idle : Bool) → Turned old daemon was later idle → KeepsOut was later
 turned-out old daemon was later idle t = record { server = λ server serves. (server, sym t.same ∙ serves, λ o. ((t.turn 0).out_on o, refl)) }
@@ -37,6 +44,16 @@ turned-stands old daemon was later idle t s = record {
   part = λ seat e x. (t.turn seat.generation).part_on (s.part seat e x);
   goes_on = λ seat e x in_s. goes_in seat e x ((t.turn seat.generation).session_back in_s (s.part seat e x));
   held = λ seat holder handed server has claims serves. held_in seat holder handed server has (sym t.same ∙ serves) ((t.turn seat.generation).held_back claims);
+  past = λ g e. s.past g (sym (ap reads_at ((t.turn g).reads_back e)) ∙ e);
+  reads = λ seat holder handed has e.
+      let same : later.node.phase ≡ was.node.phase = (t.turn seat.generation).reads_back e in
+      let r = s.reads seat holder handed has (sym (ap reads_at same) ∙ e) in
+      record {
+        out = r.out;
+        some = r.some;
+        read = λ over. subst (λ (p : Phase). HasRead p later.reading over.text) (sym same)
+            (subst (λ (o : Option (List ℕ)). HasRead was.node.phase o over.text) (sym (t.read seat.generation e)) (r.read over));
+      };
 } where
   drained_in : (server : ServerState) → was.server ≡ Some server → (is_drained was.node.phase ≡ true) ⊎ (idle ≡ true) → IsIdle server
   drained_in server serves (inl d) = s.drained server serves d
@@ -69,6 +86,8 @@ busy-stands old daemon was server busy s = record {
   part = s.part;
   goes_on = s.goes_on;
   held = λ seat holder handed other has claims serves. absurd (let two : true ≡ false = sym (out-drained was.node.phase (holding-out was.node.phase seat.generation claims)) ∙ busy in let none : ⊥ = cc in none);
+  past = s.past;
+  reads = λ seat holder handed has e. let r = s.reads seat holder handed has e in record { out = r.out; some = r.some; read = r.read };
 }
 
 pub busy-out : (was : DaemonState) (before server : ServerState) → is_drained was.node.phase ≡ false → was.server ≡ Some before → KeepsOut was (with_server was server)
@@ -91,6 +110,8 @@ seated-stands new seat daemon later server has serving seated here low = record 
   part = λ other e x. ap part_at serving ∙ ap (λ (y : Seat). Some y.generation) (the_seat other e);
   goes_on = λ other e x in_s. absurd (let two : false ≡ true = sym (ap in_session serving) ∙ in_s in let none : ⊥ = cc in none);
   held = λ other holder handed server has claims serves. absurd (let two : None ≡ Some other.generation = sym (ap claim_wanted serving) ∙ claims in let none : ⊥ = cc in none);
+  past = λ g e. absurd (let two : None ≡ Some g = sym (ap reads_at serving) ∙ e in let none : ⊥ = cc in none);
+  reads = λ other holder handed has e. absurd (let two : None ≡ Some other.generation = sym (ap reads_at serving) ∙ e in let none : ⊥ = cc in none);
 } where
   the_seat : (other : Seat) → new.broker.seat ≡ Some other → seat ≡ other
   the_seat other e = let two : Some seat ≡ Some other = sym seated ∙ e in let is : seat ≡ other = cc in is
@@ -105,4 +126,6 @@ gone-stands new daemon later gone no_seat = record {
   part = λ other e x. absurd (no_seat other e x);
   goes_on = λ other e x in_s. absurd (no_seat other e x);
   held = λ other holder handed server has claims serves. absurd (let two : None ≡ Some other.generation = sym (ap claim_wanted gone) ∙ claims in let none : ⊥ = cc in none);
+  past = λ g e. absurd (let two : None ≡ Some g = sym (ap reads_at gone) ∙ e in let none : ⊥ = cc in none);
+  reads = λ other holder handed has e. absurd (let two : None ≡ Some other.generation = sym (ap reads_at gone) ∙ e in let none : ⊥ = cc in none);
 }

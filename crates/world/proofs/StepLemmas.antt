@@ -13,21 +13,26 @@ use Rattle.fuse_ops.specs.Served.{ServedState, new_served}
 use Rattle.takeover_core.specs.Phases.{may_take, claim_wanted, drain_fault}
 use Rattle.takeover_core.specs.declared.node.DrainFault.{DrainFault}
 use Rattle.daemon.specs.Daemon.{DaemonState, is_waiting, with_server, in_hand, unposted}
-use Rattle.daemon.specs.Server.{ServerState, new_server, at_place}
+use Rattle.daemon.specs.Server.{ServerState, new_server, at_position}
 use Rattle.daemon.specs.Serving.{beginning, IsIndex, TakesBy, WorksBy, PostsBy, PostsReply, TakesIf, WorksIf, PostsIf, DaemonTakes, DaemonWorks, DaemonPosts}
 use Rattle.world.specs.State.{ChangesAt}
 use Rattle.daemon.specs.Refusals.{refusal_of_mount, refusal_of_take, refusal_of_post, refusal_of_drain}
-use Rattle.world.specs.State.{State, daemon_of, with_daemon, fault, mount_refusal, take_refusal, server_refusal, work_refusal, hand_refusal, post_refusal, unposted_refusal, reply_refusal, drained_refusal, claim_refusal, wanted_refusal, absence}
-use Rattle.daemon.specs.Talking.{MountsSo, EndsSo, DrainsBy, DrainsSo}
-use Rattle.daemon.specs.declared.daemon.Reaction.{Reaction}
-use Rattle.world.specs.Step.{unclaimed, Makes, TakesMemory, Once, OnceBy, Step, Steps}
+use Rattle.world.specs.State.{State, daemon_of, with_daemon, fault, mount_refusal, take_refusal, server_refusal, work_refusal, hand_refusal, post_refusal, unposted_refusal, reply_refusal, hear_refusal, drained_refusal, claim_refusal, wanted_refusal, absence}
+use Rattle.daemon.specs.Talking.{HearsSo, MountsSo, EndsSo, DrainsBy, DrainsSo}
+use Rattle.daemon.specs.Saying.{turned, what_is_said}
+use Rattle.daemon.specs.declared.turn.Reaction.{Reaction}
+use Rattle.daemon.specs.declared.turn.Turn.{Turn}
+use Rattle.manifest.specs.Manifest.{Manifest}
+use Rattle.takeover_core.specs.declared.message.Message.{Message}
+use Rattle.eden_base.proofs.MemberLemmas.{some-same}
+use Rattle.world.specs.Step.{told_reaction, unclaimed, Makes, TakesMemory, Once, OnceBy, Step, Steps}
 use Rattle.world.specs.declared.event.Event.{Event}
-use Rattle.world.specs.declared.event.Event.TheVariants.{Mount, Take, Work, Post, Drained, Claim, Crash}
+use Rattle.world.specs.declared.event.Event.TheVariants.{Mount, Take, Work, Post, Hear, Drained, Claim, Crash}
 use Rattle.daemon.specs.declared.happened.Happened.{Happened}
 use Rattle.daemon.specs.declared.happened.Happened.TheVariants as happened
 use Rattle.daemon.specs.declared.happened.Refusal.{Refusal}
 use Rattle.daemon.specs.declared.happened.Refusal.TheVariants.{NoSuch, NoMemory, WrongPhase}
-use Rattle.daemon.proofs.Places.{set-there, at-index}
+use Rattle.daemon.proofs.Positions.{set-there, at-index}
 
 -- ---- one event by its first fault
 
@@ -128,12 +133,12 @@ Once-takes old d index told left daemons at c =
 
 -- ---- a work
 
-works-by : (old : State) (d : DaemonId) (place : ℕ) (fails : Bool) (index : ℕ) (was later : DaemonState) (s n : ServerState) (told : Happened) (daemons : List DaemonState) (t : Option Ask) →
-    at_place s.hand place ≡ t → IsIndex (length old.daemons) d.0 index → slice_get old.daemons index ≡ Some was → daemons ≡ set old.daemons index later → was.server ≡ Some s → later ≡ with_server was n →
-    WorksBy t s place fails told n → OnceBy old (Work d place fails) (if is_none t then Some NoSuch else None) told (record old { daemons = daemons })
-works-by old d place fails index was later s n told daemons None e at there makes serves becomes h =
+works-by : (old : State) (d : DaemonId) (position : ℕ) (fails : Bool) (index : ℕ) (was later : DaemonState) (s n : ServerState) (told : Happened) (daemons : List DaemonState) (t : Option Ask) →
+    at_position s.hand position ≡ t → IsIndex (length old.daemons) d.0 index → slice_get old.daemons index ≡ Some was → daemons ≡ set old.daemons index later → was.server ≡ Some s → later ≡ with_server was n →
+    WorksBy t s position fails told n → OnceBy old (Work d position fails) (if is_none t then Some NoSuch else None) told (record old { daemons = daemons })
+works-by old d position fails index was later s n told daemons None e at there makes serves becomes h =
     refuses old index was later old.broker daemons _ told there makes h.tells (same-server was later s n serves becomes h.same) refl
-works-by old d place fails index was later s n told daemons (Some task) e at there makes serves becomes h = inl (record {
+works-by old d position fails index was later s n told daemons (Some task) e at there makes serves becomes h = inl (record {
   was = was;
   server = s;
   task = task;
@@ -148,30 +153,30 @@ works-by old d place fails index was later s n told daemons (Some task) e at the
   makes = changes old d index old.broker old.broker daemons later _ at makes (becomes ∙ ap (with_server was) h.makes) refl;
 })
 
-works-if : (old : State) (d : DaemonId) (place : ℕ) (fails : Bool) (index : ℕ) (was later : DaemonState) (told : Happened) (daemons : List DaemonState) (server : Option ServerState) →
+works-if : (old : State) (d : DaemonId) (position : ℕ) (fails : Bool) (index : ℕ) (was later : DaemonState) (told : Happened) (daemons : List DaemonState) (server : Option ServerState) →
     IsIndex (length old.daemons) d.0 index → slice_get old.daemons index ≡ Some was → daemons ≡ set old.daemons index later → was.server ≡ server →
-    WorksIf place fails told server was later → OnceBy old (Work d place fails) (hand_refusal place server) told (record old { daemons = daemons })
-works-if old d place fails index was later told daemons (Some s) at there makes serves h =
-    works-by old d place fails index was later s h.later told daemons (at_place s.hand place) refl at there makes serves h.makes h.works
-works-if old d place fails index was later told daemons None at there makes serves h =
+    WorksIf position fails told server was later → OnceBy old (Work d position fails) (hand_refusal position server) told (record old { daemons = daemons })
+works-if old d position fails index was later told daemons (Some s) at there makes serves h =
+    works-by old d position fails index was later s h.later told daemons (at_position s.hand position) refl at there makes serves h.makes h.works
+works-if old d position fails index was later told daemons None at there makes serves h =
     refuses old index was later old.broker daemons _ told there makes h.tells h.same refl
 
 -- a daemon worked
-pub Once-works : (old : State) (d : DaemonId) (place : ℕ) (fails : Bool) (index : ℕ) (told : Happened) (daemons : List DaemonState) →
-    IsIndex (length old.daemons) d.0 index → ChangesAt (DaemonWorks place fails told) old.daemons index daemons →
-    Once old (Work d place fails) told (record old { daemons = daemons })
-Once-works old d place fails index told daemons at c =
-    subst (λ (o : Option DaemonState). OnceBy old (Work d place fails) (work_refusal place o) told (record old { daemons = daemons }))
-    (sym (daemon-there old d index c.was at c.is_there)) (works-if old d place fails index c.was c.later told daemons (c.was).server at c.is_there c.makes refl c.does_so)
+pub Once-works : (old : State) (d : DaemonId) (position : ℕ) (fails : Bool) (index : ℕ) (told : Happened) (daemons : List DaemonState) →
+    IsIndex (length old.daemons) d.0 index → ChangesAt (DaemonWorks position fails told) old.daemons index daemons →
+    Once old (Work d position fails) told (record old { daemons = daemons })
+Once-works old d position fails index told daemons at c =
+    subst (λ (o : Option DaemonState). OnceBy old (Work d position fails) (work_refusal position o) told (record old { daemons = daemons }))
+    (sym (daemon-there old d index c.was at c.is_there)) (works-if old d position fails index c.was c.later told daemons (c.was).server at c.is_there c.makes refl c.does_so)
 
 -- ---- a post
 
-posts-reply : (old : State) (d : DaemonId) (place : ℕ) (index : ℕ) (was later : DaemonState) (s n : ServerState) (told : Happened) (left : BrokerState) (daemons : List DaemonState) (reply : Reply) (f : Option PostFault) →
-    at_place s.unposted place ≡ Some reply → IsIndex (length old.daemons) d.0 index → slice_get old.daemons index ≡ Some was → daemons ≡ set old.daemons index later → was.server ≡ Some s → later ≡ with_server was n →
-    PostsReply f s old.broker place reply told n left → OnceBy old (Post d place) (option_map refusal_of_post f) told (record old { broker = left; daemons = daemons })
-posts-reply old d place index was later s n told left daemons reply (Some f) e at there makes serves becomes h =
+posts-reply : (old : State) (d : DaemonId) (position : ℕ) (index : ℕ) (was later : DaemonState) (s n : ServerState) (told : Happened) (left : BrokerState) (daemons : List DaemonState) (reply : Reply) (f : Option PostFault) →
+    at_position s.unposted position ≡ Some reply → IsIndex (length old.daemons) d.0 index → slice_get old.daemons index ≡ Some was → daemons ≡ set old.daemons index later → was.server ≡ Some s → later ≡ with_server was n →
+    PostsReply f s old.broker position reply told n left → OnceBy old (Post d position) (option_map refusal_of_post f) told (record old { broker = left; daemons = daemons })
+posts-reply old d position index was later s n told left daemons reply (Some f) e at there makes serves becomes h =
     refuses old index was later left daemons (refusal_of_post f) told there makes h.tells (same-server was later s n serves becomes h.same) h.same_broker
-posts-reply old d place index was later s n told left daemons reply None e at there makes serves becomes h = inl (record {
+posts-reply old d position index was later s n told left daemons reply None e at there makes serves becomes h = inl (record {
   was = was;
   server = s;
   reply = reply;
@@ -182,29 +187,29 @@ posts-reply old d place index was later s n told left daemons reply None e at th
   makes = changes old d index left _ daemons later _ at makes (becomes ∙ ap (with_server was) h.makes) h.leaves;
 })
 
-posts-by : (old : State) (d : DaemonId) (place : ℕ) (index : ℕ) (was later : DaemonState) (s n : ServerState) (told : Happened) (left : BrokerState) (daemons : List DaemonState) (r : Option Reply) →
-    at_place s.unposted place ≡ r → IsIndex (length old.daemons) d.0 index → slice_get old.daemons index ≡ Some was → daemons ≡ set old.daemons index later → was.server ≡ Some s → later ≡ with_server was n →
-    PostsBy r s old.broker d place told n left → OnceBy old (Post d place) (reply_refusal old d s r) told (record old { broker = left; daemons = daemons })
-posts-by old d place index was later s n told left daemons None e at there makes serves becomes h =
+posts-by : (old : State) (d : DaemonId) (position : ℕ) (index : ℕ) (was later : DaemonState) (s n : ServerState) (told : Happened) (left : BrokerState) (daemons : List DaemonState) (r : Option Reply) →
+    at_position s.unposted position ≡ r → IsIndex (length old.daemons) d.0 index → slice_get old.daemons index ≡ Some was → daemons ≡ set old.daemons index later → was.server ≡ Some s → later ≡ with_server was n →
+    PostsBy r s old.broker d position told n left → OnceBy old (Post d position) (reply_refusal old d s r) told (record old { broker = left; daemons = daemons })
+posts-by old d position index was later s n told left daemons None e at there makes serves becomes h =
     refuses old index was later left daemons _ told there makes h.tells (same-server was later s n serves becomes h.same) h.same_broker
-posts-by old d place index was later s n told left daemons (Some reply) e at there makes serves becomes h =
-    posts-reply old d place index was later s n told left daemons reply (post_fault old.broker d s.generation reply) e at there makes serves becomes h
+posts-by old d position index was later s n told left daemons (Some reply) e at there makes serves becomes h =
+    posts-reply old d position index was later s n told left daemons reply (post_fault old.broker d s.generation reply) e at there makes serves becomes h
 
-posts-if : (old : State) (d : DaemonId) (place : ℕ) (index : ℕ) (was later : DaemonState) (told : Happened) (left : BrokerState) (daemons : List DaemonState) (server : Option ServerState) →
+posts-if : (old : State) (d : DaemonId) (position : ℕ) (index : ℕ) (was later : DaemonState) (told : Happened) (left : BrokerState) (daemons : List DaemonState) (server : Option ServerState) →
     IsIndex (length old.daemons) d.0 index → slice_get old.daemons index ≡ Some was → daemons ≡ set old.daemons index later → was.server ≡ server →
-    PostsIf old.broker d place told left server was later → OnceBy old (Post d place) (unposted_refusal old d place server) told (record old { broker = left; daemons = daemons })
-posts-if old d place index was later told left daemons (Some s) at there makes serves h =
-    posts-by old d place index was later s h.later told left daemons (at_place s.unposted place) refl at there makes serves h.makes h.posts
-posts-if old d place index was later told left daemons None at there makes serves h =
+    PostsIf old.broker d position told left server was later → OnceBy old (Post d position) (unposted_refusal old d position server) told (record old { broker = left; daemons = daemons })
+posts-if old d position index was later told left daemons (Some s) at there makes serves h =
+    posts-by old d position index was later s h.later told left daemons (at_position s.unposted position) refl at there makes serves h.makes h.posts
+posts-if old d position index was later told left daemons None at there makes serves h =
     refuses old index was later left daemons _ told there makes h.tells h.same h.same_broker
 
 -- a daemon posted
-pub Once-posts : (old : State) (d : DaemonId) (place : ℕ) (index : ℕ) (told : Happened) (left : BrokerState) (daemons : List DaemonState) →
-    IsIndex (length old.daemons) d.0 index → ChangesAt (DaemonPosts old.broker d place told left) old.daemons index daemons →
-    Once old (Post d place) told (record old { broker = left; daemons = daemons })
-Once-posts old d place index told left daemons at c =
-    subst (λ (o : Option DaemonState). OnceBy old (Post d place) (post_refusal old d place o) told (record old { broker = left; daemons = daemons }))
-    (sym (daemon-there old d index c.was at c.is_there)) (posts-if old d place index c.was c.later told left daemons (c.was).server at c.is_there c.makes refl c.does_so)
+pub Once-posts : (old : State) (d : DaemonId) (position : ℕ) (index : ℕ) (told : Happened) (left : BrokerState) (daemons : List DaemonState) →
+    IsIndex (length old.daemons) d.0 index → ChangesAt (DaemonPosts old.broker d position told left) old.daemons index daemons →
+    Once old (Post d position) told (record old { broker = left; daemons = daemons })
+Once-posts old d position index told left daemons at c =
+    subst (λ (o : Option DaemonState). OnceBy old (Post d position) (post_refusal old d position o) told (record old { broker = left; daemons = daemons }))
+    (sym (daemon-there old d index c.was at c.is_there)) (posts-if old d position index c.was c.later told left daemons (c.was).server at c.is_there c.makes refl c.does_so)
 
 -- ---- a mount
 
@@ -290,6 +295,56 @@ Once-unwanted old d index was at there wants =
     ) where
       back : with_daemon old d was ≡ old
       back = ap (λ (i : ℕ). record old { daemons = set old.daemons i was }) (sym at.is) ∙ ap (λ (ds : List DaemonState). record old { daemons = ds }) (set-there old.daemons index was there)
+
+-- ---- a message that is heard
+
+-- nothing stands against it
+may-hear : (old : State) (d : DaemonId) (position index at : ℕ) (was : DaemonState) (said : Message) → IsIndex (length old.daemons) d.0 index → slice_get old.daemons index ≡ Some was →
+    IsIndex (length old.messages) position at → slice_get old.messages at ≡ Some said → fault old (Hear d position) ≡ None
+may-hear old d position index at was said here there said_there read =
+    ap (hear_refusal old position) (daemon-there old d index was here there)
+    ∙ ap (λ (m : Option Message). if is_none m then Some NoSuch else None) (at-index old.messages position at said_there ∙ read)
+
+-- memory was wanting for it
+pub Once-hear-lacks : (old : State) (d : DaemonId) (position index at : ℕ) (was : DaemonState) (said : Message) → IsIndex (length old.daemons) d.0 index → slice_get old.daemons index ≡ Some was →
+    IsIndex (length old.messages) position at → slice_get old.messages at ≡ Some said → Once old (Hear d position) (happened.Refused NoMemory) old
+Once-hear-lacks old d position index at was said here there said_there read =
+    Once-lacks old (Hear d position) (happened.Refused NoMemory) tt (may-hear old d position index at was said here there said_there read) refl
+
+-- it was heard
+pub Once-hears : (old : State) (d : DaemonId) (position index at : ℕ) (said : Message) (reaction : Reaction) (told : Happened) (daemons : List DaemonState) (messages : List Message) →
+    IsIndex (length old.daemons) d.0 index → IsIndex (length old.messages) position at → slice_get old.messages at ≡ Some said →
+    ChangesAt (λ was later. HearsSo old.manifest old.limit was said reaction later) old.daemons index daemons → told ≡ told_reaction (length old.messages) reaction →
+    messages ≡ old.messages ++ what_is_said reaction → Once old (Hear d position) told (record old { daemons = daemons; messages = messages })
+Once-hears old d position index at said reaction told daemons messages here said_there read c tells says =
+    Once-makes old (Hear d position) told _ (may-hear old d position index at c.was said here c.is_there said_there read) (record {
+      said = said;
+      at = at-index old.messages position at said_there ∙ read;
+      reacts = record {
+        was = c.was;
+        reaction = reaction;
+        later = c.later;
+        there = daemon-there old d index c.was here c.is_there;
+        does = c.does_so;
+        tells = tells;
+        makes = ap (λ (ds : List DaemonState). record old { daemons = ds; messages = messages }) (c.makes ∙ ap (λ (i : ℕ). set old.daemons i c.later) here.is)
+            ∙ ap (λ (ms : List Message). record old { daemons = set old.daemons (d.0 - 1) c.later; messages = ms }) says;
+      };
+    })
+
+-- who turned to what the message makes of it heard it
+pub turned-hears : (manifest : Manifest) (limit : ℕ) (old : List DaemonState) (index : ℕ) (hearer : DaemonState) (said : Message) (turn : Turn) (reaction : Reaction) (daemons : List DaemonState) →
+    slice_get old index ≡ Some hearer → reaction ≡ turn.reaction → HearsSo manifest limit hearer said turn.reaction (turned hearer turn) →
+    ChangesAt (λ was later. later ≡ turned was turn) old index daemons → ChangesAt (λ was later. HearsSo manifest limit was said reaction later) old index daemons
+turned-hears manifest limit old index hearer said turn reaction daemons read same hears c = record {
+  was = c.was;
+  later = c.later;
+  is_there = c.is_there;
+  does_so = subst (λ (r : Reaction). HearsSo manifest limit c.was said r c.later) (sym same)
+      (subst (λ (x : DaemonState). HearsSo manifest limit c.was said turn.reaction x) (sym c.does_so)
+      (subst (λ (w : DaemonState). HearsSo manifest limit w said turn.reaction (turned w turn)) (some-same (slice_get old index) hearer c.was read c.is_there) hears));
+  makes = c.makes;
+}
 
 -- ---- events one after another
 

@@ -98,15 +98,15 @@ post-seat old daemon server reply h = posted-seated old.broker daemon server.gen
   clear None e = refl
   clear (Some f) e = absurd (let none : ⊥ = cc in none)
 
-pub posts-moved : (w : World) (old : State) (daemon : DaemonId) (place : ℕ) (told : Happened) (new : State) → Follows w old → fault old (Post daemon place) ≡ None → Posts old daemon place told new →
-    MovesBy w (move_of w.seat (Post daemon place) told) old told new
-posts-moved w old daemon place told new m clear p = subst (λ (x : Happened). MovesBy w (move_of w.seat (Post daemon place) x) old x new) (sym p.tells) (record {
-  run = ((ap is_some (posted-under w old.broker.traffic p.server place p.reply in_place holder.under).1, ((p.server).generation, here)), tt);
+pub posts-moved : (w : World) (old : State) (daemon : DaemonId) (position : ℕ) (told : Happened) (new : State) → Follows w old → fault old (Post daemon position) ≡ None → Posts old daemon position told new →
+    MovesBy w (move_of w.seat (Post daemon position) told) old told new
+posts-moved w old daemon position told new m clear p = subst (λ (x : Happened). MovesBy w (move_of w.seat (Post daemon position) x) old x new) (sym p.tells) (record {
+  run = ((ap is_some (posted-under w old.broker.traffic p.server position p.reply in_place holder.under).1, ((p.server).generation, here)), tt);
   matches = subst (λ (all : List Seat). Follows (record w { answered = all }) new) (sym by_seat)
       (subst (λ (s : State). Follows w' s) (sym p.makes)
-      (goes-on w w' old (posted old.broker p.reply) seat p.was (with_server p.was (with_posted p.server place)) (with_posted p.server place) m refl refl m.tree_is_tree m.of_manifest books (seat-stays w w' seat m.seat_is_last here here refl)
+      (goes-on w w' old (posted old.broker p.reply) seat p.was (with_server p.was (with_posted p.server position)) (with_posted p.server position) m refl refl m.tree_is_tree m.of_manifest books (seat-stays w w' seat m.seat_is_last here here refl)
       (record { asked = (m.orderly).asked; once = (m.orderly).once; used = (m.orderly).used; good = (m.orderly).good }) (answered-posted w seat m.answered m.seat_is_last here) at.has_seat (only-holder old seat at.has_seat) p.there
-      holder.knows (under-posted w old.broker.traffic p.server place p.reply (seat ∷ w.answered) in_place holder.under)));
+      holder.knows (under-posted w old.broker.traffic p.server position p.reply (seat ∷ w.answered) in_place holder.under)));
   forget = tt;
   answered = λ e. subst (λ (all : List Seat). IsAnswered (record w { answered = all }) old.broker.seat) (sym by_seat)
       (subst (λ (o : Option Seat). IsAnswered w' o) (sym at.has_seat) (0, (let low : 0 < suc (length w.answered) = omega arith in low), refl));
@@ -121,8 +121,8 @@ posts-moved w old daemon place told new m clear p = subst (λ (x : Happened). Mo
   at = record {
     has_seat = post-seat old daemon p.server p.reply
         (subst (λ (o : Option Reply). reply_refusal old daemon p.server o ≡ None) p.at
-        (subst (λ (o : Option ServerState). unposted_refusal old daemon place o ≡ None) p.serves
-        (subst (λ (o : Option DaemonState). post_refusal old daemon place o ≡ None) p.there clear)));
+        (subst (λ (o : Option ServerState). unposted_refusal old daemon position o ≡ None) p.serves
+        (subst (λ (o : Option DaemonState). post_refusal old daemon position o ≡ None) p.there clear)));
     serves = ap (option_and_then (λ (d : DaemonState). d.server)) p.there ∙ p.serves;
   }
 
@@ -132,8 +132,8 @@ posts-moved w old daemon place told new m clear p = subst (λ (x : Happened). Mo
   holder : HolderIs w old p.server
   holder = holder-is w old seat p.server m.knows at
 
-  in_place : slice_get (p.server).unposted (place - 1) ≡ Some p.reply
-  in_place = at-is (p.server).unposted place p.reply p.at
+  in_place : slice_get (p.server).unposted (position - 1) ≡ Some p.reply
+  in_place = at-is (p.server).unposted position p.reply p.at
 
   by_seat : answered_by w daemon ≡ seat ∷ w.answered
   by_seat = ap (λ (o : Option Seat). option_map_or (λ (s : Seat). record { generation = s.generation; daemon = daemon } ∷ w.answered) o w.answered) here

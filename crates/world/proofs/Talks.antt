@@ -1,5 +1,6 @@
 -- Messages move nothing in the world.
-use Rattle.std.proofs.Common.{◌≡◌, ℕ, false, List, [], Some, None, refl, sym, ap, ◌∙◌, subst, inl, inr, ◌⊎◌}
+use Rattle.std.proofs.Common.{◌≡◌, ℕ, Bool, true, false, List, [], ◌++◌, Some, None, refl, sym, ap, ◌∙◌, subst, inl, inr, ◌⊎◌}
+use Rattle.std.specs.Prelude.{nat_lt}
 use Rattle.std.specs.Option.{option_and_then}
 use Rattle.eden_base.specs.declared.number.DaemonId.{DaemonId}
 use Rattle.eden_base.proofs.NumberTests.{eq-or}
@@ -17,15 +18,16 @@ use Rattle.world.specs.Handing.{IsHanding, part_at}
 use Rattle.daemon.specs.Server.{ServerState, IsIdle}
 use Rattle.world.specs.State.{State, daemon_of, with_daemon, server_of}
 use Rattle.world.specs.Step.{Hears, Reacts, told_reaction}
-use Rattle.daemon.specs.Talking.{IsReady, GivesUpSo, ReactsBy, TurnsBy, bytes_of}
-use Rattle.daemon.specs.declared.daemon.Reaction.{Reaction}
-use Rattle.daemon.specs.declared.daemon.Reaction.TheVariants.{Ignores, Heeds, Says}
+use Rattle.daemon.specs.Talking.{IsReady, GivesUpSo, ReactsBy, TakesData, ReadsBy, TurnsBy, bytes_of, read_before}
+use Rattle.daemon.specs.declared.turn.Reaction.{Reaction}
+use Rattle.daemon.specs.declared.turn.Reaction.TheVariants.{Ignores, Heeds, Says}
 use Rattle.world.specs.declared.event.Event.{Event}
 use Rattle.world.specs.declared.event.Event.TheVariants.{Hear, Drained, GiveUp}
 use Rattle.daemon.specs.declared.happened.Happened.{Happened}
 use Rattle.world.proofs.Daemons.{server_of-with, server_of-other}
 use Rattle.world.proofs.Moving.{MovesBy, unmoved}
-use Rattle.world.proofs.Turns.{takes-it}
+use Rattle.world.proofs.HandingTalks.{waits-alone}
+use Rattle.world.proofs.Turns.{takes-it, part-it}
 
 -- ---- the holder
 
@@ -100,6 +102,7 @@ turned-on old daemon was node answer.Heard reaction later t = inl (ap (λ (d : D
 turned-on old daemon was node (answer.Say said) reaction later t = inl (ap (λ (d : DaemonState). d.server) t.becomes)
 turned-on old daemon was node (answer.MakeData s g v) reaction later t = absurd t
 turned-on old daemon was node (answer.GotData s g v) reaction later t = absurd t
+turned-on old daemon was node (answer.GotPart s g v i n) reaction later t = absurd t
 
 -- a daemon that took data over has not the seat
 chosen-no-holder : (old : State) (daemon : DaemonId) (was : DaemonState) → IsHanding old → daemon_of old daemon ≡ Some was → part_at was.node.phase ≡ None → IsHolder old daemon → ⊥
@@ -108,33 +111,48 @@ chosen-no-holder old daemon was h there none holder =
     let two : None ≡ Some (holder.0).generation = sym none ∙ part in
     let x : ⊥ = cc in x
 
+-- a daemon took data, or could not
+takes-on : (old : State) (daemon : DaemonId) (was : DaemonState) (bytes : List ℕ) (node : NodeState) (g : ℕ) (reaction : Reaction) (later : DaemonState) → IsHanding old → daemon_of old daemon ≡ Some was → part_at was.node.phase ≡ None → TakesData old.manifest old.limit was bytes node g reaction later → ServesOn old daemon was later
+takes-on old daemon was bytes node g reaction later h there alone (inl t) = inr (
+  chosen-no-holder old daemon was h there alone,
+  λ server serves.
+      let two : Some (beginning g t.served) ≡ Some server = sym (ap (λ (d : DaemonState). d.server) t.becomes) ∙ serves in
+      let is : beginning g t.served ≡ server = cc in
+      subst IsIdle is (record { hand = refl; unposted = refl }),
+)
+takes-on old daemon was bytes node g reaction later h there alone (inr t) = inl (ap (λ (d : DaemonState). d.server) (t.loses).becomes)
+
 heard-on : (old : State) (daemon : DaemonId) (was : DaemonState) (said : Message) (a : Answer) (reaction : Reaction) (later : DaemonState) → IsHanding old → daemon_of old daemon ≡ Some was → table.heard was.node (table.Hear said) ≡ a →
     ReactsBy old.manifest old.limit (bytes_of said) was (table.after was.node (table.Hear said)) a reaction later → ServesOn old daemon was later
 heard-on old daemon was said answer.Ignored reaction later h there e t = turned-on old daemon was _ answer.Ignored reaction later t
 heard-on old daemon was said answer.Heard reaction later h there e t = turned-on old daemon was _ answer.Heard reaction later t
 heard-on old daemon was said (answer.Say x) reaction later h there e t = turned-on old daemon was _ (answer.Say x) reaction later t
 heard-on old daemon was said (answer.MakeData s g v) reaction later h there e (inl t) = inl (ap (λ (d : DaemonState). d.server) t.becomes)
-heard-on old daemon was said (answer.MakeData s g v) reaction later h there e (inr t) = inl (ap (λ (d : DaemonState). d.server) t.becomes)
-heard-on old daemon was said (answer.GotData s g v) reaction later h there e (inl t) =
+heard-on old daemon was said (answer.MakeData s g v) reaction later h there e (inr (inl t)) = inl (ap (λ (d : DaemonState). d.server) t.becomes)
+heard-on old daemon was said (answer.MakeData s g v) reaction later h there e (inr (inr t)) = inl (ap (λ (d : DaemonState). d.server) t.becomes)
+heard-on old daemon was said (answer.GotData s g v) reaction later h there e t =
     let it = takes-it was.node.versions was.node.sessions was.node.phase said s g v e in
-    inr (
-      chosen-no-holder old daemon was h there (ap part_at it.was),
-      λ server serves.
-          let two : Some (beginning g t.served) ≡ Some server = sym (ap (λ (d : DaemonState). d.server) t.becomes) ∙ serves in
-          let is : beginning g t.served ≡ server = cc in
-          subst IsIdle is (record { hand = refl; unposted = refl }),
-    )
-heard-on old daemon was said (answer.GotData s g v) reaction later h there e (inr t) = inl (ap (λ (d : DaemonState). d.server) (t.loses).becomes)
+    takes-on old daemon was (bytes_of said) (table.after was.node (table.Hear said)) g reaction later h there (ap part_at it.was) t
+heard-on old daemon was said (answer.GotPart s g v i n) reaction later h there e (inr l) = inl (ap (λ (d : DaemonState). d.server) l.becomes)
+heard-on old daemon was said (answer.GotPart s g v i n) reaction later h there e (inl r) = in_ (nat_lt i n) r.reads where
+  got : NodeState
+  got = table.after was.node (table.Hear said)
+
+  in_ : (b : Bool) → ReadsBy b old.manifest old.limit was (read_before i was ++ bytes_of said) got g reaction later → ServesOn old daemon was later
+  in_ true on = inl (ap (λ (d : DaemonState). d.server) on.becomes)
+  in_ false taken =
+      let it = part-it was.node.versions was.node.sessions was.node.phase said s g v i n e in
+      takes-on old daemon was (read_before i was ++ bytes_of said) (table.after got (table.Fed true)) g reaction later h there (waits-alone s g v i n was.node.phase it.was).0 taken
 
 -- ---- the events
 
 no-move : (w : World) (old : State) (event : Event) (told : Happened) (new : State) → (move_of w.seat event told ≡ []) → MovesBy w [] old told new → MovesBy w (move_of w.seat event told) old told new
 no-move w old event told new e moved = subst (λ (ms : List Move). MovesBy w ms old told new) (sym e) moved
 
-pub hears-moved : (w : World) (old : State) (daemon : DaemonId) (place : ℕ) (told : Happened) (new : State) → Follows w old → IsHanding old → Hears old daemon place told new → MovesBy w (move_of w.seat (Hear daemon place) told) old told new
-hears-moved w old daemon place told new m h t =
+pub hears-moved : (w : World) (old : State) (daemon : DaemonId) (position : ℕ) (told : Happened) (new : State) → Follows w old → IsHanding old → Hears old daemon position told new → MovesBy w (move_of w.seat (Hear daemon position) told) old told new
+hears-moved w old daemon position told new m h t =
     let r = t.reacts in
-    no-move w old (Hear daemon place) told new refl
+    no-move w old (Hear daemon position) told new refl
     (reacts-moved w old daemon _ told new m r (heard-on old daemon r.was t.said (table.heard (r.was).node (table.Hear t.said)) r.reaction r.later h r.there refl r.does))
 
 pub drains-moved : (w : World) (old : State) (daemon : DaemonId) (told : Happened) (new : State) → Follows w old → Reacts old daemon IsReady told new → MovesBy w (move_of w.seat (Drained daemon) told) old told new

@@ -95,15 +95,15 @@ under-taken w t server ask u (inr taken) asks = record {
 -- ---- post
 
 -- a reply that is posted went from the daemon to the broker
-pub under-posted : (w : World) (t : TrafficState) (server : ServerState) (place : ℕ) (reply : Reply) (answered : List Seat) → slice_get server.unposted (place - 1) ≡ Some reply → IsUnderWay w t server →
-    IsUnderWay (record w { answered = answered }) (reply_posted t reply) (with_posted server place)
-under-posted w t server place reply answered at u = record {
+pub under-posted : (w : World) (t : TrafficState) (server : ServerState) (position : ℕ) (reply : Reply) (answered : List Seat) → slice_get server.unposted (position - 1) ≡ Some reply → IsUnderWay w t server →
+    IsUnderWay (record w { answered = answered }) (reply_posted t reply) (with_posted server position)
+under-posted w t server position reply answered at u = record {
   singles = u.singles;
   asks = u.asks;
   items = u.items;
   replies = λ f.
-      let a : sum_by f server.unposted ≡ f reply + sum_by f (remove server.unposted (place - 1)) = sum-at f server.unposted (place - 1) reply at in
-      let b : sum_by f (remove server.unposted (place - 1) ++ (t.posted ++ reply ∷ [])) ≡ sum_by f (remove server.unposted (place - 1)) + sum_by f (t.posted ++ reply ∷ []) = sum_by-append f (remove server.unposted (place - 1)) (t.posted ++ reply ∷ []) in
+      let a : sum_by f server.unposted ≡ f reply + sum_by f (remove server.unposted (position - 1)) = sum-at f server.unposted (position - 1) reply at in
+      let b : sum_by f (remove server.unposted (position - 1) ++ (t.posted ++ reply ∷ [])) ≡ sum_by f (remove server.unposted (position - 1)) + sum_by f (t.posted ++ reply ∷ []) = sum_by-append f (remove server.unposted (position - 1)) (t.posted ++ reply ∷ []) in
       let c : sum_by f (t.posted ++ reply ∷ []) ≡ sum_by f t.posted + f reply = sum_by_push f t.posted reply in
       let d : sum_by f w.replies ≡ sum_by f (server.unposted ++ t.posted) = u.replies f in
       let e : sum_by f (server.unposted ++ t.posted) ≡ sum_by f server.unposted + sum_by f t.posted = sum_by-append f server.unposted t.posted in
@@ -111,11 +111,11 @@ under-posted w t server place reply answered at u = record {
 }
 
 -- such a reply is one of the world's
-pub posted-under : (w : World) (t : TrafficState) (server : ServerState) (place : ℕ) (reply : Reply) → slice_get server.unposted (place - 1) ≡ Some reply → IsUnderWay w t server →
+pub posted-under : (w : World) (t : TrafficState) (server : ServerState) (position : ℕ) (reply : Reply) → slice_get server.unposted (position - 1) ≡ Some reply → IsUnderWay w t server →
     (found : Reply) × (first_where (is_replied reply.unique) w.replies ≡ Some found)
-posted-under w t server place reply at u = counted-first (is_replied reply.unique) w.replies (
+posted-under w t server position reply at u = counted-first (is_replied reply.unique) w.replies (
     let f : Reply → ℕ = λ r. mark (is_replied reply.unique r) in
-    let a : sum_by f server.unposted ≡ f reply + sum_by f (remove server.unposted (place - 1)) = sum-at f server.unposted (place - 1) reply at in
+    let a : sum_by f server.unposted ≡ f reply + sum_by f (remove server.unposted (position - 1)) = sum-at f server.unposted (position - 1) reply at in
     let o : f reply ≡ 1 = ap mark (eq-true reply.unique reply.unique refl) in
     let d : sum_by f w.replies ≡ sum_by f (server.unposted ++ t.posted) = u.replies f in
     let e : sum_by f (server.unposted ++ t.posted) ≡ sum_by f server.unposted + sum_by f t.posted = sum_by-append f server.unposted t.posted in
@@ -123,21 +123,21 @@ posted-under w t server place reply at u = counted-first (is_replied reply.uniqu
 
 -- ---- work
 
--- an ask at a place of the hand is the world's of its unique
-pub record IsAskAt (w : World) (t : TrafficState) (server : ServerState) (place : ℕ) (task : Ask) : Type 0 where
+-- an ask at a position of the hand is the world's of its unique
+pub record IsAskAt (w : World) (t : TrafficState) (server : ServerState) (position : ℕ) (task : Ask) : Type 0 where
   pub first : first_where (is_asked task.unique) w.asks ≡ Some task
-  pub left : without_where (is_asked task.unique) w.asks ≡ asks_in (remove server.hand (place - 1)) ++ t.untaken
-  pub items : IsSameBag w.items (items_in (remove server.hand (place - 1)) ++ t.items)
+  pub left : without_where (is_asked task.unique) w.asks ≡ asks_in (remove server.hand (position - 1)) ++ t.untaken
+  pub items : IsSameBag w.items (items_in (remove server.hand (position - 1)) ++ t.items)
 
-pub ask-at : (w : World) (t : TrafficState) (server : ServerState) (place : ℕ) (task : Ask) → slice_get server.hand (place - 1) ≡ Some task → is_ask task.what ≡ true → count_by (is_asked task.unique) w.asks ≤ 1 → IsUnderWay w t server →
-    IsAskAt w t server place task
-ask-at w t server place task at ask few u = record {
+pub ask-at : (w : World) (t : TrafficState) (server : ServerState) (position : ℕ) (task : Ask) → slice_get server.hand (position - 1) ≡ Some task → is_ask task.what ≡ true → count_by (is_asked task.unique) w.asks ≤ 1 → IsUnderWay w t server →
+    IsAskAt w t server position task
+ask-at w t server position task at ask few u = record {
   first = ap (λ (all : List Ask). first_where (is_asked task.unique) all) u.asks ∙ both.0;
   left = ap (λ (all : List Ask). without_where (is_asked task.unique) all) u.asks ∙ both.1 ∙ ap (λ (all : List Ask). all ++ t.untaken) own.1;
   items = λ f.
-      let a : sum_by f (items_in server.hand) ≡ sum_by f (items_of task.what) + sum_by f (items_in (remove server.hand (place - 1))) = items-worked f server.hand (place - 1) task at in
+      let a : sum_by f (items_in server.hand) ≡ sum_by f (items_of task.what) + sum_by f (items_in (remove server.hand (position - 1))) = items-worked f server.hand (position - 1) task at in
       let z : sum_by f (items_of task.what) ≡ 0 = ap (λ (is : List Item). sum_by f is) (ask-items task.what ask) in
-      let b : sum_by f (items_in (remove server.hand (place - 1)) ++ t.items) ≡ sum_by f (items_in (remove server.hand (place - 1))) + sum_by f t.items = sum_by-append f (items_in (remove server.hand (place - 1))) t.items in
+      let b : sum_by f (items_in (remove server.hand (position - 1)) ++ t.items) ≡ sum_by f (items_in (remove server.hand (position - 1))) + sum_by f t.items = sum_by-append f (items_in (remove server.hand (position - 1))) t.items in
       let d : sum_by f w.items ≡ sum_by f (items_in server.hand ++ t.items) = u.items f in
       let e : sum_by f (items_in server.hand ++ t.items) ≡ sum_by f (items_in server.hand) + sum_by f t.items = sum_by-append f (items_in server.hand) t.items in
       omega arith;
@@ -149,8 +149,8 @@ ask-at w t server place task at ask few u = record {
       sum_by-append (λ (x : Ask). mark (is_asked task.unique x)) (asks_in server.hand) t.untaken in
       omega (arith, few)
 
-  own : (first_where (is_asked task.unique) (asks_in server.hand) ≡ Some task) × (without_where (is_asked task.unique) (asks_in server.hand) ≡ asks_in (remove server.hand (place - 1)))
-  own = asks-worked server.hand (place - 1) task at ask low
+  own : (first_where (is_asked task.unique) (asks_in server.hand) ≡ Some task) × (without_where (is_asked task.unique) (asks_in server.hand) ≡ asks_in (remove server.hand (position - 1)))
+  own = asks-worked server.hand (position - 1) task at ask low
 
   both : (first_where (is_asked task.unique) (asks_in server.hand ++ t.untaken) ≡ Some task) × (without_where (is_asked task.unique) (asks_in server.hand ++ t.untaken) ≡ without_where (is_asked task.unique) (asks_in server.hand) ++ t.untaken)
   both = first-append (is_asked task.unique) (asks_in server.hand) t.untaken task own.0
@@ -165,11 +165,11 @@ replies-made w t server reply u f =
     let e : sum_by f (server.unposted ++ t.posted) ≡ sum_by f server.unposted + sum_by f t.posted = sum_by-append f server.unposted t.posted in
     omega arith
 
--- an item at a place of the hand is one of the world's
-pub record IsItemAt (w : World) (t : TrafficState) (server : ServerState) (place : ℕ) (item : Item) : Type 0 where
+-- an item at a position of the hand is one of the world's
+pub record IsItemAt (w : World) (t : TrafficState) (server : ServerState) (position : ℕ) (item : Item) : Type 0 where
   pub first : first_where (is_item item) w.items ≡ Some item
-  pub asks : w.asks ≡ asks_in (remove server.hand (place - 1)) ++ t.untaken
-  pub left : IsSameBag (without_where (is_item item) w.items) (items_in (remove server.hand (place - 1)) ++ t.items)
+  pub asks : w.asks ≡ asks_in (remove server.hand (position - 1)) ++ t.untaken
+  pub left : IsSameBag (without_where (is_item item) w.items) (items_in (remove server.hand (position - 1)) ++ t.items)
 
 same-item : (item : Item) → is_item item item ≡ true
 same-item item = let a : (item.node.0 == item.node.0) ≡ true = eq-true item.node.0 item.node.0 refl in let b : (item.k == item.k) ≡ true = eq-true item.k item.k refl in rw (a, b) refl
@@ -185,30 +185,30 @@ item-same item other e =
       both true false h = absurd (let none : ⊥ = cc in none)
       both false d h = absurd (let none : ⊥ = cc in none)
 
-pub item-at : (w : World) (t : TrafficState) (server : ServerState) (place : ℕ) (task : Ask) (item : Item) → slice_get server.hand (place - 1) ≡ Some task → is_ask task.what ≡ false → item_of task.what ≡ Some item → IsUnderWay w t server →
-    IsItemAt w t server place item
-item-at w t server place task item at forget is u = record {
+pub item-at : (w : World) (t : TrafficState) (server : ServerState) (position : ℕ) (task : Ask) (item : Item) → slice_get server.hand (position - 1) ≡ Some task → is_ask task.what ≡ false → item_of task.what ≡ Some item → IsUnderWay w t server →
+    IsItemAt w t server position item
+item-at w t server position task item at forget is u = record {
   first = first;
-  asks = u.asks ∙ ap (λ (all : List Ask). all ++ t.untaken) (sym (asks-forgot server.hand (place - 1) task at forget));
+  asks = u.asks ∙ ap (λ (all : List Ask). all ++ t.untaken) (sym (asks-forgot server.hand (position - 1) task at forget));
   left = λ f.
       let s : sum_by f w.items ≡ f item + sum_by f (without_where (is_item item) w.items) = sum-without f (is_item item) w.items item first in
-      let h : sum_by f w.items ≡ f item + sum_by f (items_in (remove server.hand (place - 1)) ++ t.items) = sums f in
+      let h : sum_by f w.items ≡ f item + sum_by f (items_in (remove server.hand (position - 1)) ++ t.items) = sums f in
       omega arith;
 } where
-  sums : (f : Item → ℕ) → sum_by f w.items ≡ f item + sum_by f (items_in (remove server.hand (place - 1)) ++ t.items)
+  sums : (f : Item → ℕ) → sum_by f w.items ≡ f item + sum_by f (items_in (remove server.hand (position - 1)) ++ t.items)
   sums f =
-      let a : sum_by f (items_in server.hand) ≡ sum_by f (items_of task.what) + sum_by f (items_in (remove server.hand (place - 1))) = items-worked f server.hand (place - 1) task at in
+      let a : sum_by f (items_in server.hand) ≡ sum_by f (items_of task.what) + sum_by f (items_in (remove server.hand (position - 1))) = items-worked f server.hand (position - 1) task at in
       let z : sum_by f (items_of task.what) ≡ sum_by f (item ∷ []) = ap (λ (is : List Item). sum_by f is) (items-one task.what item is) in
       let o : sum_by f (item ∷ []) ≡ sum_by f [] + f item = sum_by_push f [] item in
       let n : sum_by f [] ≡ 0 = refl in
-      let b : sum_by f (items_in (remove server.hand (place - 1)) ++ t.items) ≡ sum_by f (items_in (remove server.hand (place - 1))) + sum_by f t.items = sum_by-append f (items_in (remove server.hand (place - 1))) t.items in
+      let b : sum_by f (items_in (remove server.hand (position - 1)) ++ t.items) ≡ sum_by f (items_in (remove server.hand (position - 1))) + sum_by f t.items = sum_by-append f (items_in (remove server.hand (position - 1))) t.items in
       let d : sum_by f w.items ≡ sum_by f (items_in server.hand ++ t.items) = u.items f in
       let e : sum_by f (items_in server.hand ++ t.items) ≡ sum_by f (items_in server.hand) + sum_by f t.items = sum_by-append f (items_in server.hand) t.items in
       omega arith
 
   found : (other : Item) × (first_where (is_item item) w.items ≡ Some other)
   found = counted-first (is_item item) w.items (
-      let s : sum_by (λ (x : Item). mark (is_item item x)) w.items ≡ mark (is_item item item) + sum_by (λ (x : Item). mark (is_item item x)) (items_in (remove server.hand (place - 1)) ++ t.items) = sums (λ (x : Item). mark (is_item item x)) in
+      let s : sum_by (λ (x : Item). mark (is_item item x)) w.items ≡ mark (is_item item item) + sum_by (λ (x : Item). mark (is_item item x)) (items_in (remove server.hand (position - 1)) ++ t.items) = sums (λ (x : Item). mark (is_item item x)) in
       let o : mark (is_item item item) ≡ 1 = ap mark (same-item item) in
       let some : 0 < sum_by (λ (x : Item). mark (is_item item x)) w.items = omega arith in some)
 

@@ -57,18 +57,18 @@ made-owed w task answer n = in_ (gives n answer) refl where
       let k : mark (gives n answer) ≡ 0 = ap mark e in
       omega arith
 
-pub answers-moved : (w : World) (old : State) (seat : Seat) (was : DaemonState) (server : ServerState) (place : ℕ) (task : Ask) (answer : Answer) (later : ServedState) → Follows w old → IsSeated old seat server → daemon_of old seat.daemon ≡ Some was → slice_get server.hand (place - 1) ≡ Some task → is_ask task.what ≡ true →
+pub answers-moved : (w : World) (old : State) (seat : Seat) (was : DaemonState) (server : ServerState) (position : ℕ) (task : Ask) (answer : Answer) (later : ServedState) → Follows w old → IsSeated old seat server → daemon_of old seat.daemon ≡ Some was → slice_get server.hand (position - 1) ≡ Some task → is_ask task.what ≡ true →
     IsLegal server.served task.what answer later →
-    MovesBy w (work task.unique answer ∷ []) old (happened.Made (record { unique = task.unique; answer = answer })) (with_daemon old seat.daemon (with_server was (with_worked server place task (Some answer) later)))
-answers-moved w old seat was server place task answer later m at here_is there is legal = record {
+    MovesBy w (work task.unique answer ∷ []) old (happened.Made (record { unique = task.unique; answer = answer })) (with_daemon old seat.daemon (with_server was (with_worked server position task (Some answer) later)))
+answers-moved w old seat was server position task answer later m at here_is there is legal = record {
   run = (subst (λ (o : Option Ask). MayWork w o answer) (sym own.first) done.may, tt);
   matches = subst (λ (o : Option Ask). Follows (worked w answer o) new) (sym own.first)
-      (goes-on w w' old old.broker seat was (with_server was (with_worked server place task (Some answer) later)) (with_worked server place task (Some answer) later) m refl refl done.is_tree (answered-manifest w.tree (file_named w.names) task.what answer ∙ m.of_manifest)
+      (goes-on w w' old old.broker seat was (with_server was (with_worked server position task (Some answer) later)) (with_worked server position task (Some answer) later) m refl refl done.is_tree (answered-manifest w.tree (file_named w.names) task.what answer ∙ m.of_manifest)
       (record { seat = (m.books).seat; last = (m.books).last; held = (m.books).held; uniques = (m.books).uniques }) (seat-stays w w' seat m.seat_is_last here here refl)
       (orderly-worked w w' old.broker.next_unique task reply own.first refl refl refl refl m.orderly) (answered-still w w' refl refl refl m.answered) at.has_seat (only-holder old seat at.has_seat)
       here_is (knows-along w'.tree w'.names (λ n. owed w n + (if gives n answer then 1 else 0)) (owed w') later (λ n. made-owed w task answer n) done.knows)
       (record {
-        singles = (at-single (λ (x : Ask). is_single x ≡ true) server.hand (place - 1) task there (holder.under).singles).1;
+        singles = (at-single (λ (x : Ask). is_single x ≡ true) server.hand (position - 1) task there (holder.under).singles).1;
         asks = own.left;
         items = own.items;
         replies = replies-made w old.broker.traffic server reply holder.under;
@@ -77,7 +77,7 @@ answers-moved w old seat was server place task answer later m at here_is there i
   answered = λ e. absurd (let none : ⊥ = cc in none);
 } where
   new : State
-  new = with_daemon old seat.daemon (with_server was (with_worked server place task (Some answer) later))
+  new = with_daemon old seat.daemon (with_server was (with_worked server position task (Some answer) later))
 
   reply : Reply
   reply = record { unique = task.unique; answer = answer }
@@ -91,8 +91,8 @@ answers-moved w old seat was server place task answer later m at here_is there i
   holder : HolderIs w old server
   holder = holder-is w old seat server m.knows at
 
-  own : IsAskAt w old.broker.traffic server place task
-  own = ask-at w old.broker.traffic server place task there is
+  own : IsAskAt w old.broker.traffic server position task
+  own = ask-at w old.broker.traffic server position task there is
       (let o : count_by (is_asked task.unique) w.asks + count_by (is_replied task.unique) w.replies ≤ 1 = (m.orderly).once task.unique in omega arith) holder.under
 
   done : Worked w task.what answer later
@@ -124,18 +124,18 @@ good-parts item good = in_ (item.node.0 == 1) (item.k == 0) refl refl good where
     (let low : item.k ≡ 0 → ⊥ = false-ne item.k 0 f in omega (arith, low)),
   )
 
-items-moved : (w : World) (old : State) (seat : Seat) (was : DaemonState) (server : ServerState) (place : ℕ) (task : Ask) (item : Item) → Follows w old → IsSeated old seat server → daemon_of old seat.daemon ≡ Some was → slice_get server.hand (place - 1) ≡ Some task → is_ask task.what ≡ false → item_of task.what ≡ Some item →
+pub items-moved : (w : World) (old : State) (seat : Seat) (was : DaemonState) (server : ServerState) (position : ℕ) (task : Ask) (item : Item) → Follows w old → IsSeated old seat server → daemon_of old seat.daemon ≡ Some was → slice_get server.hand (position - 1) ≡ Some task → is_ask task.what ≡ false → item_of task.what ≡ Some item →
     MovesBy w (work_item item ∷ []) old (happened.Forgot item (forgot server.served.map item.node.0 item.k))
-    (with_daemon old seat.daemon (with_server was (with_worked server place task None (record server.served { map = forgotten server.served.map item.node.0 item.k }))))
-items-moved w old seat was server place task item m at here_is there forget is = record {
+    (with_daemon old seat.daemon (with_server was (with_worked server position task None (record server.served { map = forgotten server.served.map item.node.0 item.k }))))
+items-moved w old seat was server position task item m at here_is there forget is = record {
   run = (ap is_some own.first, tt);
-  matches = goes-on w w' old old.broker seat was (with_server was (with_worked server place task None later)) (with_worked server place task None later) m refl refl m.tree_is_tree m.of_manifest
+  matches = goes-on w w' old old.broker seat was (with_server was (with_worked server position task None later)) (with_worked server position task None later) m refl refl m.tree_is_tree m.of_manifest
       (record { seat = (m.books).seat; last = (m.books).last; held = (m.books).held; uniques = (m.books).uniques }) (seat-stays w w' seat m.seat_is_last here here refl) (orderly-applied w old.broker.next_unique item own.first m.orderly)
       (answered-still w w' refl refl refl m.answered) at.has_seat (only-holder old seat at.has_seat) here_is
       (subst (λ (s : ServedState). Knows w.tree w.names (owed w') s) (λ i. record { map = forgotten server.served.map item.node.0 item.k; tree = sym (holder.knows).tree_is i })
       (knows-along w.tree w.names (less_owed (owed w) item.node.0 item.k) (owed w') _ (λ j. applied-owed w item j own.first) well.knows))
       (record {
-        singles = (at-single (λ (x : Ask). is_single x ≡ true) server.hand (place - 1) task there (holder.under).singles).1;
+        singles = (at-single (λ (x : Ask). is_single x ≡ true) server.hand (position - 1) task there (holder.under).singles).1;
         asks = own.asks;
         items = own.left;
         replies = λ f. (holder.under).replies f ∙ ap (λ (rs : List Reply). sum_by f (rs ++ old.broker.traffic.posted)) (sym (append-nil server.unposted));
@@ -152,8 +152,8 @@ items-moved w old seat was server place task item m at here_is there forget is =
   holder : HolderIs w old server
   holder = holder-is w old seat server m.knows at
 
-  own : IsItemAt w old.broker.traffic server place item
-  own = item-at w old.broker.traffic server place task item there forget is holder.under
+  own : IsItemAt w old.broker.traffic server position item
+  own = item-at w old.broker.traffic server position task item there forget is holder.under
 
   w' : World
   w' = record w { items = without_where (is_item item) w.items }
@@ -177,23 +177,23 @@ items-moved w old seat was server place task item m at here_is there forget is =
 
 -- ---- both
 
-by_answer : (w : World) (old : State) (daemon : DaemonId) (place : ℕ) (fails : Bool) (seat : Seat) (was : DaemonState) (server : ServerState) (task : Ask) (answer : Option Answer) (later : ServedState) → Follows w old → IsSeated old seat server → daemon_of old seat.daemon ≡ Some was → slice_get server.hand (place - 1) ≡ Some task →
+by_answer : (w : World) (old : State) (daemon : DaemonId) (position : ℕ) (fails : Bool) (seat : Seat) (was : DaemonState) (server : ServerState) (task : Ask) (answer : Option Answer) (later : ServedState) → Follows w old → IsSeated old seat server → daemon_of old seat.daemon ≡ Some was → slice_get server.hand (position - 1) ≡ Some task →
     Replay server.served task.what answer later →
-    MovesBy w (move_of w.seat (Work daemon place fails) (told_worked server.served task answer)) old (told_worked server.served task answer) (with_daemon old seat.daemon (with_server was (with_worked server place task answer later)))
-by_answer w old daemon place fails seat was server task (Some answer) later m at here_is there (is, legal) = answers-moved w old seat was server place task answer later m at here_is there is legal
-by_answer w old daemon place fails seat was server task None later m at here_is there (forget, same) =
-    let single = (at-single (λ (x : Ask). is_single x ≡ true) server.hand (place - 1) task there ((holder-is w old seat server m.knows at).under).singles).0 in
+    MovesBy w (move_of w.seat (Work daemon position fails) (told_worked server.served task answer)) old (told_worked server.served task answer) (with_daemon old seat.daemon (with_server was (with_worked server position task answer later)))
+by_answer w old daemon position fails seat was server task (Some answer) later m at here_is there (is, legal) = answers-moved w old seat was server position task answer later m at here_is there is legal
+by_answer w old daemon position fails seat was server task None later m at here_is there (forget, same) =
+    let single = (at-single (λ (x : Ask). is_single x ≡ true) server.hand (position - 1) task there ((holder-is w old seat server m.knows at).under).singles).0 in
     let item = single-item task single forget in
     let is : later ≡ record server.served { map = forgotten server.served.map item.0.node.0 item.0.k } = same ∙ ap (λ (all : List Item). record server.served { map = forgotten_all server.served.map all }) (items-one task.what item.0 item.1) in
-    subst (λ (o : Option Item). MovesBy w (move_of w.seat (Work daemon place fails) (told_item server.served o)) old (told_item server.served o) (with_daemon old seat.daemon (with_server was (with_worked server place task None later)))) (sym item.1)
-    (subst (λ (s : ServedState). MovesBy w (work_item item.0 ∷ []) old (happened.Forgot item.0 (forgot server.served.map item.0.node.0 item.0.k)) (with_daemon old seat.daemon (with_server was (with_worked server place task None s)))) (sym is)
-    (items-moved w old seat was server place task item.0 m at here_is there forget item.1))
+    subst (λ (o : Option Item). MovesBy w (move_of w.seat (Work daemon position fails) (told_item server.served o)) old (told_item server.served o) (with_daemon old seat.daemon (with_server was (with_worked server position task None later)))) (sym item.1)
+    (subst (λ (s : ServedState). MovesBy w (work_item item.0 ∷ []) old (happened.Forgot item.0 (forgot server.served.map item.0.node.0 item.0.k)) (with_daemon old seat.daemon (with_server was (with_worked server position task None s)))) (sym is)
+    (items-moved w old seat was server position task item.0 m at here_is there forget item.1))
 
 -- An ask that is answered, or an item that is applied, is a move.
-pub works-moved : (w : World) (old : State) (daemon : DaemonId) (place : ℕ) (fails : Bool) (told : Happened) (new : State) → Follows w old → Works old daemon place fails told new → MovesBy w (move_of w.seat (Work daemon place fails) told) old told new
-works-moved w old daemon place fails told new m t =
-    let h = hand-seated old daemon t.server (λ (s : ServerState). s.hand) place t.task m.others_idle (λ s idle. idle.hand) (ap (option_and_then (λ (d : DaemonState). d.server)) t.there ∙ t.serves) t.at in
-    subst (λ (x : Happened). MovesBy w (move_of w.seat (Work daemon place fails) x) old x new) (sym t.tells)
-    (subst (λ (s : State). MovesBy w (move_of w.seat (Work daemon place fails) (told_worked (t.server).served t.task t.answer)) old (told_worked (t.server).served t.task t.answer) s)
-    (ap (λ (d : DaemonId). with_daemon old d (with_server t.was (with_worked t.server place t.task t.answer t.later))) h.1 ∙ sym t.makes)
-    (by_answer w old daemon place fails h.0 t.was t.server t.task t.answer t.later m h.2 (ap (daemon_of old) h.1 ∙ t.there) (at-is (t.server).hand place t.task t.at) t.replay))
+pub works-moved : (w : World) (old : State) (daemon : DaemonId) (position : ℕ) (fails : Bool) (told : Happened) (new : State) → Follows w old → Works old daemon position fails told new → MovesBy w (move_of w.seat (Work daemon position fails) told) old told new
+works-moved w old daemon position fails told new m t =
+    let h = hand-seated old daemon t.server (λ (s : ServerState). s.hand) position t.task m.others_idle (λ s idle. idle.hand) (ap (option_and_then (λ (d : DaemonState). d.server)) t.there ∙ t.serves) t.at in
+    subst (λ (x : Happened). MovesBy w (move_of w.seat (Work daemon position fails) x) old x new) (sym t.tells)
+    (subst (λ (s : State). MovesBy w (move_of w.seat (Work daemon position fails) (told_worked (t.server).served t.task t.answer)) old (told_worked (t.server).served t.task t.answer) s)
+    (ap (λ (d : DaemonId). with_daemon old d (with_server t.was (with_worked t.server position t.task t.answer t.later))) h.1 ∙ sym t.makes)
+    (by_answer w old daemon position fails h.0 t.was t.server t.task t.answer t.later m h.2 (ap (daemon_of old) h.1 ∙ t.there) (at-is (t.server).hand position t.task t.at) t.replay))

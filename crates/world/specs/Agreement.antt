@@ -1,6 +1,6 @@
 -- Which moves an event makes in the world, what a served state knows of a world, and how the state matches the world
 -- after them.
-use Rattle.std.specs.Prelude.{◌≡◌, ◌≢◌, ℕ, ◌+◌, ◌-◌, ◌<◌, ◌≤◌, ◌↔◌, Bool, true, false, ◌||◌, ◌==◌, List, [], ◌∷◌, ◌++◌, sum_by, count_by, Contains, Option, Some, None, IsSome, if◌then◌else◌}
+use Rattle.std.specs.Prelude.{◌≡◌, ◌≢◌, ℕ, ◌+◌, ◌-◌, ◌<◌, ◌≤◌, ◌↔◌, Bool, true, false, ◌&&◌, ◌||◌, ◌==◌, List, [], ◌∷◌, ◌++◌, sum_by, count_by, Contains, Option, Some, None, IsSome, if◌then◌else◌}
 use Rattle.std.specs.Option.{option_map_or}
 use Rattle.std.specs.List.{AllByRecursion, list_any}
 use Rattle.eden_base.specs.declared.number.DaemonId.{DaemonId}
@@ -20,12 +20,13 @@ use Rattle.fuse_ops.specs.Soundness.{IsSound}
 use Rattle.inode_map.specs.declared.inode_map.Forgot.TheVariants.{Bad, Root}
 use Rattle.map_codec.specs.Handover.{IsHandedOver}
 use Rattle.takeover_core.specs.Phases.{claim_wanted}
-use Rattle.takeover_core.specs.declared.message.Message.TheVariants.{Data}
-use Rattle.world.specs.Handing.{IsHanding}
+use Rattle.takeover_core.specs.declared.message.Message.{Message}
+use Rattle.takeover_core.specs.declared.message.Message.TheVariants.{Data, Part}
+use Rattle.world.specs.Handing.{IsHandedIn, IsHanding, data_of, reads_at}
 use Rattle.world.specs.Attending.{MayBeTold, IsAttended}
 use Rattle.daemon.specs.Daemon.{DaemonState}
-use Rattle.daemon.specs.Server.{ServerState, IsIdle, at_place, is_single}
-use Rattle.world.specs.State.{State, IsSeated, daemon_of, server_of, is_data_of}
+use Rattle.daemon.specs.Server.{ServerState, IsIdle, at_position, is_single}
+use Rattle.world.specs.State.{State, IsSeated, daemon_of, server_of, is_data_of, handed_of}
 use Rattle.world.specs.Step.{Steps, parts_of}
 use Rattle.world.specs.World.{World, Move, issue, issue_item, work, work_item, accept, deliver, mount, claim, end as mount_end, first_world, file_named, times, owed, is_asked, is_replied, IsRun, after_all}
 use Rattle.world.specs.declared.event.Event.{Event}
@@ -47,9 +48,9 @@ move_of seat (Mount daemon) (happened.Mounted generation) = mount daemon ∷ []
 move_of seat (Issue request) (happened.Asked (Some unique)) = issue (record { unique = unique; what = request }) ∷ []
 move_of seat (Issue request) (happened.Asked None) =
     option_map_or (λ (item : Item). issue_item item ∷ []) (item_of request) []
-move_of seat (Work daemon place fails) (happened.Made reply) = work reply.unique reply.answer ∷ []
-move_of seat (Work daemon place fails) (happened.Forgot item forgot) = work_item item ∷ []
-move_of seat (Post daemon place) (happened.Posted unique) = accept unique daemon ∷ []
+move_of seat (Work daemon position fails) (happened.Made reply) = work reply.unique reply.answer ∷ []
+move_of seat (Work daemon position fails) (happened.Forgot item forgot) = work_item item ∷ []
+move_of seat (Post daemon position) (happened.Posted unique) = accept unique daemon ∷ []
 move_of seat Deliver (happened.Answered reply) = deliver reply.unique ∷ []
 move_of seat (Claim daemon) (happened.Claimed next) = claim (next - 1) daemon ∷ []
 move_of seat (Crash daemon) happened.Crashed = if holds seat daemon then mount_end ∷ [] else []
@@ -178,18 +179,39 @@ NumbersNameTheirFirstFile world state =
 abbrev pub KnowsWorld : World → ServedState → Type 0
 KnowsWorld world served = Knows world.tree world.names (owed world) served
 
--- data of the seat's generation is in one message at most, and is the image of what knows the world as it is now,
--- though the kernel went on issuing and receiving; and so does what is served by each daemon that may claim the seat.
--- No data is of a generation to come.
+-- The data of the seat's generation, in one message or in the numbered parts of one session, is the text of an image of
+-- what knows the world as it is now, though the kernel went on issuing and receiving. A daemon that reads its parts
+-- has read a beginning of that text.
+pub record IsHandedNow (world : World) (state : State) (seat : Seat) : Type 0 where
+  pub session : ℕ
+  pub version : ℕ
+  pub text : List ℕ
+  pub served : ServedState
+  pub said : IsHandedIn session seat.generation text (data_of seat.generation state.messages)
+  pub handed : IsHandedOver served seat.generation version text
+  pub knows : KnowsWorld world served
+  pub read : (daemon : DaemonId) (was : DaemonState) → daemon_of state daemon ≡ Some was →
+      reads_at was.node.phase ≡ Some seat.generation →
+      (read rest : List ℕ) × (was.reading ≡ Some read) × (text ≡ read ++ rest)
+
+-- data is of this generation, and is all of it or its first part
+abbrev pub begins_data_of : ℕ → Message → Bool
+begins_data_of generation (Data session at bytes) = at == generation
+begins_data_of generation (Part session at position count bytes) = at == generation && position == 1
+begins_data_of generation other = false
+
+-- Data of the seat's generation is handed over once at most, from the position on that is told of it. It is current, and so
+-- is what is served by each daemon that may claim the seat. No data is of a generation to come, and none is read that
+-- was not said.
 pub record DataIsCurrent (world : World) (state : State) : Type 0 where
-  pub past : (place session generation : ℕ) (bytes : List ℕ) →
-      at_place state.messages place ≡ Some (Data session generation bytes) → generation ≤ state.broker.last
+  pub past : (position generation : ℕ) (message : Message) → at_position state.messages position ≡ Some message →
+      is_data_of generation message ≡ true → generation ≤ state.broker.last
   pub alone : (seat : Seat) → state.broker.seat ≡ Some seat →
-      count_by (is_data_of seat.generation) state.messages ≤ 1
-  pub handed : (seat : Seat) (place session : ℕ) (bytes : List ℕ) → state.broker.seat ≡ Some seat →
-      at_place state.messages place ≡ Some (Data session seat.generation bytes) →
-      (served : ServedState) × (version : ℕ)
-      × IsHandedOver served seat.generation version bytes × KnowsWorld world served
+      count_by (begins_data_of seat.generation) state.messages ≤ 1
+  pub handed : (seat : Seat) (position : ℕ) → state.broker.seat ≡ Some seat → handed_of state ≡ Some position →
+      IsHandedNow world state seat
+  pub reads : (seat : Seat) (daemon : DaemonId) (was : DaemonState) → state.broker.seat ≡ Some seat →
+      daemon_of state daemon ≡ Some was → reads_at was.node.phase ≡ Some seat.generation → IsSome (handed_of state)
   pub held : (seat : Seat) (daemon : DaemonId) (was : DaemonState) → state.broker.seat ≡ Some seat →
       daemon_of state daemon ≡ Some was → claim_wanted was.node.phase ≡ Some seat.generation →
       (server : ServerState) × (was.server ≡ Some server) × KnowsWorld world server.served

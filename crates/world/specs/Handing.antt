@@ -1,21 +1,23 @@
 -- What makes a takeover keep what is known: who may have the seat's data, and what is in it. All of it is of the state
 -- alone. (This project's own.)
-use Rattle.std.specs.Prelude.{◌≡◌, ◌≢◌, ℕ, ◌≤◌, Bool, true, false, count_by, Option, Some, None}
-use Rattle.std.specs.List.{AllByRecursion}
+use Rattle.std.specs.Prelude.{◌≡◌, ◌≢◌, ℕ, ◌-◌, ◌≤◌, ◌⊎◌, Bool, true, false, List, [], ◌∷◌, length, filter, take, Option, Some, None}
+use Rattle.std.specs.List.{AllByRecursion, concat}
 use Rattle.eden_base.specs.Limits.{last_generation}
 use Rattle.eden_base.specs.declared.number.DaemonId.{DaemonId}
 use Rattle.manifest.specs.Manifest.{IsManifest}
 use Rattle.broker_core.specs.declared.seat.Seat.{Seat}
 use Rattle.fuse_ops.specs.Served.{plain}
+use Rattle.map_image.specs.Parts.{AreParts}
 use Rattle.map_codec.specs.Handover.{IsHandedOver}
 use Rattle.takeover_core.specs.Histories.{seat_of}
 use Rattle.takeover_core.specs.Phases.{claim_wanted}
 use Rattle.takeover_core.specs.declared.message.Message.{Message}
-use Rattle.takeover_core.specs.declared.message.Message.TheVariants.{Data}
+use Rattle.takeover_core.specs.declared.message.Message.TheVariants.{Data, Part}
 use Rattle.takeover_core.specs.declared.phase.Phase.{Phase}
-use Rattle.takeover_core.specs.declared.phase.Phase.TheVariants.{Draining, Pinged, Making, Handed, Holding, Serving}
+use Rattle.takeover_core.specs.declared.phase.Phase.TheVariants.{Draining, Pinged, Making, Handed, Holding, Serving, Reading}
 use Rattle.daemon.specs.Daemon.{DaemonState}
 use Rattle.daemon.specs.Server.{ServerState, IsIdle}
+use Rattle.daemon.specs.Talking.{in_parts}
 use Rattle.world.specs.State.{State, daemon_of, is_data_of}
 
 -- ---- phases
@@ -53,6 +55,11 @@ in_session (Handed g s) = true
 in_session (Holding g) = true
 in_session phase = false
 
+-- the generation whose parts it reads
+abbrev pub reads_at : Phase → Option ℕ
+reads_at (Reading s g v i n) = Some g
+reads_at phase = None
+
 -- ---- who has the seat
 
 -- the seat, its daemon, and what that daemon serves
@@ -61,21 +68,52 @@ pub record HasTheSeat (state : State) (seat : Seat) (was : DaemonState) (server 
   pub there : daemon_of state seat.daemon ≡ Some was
   pub serves : was.server ≡ Some server
 
+-- ---- the data of a generation
+
+-- all that was said of the data of a generation, in its order
+abbrev pub data_of : ℕ → List Message → List Message
+data_of generation messages = filter (is_data_of generation) messages
+
+-- a text was handed over in a session at a generation: in one message, or in its numbered parts
+abbrev pub IsHandedIn : (session generation : ℕ) → List ℕ → List Message → Type 0
+IsHandedIn session generation text said =
+    (said ≡ Data session generation text ∷ [])
+    ⊎ ((parts : List (List ℕ)) × AreParts text parts × (said ≡ in_parts session generation parts))
+
+-- The holder of the seat handed over what it serves: the data of the seat's generation is the text of its image.
+pub record HasHanded (state : State) (seat : Seat) (was : DaemonState) (server : ServerState) : Type 0 where
+  pub session : ℕ
+  pub version : ℕ
+  pub text : List ℕ
+  pub out : is_out was.node.phase ≡ true
+  pub handed : IsHandedOver server.served seat.generation version text
+  pub said : IsHandedIn session seat.generation text (data_of seat.generation state.messages)
+
+-- what was read of a text in parts, by the phase: the parts before the one that is waited for
+abbrev pub HasRead : Phase → Option (List ℕ) → List ℕ → Type 0
+HasRead (Reading s g v i n) reading text =
+    (parts : List (List ℕ)) × AreParts text parts × (n ≡ length parts) × (reading ≡ Some (concat (take (i - 1) parts)))
+    × (2 ≤ i) × (i ≤ n)
+HasRead phase reading text = Unit {0}
+
 -- ---- what stands
 
--- Data is of a generation that was; and where the seat is still of that generation, its holder has handed it over, and
--- it is the image of what the holder serves
-abbrev pub MessageStands : State → Message → Type 0
-MessageStands state (Data session generation bytes) =
-    (generation ≤ state.broker.last)
-    × ((seat : Seat) (was : DaemonState) (server : ServerState) → HasTheSeat state seat was server →
-    seat.generation ≡ generation →
-    (is_out was.node.phase ≡ true) × (version : ℕ) × IsHandedOver server.served generation version bytes)
-MessageStands state other = Unit {0}
+-- data is of a generation that was
+abbrev pub IsPast : ℕ → Message → Type 0
+IsPast last (Data session generation bytes) = generation ≤ last
+IsPast last (Part session generation position count bytes) = generation ≤ last
+IsPast last other = Unit {0}
+
+-- a daemon reads parts of the seat's data, which is out: it read what was handed over up to there
+pub record ReadsHanded (state : State) (seat : Seat) (holder : DaemonState) (handed : ServerState)
+    (was : DaemonState) : Type 0 where
+  pub out : is_out holder.node.phase ≡ true
+  pub some : data_of seat.generation state.messages ≢ []
+  pub read : (over : HasHanded state seat holder handed) → HasRead was.node.phase was.reading over.text
 
 -- a daemon's part is of a generation that was, and it serves something; once drained it has nothing in hand; whoever
 -- serves at the seat's generation is the holder, and the holder has its part at it, in a session only where a claim
--- may follow; and what is held from the seat's generation is what the holder handed over
+-- may follow; what is held from the seat's generation is what the holder handed over; and so is what is read at it
 pub record DaemonStands (state : State) (daemon : DaemonId) (was : DaemonState) : Type 0 where
   pub at_most : (g : ℕ) → part_at was.node.phase ≡ Some g → g ≤ state.broker.last
   pub serves : (g : ℕ) → part_at was.node.phase ≡ Some g → (server : ServerState) × (was.server ≡ Some server)
@@ -89,13 +127,21 @@ pub record DaemonStands (state : State) (daemon : DaemonId) (was : DaemonState) 
   pub held : (seat : Seat) (holder : DaemonState) (handed server : ServerState) → HasTheSeat state seat holder handed →
       claim_wanted was.node.phase ≡ Some seat.generation → was.server ≡ Some server →
       (is_out holder.node.phase ≡ true) × (plain server.served ≡ plain handed.served)
+  pub past : (g : ℕ) → reads_at was.node.phase ≡ Some g → g ≤ state.broker.last
+  pub reads : (seat : Seat) (holder : DaemonState) (handed : ServerState) → HasTheSeat state seat holder handed →
+      reads_at was.node.phase ≡ Some seat.generation → ReadsHanded state seat holder handed was
 
--- every daemon and every message stands, and data of the seat's generation was said at most once
+-- no data of the seat's generation was said, or all that was said of it is what its holder handed over
+abbrev pub HandsOnce : State → Type 0
+HandsOnce state =
+    (seat : Seat) (was : DaemonState) (server : ServerState) → HasTheSeat state seat was server →
+    (data_of seat.generation state.messages ≡ []) ⊎ HasHanded state seat was server
+
+-- every daemon and every message stands, and what is handed over is handed over once
 pub record IsHanding (state : State) : Type 0 where
   pub is_manifest : IsManifest state.manifest
   pub low : state.broker.last ≤ last_generation
   pub daemons : (daemon : DaemonId) (was : DaemonState) → daemon_of state daemon ≡ Some was →
       DaemonStands state daemon was
-  pub messages : AllByRecursion (MessageStands state) state.messages
-  pub once : (seat : Seat) → state.broker.seat ≡ Some seat →
-      count_by (is_data_of seat.generation) state.messages ≤ 1
+  pub messages : AllByRecursion (IsPast state.broker.last) state.messages
+  pub once : HandsOnce state

@@ -1,14 +1,25 @@
 -- What holds of the definitions alone, for those who work requests elsewhere than in an event.
-use Rattle.std.specs.Prelude.{◌≡◌, ◌≤◌, ◌≢◌, Some, None}
+use Rattle.std.specs.Prelude.{◌≡◌, ℕ, ◌≤◌, ◌≢◌, List, [], ◌∷◌, ◌++◌, map, Option, Some, None}
+use Rattle.std.specs.List.{flat_map}
 use Rattle.eden_base.specs.First.{first_where}
 use Rattle.manifest.specs.Tree.{IsTree}
+use Rattle.fuse_wire.specs.Request.{items_of}
 use Rattle.fuse_wire.specs.declared.request.Ask.{Ask}
 use Rattle.fuse_wire.specs.declared.request.Request.TheVariants.{Forget}
 use Rattle.fuse_wire.specs.declared.item.Item.{Item}
 use Rattle.fuse_wire.specs.declared.reply.Answer.{Answer}
+use Rattle.fuse_wire.specs.declared.reply.Reply.{Reply}
+use Rattle.broker_core.specs.declared.seat.Seat.{Seat}
+use Rattle.journal.specs.declared.journal.Record.{Record}
 use Rattle.fuse_ops.specs.Served.{ServedState, Replay}
-use Rattle.world.specs.World.{World, work, work_item, is_asked, is_item, owed, MayMove, after}
-use Rattle.world.specs.Agreement.{Knows}
+use Rattle.daemon.specs.Daemon.{DaemonState, with_server}
+use Rattle.daemon.specs.Server.{ServerState, at_position, without_position, handed, reply_to, with_worked}
+use Rattle.world.specs.State.{State, with_daemon}
+use Rattle.world.specs.World.{World, Move, work, work_item, is_asked, is_item, owed, MayMove, IsRun, after, after_all}
+use Rattle.world.specs.Handing.{HasTheSeat}
+use Rattle.world.specs.Agreement.{Knows, Matches}
+
+-- ---- on what is under way
 
 -- What is served knows what the world has: the tree, how often each number is owed, and what each names.
 pub record ServesWorld (world : World) (served : ServedState) : Type 0 where
@@ -32,3 +43,67 @@ ItemIsMove =
     first_where (is_item item) world.items ≡ Some item → item.node.0 ≢ 1 → 1 ≤ item.k →
     Replay served (Forget item) None later →
     MayMove world (work_item item) × ServesWorld (after world (work_item item)) later
+
+-- ---- on a member of the holder's hand
+
+-- the moves that a step by a request and its answer is: an ask is answered, and each item applied by itself
+abbrev pub moves_worked : Ask → Option Answer → List Move
+moves_worked task (Some answer) = work task.unique answer ∷ []
+moves_worked task None = map work_item (items_of task.what)
+
+-- the state once the seat's daemon goes on with this
+abbrev pub serves_on : State → Seat → DaemonState → ServerState → State
+serves_on state seat was server = with_daemon state seat.daemon (with_server was server)
+
+-- A legal step of the seat's daemon on what stands at a position of its hand, whoever makes it, is moves that may happen,
+-- and the state with it worked matches the world after them.
+abbrev pub MemberIsMove : Type 0
+MemberIsMove =
+    (world : World) (state : State) (seat : Seat) (was : DaemonState) (server : ServerState) (position : ℕ) (task : Ask)
+    (answer : Option Answer) (later : ServedState) → Matches world state → HasTheSeat state seat was server →
+    at_position server.hand position ≡ Some task → Replay server.served task.what answer later →
+    IsRun world (moves_worked task answer)
+    × Matches (after_all world (moves_worked task answer))
+    (serves_on state seat was (with_worked server position task answer later))
+
+-- ---- over a round's journal
+
+-- a hand without these members, each taken out where it stands then
+abbrev pub Leaves : List Ask → List Ask → List Ask → Type 0
+Leaves hand [] left = left ≡ hand
+Leaves hand (task ∷ tasks) left =
+    (position : ℕ) × (at_position hand position ≡ Some task) × Leaves (without_position hand position) tasks left
+
+-- these asks were applied by the records, one by each, and what was served became this by legal steps
+abbrev pub IsJournalOf : ServedState → List Ask → List Record → ServedState → Type 0
+IsJournalOf opening [] [] last = last ≡ opening
+IsJournalOf opening (ask ∷ asks) (applied ∷ records) last =
+    (applied.request ≡ ask.what) × (next : ServedState) × Replay opening applied.request applied.answer next
+    × IsJournalOf next asks records last
+IsJournalOf opening asks records last = ⊥
+
+-- the moves of a journal that applied these asks
+abbrev pub moves_recorded : List Ask → List Record → List Move
+moves_recorded (ask ∷ asks) (applied ∷ records) = moves_worked ask applied.answer ++ moves_recorded asks records
+moves_recorded asks records = []
+
+-- the replies that it makes
+abbrev pub replies_recorded : List Ask → List Record → List Reply
+replies_recorded (ask ∷ asks) (applied ∷ records) = reply_to ask applied.answer ++ replies_recorded asks records
+replies_recorded asks records = []
+
+-- A journal of legal steps on members of the hand of the seat's daemon, a forget's items each a member, is a run of
+-- moves; and the state matches the world after them, where the daemon serves what the journal leads to, has in hand
+-- what is left, and has the replies to post.
+abbrev pub JournalIsRun : Type 0
+JournalIsRun =
+    (world : World) (state : State) (seat : Seat) (was : DaemonState) (server : ServerState) (asks : List Ask)
+    (records : List Record) (last : ServedState) (left : List Ask) → Matches world state →
+    HasTheSeat state seat was server → IsJournalOf server.served asks records last →
+    Leaves server.hand (flat_map handed asks) left →
+    IsRun world (moves_recorded asks records)
+    × Matches (after_all world (moves_recorded asks records)) (serves_on state seat was (record server {
+      served = last;
+      hand = left;
+      unposted = server.unposted ++ replies_recorded asks records;
+    }))

@@ -12,10 +12,10 @@ use Rattle.broker_core.specs.declared.seat.Seat.{Seat}
 use Rattle.fuse_ops.specs.Served.{ServedState}
 use Rattle.takeover_core.specs.Phases.{may_take, drain_fault, claim_wanted}
 use Rattle.takeover_core.specs.declared.message.Message.{Message}
-use Rattle.takeover_core.specs.declared.message.Message.TheVariants.{Data}
+use Rattle.takeover_core.specs.declared.message.Message.TheVariants.{Data, Part}
 use Rattle.daemon.specs.Refusals.{refusal_of_mount, refusal_of_issue, refusal_of_take, refusal_of_post, refusal_of_drain, refusal_of_claim}
 use Rattle.daemon.specs.Daemon.{DaemonState, is_waiting, in_hand, unposted}
-use Rattle.daemon.specs.Server.{ServerState, at_place}
+use Rattle.daemon.specs.Server.{ServerState, at_position}
 use Rattle.world.specs.declared.event.Event.{Event}
 use Rattle.world.specs.declared.event.Event.TheVariants.{Start, Mount, Issue, Take, Work, Post, Deliver, Hear, Drained, GiveUp, Claim, Crash}
 use Rattle.daemon.specs.declared.happened.Refusal.{Refusal}
@@ -77,12 +77,13 @@ pub record IsSeated (state : State) (seat : Seat) (server : ServerState) : Type 
   pub has_seat : state.broker.seat ≡ Some seat
   pub serves : server_of state seat.daemon ≡ Some server
 
--- a message is data of this generation
+-- a message is data of this generation: all of it, or a part
 abbrev pub is_data_of : ℕ → Message → Bool
 is_data_of generation (Data session at bytes) = at == generation
+is_data_of generation (Part session at position count bytes) = at == generation
 is_data_of generation other = false
 
--- the place of the seat's data, from 1: of the first message that is data of the seat's generation, if there is one
+-- the position of the seat's data, from 1: of the first message that is data of the seat's generation, if there is one
 abbrev pub handed_of : State → Option ℕ
 handed_of state = option_and_then (λ (seat : Seat).
     option_map (λ (index : ℕ). index + 1) (position (is_data_of seat.generation) state.messages)) state.broker.seat
@@ -108,13 +109,13 @@ take_refusal state daemon (Some of) = server_refusal state daemon (may_take of.n
 
 -- a request is worked that is in hand
 abbrev pub hand_refusal : ℕ → Option ServerState → Option Refusal
-hand_refusal place None = Some refusal.NoSuch
-hand_refusal place (Some server) = if is_none (at_place server.hand place) then Some refusal.NoSuch else None
+hand_refusal position None = Some refusal.NoSuch
+hand_refusal position (Some server) = if is_none (at_position server.hand position) then Some refusal.NoSuch else None
 
 -- a daemon works what it has in hand, and one that does not serve has nothing
 abbrev pub work_refusal : ℕ → Option DaemonState → Option Refusal
-work_refusal place None = Some refusal.NoDaemon
-work_refusal place (Some of) = hand_refusal place of.server
+work_refusal position None = Some refusal.NoDaemon
+work_refusal position (Some of) = hand_refusal position of.server
 
 -- a reply is posted at the generation of its daemon
 abbrev pub reply_refusal : State → DaemonId → ServerState → Option Reply → Option Refusal
@@ -124,20 +125,20 @@ reply_refusal state daemon server (Some reply) =
 
 -- a reply is posted that was not
 abbrev pub unposted_refusal : State → DaemonId → ℕ → Option ServerState → Option Refusal
-unposted_refusal state daemon place None = Some refusal.NoSuch
-unposted_refusal state daemon place (Some server) =
-    reply_refusal state daemon server (at_place server.unposted place)
+unposted_refusal state daemon position None = Some refusal.NoSuch
+unposted_refusal state daemon position (Some server) =
+    reply_refusal state daemon server (at_position server.unposted position)
 
 -- a daemon posts what it answered, and one that does not serve has nothing to post
 abbrev pub post_refusal : State → DaemonId → ℕ → Option DaemonState → Option Refusal
-post_refusal state daemon place None = Some refusal.NoDaemon
-post_refusal state daemon place (Some of) = unposted_refusal state daemon place of.server
+post_refusal state daemon position None = Some refusal.NoDaemon
+post_refusal state daemon position (Some of) = unposted_refusal state daemon position of.server
 
 -- a message is heard that was said
 abbrev pub hear_refusal : State → ℕ → Option DaemonState → Option Refusal
-hear_refusal state place None = Some refusal.NoDaemon
-hear_refusal state place (Some of) =
-    if is_none (at_place state.messages place) then Some refusal.NoSuch else None
+hear_refusal state position None = Some refusal.NoDaemon
+hear_refusal state position (Some of) =
+    if is_none (at_position state.messages position) then Some refusal.NoSuch else None
 
 -- a daemon is ready that drains and has nothing left
 abbrev pub drained_refusal : Option DaemonState → Option Refusal
@@ -162,14 +163,14 @@ absence (Some of) = None
 -- Why an event is refused, if it is, out of memory apart: the first cause that holds. Nothing stands against a look,
 -- and a `do` is refused where one of its events is.
 abbrev pub fault : State → Event → Option Refusal
-fault state Start = if nat_le most_daemons (length state.daemons) then Some refusal.Full else None
+fault state (Start versions) = if nat_le most_daemons (length state.daemons) then Some refusal.Full else None
 fault state (Mount daemon) = mount_refusal state (daemon_of state daemon)
 fault state (Issue request) = option_map refusal_of_issue (issue_fault state.broker request)
 fault state (Take daemon) = take_refusal state daemon (daemon_of state daemon)
-fault state (Work daemon place fails) = work_refusal place (daemon_of state daemon)
-fault state (Post daemon place) = post_refusal state daemon place (daemon_of state daemon)
+fault state (Work daemon position fails) = work_refusal position (daemon_of state daemon)
+fault state (Post daemon position) = post_refusal state daemon position (daemon_of state daemon)
 fault state Deliver = if is_none (front state.broker.traffic.posted) then Some refusal.Empty else None
-fault state (Hear daemon place) = hear_refusal state place (daemon_of state daemon)
+fault state (Hear daemon position) = hear_refusal state position (daemon_of state daemon)
 fault state (Drained daemon) = drained_refusal (daemon_of state daemon)
 fault state (GiveUp daemon) = absence (daemon_of state daemon)
 fault state (Claim daemon) = claim_refusal state (daemon_of state daemon)

@@ -14,17 +14,17 @@ use Rattle.fuse_wire.specs.declared.reply.Answer.{Answer}
 use Rattle.fuse_wire.specs.declared.reply.Reply.{Reply}
 use Rattle.fuse_ops.specs.Served.{ServedState, Replay}
 use Rattle.daemon.specs.Refusals.{is_made}
-use Rattle.daemon.specs.Server.{ServerState, new_server, at_place, told_taken, with_taken, told_worked, with_worked, with_posted}
+use Rattle.daemon.specs.Server.{ServerState, new_server, at_position, told_taken, with_taken, told_worked, with_worked, with_posted}
 use Rattle.takeover_core.specs.Phases.{claim_wanted}
 use Rattle.takeover_core.specs.declared.message.Message.{Message}
 use Rattle.takeover_core.specs.declared.message.Message.TheVariants.{Offer}
-use Rattle.daemon.specs.Daemon.{DaemonState, versions, new_daemon, with_server}
+use Rattle.daemon.specs.Daemon.{DaemonState, new_daemon, with_server}
 use Rattle.daemon.specs.Serving.{FailsSo}
 use Rattle.world.specs.State.{State, daemon_of, with_daemon, fault}
 use Rattle.daemon.specs.Saying.{what_is_said}
 use Rattle.daemon.specs.Talking.{HearsSo, IsReady, GivesUpSo, MountsSo, EndsSo, ClaimsSo, after_claim}
-use Rattle.daemon.specs.declared.daemon.Reaction.{Reaction}
-use Rattle.daemon.specs.declared.daemon.Reaction.TheVariants.{Ignores, Heeds, Says}
+use Rattle.daemon.specs.declared.turn.Reaction.{Reaction}
+use Rattle.daemon.specs.declared.turn.Reaction.TheVariants.{Ignores, Heeds, Says}
 use Rattle.world.specs.declared.event.Event.{Event}
 use Rattle.world.specs.declared.event.Event.TheVariants.{Start, Mount, Issue, Take, Work, Post, Deliver, Hear, Drained, GiveUp, Claim, Crash, Do, Show}
 use Rattle.daemon.specs.declared.happened.Happened.{Happened}
@@ -55,12 +55,12 @@ Refuses old event refusal told new = (told ≡ happened.Refused refusal) × (new
 abbrev pub Lacks : State → Happened → State → Type 0
 Lacks old told new = (told ≡ happened.Refused NoMemory) × (new ≡ old)
 
--- a new daemon waits behind the others, and its offer was said
-abbrev pub Starts : State → Happened → State → Type 0
-Starts old told new =
+-- a new daemon with these versions waits behind the others, and its offer was said
+abbrev pub Starts : State → List ℕ → Happened → State → Type 0
+Starts old versions told new =
     (told ≡ happened.Started (record { 0 = length old.daemons + 1 }))
     × (new ≡ record old {
-      daemons = old.daemons ++ new_daemon ∷ [];
+      daemons = old.daemons ++ new_daemon versions ∷ [];
       messages = old.messages ++ Offer versions ∷ [];
     })
 
@@ -90,9 +90,9 @@ pub record Takes (old : State) (daemon : DaemonId) (told : Happened) (new : Stat
   pub makes : new ≡ with_daemon (record old { broker = taken old.broker }) daemon
       (with_server was (with_taken server ask))
 
--- A daemon answers the ask, or applies the item, at a place of its hand. EIO comes exactly where the event says that
+-- A daemon answers the ask, or applies the item, at a position of its hand. EIO comes exactly where the event says that
 -- the backing fails, and the daemon asks it.
-pub record Works (old : State) (daemon : DaemonId) (place : ℕ) (fails : Bool) (told : Happened)
+pub record Works (old : State) (daemon : DaemonId) (position : ℕ) (fails : Bool) (told : Happened)
     (new : State) : Type 0 where
   pub was : DaemonState
   pub server : ServerState
@@ -101,23 +101,23 @@ pub record Works (old : State) (daemon : DaemonId) (place : ℕ) (fails : Bool) 
   pub answer : Option Answer
   pub there : daemon_of old daemon ≡ Some was
   pub serves : was.server ≡ Some server
-  pub at : at_place server.hand place ≡ Some task
+  pub at : at_position server.hand position ≡ Some task
   pub replay : Replay server.served task.what answer later
   pub fails_so : FailsSo fails server.served task.what answer
   pub tells : told ≡ told_worked server.served task answer
-  pub makes : new ≡ with_daemon old daemon (with_server was (with_worked server place task answer later))
+  pub makes : new ≡ with_daemon old daemon (with_server was (with_worked server position task answer later))
 
--- the reply at a place of a daemon's replies waits for the kernel
-pub record Posts (old : State) (daemon : DaemonId) (place : ℕ) (told : Happened) (new : State) : Type 0 where
+-- the reply at a position of a daemon's replies waits for the kernel
+pub record Posts (old : State) (daemon : DaemonId) (position : ℕ) (told : Happened) (new : State) : Type 0 where
   pub was : DaemonState
   pub server : ServerState
   pub reply : Reply
   pub there : daemon_of old daemon ≡ Some was
   pub serves : was.server ≡ Some server
-  pub at : at_place server.unposted place ≡ Some reply
+  pub at : at_position server.unposted position ≡ Some reply
   pub tells : told ≡ happened.Posted reply.unique
   pub makes : new ≡ with_daemon (record old { broker = posted old.broker reply }) daemon
-      (with_server was (with_posted server place))
+      (with_server was (with_posted server position))
 
 -- the first posted reply reaches the kernel
 pub record Delivers (old : State) (told : Happened) (new : State) : Type 0 where
@@ -143,10 +143,10 @@ pub record Reacts (old : State) (daemon : DaemonId) (turns : DaemonState → Rea
   pub tells : told ≡ told_reaction (length old.messages) reaction
   pub makes : new ≡ with_daemon (record old { messages = old.messages ++ what_is_said reaction }) daemon later
 
--- a daemon heard what was said at a place
-pub record Hears (old : State) (daemon : DaemonId) (place : ℕ) (told : Happened) (new : State) : Type 0 where
+-- a daemon heard what was said at a position
+pub record Hears (old : State) (daemon : DaemonId) (position : ℕ) (told : Happened) (new : State) : Type 0 where
   pub said : Message
-  pub at : at_place old.messages place ≡ Some said
+  pub at : at_position old.messages position ≡ Some said
   pub reacts : Reacts old daemon (λ was. HearsSo old.manifest old.limit was said) told new
 
 -- a daemon has the seat from here on, one generation later
@@ -171,14 +171,14 @@ pub record Crashes (old : State) (daemon : DaemonId) (told : Happened) (new : St
 
 -- what an event that no cause stands against makes
 abbrev pub Makes : State → Event → Happened → State → Type 0
-Makes old Start told new = Starts old told new
+Makes old (Start versions) told new = Starts old versions told new
 Makes old (Mount daemon) told new = Mounts old daemon told new
 Makes old (Issue request) told new = Issues old request told new
 Makes old (Take daemon) told new = Takes old daemon told new
-Makes old (Work daemon place fails) told new = Works old daemon place fails told new
-Makes old (Post daemon place) told new = Posts old daemon place told new
+Makes old (Work daemon position fails) told new = Works old daemon position fails told new
+Makes old (Post daemon position) told new = Posts old daemon position told new
 Makes old Deliver told new = Delivers old told new
-Makes old (Hear daemon place) told new = Hears old daemon place told new
+Makes old (Hear daemon position) told new = Hears old daemon position told new
 Makes old (Drained daemon) told new = Reacts old daemon IsReady told new
 Makes old (GiveUp daemon) told new = Reacts old daemon GivesUpSo told new
 Makes old (Claim daemon) told new = Claims old daemon told new
@@ -187,9 +187,9 @@ Makes old event told new = ⊥
 
 -- a work, a post, a claim and a crash take no memory
 abbrev pub TakesMemory : Event → Type 0
-TakesMemory (Work daemon place fails) = ⊥
+TakesMemory (Work daemon position fails) = ⊥
 TakesMemory (Claim daemon) = ⊥
-TakesMemory (Post daemon place) = ⊥
+TakesMemory (Post daemon position) = ⊥
 TakesMemory (Crash daemon) = ⊥
 TakesMemory event = Unit {0}
 

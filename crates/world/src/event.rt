@@ -1,35 +1,36 @@
-//! What may happen to the daemons and the mount.
+//! The events of a world.
 use eden_base::DaemonId;
 use fuse_wire::Request;
+use takeover_core::Versions;
 
-/// One thing that happens, atomically. Places are counted from 1.
+/// One thing that happens, atomically. Positions are counted from 1.
 #[derive(Drop)]
 pub enum Event {
-    /// A new daemon, numbered from 1.
-    Start,
+    /// A new daemon, numbered from 1, which has these versions of the image.
+    Start(Versions),
     /// The daemon takes the seat, with the tree of the manifest.
     Mount(DaemonId),
     /// The kernel asks or forgets.
     Issue(Request),
     /// What waits first joins the end of the daemon's hand: an ask, or each item of a forget by itself.
     Take(DaemonId),
-    /// The daemon answers the ask, or applies the item, at a place of its hand; its backing may fail.
+    /// The daemon answers the ask, or applies the item, at a position of its hand; its backing may fail.
     Work {
         daemon: DaemonId,
-        place: u64,
+        position: u64,
         fails: bool,
     },
-    /// The reply at a place of those that the daemon did not post yet waits for the kernel.
+    /// The reply at a position of those that the daemon did not post yet waits for the kernel.
     Post {
         daemon: DaemonId,
-        place: u64,
+        position: u64,
     },
     /// The reply that was posted first reaches the kernel.
     Deliver,
-    /// The daemon hears the message at a place of all that were said, however often and whoever else heard it.
+    /// The daemon hears the message at a position among all that were said. It may have been heard before, by anyone.
     Hear {
         daemon: DaemonId,
-        place: u64,
+        position: u64,
     },
     /// The daemon says that it is ready to hand over, where it has nothing in hand and nothing unposted.
     Drained(DaemonId),
@@ -39,9 +40,9 @@ pub enum Event {
     Claim(DaemonId),
     /// The daemon ends, and all that it had with it; the mount ends where the daemon has the seat.
     Crash(DaemonId),
-    /// The request is issued; what waits first is taken, and the first of the hand worked, by the daemon that serves;
-    /// of an ask, the first of its replies is posted, and the first posted reply delivered. It ends at the first of
-    /// these that is refused.
+    /// The request is issued, and the daemon of the seat takes what waits first and works the first of its hand. Of an
+    /// ask, it also posts its first reply, and the first posted reply is delivered. It ends at the first of these
+    /// events that is refused.
     Do(Request),
     /// Nothing; a script prints the world here.
     Show,

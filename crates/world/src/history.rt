@@ -13,8 +13,8 @@ use eden_base::NoMemory;
 use manifest::Manifest;
 use std::alloc::Global;
 
-/// Lets events happen one after another, and tells what came of each. Memory is wanting for the list of outcomes and
-/// the world alone; within an event it is a refusal, or an answer.
+/// Lets events happen one after another, and returns the outcome of each. It fails only where the world or the list of
+/// outcomes is refused memory. Within an event, out of memory is a refusal or an answer.
 pub fn run(
     alloc: Global,
     manifest: &Manifest,
@@ -55,7 +55,7 @@ pub fn run(
     Ok((world, outcomes))
 }
 
-/// Returns what came of each event.
+/// Returns the outcome of each event.
 fn outcomes_of(alloc: Global, world: &mut World, events: &[Event]) -> Result<Vec<Outcome>, NoMemory>
     ensures steps { IfOk result (λ outcomes. Steps world.old events.now outcomes.items world.new) }
 {

@@ -1,9 +1,12 @@
-//! What holds of the definitions alone. A caller's proof that wants a law calls its function, which does nothing.
-ghost use Rattle.world.specs.Laws.{AnswerIsMove, ItemIsMove};
+//! Laws of the definitions. A caller's proof cites a law by calling its function, which does nothing.
+ghost use Rattle.world.specs.Laws.{AnswerIsMove, ItemIsMove, JournalIsRun, MemberIsMove};
 
-/// States that a legal step on what is under way is a move of the world, where what is served knows what the world
-/// has: an answer to an ask, or an item applied.
+/// States that a legal step of a daemon is a move of the world: it answers an ask that is under way, or applies an
+/// item. The daemon has to know what the world has. On a member of its hand the step hands on all that matches, and so
+/// does a round's journal.
 pub fn step_is_move()
     ensures answers { AnswerIsMove }
     ensures items { ItemIsMove }
+    ensures members { MemberIsMove }
+    ensures journals { JournalIsRun }
 {}

@@ -1,4 +1,4 @@
-//! What came of one event.
+//! The outcome of one event.
 ghost use Rattle.std.specs.Prelude.{◌≡◌, ◌<◌, ◌++◌, [], ◌∷◌, length};
 ghost use Rattle.daemon.specs.Refusals.{is_made, told_begun};
 
@@ -6,7 +6,7 @@ use arrayvec::ArrayVec;
 use daemon::{Begun, Happened};
 use std::marker::Model;
 
-/// What came of one event, in its order.
+/// What happened at one event, in its order: at most five things, as a `do` consists of five events.
 #[derive(Drop)]
 pub struct Outcome {
     happened: ArrayVec<Happened, 5>,
@@ -22,7 +22,7 @@ impl Model for Outcome {
 }
 
 impl Outcome {
-    /// Returns that nothing happened.
+    /// Makes an empty outcome.
     pub fn nothing() -> Outcome
         ensures nothing { result ≡ [] }
     {
@@ -31,14 +31,14 @@ impl Outcome {
         }
     }
 
-    /// Tells of nothing any more.
+    /// Empties the outcome.
     pub(crate) fn clear(&mut self)
         ensures nothing { self.new ≡ [] }
     {
         self.happened.clear();
     }
 
-    /// Tells what happened then.
+    /// Appends what happened next.
     pub(crate) fn tell(&mut self, happened: Happened)
         requires room { length self.old < 5 }
         ensures told { self.new ≡ self.old ++ happened ∷ [] }
@@ -46,7 +46,7 @@ impl Outcome {
         self.happened.push(happened);
     }
 
-    /// Tells what happened then, and returns whether it was made.
+    /// Appends what happened next, and returns whether it was made.
     pub(crate) fn add(&mut self, happened: Happened) -> bool
         requires room { length self.old < 5 }
         ensures added { self.new ≡ self.old ++ happened ∷ [] }
@@ -57,7 +57,7 @@ impl Outcome {
         is_made
     }
 
-    /// Tells what came of an issue and of the take behind it.
+    /// Appends the results of an issue and of the take behind it.
     pub(crate) fn tell_begun(&mut self, begun: Begun)
         requires nothing { self.old ≡ [] }
         ensures told { self.new ≡ told_begun begun }

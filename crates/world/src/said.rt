@@ -7,7 +7,7 @@ ghost use Rattle.world.specs.Step.{told_reaction};
 use daemon::{Daemon, Happened, Reaction, Turn};
 use takeover_core::Message;
 
-/// Lets the daemon at `index` become what it is to become, and returns what it makes of the message.
+/// Lets the daemon at `index` take its turn on, and returns the reaction.
 pub(crate) fn let_turn(daemons: &mut Vec<Daemon>, index: usize, turn: Turn) -> Reaction
     requires within { index < vec_len daemons.old }
     ensures reacts { result ≡ turn.reaction }
@@ -17,7 +17,7 @@ pub(crate) fn let_turn(daemons: &mut Vec<Daemon>, index: usize, turn: Turn) -> R
     hearer.turn(turn)
 }
 
-/// Says what a daemon has to say, behind what was said before, and returns what is told of it: the place of the first.
+/// Adds what a daemon says to the messages, and returns what is told of it: the position of its first message.
 pub(crate) fn say(messages: &mut Vec<Message>, reaction: Reaction) -> Happened
     requires room { vec_len messages.old + length (what_is_said reaction) ≤ vec_capacity messages.old }
     ensures told { result ≡ told_reaction (vec_len messages.old) reaction }
@@ -28,9 +28,9 @@ pub(crate) fn say(messages: &mut Vec<Message>, reaction: Reaction) -> Happened
         Reaction::Heeds => Happened::Heard,
         Reaction::Says(said, others) => {
             messages.push_reserved(said);
-            let place = messages.len();
+            let position = messages.len();
             others.append_to(messages);
-            Happened::Said(place)
+            Happened::Said(position)
         }
     }
 }
@@ -50,7 +50,9 @@ fn is_data(message: &Message, generation: u64) -> bool
     ensures value { result ≡ is_data_of generation message.now }
 {
     match message {
-        Message::Data { generation: at, .. } => *at == generation,
+        Message::Data { generation: at, .. } | Message::Part { generation: at, .. } => {
+            *at == generation
+        }
         _ => false,
     }
 }

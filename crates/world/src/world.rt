@@ -18,10 +18,10 @@ use fuse_wire::{Ask, Reply, Request};
 use manifest::Manifest;
 use std::alloc::Global;
 use std::marker::Model;
-use takeover_core::Message;
+use takeover_core::{Message, Versions};
 
-/// The daemons of one mount, in the order in which they started, the kernel, and all that a daemon said to another: a
-/// message stays, so that it can be heard by any daemon, any number of times or never.
+/// The daemons of one mount in the order of their start, the kernel's side, and every message that a daemon said. A
+/// message stays: any daemon may hear it, any number of times or never.
 #[derive(Drop)]
 pub struct World {
     alloc: Global,
@@ -113,8 +113,8 @@ impl World {
         self.messages.as_slice()
     }
 
-    /// Returns the place, from 1, of the message in which the seat's holder handed over what it serves: none without a
-    /// seat, and where it handed nothing over. Looks through all messages.
+    /// Returns the position, from 1, of the message in which the seat's holder handed over what it serves: none without
+    /// a seat, and where it handed nothing over. Looks through all messages.
     pub fn handed(&self) -> Option<usize>
         ensures handed { result ≡ handed_of self.now }
     {
@@ -136,7 +136,7 @@ impl World {
         outcome
     }
 
-    /// Lets one event happen as `step` does, and tells what came of it in place of what the outcome told.
+    /// Lets one event happen as `step` does, and writes what happened into `outcome`, which is emptied first.
     pub fn step_into(&mut self, event: &Event, outcome: &mut Outcome)
         ensures step { Step self.old event.now outcome.new self.new }
 
@@ -148,24 +148,24 @@ impl World {
         self.decide(event, outcome);
     }
 
-    /// Lets the events that an event consists of happen, until one is refused, and tells of each.
+    /// Lets the parts of an event happen, until one is refused, and appends the outcome of each.
     fn decide(&mut self, event: &Event, outcome: &mut Outcome)
         requires nothing { outcome.old ≡ [] }
         ensures step { Step self.old event.now outcome.new self.new }
     {
         match event {
-            Event::Start => outcome.tell(self.start()),
+            Event::Start(versions) => outcome.tell(self.start(versions)),
             Event::Mount(daemon) => outcome.tell(self.mount(*daemon)),
             Event::Issue(request) => outcome.tell(self.issue(request)),
             Event::Take(daemon) => outcome.tell(self.take(*daemon)),
             Event::Work {
                 daemon,
-                place,
+                position,
                 fails,
-            } => outcome.tell(self.work(*daemon, *place, *fails)),
-            Event::Post { daemon, place } => outcome.tell(self.post(*daemon, *place)),
+            } => outcome.tell(self.work(*daemon, *position, *fails)),
+            Event::Post { daemon, position } => outcome.tell(self.post(*daemon, *position)),
             Event::Deliver => outcome.tell(self.deliver()),
-            Event::Hear { daemon, place } => outcome.tell(self.hear(*daemon, *place)),
+            Event::Hear { daemon, position } => outcome.tell(self.hear(*daemon, *position)),
             Event::Drained(daemon) => outcome.tell(self.drained(*daemon)),
             Event::GiveUp(daemon) => outcome.tell(self.give_up(*daemon)),
             Event::Claim(daemon) => outcome.tell(self.claim(*daemon)),
@@ -175,9 +175,9 @@ impl World {
         }
     }
 
-    /// Starts a daemon, unless there are as many as there may be, and says its offer.
-    fn start(&mut self) -> Happened
-        ensures once { Once self.old Event.Start result self.new }
+    /// Starts a daemon with these versions, unless there are as many as there may be, and says its offer.
+    fn start(&mut self, versions: &Versions) -> Happened
+        ensures once { Once self.old (Event.Start versions.now) result self.new }
     {
         if self.daemons.len() >= World::MOST_DAEMONS {
             return Happened::Refused(Refusal::Full);
@@ -189,7 +189,7 @@ impl World {
         if self.messages.reserve(1).is_err() {
             return Happened::Refused(Refusal::NoMemory);
         }
-        let daemon = Daemon::new();
+        let daemon = Daemon::new(versions.copy());
         self.messages.push_reserved(daemon.offer());
         self.daemons.push_reserved(daemon);
         Happened::Started(number)
@@ -239,26 +239,26 @@ impl World {
         taker.take(&mut self.broker, daemon)
     }
 
-    /// Lets a daemon work what stands at a place of its hand.
-    fn work(&mut self, daemon: DaemonId, place: u64, fails: bool) -> Happened
-        ensures once { Once self.old (Event.Work daemon place fails) result self.new }
+    /// Lets a daemon work what stands at a position of its hand.
+    fn work(&mut self, daemon: DaemonId, position: u64, fails: bool) -> Happened
+        ensures once { Once self.old (Event.Work daemon position fails) result self.new }
     {
         let Some(index) = index_of(daemon.0, self.daemons.len()) else {
             return Happened::Refused(Refusal::NoDaemon);
         };
         let worker = &mut self.daemons[index];
-        worker.work(place, fails)
+        worker.work(position, fails)
     }
 
-    /// Lets a daemon post the reply at a place. It takes no memory.
-    fn post(&mut self, daemon: DaemonId, place: u64) -> Happened
-        ensures once { Once self.old (Event.Post daemon place) result self.new }
+    /// Lets a daemon post the reply at a position. It takes no memory.
+    fn post(&mut self, daemon: DaemonId, position: u64) -> Happened
+        ensures once { Once self.old (Event.Post daemon position) result self.new }
     {
         let Some(index) = index_of(daemon.0, self.daemons.len()) else {
             return Happened::Refused(Refusal::NoDaemon);
         };
         let poster = &mut self.daemons[index];
-        poster.post(&mut self.broker, daemon, place)
+        poster.post(&mut self.broker, daemon, position)
     }
 
     /// Lets the reply that was posted first reach the kernel.
@@ -272,18 +272,29 @@ impl World {
         }
     }
 
-    /// Lets a daemon hear what was said at a place. The room for what it says comes before it turns to anything.
-    fn hear(&mut self, daemon: DaemonId, place: u64) -> Happened
-        ensures once { Once self.old (Event.Hear daemon place) result self.new }
+    /// Lets a daemon hear what was said at a position. The room for what it says comes before it turns to anything, and
+    /// before it reads a part.
+    fn hear(&mut self, daemon: DaemonId, position: u64) -> Happened
+        ensures once { Once self.old (Event.Hear daemon position) result self.new }
     {
         let Some(index) = index_of(daemon.0, self.daemons.len()) else {
             return Happened::Refused(Refusal::NoDaemon);
         };
-        let Some(at) = index_of(place, self.messages.len()) else {
+        let Some(at) = index_of(position, self.messages.len()) else {
             return Happened::Refused(Refusal::NoSuch);
         };
         let said = &self.messages[at];
         let hearer = &self.daemons[index];
+        if hearer.is_fed_by(said) {
+            if self.messages.reserve(1).is_err() {
+                return Happened::Refused(Refusal::NoMemory);
+            }
+            let reader = &mut self.daemons[index];
+            let Ok(reaction) = reader.hear_part(self.alloc, &self.messages[at]) else {
+                return Happened::Refused(Refusal::NoMemory);
+            };
+            return say(&mut self.messages, reaction);
+        }
         let Ok(turn) = hearer.hear(self.alloc, &self.manifest, self.limit, said) else {
             return Happened::Refused(Refusal::NoMemory);
         };
@@ -294,7 +305,7 @@ impl World {
         say(&mut self.messages, reaction)
     }
 
-    /// Lets a daemon say that it is ready to hand over. What stands against it comes before out of memory.
+    /// Lets a daemon say that it is ready to hand over. Its refusals come before out of memory.
     fn drained(&mut self, daemon: DaemonId) -> Happened
         ensures once { Once self.old (Event.Drained daemon) result self.new }
     {
@@ -390,8 +401,8 @@ impl World {
         let _is_made = outcome.add(self.deliver());
     }
 
-    /// Issues the request and lets the daemon take what waits first then, tells of each, and returns whether both were
-    /// made. The room that the daemon needs comes before the issue.
+    /// Issues the request, lets the daemon take what waits first, and returns whether both were made. The room that the
+    /// daemon needs is made before the issue.
     fn begin(&mut self, daemon: DaemonId, request: &Request, outcome: &mut Outcome) -> bool
         requires nothing { outcome.old ≡ [] }
         ensures begins { Begins self.old request.now daemon result outcome.new self.new }

@@ -17,7 +17,7 @@ alone old event is told before after new parts same once nothing tells =
 
 pub returns-in-Start : goal.returns-in-Start
 returns-in-Start c = record {
-  step = alone c.args.self.now c.args.event.now Start c.start.result c.args.outcome.now c.tell.new.self c.start.new.self refl c.in-Start.is c.start.ensures.once c.requires.nothing c.tell.ensures.told;
+  step = alone c.args.self.now c.args.event.now (Start c.in-Start.versions) c.start.result c.args.outcome.now c.tell.new.self c.start.new.self refl c.in-Start.is c.start.ensures.once c.requires.nothing c.tell.ensures.told;
 }
 
 pub returns-in-Mount : goal.returns-in-Mount
@@ -37,12 +37,12 @@ returns-in-Take c = record {
 
 pub returns-in-Work : goal.returns-in-Work
 returns-in-Work c = record {
-  step = alone c.args.self.now c.args.event.now (Work c.in-Work.daemon c.in-Work.place c.in-Work.fails) c.work.result c.args.outcome.now c.tell-in-Work.new.self c.work.new.self refl c.in-Work.is c.work.ensures.once c.requires.nothing c.tell-in-Work.ensures.told;
+  step = alone c.args.self.now c.args.event.now (Work c.in-Work.daemon c.in-Work.position c.in-Work.fails) c.work.result c.args.outcome.now c.tell-in-Work.new.self c.work.new.self refl c.in-Work.is c.work.ensures.once c.requires.nothing c.tell-in-Work.ensures.told;
 }
 
 pub returns-in-Post : goal.returns-in-Post
 returns-in-Post c = record {
-  step = alone c.args.self.now c.args.event.now (Post c.in-Post.daemon c.in-Post.place) c.post.result c.args.outcome.now c.tell-in-Post.new.self c.post.new.self refl c.in-Post.is c.post.ensures.once c.requires.nothing c.tell-in-Post.ensures.told;
+  step = alone c.args.self.now c.args.event.now (Post c.in-Post.daemon c.in-Post.position) c.post.result c.args.outcome.now c.tell-in-Post.new.self c.post.new.self refl c.in-Post.is c.post.ensures.once c.requires.nothing c.tell-in-Post.ensures.told;
 }
 
 pub returns-in-Deliver : goal.returns-in-Deliver
@@ -57,7 +57,7 @@ returns-in-Crash c = record {
 
 pub returns-in-Hear : goal.returns-in-Hear
 returns-in-Hear c = record {
-  step = alone c.args.self.now c.args.event.now (Hear c.in-Hear.daemon c.in-Hear.place) c.hear.result c.args.outcome.now c.tell-in-Hear.new.self c.hear.new.self refl c.in-Hear.is c.hear.ensures.once c.requires.nothing c.tell-in-Hear.ensures.told;
+  step = alone c.args.self.now c.args.event.now (Hear c.in-Hear.daemon c.in-Hear.position) c.hear.result c.args.outcome.now c.tell-in-Hear.new.self c.hear.new.self refl c.in-Hear.is c.hear.ensures.once c.requires.nothing c.tell-in-Hear.ensures.told;
 }
 
 pub returns-in-Drained : goal.returns-in-Drained

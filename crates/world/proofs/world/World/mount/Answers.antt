@@ -11,7 +11,7 @@ use Rattle.world.specs.Step.{Once}
 use Rattle.daemon.specs.declared.happened.Happened.TheVariants as happened
 use Rattle.daemon.specs.declared.happened.Refusal.TheVariants.{NoMemory}
 use Rattle.world.specs.declared.event.Event.TheVariants.{Mount}
-use Rattle.daemon.proofs.Places.{none-unless}
+use Rattle.daemon.proofs.Positions.{none-unless}
 use Rattle.world.proofs.StepLemmas.{changed-at, waits-read, Once-mount-lacks, Once-mounts}
 use Rattle.world.proofs.world.World.mount.Goals as goal
 

@@ -16,6 +16,6 @@ returns c =
       within = omega (arith, c.in-Some.ensures.index.within, c.len.ensures, c.self.inside.daemons.ok.0);
     } in
     record {
-      once = subst (λ (s : State). Once s (Post c.args.daemon c.args.place) c.post.result (record old { broker = c.post.new.broker; daemons = (set old.daemons c.in-Some.index c.post.new.self) })) c.self.view_is
-          (Once-posts old c.args.daemon c.args.place c.in-Some.index c.post.result c.post.new.broker (set old.daemons c.in-Some.index c.post.new.self) at (changed-at (DaemonPosts old.broker c.args.daemon c.args.place c.post.result c.post.new.broker) old.daemons c.in-Some.index c.index_mut-poster.result.now c.post.new.self at.within c.index_mut-poster.ensures.value c.post.ensures.posts));
+      once = subst (λ (s : State). Once s (Post c.args.daemon c.args.position) c.post.result (record old { broker = c.post.new.broker; daemons = (set old.daemons c.in-Some.index c.post.new.self) })) c.self.view_is
+          (Once-posts old c.args.daemon c.args.position c.in-Some.index c.post.result c.post.new.broker (set old.daemons c.in-Some.index c.post.new.self) at (changed-at (DaemonPosts old.broker c.args.daemon c.args.position c.post.result c.post.new.broker) old.daemons c.in-Some.index c.index_mut-poster.result.now c.post.new.self at.within c.index_mut-poster.ensures.value c.post.ensures.posts));
     }

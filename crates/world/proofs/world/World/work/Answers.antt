@@ -16,6 +16,6 @@ returns c =
       within = omega (arith, c.in-Some.ensures.index.within, c.len.ensures, c.self.inside.daemons.ok.0);
     } in
     record {
-      once = subst (λ (s : State). Once s (Work c.args.daemon c.args.place c.args.fails) c.work.result (record old { daemons = (set old.daemons c.in-Some.index c.work.new.self) })) c.self.view_is
-          (Once-works old c.args.daemon c.args.place c.args.fails c.in-Some.index c.work.result (set old.daemons c.in-Some.index c.work.new.self) at (changed-at (DaemonWorks c.args.place c.args.fails c.work.result) old.daemons c.in-Some.index c.index_mut-worker.result.now c.work.new.self at.within c.index_mut-worker.ensures.value c.work.ensures.works));
+      once = subst (λ (s : State). Once s (Work c.args.daemon c.args.position c.args.fails) c.work.result (record old { daemons = (set old.daemons c.in-Some.index c.work.new.self) })) c.self.view_is
+          (Once-works old c.args.daemon c.args.position c.args.fails c.in-Some.index c.work.result (set old.daemons c.in-Some.index c.work.new.self) at (changed-at (DaemonWorks c.args.position c.args.fails c.work.result) old.daemons c.in-Some.index c.index_mut-worker.result.now c.work.new.self at.within c.index_mut-worker.ensures.value c.work.ensures.works));
     }
