@@ -1,4 +1,4 @@
-//! What a line waits for, and what of it came.
+//! What a line waits for, and what came.
 ghost use Rattle.std.specs.Prelude.{◌≡◌};
 ghost use Rattle.broker_script.specs.Looking.{idle_come, seat_come, Looks};
 ghost use Rattle.broker_script.specs.declared.awaited.Awaited.TheVariants.{Reply as AReply};
@@ -14,7 +14,7 @@ pub enum Awaited {
     Reply(u64),
     /// A seat at this generation or a later one.
     Seat(u64),
-    /// That no forget waits for a daemon.
+    /// A moment in which no forget waits for a daemon.
     Idle,
 }
 
@@ -29,12 +29,12 @@ pub enum Came {
     Seat(u64),
     /// The last forget was taken.
     Idle,
-    /// The reply. Memory for its number was refused, so it stays, and a later look may take it.
+    /// The reply came, but memory for its number was refused. It stays, and a later look may take it.
     Lacks,
 }
 
-/// Looks whether what is awaited came. Only a reply changes the desk: it reaches the kernel then. A reply that stands
-/// behind another one did not come yet.
+/// Returns what is awaited, if it came. A reply is delivered to the kernel; all else changes nothing. A reply behind
+/// another posted one did not come yet.
 pub fn look(desk: &mut Desk, awaited: &Awaited) -> Option<Came>
     ensures looks { Looks desk.old awaited.now result desk.new }
 {

@@ -1,4 +1,4 @@
-//! A broker's script: its lines read, and what each comes to at the broker's desk.
+//! A broker's script: its lines as they are read, begun at the broker's desk, awaited and printed.
 #![tactic(auto)]
 
 mod awaited;

@@ -1,4 +1,4 @@
-//! A line of a broker's script, begun.
+//! How a line of a broker's script begins.
 ghost use Rattle.fuse_wire.specs.Request.{IsSendable};
 ghost use Rattle.script_lines.specs.BrokerLine.{IsSendableLine};
 ghost use Rattle.broker_script.specs.Beginning.{Begins, Issues};
@@ -9,7 +9,7 @@ use broker_desk::Desk;
 use fuse_wire::Request;
 use script_lines::BrokerLine;
 
-/// What a line comes to at once.
+/// The immediate result of a line.
 #[derive(Clone, Copy, PartialEq, Eq)]
 pub enum Begun {
     /// The line ends when this comes.

@@ -10,7 +10,7 @@ use eden_base::Number;
 use script_lines::{print_asked, print_numbered, print_refusal, print_reply};
 use std::io::{self, Write};
 
-/// Prints what a line came to at once, with what `broker` holds where the line tells it.
+/// Prints the immediate result of a line. Where the line tells the numbers held, it prints those of `broker`.
 pub fn print_begun<W: Write>(out: &mut W, broker: &Broker, begun: &Begun) -> io::Result<()>
     ensures printed { OnOk result (PrintsBegun broker.now begun.now
         (W.contents out.old) (W.contents out.new)) }

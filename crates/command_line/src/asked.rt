@@ -142,10 +142,10 @@ fn start_in(alloc: Global, daemon: &ArgMatches<'_>) -> Result<Start, Error>
     }
 }
 
-/// What is wrong with words that have both ways to start.
+/// The error text for words that have both ways to start.
 const BOTH_STARTS: &str = "the argument '--mount' cannot be used with '--takeover'";
 
-/// What is wrong with words that have none.
+/// The error text for words that have neither way to start.
 const NO_START: &str =
     "the following required arguments were not provided:\n  <--mount|--takeover>";
 
@@ -159,7 +159,7 @@ fn refusal(alloc: Global, kind: ErrorKind, text: &str) -> Result<Error, AllocErr
     refusal
 }
 
-/// Returns the word at a place of a command.
+/// Returns the word that a command has for an argument.
 fn word_in<'a>(matches: &ArgMatches<'a>, place: &str) -> &'a str
     ensures { result.now ≡ word_in place.now (rows_of (found_of matches.now)) }
 {
@@ -188,7 +188,7 @@ fn number_or(other: u64, word: Option<&str>) -> u64
     number(digits).unwrap_or(other)
 }
 
-/// What is wrong with words that are no text.
+/// The error text for words that are no text.
 const NOT_TEXT: &str = "a word of the command line is not UTF-8";
 
 /// Returns the refusal of words that are no text, with the program's usage.

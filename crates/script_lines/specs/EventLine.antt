@@ -1,6 +1,6 @@
 -- The lines of a script that say what happens: a command, and its words, parted by one space each. A name is the last
 -- word, and runs to the end of the line. (This project's own.)
-use Rattle.std.specs.Prelude.{ℕ, ◌^◌, Bool, true, false, nat_lt, List, Option, Some, None, codes, option_map, option_and_then, is_none, if◌then◌else◌}
+use Rattle.std.specs.Prelude.{ℕ, ◌^◌, Bool, true, false, nat_lt, List, [], ◌∷◌, ◌++◌, length, Option, Some, None, codes, option_map, option_and_then, is_none, if◌then◌else◌}
 use Rattle.fuse_wire.specs.declared.request.Request.{Request}
 use Rattle.fuse_wire.specs.declared.request.Request.TheVariants.{Lookup, Getattr, Create, Mkdir, Unlink, Rmdir, Forget}
 use Rattle.fuse_wire.specs.Request.{other_of}
@@ -13,7 +13,7 @@ use Rattle.eden_base.specs.declared.number.Number.{Number}
 use Rattle.manifest.specs.Text.{mode_of}
 use Rattle.script_lines.specs.Number.{number_of}
 use Rattle.eden_base.specs.Text.{cut}
-use Rattle.script_lines.specs.Words.{is_word}
+use Rattle.script_lines.specs.Words.{is_word, words_of}
 
 -- the name that bytes are
 abbrev pub name_of : List ℕ → Option (List ℕ)
@@ -121,6 +121,30 @@ request_of words = option_and_then (λ (parts : List ℕ × List ℕ). request_b
 abbrev pub daemon_said : ℕ → DaemonId
 daemon_said daemon = record { 0 = daemon }
 
+-- a version of the image, which has 16 bits
+abbrev pub version_in : ℕ → Option ℕ
+version_in version = if nat_lt version (2 ^ 16) then Some version else None
+
+-- `V`
+abbrev pub version_of : List ℕ → Option ℕ
+version_of word = option_and_then version_in (number_of word)
+
+-- versions with that of one more word behind, where there are at most eight
+abbrev pub with_version : List ℕ → List ℕ → Option (List ℕ)
+with_version versions word =
+    if nat_lt (length versions) 8 then option_map (λ (version : ℕ). versions ++ version ∷ []) (version_of word)
+    else None
+
+-- versions with those of more words behind
+abbrev pub versions_after : List ℕ → List (List ℕ) → Option (List ℕ)
+versions_after versions [] = Some versions
+versions_after versions (word ∷ words) =
+    option_and_then (λ longer. versions_after longer words) (with_version versions word)
+
+-- `V ..`: one version to eight, in their order
+abbrev pub start_of : List ℕ → Option Event
+start_of words = option_map (λ (versions : List ℕ). Start versions) (versions_after [] (words_of words))
+
 -- `D`
 abbrev pub mount_of : List ℕ → Option Event
 mount_of words = option_map (λ (daemon : ℕ). Mount (daemon_said daemon)) (number_of words)
@@ -129,11 +153,11 @@ mount_of words = option_map (λ (daemon : ℕ). Mount (daemon_said daemon)) (num
 abbrev pub take_of : List ℕ → Option Event
 take_of words = option_map (λ (daemon : ℕ). Take (daemon_said daemon)) (number_of words)
 
--- a place, and whether the backing fails
+-- a position, and whether the backing fails
 abbrev pub tried_at : Option ℕ → Bool → Option (ℕ × Bool)
-tried_at place fails = option_map (λ (place : ℕ). (place, fails)) place
+tried_at position fails = option_map (λ (position : ℕ). (position, fails)) position
 
--- by the words behind the place, if there are any
+-- by the words behind the position, if there are any
 abbrev pub tried_by : List ℕ → Option (List ℕ × List ℕ) → Option (ℕ × Bool)
 tried_by words None = tried_at (number_of words) false
 tried_by words (Some parts) = if is_word parts.1 (codes "fail") then tried_at (number_of parts.0) true else None
@@ -142,7 +166,7 @@ tried_by words (Some parts) = if is_word parts.1 (codes "fail") then tried_at (n
 abbrev pub tried_of : List ℕ → Option (ℕ × Bool)
 tried_of words = tried_by words (cut 32 words)
 
--- a daemon works at a place
+-- a daemon works at a position
 abbrev pub work_both : Option ℕ → Option (ℕ × Bool) → Option Event
 work_both (Some daemon) (Some tried) = Some (Work (daemon_said daemon) tried.0 tried.1)
 work_both _ _ = None
@@ -208,13 +232,14 @@ abbrev pub event_by : List ℕ → List ℕ → Option Event
 event_by word rest =
     if is_word word (codes "do") then do_of rest
     else if is_word word (codes "issue") then issue_of rest
+    else if is_word word (codes "start") then start_of rest
     else daemon_event_by word rest
 
--- `start`, `show`, `deliver`, `do REQUEST`, `issue REQUEST`, `mount D`, `take D`, `work D I`, `work D I fail`,
--- `post D I`, `hear D K`, `drained D`, `giveup D`, `claim D` or `crash D`
+-- `start`, `start V ..`, `show`, `deliver`, `do REQUEST`, `issue REQUEST`, `mount D`, `take D`, `work D I`,
+-- `work D I fail`, `post D I`, `hear D K`, `drained D`, `giveup D`, `claim D` or `crash D`. A bare `start` has version 1
 abbrev pub event_of : List ℕ → Option Event
 event_of line =
-    if is_word line (codes "start") then Some Start
+    if is_word line (codes "start") then Some (Start (1 ∷ []))
     else if is_word line (codes "show") then Some Show
     else if is_word line (codes "deliver") then Some Deliver
     else option_and_then (λ (parts : List ℕ × List ℕ). event_by parts.0 parts.1) (cut 32 line)

@@ -1,5 +1,5 @@
 -- What each event prints, and what `show` prints of the world. (This project's own.)
-use Rattle.std.specs.Prelude.{ℕ, ◌+◌, ◌-◌, ◌/◌, ◌%◌, List, [], ◌∷◌, ◌++◌, length, codes, slice_get, sum_by, count_by, Option, Some, None}
+use Rattle.std.specs.Prelude.{ℕ, ◌+◌, ◌-◌, ◌*◌, ◌/◌, ◌%◌, List, [], ◌∷◌, ◌++◌, length, codes, slice_get, sum_by, count_by, Option, Some, None}
 use Rattle.std.specs.Fmt.{decimal}
 use Rattle.std.specs.Option.{option_and_then, option_map_or}
 use Rattle.eden_base.specs.Words.{errno_name, kind_name}
@@ -17,9 +17,11 @@ use Rattle.fuse_wire.specs.declared.request.Ask.{Ask}
 use Rattle.fuse_wire.specs.declared.reply.Answer.{Answer}
 use Rattle.fuse_wire.specs.declared.reply.Answer.TheVariants.{Entry, Opened, Attrs, Done, Error}
 use Rattle.fuse_wire.specs.declared.reply.Reply.{Reply}
+use Rattle.map_image.specs.Versions.{part_len}
 use Rattle.takeover_core.specs.declared.message.Message.{Message}
-use Rattle.takeover_core.specs.declared.message.Message.TheVariants.{Offer, Choice, NoCommon, Busy, Ready, Pong, Data, Failed}
-use Rattle.daemon.specs.Server.{at_place}
+use Rattle.takeover_core.specs.declared.message.Message.TheVariants.{Offer, Choice, NoCommon, Busy, Ready, Pong, Data, Part, Failed}
+use Rattle.daemon.specs.Server.{at_position}
+use Rattle.daemon.specs.Talking.{bytes_of}
 use Rattle.world.specs.State.{State, served_of, hand_of, unposted_of}
 use Rattle.inode_map.specs.Words.{forgot_name}
 use Rattle.daemon.specs.Refusals.{refusal_name}
@@ -83,22 +85,35 @@ refusal_values refusal = []
 abbrev pub refusal_line : Refusal → List ℕ
 refusal_line refusal = line (codes "refused" ∷ refusal_name refusal ∷ refusal_values refusal)
 
--- a message, by its kind; of data, how many bytes there are
-abbrev pub message_words : Message → List (List ℕ)
-message_words (Offer versions) = codes "offer" ∷ []
-message_words (Choice session version) = codes "choice" ∷ decimal session ∷ decimal version ∷ []
-message_words NoCommon = codes "nocommon" ∷ []
-message_words Busy = codes "busy" ∷ []
-message_words (Ready session generation) = codes "ready" ∷ decimal session ∷ decimal generation ∷ []
-message_words (Pong session) = codes "pong" ∷ decimal session ∷ []
-message_words (Data session generation bytes) =
-    codes "data" ∷ decimal session ∷ decimal generation ∷ decimal (length bytes) ∷ []
-message_words (Failed session) = codes "failed" ∷ decimal session ∷ []
+-- how many bytes the data at a position has, if there is any
+abbrev pub length_at : List Message → ℕ → ℕ
+length_at messages position = option_map_or (λ (said : Message). length (bytes_of said)) (at_position messages position) 0
 
--- `said K MESSAGE`; nothing where nothing was said at the place
-abbrev pub said_line : ℕ → Option Message → List ℕ
-said_line place None = []
-said_line place (Some message) = spaced (codes "said" ∷ decimal place ∷ []) ++ line (message_words message)
+-- the length of a text in `count` parts, of which the first stands at `position`: each is full but the last
+abbrev pub total_length : List Message → ℕ → ℕ → ℕ
+total_length messages position count = (count - 1) * part_len + length_at messages (position + (count - 1))
+
+-- a message at a position, by its kind; of data, how many bytes there are
+abbrev pub message_words : List Message → ℕ → Message → List (List ℕ)
+message_words messages position (Offer versions) = codes "offer" ∷ []
+message_words messages position (Choice session version) = codes "choice" ∷ decimal session ∷ decimal version ∷ []
+message_words messages position NoCommon = codes "nocommon" ∷ []
+message_words messages position Busy = codes "busy" ∷ []
+message_words messages position (Ready session generation) =
+    codes "ready" ∷ decimal session ∷ decimal generation ∷ []
+message_words messages position (Pong session) = codes "pong" ∷ decimal session ∷ []
+message_words messages position (Data session generation bytes) =
+    codes "data" ∷ decimal session ∷ decimal generation ∷ decimal (length bytes) ∷ []
+message_words messages position (Part session generation index count bytes) =
+    codes "parts" ∷ decimal session ∷ decimal generation ∷ decimal count
+    ∷ decimal (total_length messages position count) ∷ []
+message_words messages position (Failed session) = codes "failed" ∷ decimal session ∷ []
+
+-- `said K MESSAGE`; nothing where nothing was said at the position
+abbrev pub said_line : List Message → ℕ → Option Message → List ℕ
+said_line messages position None = []
+said_line messages position (Some message) =
+    spaced (codes "said" ∷ decimal position ∷ []) ++ line (message_words messages position message)
 
 -- the line of what happened, where so much was said
 abbrev pub line_of : List Message → Happened → List ℕ
@@ -111,7 +126,7 @@ line_of messages (Made reply) = reply_line (codes "made") reply
 line_of messages (Forgot item forgot) = line (codes "forgot" ∷ forgot_name forgot ∷ [])
 line_of messages (Posted unique) = line (codes "posted" ∷ decimal unique ∷ [])
 line_of messages (Answered reply) = reply_line (codes "answer") reply
-line_of messages (Said place) = said_line place (at_place messages place)
+line_of messages (Said place) = said_line messages place (at_position messages place)
 line_of messages Heard = line (codes "heard" ∷ [])
 line_of messages Ignored = line (codes "ignored" ∷ [])
 line_of messages (Claimed generation) = line (codes "claimed" ∷ decimal generation ∷ [])

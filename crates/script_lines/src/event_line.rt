@@ -1,12 +1,14 @@
 //! A line that says what happens.
-ghost use Rattle.std.specs.Prelude.{◌≡◌, IfOk};
-ghost use Rattle.script_lines.specs.EventLine.{event_of, daemon_event_by, mount_of, take_of, work_of, tried_of, tried_at, pair_of, post_of, takeover_event_by, hear_of, drained_of, give_up_of, claim_of, crash_of, issue_of, do_of, request_of, request_by, nameless_by, lookup_of, create_of, mkdir_of, unlink_of, rmdir_of, forget_of, getattr_of, other_said, named_of, made_of, name_of};
+ghost use Rattle.std.specs.Prelude.{◌≡◌, IfOk, option_map};
+ghost use Rattle.script_lines.specs.EventLine.{event_of, start_of, with_version, daemon_event_by, mount_of, take_of, work_of, tried_of, tried_at, pair_of, post_of, takeover_event_by, hear_of, drained_of, give_up_of, claim_of, crash_of, issue_of, do_of, request_of, request_by, nameless_by, lookup_of, create_of, mkdir_of, unlink_of, rmdir_of, forget_of, getattr_of, other_said, named_of, made_of, name_of};
 
 use crate::decimal::number;
+use arrayvec::ArrayVec;
 use eden_base::{DaemonId, Name, NameFault, NoMemory, Number, Perm, cut};
 use fuse_wire::{Item, Request};
 use manifest::mode_of;
 use std::alloc::Global;
+use takeover_core::Versions;
 use world::Event;
 
 /// Reads the event that a line says, without its LF; none where the line is bad.
@@ -14,7 +16,7 @@ pub fn read_event(alloc: Global, line: &[u8]) -> Result<Option<Event>, NoMemory>
     ensures event { IfOk result (λ event. event ≡ event_of line.now) }
 {
     if line == b"start".as_slice() {
-        return Ok(Some(Event::Start));
+        return Ok(Some(Event::Start(Versions::of(&[1]))));
     }
     if line == b"show".as_slice() {
         return Ok(Some(Event::Show));
@@ -30,6 +32,9 @@ pub fn read_event(alloc: Global, line: &[u8]) -> Result<Option<Event>, NoMemory>
     }
     if word == b"issue".as_slice() {
         return read_issue(alloc, rest);
+    }
+    if word == b"start".as_slice() {
+        return Ok(read_start(rest));
     }
     Ok(read_daemon_event(word, rest))
 }
@@ -75,6 +80,29 @@ fn read_takeover_event(word: &[u8], rest: &[u8]) -> Option<Event>
     None
 }
 
+/// Reads the versions that a new daemon has.
+fn read_start(words: &[u8]) -> Option<Event>
+    ensures { result ≡ start_of words.now }
+{
+    let mut versions = ArrayVec::new();
+    let mut rest = words;
+    while let Some((word, behind)) = cut(rest, b' ') {
+        versions = with_version(versions, word)?;
+        rest = behind;
+    }
+    versions = with_version(versions, rest)?;
+    Some(Event::Start(Versions::of(versions.as_slice())))
+}
+
+/// Returns the versions with that of one more word, where there are at most eight.
+fn with_version(mut versions: ArrayVec<u16, 8>, word: &[u8]) -> Option<ArrayVec<u16, 8>>
+    ensures { option_map (λ longer. longer.items) result ≡ with_version versions.items word.now }
+{
+    let version = u16::try_from(number(word)?).ok()?;
+    versions.try_push(version).ok()?;
+    Some(versions)
+}
+
 /// Reads the daemon that mounts.
 fn read_mount(words: &[u8]) -> Option<Event>
     ensures { result ≡ mount_of words.now }
@@ -91,31 +119,31 @@ fn read_take(words: &[u8]) -> Option<Event>
     Some(Event::Take(DaemonId(daemon)))
 }
 
-/// Reads the daemon that works, the place in its hand, and whether its backing fails.
+/// Reads the daemon that works, the position in its hand, and whether its backing fails.
 fn read_work(words: &[u8]) -> Option<Event>
     ensures { result ≡ work_of words.now }
 {
     let (daemon, rest) = cut(words, b' ')?;
     let daemon = DaemonId(number(daemon)?);
-    let (place, fails) = read_tried(rest)?;
+    let (position, fails) = read_tried(rest)?;
     Some(Event::Work {
         daemon,
-        place,
+        position,
         fails,
     })
 }
 
-/// Reads a place, and whether the word `fail` stands behind it.
+/// Reads a position, and whether the word `fail` stands behind it.
 fn read_tried(words: &[u8]) -> Option<(u64, bool)>
     ensures { result ≡ tried_of words.now }
 {
     match cut(words, b' ') {
         None => Some((number(words)?, false)),
-        Some((place, word)) => {
+        Some((position, word)) => {
             if word != b"fail".as_slice() {
                 return None;
             }
-            Some((number(place)?, true))
+            Some((number(position)?, true))
         }
     }
 }
@@ -128,22 +156,22 @@ pub(crate) fn read_pair(words: &[u8]) -> Option<(u64, u64)>
     Some((number(first)?, number(second)?))
 }
 
-/// Reads the daemon that posts, and the place among its replies.
+/// Reads the daemon that posts, and the position among its replies.
 fn read_post(words: &[u8]) -> Option<Event>
     ensures { result ≡ post_of words.now }
 {
-    let (daemon, place) = read_pair(words)?;
+    let (daemon, position) = read_pair(words)?;
     let daemon = DaemonId(daemon);
-    Some(Event::Post { daemon, place })
+    Some(Event::Post { daemon, position })
 }
 
-/// Reads the daemon that hears, and the place of the message.
+/// Reads the daemon that hears, and the position of the message.
 fn read_hear(words: &[u8]) -> Option<Event>
     ensures { result ≡ hear_of words.now }
 {
-    let (daemon, place) = read_pair(words)?;
+    let (daemon, position) = read_pair(words)?;
     let daemon = DaemonId(daemon);
-    Some(Event::Hear { daemon, place })
+    Some(Event::Hear { daemon, position })
 }
 
 /// Reads the daemon that is to be drained.

@@ -6,6 +6,7 @@ mod decimal;
 mod event_line;
 mod lines;
 mod print;
+mod taken_back;
 
 pub use broker_line::{BrokerLine, read_broker_line};
 pub use decimal::number;

@@ -1,18 +1,21 @@
 //! The lines that a script's events print.
-ghost use Rattle.std.specs.Prelude.{◌≡◌, ◌<◌, ◌^◌, ◌∷◌, [], sum_by, count_by, OnOk};
+ghost use Rattle.std.specs.Prelude.{◌≡◌, ◌≤◌, ◌<◌, ◌^◌, ◌∷◌, [], length, sum_by, count_by, IfSome, OnOk};
 ghost use Rattle.std.specs.Fmt.{decimal};
 ghost use Rattle.std.specs.Io.KnownBytes.{Appends};
 ghost use Rattle.std.specs.Option.{option_copied};
 ghost use Rattle.broker_core.specs.Traffic.{gives};
 ghost use Rattle.entry_table.specs.declared.kept.Kept.{Kept};
-ghost use Rattle.daemon.specs.Server.{at_place};
-ghost use Rattle.script_lines.specs.Printed.{printed, line, line_of, said_line, message_words, refusal_line, asked_words, spaced, reply_line, answer_words, file_words, octal, world_lines, served_lines, kept_lines, kept_line, count_words, taken_back_by, taken_back_under_way, given_under_way, place_line};
+ghost use Rattle.daemon.specs.Server.{at_position};
+ghost use Rattle.world.specs.State.{hand_of};
+ghost use Rattle.script_lines.specs.Printed.{printed, line, line_of, said_line, message_words, total_length, length_at, refusal_line, asked_words, spaced, reply_line, answer_words, file_words, octal, world_lines, served_lines, kept_lines, kept_line, count_words, taken_back_by, taken_back_under_way, given_under_way, place_line};
 
+use crate::taken_back::TakenBack;
 use broker_core::Seat;
 use eden_base::{Attr, DaemonId, Number, Perm, Place};
 use fuse_ops::Served;
-use fuse_wire::{Answer, Ask, Reply};
+use fuse_wire::{Answer, Reply};
 use inode_map::InodeMap;
+use map_image::PART_LEN;
 use std::io::{self, Write};
 use takeover_core::Message;
 use world::{Event, Happened, Outcome, Refusal, World};
@@ -58,7 +61,7 @@ fn print_happened<W: Write>(
         }
         Happened::Posted(unique) => print_numbered(out, "posted", *unique),
         Happened::Answered(reply) => print_reply(out, "answer", reply),
-        Happened::Said(place) => print_said(out, messages, *place),
+        Happened::Said(position) => print_said(out, messages, *position),
         Happened::Heard => writeln!(out, "heard"),
         Happened::Ignored => writeln!(out, "ignored"),
         Happened::Claimed(generation) => print_numbered(out, "claimed", *generation),
@@ -75,32 +78,39 @@ pub fn print_numbered<W: Write>(out: &mut W, word: &str, number: u64) -> io::Res
     writeln!(out, "{word} {number}")
 }
 
-/// Prints the message at a place, counted from 1: nothing, where nothing was said there.
-fn print_said<W: Write>(out: &mut W, messages: &[Message], place: usize) -> io::Result<()>
+/// Prints the message at a position, counted from 1: nothing, where nothing was said there.
+fn print_said<W: Write>(out: &mut W, messages: &[Message], position: usize) -> io::Result<()>
     ensures { OnOk result (Appends (W.contents out.old) (W.contents out.new)
-        (said_line place (at_place messages.now place))) }
+        (said_line messages.now position (at_position messages.now position))) }
 {
-    match message_at(messages, place) {
+    match message_at(messages, position) {
         Some(message) => {
-            write!(out, "said {place} ")?;
-            print_message(out, message)
+            write!(out, "said {position} ")?;
+            print_message(out, messages, position, message)
         }
         None => Ok(()),
     }
 }
 
-/// Returns the message at a place, counted from 1.
-fn message_at(messages: &[Message], place: usize) -> Option<&Message>
-    ensures { option_copied result ≡ at_place messages.now place }
+/// Returns the message at a position, counted from 1.
+fn message_at(messages: &[Message], position: usize) -> Option<&Message>
+    ensures message { option_copied result ≡ at_position messages.now position }
+    ensures within { IfSome result (λ said. position ≤ length messages.now) }
 {
-    let index = place.checked_sub(1)?;
+    let index = position.checked_sub(1)?;
     messages.get(index)
 }
 
-/// Prints a message, by its kind.
-fn print_message<W: Write>(out: &mut W, message: &Message) -> io::Result<()>
+/// Prints the message at a position, by its kind.
+fn print_message<W: Write>(
+    out: &mut W,
+    messages: &[Message],
+    position: usize,
+    message: &Message,
+) -> io::Result<()>
+    requires within { position ≤ length messages.now }
     ensures { OnOk result (Appends (W.contents out.old) (W.contents out.new)
-        (line (message_words message.now))) }
+        (line (message_words messages.now position message.now))) }
 {
     match message {
         Message::Offer(_) => writeln!(out, "offer"),
@@ -120,7 +130,37 @@ fn print_message<W: Write>(out: &mut W, message: &Message) -> io::Result<()>
             let length = bytes.as_slice().len();
             writeln!(out, "data {session} {generation} {length}")
         }
+        Message::Part {
+            session,
+            generation,
+            count,
+            ..
+        } => {
+            let total = total_length(messages, position, *count);
+            writeln!(out, "parts {session} {generation} {count} {total}")
+        }
         Message::Failed { session } => print_numbered(out, "failed", u64::from(*session)),
+    }
+}
+
+/// Returns the length of a text in `count` parts, of which the first stands at `position`. Each is full but the last.
+fn total_length(messages: &[Message], position: usize, count: u32) -> u64
+    requires within { position ≤ length messages.now }
+    ensures { result ≡ total_length messages.now position count }
+{
+    let full = count.saturating_sub(1);
+    let last = length_at(messages, position + full as usize);
+    u64::from(full) * PART_LEN as u64 + last as u64
+}
+
+/// Returns how many bytes the data at a position has, if there is any.
+fn length_at(messages: &[Message], position: usize) -> usize
+    ensures length { result ≡ length_at messages.now position }
+    ensures below { result < 2 ^ 63 }
+{
+    match message_at(messages, position) {
+        Some(Message::Data { bytes, .. } | Message::Part { bytes, .. }) => bytes.as_slice().len(),
+        _ => 0,
     }
 }
 
@@ -237,12 +277,16 @@ fn print_all_kept<W: Write>(
     ensures { OnOk result (Appends (W.contents out.old) (W.contents out.new)
         (kept_lines world.now daemon map.now.entries)) }
 {
+    let hand = world.hand(daemon);
+    let mut taken_back = TakenBack::gather(hand, Number::ROOT.0);
     let mut last = Number::ROOT;
     while let Some(number) = map.after(last) {
         let Some(place) = map.entry(number) else {
             unreachable!()
         };
-        print_kept(out, world, daemon, number, map.count(number), place)?;
+        let in_hand = taken_back.of(hand, number);
+        let count = map.count(number);
+        print_kept(out, world, daemon, number, in_hand, count, place)?;
         last = number;
     }
     Ok(())
@@ -254,16 +298,19 @@ fn print_kept<W: Write>(
     world: &World,
     daemon: DaemonId,
     number: Number,
+    in_hand: u128,
     count: u64,
     place: &Place,
 ) -> io::Result<()>
+    requires sum { in_hand ≡ sum_by (taken_back_by number.0) (hand_of world.now daemon) }
+    requires below { in_hand < 2 ^ 127 }
     ensures { (kept : Kept) → kept ≡ record { number = number; place = place.now; count = count }
         → OnOk result (Appends (W.contents out.old) (W.contents out.new)
         (kept_line world.now daemon kept)) }
 {
     let n = number.0;
     write!(out, "number {n} ")?;
-    print_counts(out, world, daemon, number, count)?;
+    print_counts(out, world, daemon, number, in_hand, count)?;
     print_place(out, place)
 }
 
@@ -273,44 +320,27 @@ fn print_counts<W: Write>(
     world: &World,
     daemon: DaemonId,
     number: Number,
+    in_hand: u128,
     count: u64,
 ) -> io::Result<()>
+    requires sum { in_hand ≡ sum_by (taken_back_by number.0) (hand_of world.now daemon) }
+    requires below { in_hand < 2 ^ 127 }
     ensures { OnOk result (Appends (W.contents out.old) (W.contents out.new)
         (spaced (count_words world.now daemon number.0 count))) }
 {
     let held = world.broker().held(number);
-    let up = taken_back_under_way(world, daemon, number);
+    let up = taken_back_under_way(world, daemon, number, in_hand);
     let down = given_under_way(world, daemon, number);
     write!(out, "held {held} up {up} down {down} count {count} ")
 }
 
 /// Returns how often the items that wait and those in a daemon's hand take a number back.
-fn taken_back_under_way(world: &World, daemon: DaemonId, number: Number) -> u128
+fn taken_back_under_way(world: &World, daemon: DaemonId, number: Number, in_hand: u128) -> u128
+    requires sum { in_hand ≡ sum_by (taken_back_by number.0) (hand_of world.now daemon) }
+    requires below { in_hand < 2 ^ 127 }
     ensures { result ≡ taken_back_under_way world.now daemon number.0 }
 {
-    u128::from(world.broker().forgets_waiting(number)) + taken_back_in(world.hand(daemon), number)
-}
-
-/// Returns how often items in a hand take a number back. A hand has fewer than 2^63 members.
-fn taken_back_in(hand: &[Ask], number: Number) -> u128
-    ensures sum { result ≡ sum_by (taken_back_by number.0) hand.now }
-    ensures below { result < 2 ^ 127 }
-{
-    let mut sum = 0;
-    for task in hand {
-        sum += u128::from(taken_back_by(task, number));
-    }
-    sum
-}
-
-/// Returns how often what a daemon took takes a number back.
-fn taken_back_by(task: &Ask, number: Number) -> u64
-    ensures { result ≡ taken_back_by number.0 task.now }
-{
-    match task.what.item() {
-        Some(item) if item.node == number => item.k,
-        _ => 0,
-    }
+    u128::from(world.broker().forgets_waiting(number)) + in_hand
 }
 
 /// Returns how many replies that a daemon did not post, or that wait for the kernel, give a number out.

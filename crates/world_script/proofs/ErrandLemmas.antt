@@ -13,16 +13,16 @@ use Rattle.command_line.specs.declared.asked.Asked.{Asked}
 use Rattle.command_line.specs.declared.asked.Asked.TheVariants.{World, Serve}
 use Rattle.command_line.specs.declared.errand.Errand.{Errand}
 use Rattle.command_line.specs.declared.errand.Errand.TheVariants.{Broker, Daemon}
-use Rattle.world_script.specs.Ending.{Answers, Ends, EndsAfter, EndsAsked, EndsBy, ErrandsKnown, Finishes, Had, RunsErrand, RunsNamed, Tells, asks_errand, command_had, is_right, limit_had, path_had, plain, untold, untold_by, unwritten, wrong_had}
+use Rattle.world_script.specs.ProgramEnd.{Answers, Ends, EndsAfter, EndsAsked, EndsBy, ErrandsKnown, Finishes, Had, RunsErrand, RunsNamed, Tells, asks_errand, command_had, is_right, limit_had, path_had, plain, untold, untold_by, unwritten, wrong_had}
 use Rattle.world_script.specs.FaultText.{fault_line}
 use Rattle.world_script.specs.Source.{script_at}
-use Rattle.world_script.specs.declared.ending.Ending.{Ending}
-use Rattle.world_script.specs.declared.ending.Ending.TheVariants.{Ran, Told, Untold, Shown, Refused}
+use Rattle.world_script.specs.declared.program_end.ProgramEnd.{ProgramEnd}
+use Rattle.world_script.specs.declared.program_end.ProgramEnd.TheVariants.{Ran, Told, Untold, Shown, Refused}
 use Rattle.world_script.specs.declared.failure.Cause.{Cause}
 use Rattle.world_script.specs.declared.failure.Failure.{Failure}
 use Rattle.world_script.specs.declared.fault.Fault.{Fault}
 use Rattle.world_script.specs.declared.fault.Fault.TheVariants.{CannotWrite, NoMemory}
-use Rattle.world_script.proofs.EndingLemmas.{Appends-from, ends-answered, ends-finished, ends-no_memory}
+use Rattle.world_script.proofs.ProgramEndLemmas.{Appends-from, ends-answered, ends-finished, ends-no_memory}
 use Rattle.world_script.proofs.ProcessLemmas.{ends-from}
 
 -- a fault whose line could not be written is untold
@@ -37,52 +37,52 @@ untold_is failure error = untold_is_by failure.fault failure.cause failure error
 tells-untold : (failure : Failure) (before after : Option (List ℕ)) (error : IoError) → Tells failure before after (untold failure error)
 tells-untold failure before after error =
     let is = untold_is failure error in
-    subst (λ (e : Ending). Tells failure before after e) (sym is.2) (error, sym is.2)
+    subst (λ (e : ProgramEnd). Tells failure before after e) (sym is.2) (error, sym is.2)
 
 -- what was told of a fault is told of it once all is written
-tells-kept : (failure : Failure) (before between after : Option (List ℕ)) (ending : Ending) → Tells failure before between ending → Keeps between after → Tells failure before after ending
+tells-kept : (failure : Failure) (before between after : Option (List ℕ)) (ending : ProgramEnd) → Tells failure before between ending → Keeps between after → Tells failure before after ending
 tells-kept failure before between after (Told told) (same, line) kept = (same, Appends-kept before between after (fault_line failure.fault) line kept)
 tells-kept failure before between after ending (error, same) kept = (error, same)
 
-tells-unwritten : (failure : Failure) (before between after : Option (List ℕ)) (ending : Ending) (error : IoError) → Tells failure before between ending → Tells failure before after (unwritten ending error)
+tells-unwritten : (failure : Failure) (before between after : Option (List ℕ)) (ending : ProgramEnd) (error : IoError) → Tells failure before between ending → Tells failure before after (unwritten ending error)
 tells-unwritten failure before between after (Told told) error (same, line) =
     subst (λ (f : Failure). Tells failure before after (untold f error)) (sym same) (tells-untold failure before after error)
 tells-unwritten failure before between after (Untold kept first) error (second, same) = (second, same)
 tells-unwritten failure before between after ending error (second, same) = let is = untold_is failure second in let bad : ending ≡ Untold is.0 is.1 = same ∙ is.2 in cc
 
-pub tells-finished : (failure : Failure) (before between after : Option (List ℕ)) (ending new : Ending) → Tells failure before between ending → Finishes ending between after new → Tells failure before after new
+pub tells-finished : (failure : Failure) (before between after : Option (List ℕ)) (ending new : ProgramEnd) → Tells failure before between ending → Finishes ending between after new → Tells failure before after new
 tells-finished failure before between after ending new tells (inl (same, kept)) =
-    subst (λ (e : Ending). Tells failure before after e) (sym same) (tells-kept failure before between after ending tells kept)
+    subst (λ (e : ProgramEnd). Tells failure before after e) (sym same) (tells-kept failure before between after ending tells kept)
 tells-finished failure before between after ending new tells (inr (error, same)) =
-    subst (λ (e : Ending). Tells failure before after e) (sym same) (tells-unwritten failure before between after ending error tells)
+    subst (λ (e : ProgramEnd). Tells failure before after e) (sym same) (tells-unwritten failure before between after ending error tells)
 
 -- and behind what was kept at first
-pub tells-from : (failure : Failure) (a b c : Option (List ℕ)) (ending : Ending) → Keeps a b → Tells failure b c ending → Tells failure a c ending
+pub tells-from : (failure : Failure) (a b c : Option (List ℕ)) (ending : ProgramEnd) → Keeps a b → Tells failure b c ending → Tells failure a c ending
 tells-from failure a b c (Told told) kept (same, line) = (same, Appends-from a b c (fault_line failure.fault) kept line)
 tells-from failure a b c ending kept (error, same) = (error, same)
 
-ran-finished : (before between after : Option (List ℕ)) (new : Ending) → Keeps before between → Finishes Ran between after new → EndsAfter (Ok tt) before after new
-ran-finished before between after new keeps (inl (same, kept)) = subst (λ (e : Ending). EndsAfter (Ok tt) before after e) (sym same) (Keeps-trans before between after keeps kept)
-ran-finished before between after new keeps (inr (error, same)) = subst (λ (e : Ending). EndsAfter (Ok tt) before after e) (sym same) refl
+ran-finished : (before between after : Option (List ℕ)) (new : ProgramEnd) → Keeps before between → Finishes Ran between after new → EndsAfter (Ok tt) before after new
+ran-finished before between after new keeps (inl (same, kept)) = subst (λ (e : ProgramEnd). EndsAfter (Ok tt) before after e) (sym same) (Keeps-trans before between after keeps kept)
+ran-finished before between after new keeps (inr (error, same)) = subst (λ (e : ProgramEnd). EndsAfter (Ok tt) before after e) (sym same) refl
 
-unwritten-finished : (before between after : Option (List ℕ)) (failure : Failure) (first : IoError) (new : Ending) → failure ≡ plain CannotWrite → Finishes (Untold failure first) between after new → EndsAfter (Ok tt) before after new
-unwritten-finished before between after failure first new is (inl (same, kept)) = subst (λ (e : Ending). EndsAfter (Ok tt) before after e) (sym same) is
-unwritten-finished before between after failure first new is (inr (error, same)) = subst (λ (e : Ending). EndsAfter (Ok tt) before after e) (sym same) is
+unwritten-finished : (before between after : Option (List ℕ)) (failure : Failure) (first : IoError) (new : ProgramEnd) → failure ≡ plain CannotWrite → Finishes (Untold failure first) between after new → EndsAfter (Ok tt) before after new
+unwritten-finished before between after failure first new is (inl (same, kept)) = subst (λ (e : ProgramEnd). EndsAfter (Ok tt) before after e) (sym same) is
+unwritten-finished before between after failure first new is (inr (error, same)) = subst (λ (e : ProgramEnd). EndsAfter (Ok tt) before after e) (sym same) is
 
 -- how the program ends after an errand stays so once all is written
-ends_after-finished : (result : Result (Unit {0}) Failure) (before between after : Option (List ℕ)) (ending new : Ending) → EndsAfter result before between ending → Finishes ending between after new → EndsAfter result before after new
+ends_after-finished : (result : Result (Unit {0}) Failure) (before between after : Option (List ℕ)) (ending new : ProgramEnd) → EndsAfter result before between ending → Finishes ending between after new → EndsAfter result before after new
 ends_after-finished (Err failure) before between after ending new ends finishes = tells-finished failure before between after ending new ends finishes
 ends_after-finished (Ok done) before between after Ran new ends finishes = ran-finished before between after new ends finishes
 ends_after-finished (Ok done) before between after (Untold failure first) new ends finishes = unwritten-finished before between after failure first new ends finishes
 ends_after-finished (Ok done) before between after ending new ends finishes = absurd ends
 
 -- an errand that was run, and how the program ends after it
-pub runs_errand : (errand : Errand) (errands : ErrandsKnown) (result : Result (Unit {0}) Failure) (before between after : Option (List ℕ)) (ending : Ending) →
+pub runs_errand : (errand : Errand) (errands : ErrandsKnown) (result : Result (Unit {0}) Failure) (before between after : Option (List ℕ)) (ending : ProgramEnd) →
     errands errand result before between → EndsAfter result between after ending → RunsErrand errand errands before after ending
 runs_errand errand errands result before between after ending ran ends =
     record { result = result; begun = before; ended = between; first = Keeps-refl before; ran = ran; ends = ends }
 
-runs_named-finished : (command : Option (Text × List Row)) (errands : ErrandsKnown) (before between after : Option (List ℕ)) (ending new : Ending) →
+runs_named-finished : (command : Option (Text × List Row)) (errands : ErrandsKnown) (before between after : Option (List ℕ)) (ending new : ProgramEnd) →
     RunsNamed command errands before between ending → Finishes ending between after new → RunsNamed command errands before after new
 runs_named-finished command errands before between after ending new named finishes = record {
   errand = named.errand;
@@ -97,7 +97,7 @@ runs_named-finished command errands before between after ending new named finish
   };
 }
 
-runs_named-from : (command : Option (Text × List Row)) (errands : ErrandsKnown) (a b c : Option (List ℕ)) (ending : Ending) →
+runs_named-from : (command : Option (Text × List Row)) (errands : ErrandsKnown) (a b c : Option (List ℕ)) (ending : ProgramEnd) →
     Keeps a b → RunsNamed command errands b c ending → RunsNamed command errands a c ending
 runs_named-from command errands a b c ending kept named = record {
   errand = named.errand;
@@ -113,7 +113,7 @@ runs_named-from command errands a b c ending kept named = record {
 }
 
 -- the end of words stays what it is once all is written
-pub ends_by-finished : (had : Had) (input : Option (List ℕ)) (file : List ℕ → Option (List ℕ)) (errands : ErrandsKnown) (before between after : Option (List ℕ)) (ending new : Ending) →
+pub ends_by-finished : (had : Had) (input : Option (List ℕ)) (file : List ℕ → Option (List ℕ)) (errands : ErrandsKnown) (before between after : Option (List ℕ)) (ending new : ProgramEnd) →
     EndsBy had input file errands before between ending → Finishes ending between after new → EndsBy had input file errands before after new
 ends_by-finished had input file errands before between after ending new ends finishes = record {
   script = λ none. ends-finished (wrong_had had) (path_had had) (script_at input file (path_had had)) (limit_had had) before between after ending new (ends.script none) finishes;
@@ -124,7 +124,7 @@ ends_by-finished had input file errands before between after ending new ends fin
 }
 
 -- and behind what was kept at first
-pub ends_by-from : (had : Had) (input : Option (List ℕ)) (file : List ℕ → Option (List ℕ)) (errands : ErrandsKnown) (a b c : Option (List ℕ)) (ending : Ending) →
+pub ends_by-from : (had : Had) (input : Option (List ℕ)) (file : List ℕ → Option (List ℕ)) (errands : ErrandsKnown) (a b c : Option (List ℕ)) (ending : ProgramEnd) →
     Keeps a b → EndsBy had input file errands b c ending → EndsBy had input file errands a c ending
 ends_by-from had input file errands a b c ending kept ends = record {
   script = λ none. ends-from (wrong_had had) (path_had had) (script_at input file (path_had had)) (limit_had had) a b c ending kept (ends.script none);
@@ -135,7 +135,7 @@ ends_by-from had input file errands a b c ending kept ends = record {
 }
 
 -- memory may run out whatever the words ask for
-pub ends_by-no_memory : (had : Had) (input : Option (List ℕ)) (file : List ℕ → Option (List ℕ)) (errands : ErrandsKnown) (before after : Option (List ℕ)) (ending : Ending) →
+pub ends_by-no_memory : (had : Had) (input : Option (List ℕ)) (file : List ℕ → Option (List ℕ)) (errands : ErrandsKnown) (before after : Option (List ℕ)) (ending : ProgramEnd) →
     Tells (plain NoMemory) before after ending → EndsBy had input file errands before after ending
 ends_by-no_memory had input file errands before after ending told = record {
   script = λ none. ends-no_memory (wrong_had had) (path_had had) (script_at input file (path_had had)) (limit_had had) before after ending told;
@@ -143,7 +143,7 @@ ends_by-no_memory had input file errands before after ending told = record {
 }
 
 -- words that could not be had ask for no errand
-pub ends_by-unread : (k : IoErrorKind) (input : Option (List ℕ)) (file : List ℕ → Option (List ℕ)) (errands : ErrandsKnown) (before after : Option (List ℕ)) (ending : Ending) →
+pub ends_by-unread : (k : IoErrorKind) (input : Option (List ℕ)) (file : List ℕ → Option (List ℕ)) (errands : ErrandsKnown) (before after : Option (List ℕ)) (ending : ProgramEnd) →
     Ends (wrong_had (Err k)) standard_input (script_at input file standard_input) 1024 before after ending → EndsBy (Err k) input file errands before after ending
 ends_by-unread k input file errands before after ending ends = record { script = λ none. ends; errand = λ asks. cc }
 
@@ -151,7 +151,7 @@ right_is : (wrong : Kinds) (asks : Bool) → (is_right wrong && asks) ≡ true �
 right_is [] asks is = refl
 right_is (k ∷ more) asks is = cc
 
-tells-answered : (before after : Option (List ℕ)) (ending : Ending) → Answers kind.OutOfMemory before after ending → Tells (plain NoMemory) before after ending
+tells-answered : (before after : Option (List ℕ)) (ending : ProgramEnd) → Answers kind.OutOfMemory before after ending → Tells (plain NoMemory) before after ending
 tells-answered before after Ran none = absurd none
 tells-answered before after (Told failure) told = told
 tells-answered before after (Untold failure error) (inl same) = (error, ap (λ (f : Failure). Untold f error) same)
@@ -164,7 +164,7 @@ memory_is k wrong none (inl memory) = memory
 memory_is k wrong none (inr among) = absurd (subst (IsAmong k) none among)
 
 -- what is wrong with the words is answered
-pub ends_by-answered : (words : List Text) (input : Option (List ℕ)) (file : List ℕ → Option (List ℕ)) (errands : ErrandsKnown) (before after : Option (List ℕ)) (k : ErrorKind) (ending : Ending) →
+pub ends_by-answered : (words : List Text) (input : Option (List ℕ)) (file : List ℕ → Option (List ℕ)) (errands : ErrandsKnown) (before after : Option (List ℕ)) (k : ErrorKind) (ending : ProgramEnd) →
     (k ≡ kind.OutOfMemory) ⊎ IsAmong k (wrong_of words) → Answers k before after ending → EndsBy (Ok words) input file errands before after ending
 ends_by-answered words input file errands before after k ending has answers = record {
   script = λ none. ends-answered (wrong_of words) (script_named words) (script_at input file (script_named words)) (limit_named words) before after k ending has answers;
@@ -180,7 +180,7 @@ errand_is command (Daemon daemon) (rows, is, parts) = ap is_errand is
 asks_is : (words : List Text) (asks : Bool) → wrong_of words ≡ [] → is_errand (command_of words) ≡ asks → asks_errand (Ok words) ≡ asks
 asks_is words asks none is = ap₂ (λ (wrong : Kinds) (b : Bool). is_right wrong && b) none is
 
-script-read : (words : List Text) (input : Option (List ℕ)) (file : List ℕ → Option (List ℕ)) (path : Text) (limit : ℕ) (before after : Option (List ℕ)) (ending : Ending) →
+script-read : (words : List Text) (input : Option (List ℕ)) (file : List ℕ → Option (List ℕ)) (path : Text) (limit : ℕ) (before after : Option (List ℕ)) (ending : ProgramEnd) →
     wrong_of words ≡ [] → path ≡ script_named words → limit ≡ limit_named words → Ends [] path (script_at input file path) limit before after ending →
     Ends (wrong_of words) (script_named words) (script_at input file (script_named words)) (limit_named words) before after ending
 script-read words input file path limit before after ending none path_is limit_is ends =
@@ -189,7 +189,7 @@ script-read words input file path limit before after ending none path_is limit_i
     (subst (λ (l : ℕ). Ends [] path (script_at input file path) l before after ending) limit_is ends))
 
 -- what the words ask for is done
-pub ends_by-asked : (words : List Text) (input : Option (List ℕ)) (file : List ℕ → Option (List ℕ)) (errands : ErrandsKnown) (before after : Option (List ℕ)) (asked : Asked) (ending : Ending) →
+pub ends_by-asked : (words : List Text) (input : Option (List ℕ)) (file : List ℕ → Option (List ℕ)) (errands : ErrandsKnown) (before after : Option (List ℕ)) (asked : Asked) (ending : ProgramEnd) →
     wrong_of words ≡ [] → IsAsked (command_of words) asked → EndsAsked asked input file errands before after ending → EndsBy (Ok words) input file errands before after ending
 ends_by-asked words input file errands before after (World world) ending none is ends = record {
   script = λ apart. script-read words input file world.script.now world.limit before after ending none is.1 is.2 ends;

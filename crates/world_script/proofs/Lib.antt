@@ -1,7 +1,7 @@
-pub mod EndingLemmas
 pub mod ErrandLemmas
 pub mod PlayLemmas
 pub mod ProcessLemmas
+pub mod ProgramEndLemmas
 pub mod ReadLemmas
 pub mod RunLemmas
 pub mod ScriptLemmas

@@ -8,12 +8,12 @@ use Rattle.std.specs.declared.io.buffered.BufWriter.{BufWriter}
 use Rattle.std.proofs.KnownBytes.{Keeps-trans}
 use Rattle.std.specs.declared.io.Error.{Error as IoError}
 use Rattle.clap.specs.Words.{Kinds, Text}
-use Rattle.world_script.specs.Ending.{Complains, Ends, Says, complaint, name_of, words_had}
+use Rattle.world_script.specs.ProgramEnd.{Complains, Ends, Says, complaint, name_of, words_had}
 use Rattle.world_script.specs.FaultText.{fault_line}
 use Rattle.world_script.specs.Script.{Runs}
-use Rattle.world_script.specs.declared.ending.Ending.{Ending}
-use Rattle.world_script.specs.declared.ending.Ending.TheVariants.{Ran, Told, Untold, Shown, Refused}
-use Rattle.world_script.proofs.EndingLemmas.{Appends-from}
+use Rattle.world_script.specs.declared.program_end.ProgramEnd.{ProgramEnd}
+use Rattle.world_script.specs.declared.program_end.ProgramEnd.TheVariants.{Ran, Told, Untold, Shown, Refused}
+use Rattle.world_script.proofs.ProgramEndLemmas.{Appends-from}
 use Rattle.world_script.proofs.ReadLemmas.{of_read-map}
 
 Runs-from : (script : List ℕ) (limit : ℕ) (a b c : Option (List ℕ)) → Keeps a b → Runs script limit b c → Runs script limit a c
@@ -29,7 +29,7 @@ Runs-from script limit a b c kept runs = record {
   promised = runs.promised;
 }
 
-pub ends-from : (wrong : Kinds) (path : List ℕ) (script : Option (List ℕ)) (limit : ℕ) (a b c : Option (List ℕ)) (ending : Ending) →
+pub ends-from : (wrong : Kinds) (path : List ℕ) (script : Option (List ℕ)) (limit : ℕ) (a b c : Option (List ℕ)) (ending : ProgramEnd) →
     Keeps a b → Ends wrong path script limit b c ending → Ends wrong path script limit a c ending
 ends-from wrong path script limit a b c Ran kept (none, runs) =
     (none, of_read-map script (λ bytes. Runs bytes limit b c) (λ bytes. Runs bytes limit a c) (λ bytes ran. Runs-from bytes limit a b c kept ran) runs)
@@ -43,7 +43,7 @@ complains-from : (name : Option (List ℕ)) (a b c : Option (List ℕ)) → Keep
 complains-from None a b c kept stays = Keeps-trans a b c kept stays
 complains-from (Some name) a b c kept (cause, line) = (cause, Appends-from a b c (complaint name cause) kept line)
 
-says-from : (ending : Ending) (a b c : Option (List ℕ)) → Keeps a b → Says ending b c → Says ending a c
+says-from : (ending : ProgramEnd) (a b c : Option (List ℕ)) → Keeps a b → Says ending b c → Says ending a c
 says-from Ran a b c kept stays = Keeps-trans a b c kept stays
 says-from (Told failure) a b c kept says = complains-from (name_of failure) a b c kept says
 says-from (Untold failure error) a b c kept (between, first, second) = (between, complains-from (name_of failure) a b between kept first, second)
@@ -51,7 +51,7 @@ says-from (Shown text) a b c kept stays = Keeps-trans a b c kept stays
 says-from (Refused text) a b c kept line = Appends-from a b c (string_bytes text) kept line
 
 -- what was said, where no write failed
-pub said-from : (said : Result (Unit {0}) IoError) (ending : Ending) (a b c : Option (List ℕ)) → Keeps a b → OnOk said (Says ending b c) → OnOk said (Says ending a c)
+pub said-from : (said : Result (Unit {0}) IoError) (ending : ProgramEnd) (a b c : Option (List ℕ)) → Keeps a b → OnOk said (Says ending b c) → OnOk said (Says ending a c)
 said-from (Ok done) ending a b c kept says = says-from ending a b c kept says
 said-from (Err error) ending a b c kept says = tt
 

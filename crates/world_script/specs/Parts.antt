@@ -23,7 +23,7 @@ pub record IsSplit (script manifest events : List ℕ) (first : ℕ) : Type 0 wh
   pub behind : lines_behind (lines_of script) ≡ Some (lines_of events)
   pub first_is : first + length (lines_of events) ≡ length (lines_of script) + 1
 
--- the place of the first line that says no event
+-- the index of the first line that says no event
 abbrev pub first_bad : List (List ℕ) → Option ℕ
 first_bad lines = position is_none (map event_of lines)
 
@@ -36,7 +36,7 @@ pub record SaysEvents (script : List ℕ) (events : List Event) : Type 0 where
 -- the number of the first line behind a script's marker that says no event
 pub record IsBadLine (script : List ℕ) (number : ℕ) : Type 0 where
   pub lines : List (List ℕ)
-  pub place : ℕ
+  pub index : ℕ
   pub behind : lines_behind (lines_of script) ≡ Some lines
-  pub is_first : first_bad lines ≡ Some place
-  pub number_is : number + length lines ≡ length (lines_of script) + place + 1
+  pub is_first : first_bad lines ≡ Some index
+  pub number_is : number + length lines ≡ length (lines_of script) + index + 1

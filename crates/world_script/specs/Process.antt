@@ -2,8 +2,8 @@
 use Rattle.std.specs.Prelude.{◌≡◌, ℕ, List, Option, Result, IfOk, IfSome, OnOk}
 use Rattle.std.specs.declared.io.Error.{Error as IoError}
 use Rattle.clap.specs.Words.{Text}
-use Rattle.world_script.specs.Ending.{EndsBy, ErrandsKnown, Had, Says, status_of}
-use Rattle.world_script.specs.declared.ending.Ending.{Ending}
+use Rattle.world_script.specs.ProgramEnd.{EndsBy, ErrandsKnown, Had, Says, status_of}
+use Rattle.world_script.specs.declared.program_end.ProgramEnd.{ProgramEnd}
 
 -- The program ran in a process of which this is known: its words, the bytes of standard input and of files, how errands
 -- end, and what standard output and standard error held before and hold after. There are the words, those that are known, and there
@@ -14,7 +14,7 @@ pub record RunsIn (words : Option (List Text)) (input : Option (List ℕ)) (file
     (status : ℕ) (said : Result (Unit {0}) IoError) : Type 0 where
   pub had : Had
   pub are : IfOk had (λ all. IfSome words (λ known. all ≡ known))
-  pub ending : Ending
+  pub ending : ProgramEnd
   pub ends : EndsBy had input file errands output output_after ending
   pub status_is : status ≡ status_of ending
   -- what is to be said is all that standard error got, unless a write there failed

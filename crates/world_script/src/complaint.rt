@@ -1,17 +1,17 @@
 //! A line on standard error.
 ghost use Rattle.std.specs.Prelude.{OnOk, Some};
 ghost use Rattle.std.specs.Io.KnownBytes.{Appends};
-ghost use Rattle.world_script.specs.Ending.{Complains, complaint};
+ghost use Rattle.world_script.specs.ProgramEnd.{Complains, complaint};
 
 use arrayvec::ArrayString;
 use std::fmt::Write as _;
 use std::io::{self, Write};
 
-/// How many bytes of the system's words are told; what it says of an error has at most 300.
+/// How many bytes of the system's error text are written. That text has at most 300.
 const MOST: usize = 320;
 
-/// Says what the system's error with a file or a stream is, by its `name`. It takes no memory, so that it can say
-/// that there is none.
+/// Writes a line with the name of a file or a stream and the system's error with it. It takes no memory, so that it can
+/// tell of out of memory too.
 pub fn complain<E: Write>(err: &mut E, name: &str, error: &io::Error) -> io::Result<()>
     ensures { OnOk result (Complains (Some name.now) (E.contents err.old) (E.contents err.new)) }
 {

@@ -1,4 +1,4 @@
-//! Whoever runs what words ask for beside a script.
+//! The trait of those who run errands: a broker or a daemon, as the words of the command line ask.
 ghost use Rattle.std.specs.Prelude.{List, Option, Result, ℕ, ⊤};
 ghost use Rattle.command_line.specs.declared.errand.Errand.{Errand as ErrandValue};
 ghost use Rattle.world_script.specs.declared.failure.Failure.{Failure as FailureValue};
@@ -8,7 +8,7 @@ use command_line::Errand;
 use std::alloc::Global;
 use std::io::Write;
 
-/// Those who run errands: the real ones by sockets and threads, those of a test by what it likes.
+/// Runs errands: the program's by sockets and threads, a test's as it likes.
 pub trait Errands {
     /// How an errand may end, and what `out` held before it and holds after it, where that is known.
     ghost ends: { Self → ErrandValue → Result (Unit {0}) FailureValue

@@ -1,11 +1,11 @@
-//! A fault that ends the program, and what the system's error behind it is with.
+//! A fault that ends the program, and the system's error behind it.
 ghost use Rattle.std.specs.Prelude.{◌≡◌, OnOk};
 ghost use Rattle.world_script.specs.Refusal.{IsCaused};
-ghost use Rattle.world_script.specs.Ending.{Complains, name_by, name_of, name_with, plain, untold};
+ghost use Rattle.world_script.specs.ProgramEnd.{Complains, name_by, name_of, name_with, plain, untold};
 
 use crate::complaint::complain;
 use crate::sources::stream_at;
-use crate::{Ending, Fault, RunError};
+use crate::{Fault, ProgramEnd, RunError};
 use std::io::{self, Write};
 
 /// The name that standard output has on standard error.
@@ -53,18 +53,18 @@ impl<'a> Failure<'a> {
 
     /// Returns the ending where the fault's line could not be written. Where lines of events could not be either, the
     /// error of that write is kept.
-    pub fn untold(self, error: io::Error) -> Ending<'a>
+    pub fn untold(self, error: io::Error) -> ProgramEnd<'a>
         ensures { result ≡ untold self.entry error }
     {
         match (self.fault, self.cause) {
             (Fault::CannotWrite, Some(first)) => {
-                Ending::Untold(Failure::plain(Fault::CannotWrite), first.error)
+                ProgramEnd::Untold(Failure::plain(Fault::CannotWrite), first.error)
             }
-            _ => Ending::Untold(self, error),
+            _ => ProgramEnd::Untold(self, error),
         }
     }
 
-    /// Says what the system's error is and what it is with, if one is there.
+    /// Writes a line with the system's error and the file or stream that it is with, if there is one.
     pub fn say<E: Write>(&self, err: &mut E) -> io::Result<()>
         ensures { OnOk result (Complains (name_of self.now) (E.contents err.old)
             (E.contents err.new)) }
@@ -76,7 +76,7 @@ impl<'a> Failure<'a> {
     }
 }
 
-/// Returns the name of what the system's error behind a fault is with, where the script at `path` was run.
+/// Returns the file or stream with which the system had an error at this fault, where the script at `path` was run.
 fn name_with(fault: Fault, path: &str) -> &str
     ensures { result.now ≡ name_with path.now fault }
 {

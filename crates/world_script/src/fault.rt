@@ -12,9 +12,8 @@ use std::error::Error;
 use std::fmt;
 use std::io::{self, Write};
 
-/// A fault ends the program. Those up to out of memory come before anything of a script is run or printed; of several
-/// the one that stands first here is told, and out of memory where it comes. Those behind `CannotWrite` are of processes
-/// that serve over sockets.
+/// A fault that ends the program. Those up to out of memory come before any line of a script is run or printed, the
+/// first listed before the others. Those behind `CannotWrite` are of processes that serve over sockets.
 #[derive(Clone, Copy, Debug, PartialEq, Eq)]
 pub enum Fault {
     /// The script's reader failed, or took too many reads.

@@ -3,26 +3,26 @@
 #![tactic(auto)]
 
 mod complaint;
-mod ending;
 mod errands;
 mod failure;
 mod fault;
 mod input;
 mod process;
 mod program;
+mod program_end;
 mod run;
 mod run_error;
 mod script;
 mod sources;
 
 pub use command_line::{BrokerWords, DEFAULT_LIMIT, DaemonWords, Errand, Start};
-pub use ending::Ending;
 pub use errands::Errands;
 pub use failure::{Cause, Failure};
 pub use fault::{Fault, write_fault};
 pub use input::read_manifest;
 pub use process::{Process, RunIn, run_process};
 pub use program::{run_program, run_words};
+pub use program_end::ProgramEnd;
 pub use run::{run_script, run_world};
 pub use run_error::RunError;
 pub use sources::{Sources, System, read_path, run_path};

@@ -2,11 +2,11 @@
 ghost use Rattle.std.specs.Prelude.{None, IfOk, IfSome, List, Option, ℕ, map, string_bytes, ◌≡◌};
 ghost use Rattle.std.specs.Io.KnownBytes.{Keeps};
 ghost use Rattle.world_script.specs.declared.fault.Fault.TheVariants.{NoMemory};
-ghost use Rattle.world_script.specs.Ending.{EndsBy, Tells, plain, words_had};
+ghost use Rattle.world_script.specs.ProgramEnd.{EndsBy, Tells, plain, words_had};
 ghost use Rattle.world_script.specs.Process.{RunsIn};
 
 use crate::program::tell;
-use crate::{Ending, Errands, Failure, Fault, Sources, System, run_program};
+use crate::{Errands, Failure, Fault, ProgramEnd, Sources, System, run_program};
 use std::alloc::Global;
 use std::env;
 use std::io::{self, BufWriter, Write};
@@ -15,8 +15,7 @@ use std::rt::{Env, Files, Stderr, Stdout};
 /// How many bytes of printed lines are gathered for one write.
 const CAPACITY: usize = 65_536;
 
-/// The words and the streams of a process. A contract knows of them what those say that are known, as ones in memory
-/// do.
+/// The words and the streams of a process. Contracts speak of what is known of them, as where they are in memory.
 pub trait Process: Sources {
     type Output: Write + Drop;
 
@@ -77,7 +76,7 @@ pub struct RunIn<W, E> {
     pub status: u8,
     pub output: W,
     pub errors: E,
-    /// Whether all that was to be said on standard error is written there. Nothing else tells that it isn't.
+    /// An error where the lines for standard error could not be written. The status doesn't tell it.
     pub said: io::Result<()>,
 }
 
@@ -114,7 +113,7 @@ fn run_gathered<'a, P: Process, D: Errands>(
     words: &'a io::Result<Vec<String>>,
     process: &P,
     errands: &D,
-) -> (P::Output, Ending<'a>)
+) -> (P::Output, ProgramEnd<'a>)
     ensures { EndsBy (words_had words.now)
         (P.input_bytes process.now) (P.file_bytes process.now) (D.ends errands.now)
         (P.output_bytes process.now) (P.Output.contents result.0) result.1 }
@@ -126,7 +125,7 @@ fn run_gathered<'a, P: Process, D: Errands>(
 }
 
 /// Tells that there is no memory to gather lines in.
-fn tell_no_memory<W: Write>(mut output: W) -> (W, Ending<'static>)
+fn tell_no_memory<W: Write>(mut output: W) -> (W, ProgramEnd<'static>)
     ensures { Tells (plain NoMemory) (W.contents output) (W.contents result.0) result.1 }
 {
     let ending = tell(Failure::plain(Fault::NoMemory), &mut output);

@@ -3,10 +3,10 @@ ghost use Rattle.std.specs.Prelude.{Err, Ok, [], map, string_bytes};
 ghost use Rattle.std.specs.Io.Buffered.{writer_contents};
 ghost use Rattle.std.specs.IoError.{error_kind};
 ghost use Rattle.clap.specs.Words.{kind_of};
-ghost use Rattle.world_script.specs.Ending.{Answers, Ends, EndsAsked, EndsBy, Finishes, RunsErrand, Shows, Tells, words_had, wrong_had};
+ghost use Rattle.world_script.specs.ProgramEnd.{Answers, Ends, EndsAsked, EndsBy, Finishes, RunsErrand, Shows, Tells, words_had, wrong_had};
 ghost use Rattle.world_script.specs.Source.{script_at};
 
-use crate::{Ending, Errands, Failure, Fault, Sources, run_path, write_fault};
+use crate::{Errands, Failure, Fault, ProgramEnd, Sources, run_path, write_fault};
 use clap::Error;
 use clap::error::ErrorKind;
 use command_line::{Asked, Errand, asked_of, not_text};
@@ -21,7 +21,7 @@ pub fn run_program<'a, S: Sources, D: Errands, W: Write + Drop>(
     sources: &S,
     errands: &D,
     mut lines: BufWriter<W>,
-) -> (W, Ending<'a>)
+) -> (W, ProgramEnd<'a>)
     ensures ends { EndsBy (words_had words.now)
         (S.input_bytes sources.now) (S.file_bytes sources.now) (D.ends errands.now)
         (writer_contents W.contents lines) (W.contents result.0) result.1 }
@@ -30,14 +30,14 @@ pub fn run_program<'a, S: Sources, D: Errands, W: Write + Drop>(
     finish(lines, ending)
 }
 
-/// Does what the words ask for, where they could be had.
+/// Does what the words ask for, where they are text.
 fn run_had<'a, S: Sources, D: Errands, W: Write>(
     alloc: Global,
     words: &'a io::Result<Vec<String>>,
     sources: &S,
     errands: &D,
     out: &mut W,
-) -> Ending<'a>
+) -> ProgramEnd<'a>
     ensures { EndsBy (words_had words.now)
         (S.input_bytes sources.now) (S.file_bytes sources.now) (D.ends errands.now)
         (W.contents out.old) (W.contents out.new) result }
@@ -56,7 +56,7 @@ pub fn run_words<'a, S: Sources, D: Errands, W: Write>(
     sources: &S,
     errands: &D,
     out: &mut W,
-) -> Ending<'a>
+) -> ProgramEnd<'a>
     ensures ends { EndsBy (Ok (map string_bytes words.now))
         (S.input_bytes sources.now) (S.file_bytes sources.now) (D.ends errands.now)
         (W.contents out.old) (W.contents out.new) result }
@@ -74,7 +74,7 @@ fn run_asked<'a, S: Sources, D: Errands, W: Write>(
     errands: &D,
     asked: &Asked<'a>,
     out: &mut W,
-) -> Ending<'a>
+) -> ProgramEnd<'a>
     ensures { EndsAsked asked.now
         (S.input_bytes sources.now) (S.file_bytes sources.now) (D.ends errands.now)
         (W.contents out.old) (W.contents out.new) result }
@@ -92,13 +92,13 @@ fn run_named<'a, S: Sources, W: Write>(
     path: &'a str,
     limit: usize,
     out: &mut W,
-) -> Ending<'a>
+) -> ProgramEnd<'a>
     ensures { Ends [] path.now
         (script_at (S.input_bytes sources.now) (S.file_bytes sources.now) path.now)
         limit (W.contents out.old) (W.contents out.new) result }
 {
     match run_path(alloc, sources, path, limit, out) {
-        Ok(()) => Ending::Ran,
+        Ok(()) => ProgramEnd::Ran,
         Err(error) => tell(Failure::of_run(&error, path), out),
     }
 }
@@ -110,27 +110,27 @@ fn run_errand<'a, S: Sources, D: Errands, W: Write>(
     errands: &D,
     errand: &Errand<'a>,
     out: &mut W,
-) -> Ending<'a>
+) -> ProgramEnd<'a>
     ensures { RunsErrand errand.now (D.ends errands.now) (W.contents out.old) (W.contents out.new) result }
 {
     match errands.run(alloc, sources, errand, out) {
-        Ok(()) => Ending::Ran,
+        Ok(()) => ProgramEnd::Ran,
         Err(failure) => tell(failure, out),
     }
 }
 
 /// Writes the line of a fault.
-pub fn tell<'a, W: Write>(failure: Failure<'a>, out: &mut W) -> Ending<'a>
+pub fn tell<'a, W: Write>(failure: Failure<'a>, out: &mut W) -> ProgramEnd<'a>
     ensures tells { Tells failure.entry (W.contents out.old) (W.contents out.new) result }
 {
     match write_fault(out, failure.fault) {
-        Ok(()) => Ending::Told(failure),
+        Ok(()) => ProgramEnd::Told(failure),
         Err(error) => failure.untold(error),
     }
 }
 
-/// Answers words that ask for no script: with what is wrong with them, or with the help or the version.
-fn answer<'a, W: Write>(alloc: Global, error: &Error, out: &mut W) -> Ending<'a>
+/// Answers words that ask for no script or errand: with what is wrong with them, with the help, or with the version.
+fn answer<'a, W: Write>(alloc: Global, error: &Error, out: &mut W) -> ProgramEnd<'a>
     ensures { Answers (kind_of error.now) (W.contents out.old) (W.contents out.new) result }
 {
     if error.kind() == ErrorKind::OutOfMemory {
@@ -141,22 +141,22 @@ fn answer<'a, W: Write>(alloc: Global, error: &Error, out: &mut W) -> Ending<'a>
     };
     match error.kind() {
         ErrorKind::DisplayHelp | ErrorKind::DisplayVersion => show(text, out),
-        _ => Ending::Refused(text),
+        _ => ProgramEnd::Refused(text),
     }
 }
 
 /// Writes the help or the version.
-fn show<'a, W: Write>(text: String, out: &mut W) -> Ending<'a>
+fn show<'a, W: Write>(text: String, out: &mut W) -> ProgramEnd<'a>
     ensures { Shows (string_bytes text) (W.contents out.old) (W.contents out.new) result }
 {
     match out.write_all(text.as_bytes()) {
-        Ok(()) => Ending::Shown(text),
-        Err(error) => Ending::Untold(Failure::plain(Fault::CannotWrite), error),
+        Ok(()) => ProgramEnd::Shown(text),
+        Err(error) => ProgramEnd::Untold(Failure::plain(Fault::CannotWrite), error),
     }
 }
 
-/// Answers words that could not be had, as they are no text.
-fn refuse_words<'a, W: Write>(alloc: Global, error: &io::Error, out: &mut W) -> Ending<'a>
+/// Answers words that are no text.
+fn refuse_words<'a, W: Write>(alloc: Global, error: &io::Error, out: &mut W) -> ProgramEnd<'a>
     ensures { (path : _) (known : _) (limit : _) → Ends (wrong_had (Err (error_kind error.now)))
         path known limit (W.contents out.old) (W.contents out.new) result }
 {
@@ -170,7 +170,7 @@ fn refuse_words<'a, W: Write>(alloc: Global, error: &io::Error, out: &mut W) -> 
 }
 
 /// Writes out what is still gathered, and hands the writer below back.
-fn finish<'a, W: Write + Drop>(lines: BufWriter<W>, ending: Ending<'a>) -> (W, Ending<'a>)
+fn finish<'a, W: Write + Drop>(lines: BufWriter<W>, ending: ProgramEnd<'a>) -> (W, ProgramEnd<'a>)
     ensures { Finishes ending.entry (writer_contents W.contents lines) (W.contents result.0) result.1 }
 {
     match lines.into_inner() {

@@ -13,11 +13,11 @@ use std::alloc::Global;
 use std::io::{self, Read, Write};
 use world::{Event, Outcome, World};
 
-/// Runs the script that a reader gives, and writes a line for each event that has one, in order. Nothing is run or
-/// written before the whole script is known to be good. An event that is refused is no fault: its line says so.
-/// `limit`, from 1 to 65,536, is how many files' attributes a daemon keeps loaded. It asks its backing for the others:
-/// what a `work` whose backing fails prints depends on it, and nothing else does. A line is written in pieces, so the
-/// writer does well to gather them, as a `BufWriter` does; it is flushed after the last.
+/// Runs the script that a reader gives, and writes a line for each event that has one, in order. It first reads the
+/// whole script, and runs none of it if a line is bad. An event that is refused is no fault: its line says so. `limit`,
+/// from 1 to 65,536, is how many files' attributes a daemon keeps loaded. It asks its backing for the others, so the
+/// limit shows only in a `work` whose backing fails. A line is written in pieces, so the writer does well to gather
+/// them, as a `BufWriter` does; it is flushed after the last.
 pub fn run_world<R: Read, W: Write>(
     alloc: Global,
     reader: &mut R,

@@ -1,5 +1,5 @@
 -- The line has the cause as it was rendered.
-use Rattle.world_script.proofs.EndingLemmas.{complains-of}
+use Rattle.world_script.proofs.ProgramEndLemmas.{complains-of}
 use Rattle.world_script.proofs.complaint.complain.Goals as goal
 
 pub returns : goal.returns

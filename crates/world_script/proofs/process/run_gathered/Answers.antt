@@ -1,5 +1,5 @@
 -- Nothing was written before the lines that are gathered, or before the line that there is no memory for them.
-use Rattle.world_script.specs.Ending.{words_had}
+use Rattle.world_script.specs.ProgramEnd.{words_had}
 use Rattle.world_script.proofs.ErrandLemmas.{ends_by-from, ends_by-no_memory}
 use Rattle.world_script.proofs.ProcessLemmas.{gathered-kept}
 use Rattle.world_script.proofs.process.run_gathered.Goals as goal

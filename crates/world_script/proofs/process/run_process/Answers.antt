@@ -1,5 +1,5 @@
 -- The words that were had, and the ending by which all else goes.
-use Rattle.world_script.specs.Ending.{words_had}
+use Rattle.world_script.specs.ProgramEnd.{words_had}
 use Rattle.world_script.proofs.ProcessLemmas.{said-from, words_are}
 use Rattle.world_script.proofs.process.run_process.Goals as goal
 

@@ -2,7 +2,7 @@
 use Rattle.std.proofs.Common.{◌≡◌, rules}
 use Rattle.std.specs.IoError.{error_kind}
 use Rattle.std.specs.declared.io.ErrorKind.TheVariants as io_kind
-use Rattle.world_script.proofs.EndingLemmas.{ends-unread}
+use Rattle.world_script.proofs.ProgramEndLemmas.{ends-unread}
 use Rattle.world_script.proofs.program.refuse_words.Goals as goal
 
 pub returns-in-Ok : goal.returns-in-Ok

@@ -1,8 +1,8 @@
 -- How the errand ended is how the program ends.
 use Rattle.std.proofs.Common.{subst, sym}
 use Rattle.std.proofs.KnownBytes.{Keeps-refl}
-use Rattle.world_script.specs.Ending.{EndsAfter}
-use Rattle.world_script.specs.declared.ending.Ending.TheVariants.{Ran}
+use Rattle.world_script.specs.ProgramEnd.{EndsAfter}
+use Rattle.world_script.specs.declared.program_end.ProgramEnd.TheVariants.{Ran}
 use Rattle.world_script.proofs.ErrandLemmas.{runs_errand}
 use Rattle.world_script.proofs.program.run_errand.Goals as goal
 

@@ -1,7 +1,7 @@
 -- Words that could not be had are refused, whatever path they would name.
 use Rattle.std.proofs.Common.{ap, subst, sym}
 use Rattle.command_line.specs.CommandLine.{standard_input}
-use Rattle.world_script.specs.Ending.{EndsBy, Had, words_had}
+use Rattle.world_script.specs.ProgramEnd.{EndsBy, Had, words_had}
 use Rattle.world_script.specs.Source.{script_at}
 use Rattle.world_script.proofs.ErrandLemmas.{ends_by-unread}
 use Rattle.world_script.proofs.program.run_had.Goals as goal

@@ -1,5 +1,5 @@
 -- A fault of the script is told.
-use Rattle.world_script.proofs.EndingLemmas.{ends-failed}
+use Rattle.world_script.proofs.ProgramEndLemmas.{ends-failed}
 use Rattle.world_script.proofs.program.run_named.Goals as goal
 
 pub returns-in-Err : goal.returns-in-Err

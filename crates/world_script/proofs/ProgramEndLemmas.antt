@@ -9,15 +9,15 @@ use Rattle.std.specs.declared.io.Error.{Error as IoError}
 use Rattle.clap.specs.Words.{IsAmong, Kinds}
 use Rattle.clap.specs.declared.error.kind.ErrorKind.{ErrorKind}
 use Rattle.clap.specs.declared.error.kind.ErrorKind.TheVariants as kind
-use Rattle.world_script.specs.Ending.{Answers, Complains, Ends, Finishes, IsFault, IsMistake, IsWish, Tells, complaint, name_beside, name_by, name_of, name_with, plain, untold, untold_by, unwritten, wrong_had}
+use Rattle.world_script.specs.ProgramEnd.{Answers, Complains, Ends, Finishes, IsFault, IsMistake, IsWish, Tells, complaint, name_beside, name_by, name_of, name_with, plain, untold, untold_by, unwritten, wrong_had}
 use Rattle.world_script.specs.FaultText.{fault_line}
 use Rattle.world_script.specs.Refusal.{IsRunRefusal, comes_first, is_caused}
 use Rattle.world_script.specs.Script.{Runs}
 use Rattle.world_script.specs.Source.{OfRead}
 use Rattle.world_script.proofs.ReadLemmas.{of_read-any, of_read-map}
 use Rattle.world_script.proofs.RunLemmas.{Runs-kept}
-use Rattle.world_script.specs.declared.ending.Ending.{Ending}
-use Rattle.world_script.specs.declared.ending.Ending.TheVariants.{Ran, Told, Untold, Shown, Refused}
+use Rattle.world_script.specs.declared.program_end.ProgramEnd.{ProgramEnd}
+use Rattle.world_script.specs.declared.program_end.ProgramEnd.TheVariants.{Ran, Told, Untold, Shown, Refused}
 use Rattle.world_script.specs.declared.failure.Cause.{Cause}
 use Rattle.world_script.specs.declared.failure.Failure.{Failure}
 use Rattle.world_script.specs.declared.fault.Fault.{Fault}
@@ -63,29 +63,29 @@ Appends-from (Some x) (Some y) None bs kept grows = absurd grows
 Appends-from (Some x) (Some y) (Some z) bs kept grows = grows ∙ ap (λ (xs : List ℕ). xs ++ bs) kept
 
 -- a failure that is told ends the program so
-pub ends-told : (wrong : Kinds) (path : List ℕ) (script : Option (List ℕ)) (limit : ℕ) (before between after : Option (List ℕ)) (failure : Failure) (ending : Ending) →
+pub ends-told : (wrong : Kinds) (path : List ℕ) (script : Option (List ℕ)) (limit : ℕ) (before between after : Option (List ℕ)) (failure : Failure) (ending : ProgramEnd) →
     IsFault wrong script failure.fault → name_of failure ≡ name_by path failure.fault → (comes_first failure.fault ≡ true → Keeps before between) →
     Tells failure between after ending → Ends wrong path script limit before after ending
 ends-told wrong path script limit before between after failure (Told told) is named kept (same, line) =
     subst (λ (f : Failure). Ends wrong path script limit before after (Told f)) (sym same) (is, named, λ first. Appends-from before between after (fault_line failure.fault) (kept first) line)
 ends-told wrong path script limit before between after failure ending is named kept (error, same) =
-    subst (λ (e : Ending). Ends wrong path script limit before after e) (sym same) (ends-untold wrong path script limit before after failure error is named)
+    subst (λ (e : ProgramEnd). Ends wrong path script limit before after e) (sym same) (ends-untold wrong path script limit before after failure error is named)
 
 -- there is no memory
-pub ends-no_memory : (wrong : Kinds) (path : List ℕ) (script : Option (List ℕ)) (limit : ℕ) (before after : Option (List ℕ)) (ending : Ending) →
+pub ends-no_memory : (wrong : Kinds) (path : List ℕ) (script : Option (List ℕ)) (limit : ℕ) (before after : Option (List ℕ)) (ending : ProgramEnd) →
     Tells (plain NoMemory) before after ending → Ends wrong path script limit before after ending
 ends-no_memory wrong path script limit before after ending told =
     ends-told wrong path script limit before before after (plain NoMemory) ending (is_fault-memory wrong script) refl (λ first. Keeps-refl before) told
 
 -- a script's fault, as the failure has it
-pub ends-failed : (path : List ℕ) (script : Option (List ℕ)) (limit : ℕ) (before between after : Option (List ℕ)) (fault : Fault) (failure : Failure) (ending : Ending) →
+pub ends-failed : (path : List ℕ) (script : Option (List ℕ)) (limit : ℕ) (before between after : Option (List ℕ)) (fault : Fault) (failure : Failure) (ending : ProgramEnd) →
     failure.fault ≡ fault → OfRead script (λ bytes. IsRunRefusal bytes fault) → name_of failure ≡ name_by path failure.fault → (comes_first fault ≡ true → Keeps before between) →
     Tells failure between after ending → Ends [] path script limit before after ending
 ends-failed path script limit before between after fault failure ending same is named kept told =
     ends-told [] path script limit before between after failure ending (subst (IsFault [] script) (sym same) is) named (λ first. kept (sym (ap comes_first same) ∙ first)) told
 
 -- words that ask for no script end by the kind of what is wrong with them
-pub ends-answered : (wrong : Kinds) (path : List ℕ) (script : Option (List ℕ)) (limit : ℕ) (before after : Option (List ℕ)) (k : ErrorKind) (ending : Ending) →
+pub ends-answered : (wrong : Kinds) (path : List ℕ) (script : Option (List ℕ)) (limit : ℕ) (before after : Option (List ℕ)) (k : ErrorKind) (ending : ProgramEnd) →
     (k ≡ kind.OutOfMemory) ⊎ IsAmong k wrong → Answers k before after ending → Ends wrong path script limit before after ending
 ends-answered wrong path script limit before after k Ran has none = absurd none
 ends-answered wrong path script limit before after k (Told failure) has told = ends-no_memory wrong path script limit before after (Told failure) told
@@ -104,7 +104,7 @@ refused_as_no_text io_kind.OutOfMemory other = absurd (other refl)
 refused_as_no_text k other = inl refl
 
 -- words that could not be had, and not for want of memory, end as those that are no text
-pub ends-unread : (k : IoErrorKind) (path : List ℕ) (script : Option (List ℕ)) (limit : ℕ) (before after : Option (List ℕ)) (said : ErrorKind) (ending : Ending) →
+pub ends-unread : (k : IoErrorKind) (path : List ℕ) (script : Option (List ℕ)) (limit : ℕ) (before after : Option (List ℕ)) (said : ErrorKind) (ending : ProgramEnd) →
     (k ≡ io_kind.OutOfMemory → ⊥) → said ≡ kind.InvalidValue → Answers said before after ending → Ends (wrong_had (Err k)) path script limit before after ending
 ends-unread k path script limit before after said ending other same answers =
     ends-answered (wrong_had (Err k)) path script limit before after said ending (inr (subst (λ (a : ErrorKind). IsAmong a (wrong_had (Err k))) (sym same) (refused_as_no_text k other))) answers
@@ -115,7 +115,7 @@ is_fault-ran [] script limit before after ran =
     of_read-map script (λ bytes. Runs bytes limit before after) (λ bytes. IsRunRefusal bytes CannotWrite) (λ bytes runs. runs.good) ran.1
 is_fault-ran (kind ∷ more) script limit before after ran = let none : ⊥ = cc in absurd none
 
-ends-unwritten : (wrong : Kinds) (path : List ℕ) (script : Option (List ℕ)) (limit : ℕ) (before between after : Option (List ℕ)) (ending : Ending) (error : IoError) →
+ends-unwritten : (wrong : Kinds) (path : List ℕ) (script : Option (List ℕ)) (limit : ℕ) (before between after : Option (List ℕ)) (ending : ProgramEnd) (error : IoError) →
     Ends wrong path script limit before between ending → Ends wrong path script limit before after (unwritten ending error)
 ends-unwritten wrong path script limit before between after Ran error ends = (is_fault-ran wrong script limit before between ends, refl)
 ends-unwritten wrong path script limit before between after (Told failure) error (is, named, line) = ends-untold wrong path script limit before after failure error is named
@@ -127,7 +127,7 @@ runs-kept : (script : Option (List ℕ)) (limit : ℕ) (before between after : O
 runs-kept script limit before between after runs kept =
     of_read-map script (λ bytes. Runs bytes limit before between) (λ bytes. Runs bytes limit before after) (λ bytes ran. Runs-kept bytes limit before between after ran kept) runs
 
-ends-kept : (wrong : Kinds) (path : List ℕ) (script : Option (List ℕ)) (limit : ℕ) (before between after : Option (List ℕ)) (ending : Ending) →
+ends-kept : (wrong : Kinds) (path : List ℕ) (script : Option (List ℕ)) (limit : ℕ) (before between after : Option (List ℕ)) (ending : ProgramEnd) →
     Ends wrong path script limit before between ending → Keeps between after → Ends wrong path script limit before after ending
 ends-kept wrong path script limit before between after Ran (none, runs) kept = (none, runs-kept script limit before between after runs kept)
 ends-kept wrong path script limit before between after (Told failure) (is, named, line) kept =
@@ -137,12 +137,12 @@ ends-kept wrong path script limit before between after (Shown text) (wish, among
 ends-kept wrong path script limit before between after (Refused text) (mistake, among, is, stays) kept = (mistake, among, is, Keeps-trans before between after stays kept)
 
 -- the end stays what it is once all is written, or says that it could not be
-pub ends-finished : (wrong : Kinds) (path : List ℕ) (script : Option (List ℕ)) (limit : ℕ) (before between after : Option (List ℕ)) (ending new : Ending) →
+pub ends-finished : (wrong : Kinds) (path : List ℕ) (script : Option (List ℕ)) (limit : ℕ) (before between after : Option (List ℕ)) (ending new : ProgramEnd) →
     Ends wrong path script limit before between ending → Finishes ending between after new → Ends wrong path script limit before after new
 ends-finished wrong path script limit before between after ending new ends (inl (same, kept)) =
-    subst (λ (e : Ending). Ends wrong path script limit before after e) (sym same) (ends-kept wrong path script limit before between after ending ends kept)
+    subst (λ (e : ProgramEnd). Ends wrong path script limit before after e) (sym same) (ends-kept wrong path script limit before between after ending ends kept)
 ends-finished wrong path script limit before between after ending new ends (inr (error, same)) =
-    subst (λ (e : Ending). Ends wrong path script limit before after e) (sym same) (ends-unwritten wrong path script limit before between after ending error ends)
+    subst (λ (e : ProgramEnd). Ends wrong path script limit before after e) (sym same) (ends-unwritten wrong path script limit before between after ending error ends)
 
 -- a line of complaint has some cause
 pub complains-of : (r : Result (Unit {0}) IoError) (name cause : List ℕ) (before after : Option (List ℕ)) →

@@ -19,15 +19,15 @@ use Rattle.world_script.specs.FaultText.{fault_line}
 use Rattle.world_script.specs.Refusal.{IsRunRefusal, comes_first, is_caused}
 use Rattle.world_script.specs.Script.{Runs}
 use Rattle.world_script.specs.Source.{OfRead, script_at, stream_at}
-use Rattle.world_script.specs.declared.ending.Ending.{Ending}
-use Rattle.world_script.specs.declared.ending.Ending.TheVariants.{Ran, Told, Untold, Shown, Refused}
+use Rattle.world_script.specs.declared.program_end.ProgramEnd.{ProgramEnd}
+use Rattle.world_script.specs.declared.program_end.ProgramEnd.TheVariants.{Ran, Told, Untold, Shown, Refused}
 use Rattle.world_script.specs.declared.failure.Cause.{Cause}
 use Rattle.world_script.specs.declared.failure.Failure.{Failure}
 use Rattle.world_script.specs.declared.fault.Fault.{Fault}
 use Rattle.world_script.specs.declared.fault.Fault.TheVariants.{CannotWrite, NoMemory}
 
 -- the exit status
-abbrev pub status_of : Ending → ℕ
+abbrev pub status_of : ProgramEnd → ℕ
 status_of Ran = 0
 status_of (Told failure) = 1
 status_of (Untold failure error) = 1
@@ -57,27 +57,27 @@ abbrev pub name_beside : List ℕ → Fault → Option (List ℕ)
 name_beside path CannotWrite = None
 name_beside path fault = name_by path fault
 
-abbrev pub untold_by : Fault → Option Cause → Failure → IoError → Ending
+abbrev pub untold_by : Fault → Option Cause → Failure → IoError → ProgramEnd
 untold_by CannotWrite (Some first) failure error = Untold (plain CannotWrite) first.error
 untold_by fault cause failure error = Untold failure error
 
 -- the ending of a failure whose line could not be written, with the error of the first write that failed
-abbrev pub untold : Failure → IoError → Ending
+abbrev pub untold : Failure → IoError → ProgramEnd
 untold failure error = untold_by failure.fault failure.cause failure error
 
 -- the ending, where what is left to write can't be written
-abbrev pub unwritten : Ending → IoError → Ending
+abbrev pub unwritten : ProgramEnd → IoError → ProgramEnd
 unwritten (Told failure) error = untold failure error
 unwritten (Untold failure first) error = Untold failure first
 unwritten _ error = Untold (plain CannotWrite) error
 
 -- the fault is told, by its line where that can be written
-abbrev pub Tells : Failure → Option (List ℕ) → Option (List ℕ) → Ending → Type 0
+abbrev pub Tells : Failure → Option (List ℕ) → Option (List ℕ) → ProgramEnd → Type 0
 Tells failure before after (Told told) = (told ≡ failure) × Appends before after (fault_line failure.fault)
 Tells failure before after ending = (error : IoError) × (ending ≡ untold failure error)
 
 -- help or the version is shown, where it can be written
-abbrev pub Shows : List ℕ → Option (List ℕ) → Option (List ℕ) → Ending → Type 0
+abbrev pub Shows : List ℕ → Option (List ℕ) → Option (List ℕ) → ProgramEnd → Type 0
 Shows text before after (Shown shown) = (string_bytes shown ≡ text) × Appends before after text
 Shows text before after ending = (error : IoError) × (ending ≡ Untold (plain CannotWrite) error)
 
@@ -95,7 +95,7 @@ IsMistake kind.OutOfMemory = ⊥
 IsMistake _ = ⊤
 
 -- how words end that ask for no script, by what `clap` says of them
-abbrev pub Answers : ErrorKind → Option (List ℕ) → Option (List ℕ) → Ending → Type 0
+abbrev pub Answers : ErrorKind → Option (List ℕ) → Option (List ℕ) → ProgramEnd → Type 0
 Answers kind before after Ran = ⊥
 Answers kind before after (Told failure) = Tells (plain NoMemory) before after (Told failure)
 Answers kind before after (Untold failure error) =
@@ -110,7 +110,7 @@ IsFault (wrong ∷ more) known fault = (fault ≡ NoMemory) ⊎ (fault ≡ Canno
 
 -- How words end, by the kinds of what is wrong with them, by the path that they name and what is known of the script
 -- there, and by their limit.
-abbrev pub Ends : Kinds → List ℕ → Option (List ℕ) → ℕ → Option (List ℕ) → Option (List ℕ) → Ending → Type 0
+abbrev pub Ends : Kinds → List ℕ → Option (List ℕ) → ℕ → Option (List ℕ) → Option (List ℕ) → ProgramEnd → Type 0
 -- nothing is wrong with the words, and the script was run with all of its lines written
 Ends wrong path known limit before after Ran =
     (wrong ≡ []) × OfRead known (λ script. Runs script limit before after)
@@ -157,14 +157,15 @@ abbrev pub ErrandsKnown : Type 1
 ErrandsKnown = Errand → Result (Unit {0}) Failure → Option (List ℕ) → Option (List ℕ) → Type 0
 
 -- how the program ends after an errand: a fault is told, and a last write may fail where there was none
-abbrev pub EndsAfter : Result (Unit {0}) Failure → Option (List ℕ) → Option (List ℕ) → Ending → Type 0
+abbrev pub EndsAfter : Result (Unit {0}) Failure → Option (List ℕ) → Option (List ℕ) → ProgramEnd → Type 0
 EndsAfter (Ok done) before after Ran = Keeps before after
 EndsAfter (Ok done) before after (Untold failure error) = failure ≡ plain CannotWrite
 EndsAfter (Ok done) before after ending = ⊥
 EndsAfter (Err failure) before after ending = Tells failure before after ending
 
 -- The errand was run, and the program ended as it did.
-pub record RunsErrand (errand : Errand) (errands : ErrandsKnown) (before after : Option (List ℕ)) (ending : Ending) : Type 0 where
+pub record RunsErrand (errand : Errand) (errands : ErrandsKnown) (before after : Option (List ℕ))
+    (ending : ProgramEnd) : Type 0 where
   pub result : Result (Unit {0}) Failure
   pub begun : Option (List ℕ)
   pub ended : Option (List ℕ)
@@ -174,13 +175,16 @@ pub record RunsErrand (errand : Errand) (errands : ErrandsKnown) (before after :
   pub ends : EndsAfter result ended after ending
 
 -- how it ends where this is asked for: the script is run, or the errand
-abbrev pub EndsAsked : Asked → Option (List ℕ) → (List ℕ → Option (List ℕ)) → ErrandsKnown → Option (List ℕ) → Option (List ℕ) → Ending → Type 0
+abbrev pub EndsAsked :
+    Asked → Option (List ℕ) → (List ℕ → Option (List ℕ)) → ErrandsKnown →
+    Option (List ℕ) → Option (List ℕ) → ProgramEnd → Type 0
 EndsAsked (World world) input file errands before after ending =
     Ends [] world.script.now (script_at input file world.script.now) world.limit before after ending
 EndsAsked (Serve errand) input file errands before after ending = RunsErrand errand errands before after ending
 
 -- the errand that the command asks for was run
-pub record RunsNamed (command : Option (Text × List Row)) (errands : ErrandsKnown) (before after : Option (List ℕ)) (ending : Ending) : Type 0 where
+pub record RunsNamed (command : Option (Text × List Row)) (errands : ErrandsKnown)
+    (before after : Option (List ℕ)) (ending : ProgramEnd) : Type 0 where
   pub errand : Errand
   pub named : IsErrand command errand
   pub runs : RunsErrand errand errands before after ending
@@ -202,7 +206,7 @@ command_had (Err _) = None
 
 -- how words end, by the bytes of standard input and of files that are known, and by what is known of errands
 pub record EndsBy (had : Had) (input : Option (List ℕ)) (file : List ℕ → Option (List ℕ)) (errands : ErrandsKnown)
-    (before after : Option (List ℕ)) (ending : Ending) : Type 0 where
+    (before after : Option (List ℕ)) (ending : ProgramEnd) : Type 0 where
   pub script : asks_errand had ≡ false →
       Ends (wrong_had had) (path_had had) (script_at input file (path_had had)) (limit_had had) before after ending
   -- the errand that they ask for is run, or there is no memory to read them
@@ -210,7 +214,7 @@ pub record EndsBy (had : Had) (input : Option (List ℕ)) (file : List ℕ → O
       RunsNamed (command_had had) errands before after ending ⊎ Tells (plain NoMemory) before after ending
 
 -- what was gathered is written, or the ending says that it could not be
-abbrev pub Finishes : Ending → Option (List ℕ) → Option (List ℕ) → Ending → Type 0
+abbrev pub Finishes : ProgramEnd → Option (List ℕ) → Option (List ℕ) → ProgramEnd → Type 0
 Finishes ending before after new =
     ((new ≡ ending) × Keeps before after) ⊎ ((error : IoError) × (new ≡ unwritten ending error))
 
@@ -224,7 +228,7 @@ Complains None before after = Keeps before after
 Complains (Some name) before after = (cause : List ℕ) × Appends before after (complaint name cause)
 
 -- what standard error gets
-abbrev pub Says : Ending → Option (List ℕ) → Option (List ℕ) → Type 0
+abbrev pub Says : ProgramEnd → Option (List ℕ) → Option (List ℕ) → Type 0
 Says Ran before after = Keeps before after
 Says (Told failure) before after = Complains (name_of failure) before after
 Says (Untold failure error) before after =

@@ -1,6 +1,6 @@
 //! How the program ends.
 ghost use Rattle.std.specs.Prelude.{◌≡◌, OnOk};
-ghost use Rattle.world_script.specs.Ending.{Says, status_of, unwritten};
+ghost use Rattle.world_script.specs.ProgramEnd.{Says, status_of, unwritten};
 
 use crate::complaint::complain;
 use crate::failure::STANDARD_OUTPUT;
@@ -9,7 +9,7 @@ use std::io::{self, Write};
 
 /// The end of a run of the program, with what standard error is to get.
 #[derive(Drop)]
-pub enum Ending<'a> {
+pub enum ProgramEnd<'a> {
     /// The script was run, and each event's lines were written; or an errand was run.
     Ran,
     /// A fault ended the program, and its line was written.
@@ -22,44 +22,44 @@ pub enum Ending<'a> {
     Refused(String),
 }
 
-impl<'a> Ending<'a> {
+impl<'a> ProgramEnd<'a> {
     /// Returns the exit status: 0 where a script was run or help was asked for, 1 at a fault, 2 for refused words.
     pub fn status(&self) -> u8
         ensures { result ≡ status_of self.now }
     {
         match self {
-            Ending::Ran | Ending::Shown(_) => 0,
-            Ending::Told(_) | Ending::Untold(..) => 1,
-            Ending::Refused(_) => 2,
+            ProgramEnd::Ran | ProgramEnd::Shown(_) => 0,
+            ProgramEnd::Told(_) | ProgramEnd::Untold(..) => 1,
+            ProgramEnd::Refused(_) => 2,
         }
     }
 
     /// Returns the ending of a program whose last output could not be written.
-    pub fn unwritten(self, error: io::Error) -> Ending<'a>
+    pub fn unwritten(self, error: io::Error) -> ProgramEnd<'a>
         ensures { result ≡ unwritten self.entry error }
     {
         match self {
-            Ending::Told(failure) => failure.untold(error),
-            Ending::Untold(failure, first) => Ending::Untold(failure, first),
-            Ending::Ran => Failure::plain(Fault::CannotWrite).untold(error),
-            Ending::Shown(_text) => Failure::plain(Fault::CannotWrite).untold(error),
-            Ending::Refused(_text) => Failure::plain(Fault::CannotWrite).untold(error),
+            ProgramEnd::Told(failure) => failure.untold(error),
+            ProgramEnd::Untold(failure, first) => ProgramEnd::Untold(failure, first),
+            ProgramEnd::Ran => Failure::plain(Fault::CannotWrite).untold(error),
+            ProgramEnd::Shown(_text) => Failure::plain(Fault::CannotWrite).untold(error),
+            ProgramEnd::Refused(_text) => Failure::plain(Fault::CannotWrite).untold(error),
         }
     }
 
-    /// Says on standard error what the ending has to say: why the words are refused, or a line for each stream with
-    /// which the system had an error.
+    /// Writes to standard error why the words are refused, or a line for each file or stream with which the system had
+    /// an error.
     pub fn say<E: Write>(&self, err: &mut E) -> io::Result<()>
         ensures says { OnOk result (Says self.now (E.contents err.old) (E.contents err.new)) }
     {
         match self {
-            Ending::Ran | Ending::Shown(_) => Ok(()),
-            Ending::Told(failure) => failure.say(err),
-            Ending::Untold(failure, error) => {
+            ProgramEnd::Ran | ProgramEnd::Shown(_) => Ok(()),
+            ProgramEnd::Told(failure) => failure.say(err),
+            ProgramEnd::Untold(failure, error) => {
                 failure.say(err)?;
                 complain(err, STANDARD_OUTPUT, error)
             }
-            Ending::Refused(text) => err.write_all(text.as_bytes()),
+            ProgramEnd::Refused(text) => err.write_all(text.as_bytes()),
         }
     }
 }

@@ -1,0 +1,21 @@
+-- How often a hand takes each number back, of 256 numbers from one on. (This project's own.)
+use Rattle.std.specs.Prelude.{◌≡◌, ℕ, ◌+◌, ◌<◌, ◌^◌, List, sum_by, slice_index_or}
+use Rattle.fuse_wire.specs.declared.request.Ask.{Ask}
+use Rattle.script_lines.specs.Printed.{taken_back_by}
+use Rattle.script_lines.specs.declared.taken_back.TakenBack.{TakenBack}
+
+-- no sum reaches a bound
+abbrev pub AreBelow : ℕ → TakenBack → Type 0
+AreBelow bound gathered = (i : ℕ) → i < 256 → slice_index_or gathered.sums i 0 < bound
+
+-- what one of a hand takes back is added to each number's sum
+pub record IsAdded (old : TakenBack) (task : Ask) (new : TakenBack) : Type 0 where
+  pub low : new.low ≡ old.low
+  pub sums : (i : ℕ) → i < 256 →
+      slice_index_or new.sums i 0 ≡ slice_index_or old.sums i 0 + taken_back_by (old.low + i) task
+  pub more : (i : ℕ) → i < 256 → slice_index_or new.sums i 0 < slice_index_or old.sums i 0 + 2 ^ 64
+
+-- each number's sum over a hand
+pub record IsGathered (hand : List Ask) (gathered : TakenBack) : Type 0 where
+  pub sums : (i : ℕ) → i < 256 → slice_index_or gathered.sums i 0 ≡ sum_by (taken_back_by (gathered.low + i)) hand
+  pub below : AreBelow (2 ^ 127) gathered

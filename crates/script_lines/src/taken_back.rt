@@ -1,0 +1,88 @@
+//! How often what a daemon took takes numbers back.
+ghost use Rattle.std.specs.Prelude.{ℕ, ◌≡◌, ◌≢◌, ◌<◌, ◌≤◌, ◌+◌, ◌^◌, ◌⊎◌, MatchOption, slice_index_or, sum_by};
+ghost use Rattle.script_lines.specs.Gathered.{AreBelow, IsAdded, IsGathered};
+ghost use Rattle.script_lines.specs.Printed.{taken_back_by};
+
+use eden_base::Number;
+use fuse_wire::Ask;
+
+/// How many numbers one pass over a hand is for.
+const WIDTH: usize = 256;
+
+/// How often a hand takes each number back, of those from one on.
+#[derive(Drop)]
+pub(crate) struct TakenBack {
+    low: u64,
+    sums: [u128; WIDTH],
+}
+
+impl TakenBack {
+    /// Goes over a hand once, for the numbers from `low` on.
+    pub(crate) fn gather(hand: &[Ask], low: u64) -> TakenBack
+        ensures gathered { IsGathered hand.now result }
+        ensures low { result.low ≡ low }
+    {
+        let mut gathered = TakenBack {
+            low,
+            sums: [0; WIDTH],
+        };
+        for task in hand {
+            gathered.add(task);
+        }
+        gathered
+    }
+
+    /// Returns how often the hand takes a number back. It goes over the hand again for a number that is none of these,
+    /// and for those behind it.
+    pub(crate) fn of(&mut self, hand: &[Ask], number: Number) -> u128
+        requires gathered { IsGathered hand.now self.old }
+        ensures sum { result ≡ sum_by (taken_back_by number.0) hand.now }
+        ensures below { result < 2 ^ 127 }
+        ensures gathered { IsGathered hand.now self.new }
+    {
+        if let Some(at) = self.index_of(number) {
+            return self.sums[at];
+        }
+        *self = TakenBack::gather(hand, number.0);
+        self.sums[0]
+    }
+
+    /// Adds what one of a hand takes back.
+    fn add(&mut self, task: &Ask)
+        requires small { AreBelow (2 ^ 127) self.old }
+        ensures added { IsAdded self.old task.now self.new }
+    {
+        let Some(item) = task.what.item() else {
+            return;
+        };
+        let Some(at) = self.index_of(item.node) else {
+            return;
+        };
+        self.add_at(at, item.k);
+    }
+
+    /// Adds to the sum of an index.
+    fn add_at(&mut self, at: usize, k: u64)
+        requires within { at < 256 }
+        requires small { AreBelow (2 ^ 127) self.old }
+        ensures low { self.new.low ≡ self.old.low }
+        ensures more { slice_index_or self.new.sums at 0 ≡ slice_index_or self.old.sums at 0 + k }
+        ensures others { (i : ℕ) → i ≢ at
+            → slice_index_or self.new.sums i 0 ≡ slice_index_or self.old.sums i 0 }
+        ensures fits { k < 2 ^ 64 }
+    {
+        self.sums[at] += u128::from(k);
+    }
+
+    /// Returns the index of a number's sum.
+    fn index_of(&self, number: Number) -> Option<usize>
+        ensures { MatchOption result (number.0 < self.now.low ⊎ self.now.low + 256 ≤ number.0)
+            (λ at. (at < 256) × (self.now.low + at ≡ number.0)) }
+    {
+        let at = number.0.checked_sub(self.low)?;
+        if at < WIDTH as u64 {
+            return Some(at as usize);
+        }
+        None
+    }
+}
