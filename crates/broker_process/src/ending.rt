@@ -1,4 +1,4 @@
-//! A broker, from its socket's first moment to its last.
+//! A broker, from the start of its socket to the end.
 ghost use Rattle.std.specs.Prelude.{All};
 ghost use Rattle.script_lines.specs.BrokerLine.{IsSendableLine};
 
@@ -18,8 +18,8 @@ use std::sync::Wait;
 use std::thread::{Scope, Threads};
 use std::{fs, thread};
 
-/// Plays the kernel by a script for daemons that connect to the socket at a path, and writes what comes of each line to
-/// `out`. It returns when every daemon left, and removes the socket.
+/// Plays the kernel by a script for daemons that connect to the socket at a path, and writes the result of each line
+/// to `out`. It returns when every daemon left, and removes the socket.
 pub fn run_broker<R: Threads + Wait + Clock + Files + Net + Sync, W: Write>(
     rt: &R,
     alloc: Global,

@@ -19,19 +19,19 @@ use std::sync::{Condvar, Mutex, Wait};
 use std::thread;
 use std::time::{Duration, Instant};
 
-/// How long a Take is held that finds nothing, where the kernel asked a moment ago.
+/// How long a Take is held that finds nothing while the kernel is busy, in milliseconds.
 const BUSY_HOLD: u64 = 1;
 
-/// How long it is held else.
+/// The same while the kernel is idle, in milliseconds.
 const IDLE_HOLD: u64 = 20;
 
-/// How long a moment is.
+/// How long the kernel counts as busy after an ask, in milliseconds.
 const MOMENT: u64 = 1000;
 
-/// How long a script waits that was refused memory, before it looks again.
+/// How long a script that was refused memory waits until it looks again, in milliseconds.
 const PAUSE: u64 = 1;
 
-/// How long nothing wakes a script that waits.
+/// The longest sleep of a script that waits, in milliseconds.
 const LONGEST_SLEEP: u64 = 60_000;
 
 /// What the script waits for.
@@ -94,7 +94,7 @@ impl State {
         (response, wakes)
     }
 
-    /// Returns whether a stranger that sends a frame may have another connection for that.
+    /// Returns whether the connection that a stranger's Attach asks for is within the limit.
     fn has_place(&self, frame: &Frame) -> bool {
         match frame {
             Frame::Attach(daemon) => daemon.0 == 0 || self.visitors.has_place(*daemon),
@@ -126,7 +126,7 @@ impl State {
     }
 }
 
-/// Returns what wakes a script that waits for this.
+/// Returns the kind of answer that wakes a script which waits for `awaited`.
 fn waiting_for(awaited: Awaited) -> Waiting {
     match awaited {
         Awaited::Reply(_) => Waiting::Reply,
@@ -145,7 +145,7 @@ fn is_waited_for(waiting: Waiting, response: &Response) -> bool
     }
 }
 
-/// Returns whether a script that waits is woken where a daemon is told something.
+/// Returns whether the answer `told` wakes a script that waits.
 fn wakes(waiting: Waiting, told: &Frame) -> bool
     ensures wakes { result ≡ wakes waiting told.now }
 {
@@ -157,7 +157,7 @@ fn wakes(waiting: Waiting, told: &Frame) -> bool
     }
 }
 
-/// Returns whether memory was refused for what came.
+/// Returns whether the reply came but memory for its number was refused.
 fn is_lacking(came: &Came) -> bool {
     matches!(came, Came::Lacks)
 }
@@ -168,7 +168,7 @@ fn finds_nothing(response: &Response) -> bool {
 }
 
 impl Hall {
-    /// Opens a hall where nobody is.
+    /// Makes a hall without connections.
     pub(crate) fn new(alloc: Global) -> Result<Hall, NoMemory> {
         let desk = Desk::new(alloc)?;
         Ok(Hall {
@@ -184,7 +184,7 @@ impl Hall {
         })
     }
 
-    /// Lets a connection in, by a handle of it. There is none where no more may come.
+    /// Lets a connection in, by a handle of it. Returns none where no more may come.
     pub(crate) fn enter<R: Wait>(&self, rt: &R, stream: UnixStream) -> Option<Visit> {
         let mut state = self.state.lock(rt);
         if state.is_over {
@@ -207,7 +207,7 @@ impl Hall {
         self.events.notify_all();
     }
 
-    /// Answers a frame of a connection. A Take that finds nothing is held for a while.
+    /// Answers a frame of a connection. A Take that finds the queue empty is held for a while.
     pub(crate) fn answer<R: Wait + Clock>(
         &self,
         rt: &R,
@@ -253,7 +253,7 @@ impl Hall {
         response
     }
 
-    /// Returns until when a Take is held that finds nothing now.
+    /// Returns the deadline up to which a Take waits while nothing can be taken.
     fn hold<R: Wait + Clock>(&self, rt: &R) -> Deadline {
         let asked = self.state.lock(rt).asked;
         let Some(asked) = asked else {
@@ -278,7 +278,7 @@ impl Hall {
         begun
     }
 
-    /// Waits until what the script waits for came.
+    /// Waits until what a line waits for has come.
     pub(crate) fn wait_for<R: Wait + Clock>(&self, rt: &R, awaited: &Awaited) -> Came {
         for _ in rt.forever() {
             let seen = self.events.notifications();
@@ -298,7 +298,7 @@ impl Hall {
         unreachable!()
     }
 
-    /// Prints what a line came to at once.
+    /// Prints the immediate result of a line.
     pub(crate) fn print_begun<R: Wait, W: Write>(
         &self,
         rt: &R,

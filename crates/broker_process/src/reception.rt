@@ -1,7 +1,7 @@
 //! The connections of a broker, each in a thread of its own.
 use crate::hall::{Hall, Visit};
 use broker_desk::Response;
-use sockets::{Deadline, Link};
+use sockets::{Connection, Deadline};
 use std::alloc::Global;
 use std::os::unix::net::{UnixListener, UnixStream};
 use std::rt::Clock;
@@ -10,10 +10,10 @@ use std::thread;
 use std::thread::{Scope, Threads};
 use std::time::Duration;
 
-/// How long a connection may take until it attached, and for each answer until it is read.
+/// How long a connection may take to attach, and then to read an answer, in milliseconds.
 const PATIENCE: u64 = 2000;
 
-/// How long no connection is taken after one could not be.
+/// How long no connection is accepted after an accept failed, in milliseconds.
 const PAUSE: u64 = 10;
 
 /// Takes connections until the hall is over, and returns when each of them ended.
@@ -47,8 +47,8 @@ fn receive<'s, 'e: 's, R: Threads + Wait + Clock + Sync + 's>(
     }
 }
 
-/// Lets a connection in, and attends to it in a thread of its own. It is closed where no more may come, or no thread can
-/// be made.
+/// Lets a connection in, and attends to it in a thread of its own. It is closed where no more may come, or no thread
+/// can be made.
 fn admit<'s, 'e: 's, R: Threads + Wait + Clock + Sync + 's>(
     scope: &Scope<'s, &'e ()>,
     rt: &'e R,
@@ -71,10 +71,15 @@ fn admit<'s, 'e: 's, R: Threads + Wait + Clock + Sync + 's>(
 /// Answers the frames of a connection until it ends.
 fn attend<R: Wait + Clock>(rt: &R, alloc: Global, hall: &Hall, visit: Visit, stream: UnixStream) {
     let mut visit = visit;
-    if let Ok(mut link) = Link::over(alloc, rt, stream, Some(Duration::from_millis(PATIENCE))) {
+    if let Ok(mut connection) = Connection::over(
+        alloc,
+        rt,
+        stream,
+        Some(Duration::from_millis(PATIENCE)),
+    ) {
         let deadline = Deadline::after(rt, Duration::from_millis(PATIENCE));
         for _ in rt.forever() {
-            if !answer_one(rt, hall, &mut visit, &mut link, deadline) {
+            if !answer_one(rt, hall, &mut visit, &mut connection, deadline) {
                 break;
             }
         }
@@ -87,7 +92,7 @@ fn answer_one<R: Wait + Clock>(
     rt: &R,
     hall: &Hall,
     visit: &mut Visit,
-    link: &mut Link<'_, R>,
+    connection: &mut Connection<'_, R>,
     deadline: Deadline,
 ) -> bool {
     let by = if visit.is_strange() {
@@ -95,11 +100,11 @@ fn answer_one<R: Wait + Clock>(
     } else {
         Deadline::Never
     };
-    let Ok(Some(frame)) = link.read(by) else {
+    let Ok(Some(frame)) = connection.read(by) else {
         return false;
     };
     match hall.answer(rt, visit, &frame) {
-        Response::Tells(told) => link.write(&told).is_ok(),
+        Response::Tells(told) => connection.write(&told).is_ok(),
         Response::Closes => false,
     }
 }

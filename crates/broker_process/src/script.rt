@@ -30,7 +30,7 @@ pub(crate) fn play<R: Wait + Clock, W: Write>(
     Ok(())
 }
 
-/// Does what a line says, and prints what comes of it.
+/// Does what a line says, and prints the result.
 fn play_line<R: Wait + Clock, W: Write>(
     rt: &R,
     hall: &Hall,

@@ -8,7 +8,7 @@ use std::alloc::Global;
 use std::net::Shutdown;
 use std::os::unix::net::UnixStream;
 
-/// How many connections may be open that did not attach.
+/// How many connections may be open before they attached.
 pub(crate) const MAX_STRANGERS: usize = 64;
 
 /// How many connections a daemon's workers may have.
@@ -23,14 +23,14 @@ pub(crate) struct Visitor {
 }
 
 impl Visitor {
-    /// Returns whether it did not attach.
+    /// Returns whether the connection did not attach.
     fn is_stranger(&self) -> bool
         ensures stranger { result ≡ is_stranger self.now }
     {
         matches!(self.peer, Peer::Stranger)
     }
 
-    /// Returns whether it is of a daemon's workers.
+    /// Returns whether it is the connection of a daemon's worker.
     fn works_for(&self, daemon: DaemonId) -> bool
         ensures works { result ≡ works_for daemon self.now }
     {
@@ -49,7 +49,7 @@ pub(crate) struct Visitors {
 }
 
 impl Visitors {
-    /// Returns that none is open.
+    /// Makes an empty list of connections.
     pub(crate) fn new(alloc: Global) -> Visitors {
         Visitors {
             list: Vec::new(alloc),
@@ -57,8 +57,8 @@ impl Visitors {
         }
     }
 
-    /// Lets a stranger in by a handle of its connection, and returns its number. There is none where as many as may be
-    /// are there, or memory is refused.
+    /// Lets a stranger in by a handle of its connection, and returns its number. Returns none at the limit, or where
+    /// memory is refused.
     pub(crate) fn enter(&mut self, stream: UnixStream) -> Option<u64>
         ensures few { IsSome result → count_by is_stranger self.old.list.items < 64 }
     {
@@ -76,7 +76,7 @@ impl Visitors {
         Some(number)
     }
 
-    /// Returns how many did not attach.
+    /// Returns how many connections did not attach.
     fn strangers(&self) -> usize
         ensures count { result ≡ count_by is_stranger self.now.list.items }
     {

@@ -5,7 +5,7 @@ use crate::orders::Orders;
 use crate::patient::Patient;
 use eden_base::DaemonId;
 use links::{Frame, SocketChannel};
-use sockets::{Deadline, Link, Timed, connect};
+use sockets::{Connection, Deadline, Timed, connect};
 use std::alloc::Global;
 use std::io::{self, BufReader, ErrorKind};
 use std::net::Net;
@@ -15,12 +15,17 @@ use std::sync::Arc;
 use std::time::Duration;
 use workers::Stop;
 
-/// How long the broker may take for an answer that it never holds, in milliseconds.
+/// How long the broker may take for an answer, and for reading what it is told, in milliseconds.
 const BROKER_PATIENCE: u64 = 5000;
+
+/// Returns how long the broker may be silent, and how long a write may wait for it.
+fn broker_patience() -> Duration {
+    Duration::from_millis(BROKER_PATIENCE)
+}
 
 /// Returns by when the broker is to answer.
 pub(crate) fn answer_by<R: Clock>(clock: &R) -> Deadline {
-    Deadline::after(clock, Duration::from_millis(BROKER_PATIENCE))
+    Deadline::after(clock, broker_patience())
 }
 
 /// The channel of a worker.
@@ -29,7 +34,7 @@ pub(crate) type Worker<'a, R> = Patient<Asking<'a, R>>;
 /// A daemon's first connection to the broker, and those of its workers.
 #[derive(Drop)]
 pub(crate) struct Arrival<'a, R> {
-    pub(crate) link: Link<'a, R>,
+    pub(crate) connection: Connection<'a, R>,
     pub(crate) workers: Vec<UnixStream>,
 }
 
@@ -39,10 +44,13 @@ pub(crate) fn arrive<'a, R: Net + Clock>(
     alloc: Global,
     orders: &Orders<'_>,
 ) -> Result<Arrival<'a, R>, Exit> {
-    let mut link = reach(rt, alloc, orders.broker)?;
-    let daemon = attach(&mut link, DaemonId(0), answer_by(rt))?;
+    let mut connection = reach(rt, alloc, orders.broker)?;
+    let daemon = attach(&mut connection, DaemonId(0), answer_by(rt))?;
     let workers = arrive_each(rt, alloc, orders, daemon)?;
-    Ok(Arrival { link, workers })
+    Ok(Arrival {
+        connection,
+        workers,
+    })
 }
 
 /// Connects to the broker for each worker.
@@ -71,22 +79,26 @@ fn arrive_worker<R: Net + Clock>(
     orders: &Orders<'_>,
     daemon: DaemonId,
 ) -> Result<UnixStream, Exit> {
-    let mut link = reach(rt, alloc, orders.broker)?;
-    let _same = attach(&mut link, daemon, answer_by(rt))?;
-    match link.handle() {
+    let mut connection = reach(rt, alloc, orders.broker)?;
+    let _same = attach(&mut connection, daemon, answer_by(rt))?;
+    match connection.handle() {
         Ok(stream) => Ok(stream),
         Err(_refused) => Err(Exit::Faulty(DaemonFault::Broken)),
     }
 }
 
 /// Connects to the broker.
-fn reach<'a, R: Net + Clock>(rt: &'a R, alloc: Global, path: &str) -> Result<Link<'a, R>, Exit> {
+fn reach<'a, R: Net + Clock>(
+    rt: &'a R,
+    alloc: Global,
+    path: &str,
+) -> Result<Connection<'a, R>, Exit> {
     let stream = match connect(rt, path) {
         Ok(stream) => stream,
         Err(error) => return Err(Exit::Faulty(DaemonFault::NoBroker(error))),
     };
-    match Link::over(alloc, rt, stream, None) {
-        Ok(link) => Ok(link),
+    match Connection::over(alloc, rt, stream, Some(broker_patience())) {
+        Ok(connection) => Ok(connection),
         Err(error) if error.kind() == ErrorKind::OutOfMemory => {
             Err(Exit::Faulty(DaemonFault::NoMemory))
         }
@@ -96,19 +108,19 @@ fn reach<'a, R: Net + Clock>(rt: &'a R, alloc: Global, path: &str) -> Result<Lin
 
 /// Attaches as a daemon, or with the number 0 as a new one, and returns its number.
 fn attach<R: Clock>(
-    link: &mut Link<'_, R>,
+    connection: &mut Connection<'_, R>,
     daemon: DaemonId,
     deadline: Deadline,
 ) -> Result<DaemonId, Exit> {
-    match link.ask(&Frame::Attach(daemon), deadline) {
+    match connection.ask(&Frame::Attach(daemon), deadline) {
         Some(Frame::Attached(daemon)) => Ok(daemon),
         Some(Frame::Ended) => Err(Exit::Ended),
         _ => Err(Exit::Faulty(DaemonFault::Broken)),
     }
 }
 
-/// Returns a channel at a generation for each worker's connection, patient until a stop is asked. All that was sent on
-/// those before was answered.
+/// Makes a channel at a generation for each worker's connection, patient until a stop is asked. On those connections
+/// each frame was answered.
 pub(crate) fn channels<'a, R: Clock>(
     rt: &'a R,
     alloc: Global,
@@ -134,8 +146,9 @@ fn channel<'a, R: Clock>(
     worker: &UnixStream,
     generation: u64,
 ) -> io::Result<Asking<'a, R>> {
-    let link = Link::over(alloc, rt, worker.try_clone()?, None)?;
-    let (reader, writer) = link.into_ends();
+    let connection = Connection::over(alloc, rt, worker.try_clone()?, Some(broker_patience()))?;
+    let (mut reader, writer) = connection.into_ends();
+    reader.get_mut().end_silence_after(broker_patience());
     match SocketChannel::new(alloc, reader, writer, generation) {
         Ok(channel) => Ok(channel),
         Err(_refused) => Err(io::Error::from(ErrorKind::OutOfMemory)),

@@ -7,7 +7,7 @@ use crate::shared::Shared;
 use crate::takeover::take_over;
 use daemon_desk::Mounting;
 use links::Frame;
-use sockets::{Hidden, Link, connect};
+use sockets::{Connection, Hidden, connect};
 use std::alloc::Global;
 use std::io::{self, ErrorKind};
 use std::net::Net;
@@ -22,8 +22,8 @@ pub(crate) struct Seated<'a, R> {
     pub(crate) listener: UnixListener,
 }
 
-/// Reaches the broker, gets the seat, and listens for other daemons. All that may fail has failed before the seat is
-/// the daemon's, but for the socket's last step.
+/// Connects to the broker, gets the seat, and listens for other daemons. After the daemon has the seat, only the
+/// socket's last step may fail.
 pub(crate) fn begin<'a, R: Wait + Clock + Files + Net>(
     rt: &'a R,
     alloc: Global,
@@ -32,8 +32,8 @@ pub(crate) fn begin<'a, R: Wait + Clock + Files + Net>(
 ) -> Result<Seated<'a, R>, Exit> {
     let mut arrival = arrive(rt, alloc, orders)?;
     let hidden = match orders.start {
-        Start::Mount => begin_new(rt, alloc, shared, &mut arrival.link, orders)?,
-        Start::Takeover => begin_next(rt, alloc, shared, &mut arrival.link, orders)?,
+        Start::Mount => begin_new(rt, alloc, shared, &mut arrival.connection, orders)?,
+        Start::Takeover => begin_next(rt, alloc, shared, &mut arrival.connection, orders)?,
     };
     match hidden.show(rt, orders.takeover) {
         Ok(listener) => Ok(Seated { arrival, listener }),
@@ -46,7 +46,7 @@ fn begin_new<R: Wait + Clock + Files + Net>(
     rt: &R,
     alloc: Global,
     shared: &Shared,
-    broker: &mut Link<'_, R>,
+    broker: &mut Connection<'_, R>,
     orders: &Orders<'_>,
 ) -> Result<Hidden, Exit> {
     shared.prepare(rt)?;
@@ -61,7 +61,11 @@ fn begin_new<R: Wait + Clock + Files + Net>(
 }
 
 /// Asks the broker for the free seat.
-fn mount<R: Wait + Clock>(rt: &R, shared: &Shared, broker: &mut Link<'_, R>) -> Result<(), Exit> {
+fn mount<R: Wait + Clock>(
+    rt: &R,
+    shared: &Shared,
+    broker: &mut Connection<'_, R>,
+) -> Result<(), Exit> {
     let Some(answer) = broker.ask(&Frame::Mount, answer_by(rt)) else {
         return Err(Exit::Faulty(DaemonFault::Broken));
     };
@@ -73,13 +77,13 @@ fn mount<R: Wait + Clock>(rt: &R, shared: &Shared, broker: &mut Link<'_, R>) -> 
     }
 }
 
-/// Takes over from the daemon at the path where this one is to listen. The connection to it is closed when the claim was
-/// answered.
+/// Takes over from the daemon at the path where this one is to listen. The connection to it closes after the claim's
+/// answer.
 fn begin_next<R: Wait + Clock + Files + Net>(
     rt: &R,
     alloc: Global,
     shared: &Shared,
-    broker: &mut Link<'_, R>,
+    broker: &mut Connection<'_, R>,
     orders: &Orders<'_>,
 ) -> Result<Hidden, Exit> {
     let mut old = reach(rt, alloc, orders)?;
@@ -98,13 +102,13 @@ fn reach<'a, R: Net + Clock>(
     rt: &'a R,
     alloc: Global,
     orders: &Orders<'_>,
-) -> Result<Link<'a, R>, Exit> {
+) -> Result<Connection<'a, R>, Exit> {
     let stream = match connect(rt, orders.takeover) {
         Ok(stream) => stream,
         Err(error) => return Err(Exit::Faulty(DaemonFault::NoDaemon(error))),
     };
-    match Link::over(alloc, rt, stream, Some(orders.patience)) {
-        Ok(link) => Ok(link),
+    match Connection::over(alloc, rt, stream, Some(orders.patience)) {
+        Ok(connection) => Ok(connection),
         Err(error) if is_no_memory(&error) => Err(Exit::Faulty(DaemonFault::NoMemory)),
         Err(error) => Err(Exit::Faulty(DaemonFault::NoDaemon(error))),
     }

@@ -2,7 +2,7 @@
 use crate::arrival::answer_by;
 use crate::shared::Shared;
 use daemon_desk::Claiming;
-use sockets::{Deadline, Link};
+use sockets::{Connection, Deadline};
 use std::rt::Clock;
 use std::sync::Wait;
 use std::thread;
@@ -11,12 +11,12 @@ use std::time::Duration;
 /// How long a daemon waits before it claims again, in milliseconds.
 const PAUSE: u64 = 1;
 
-/// Claims the seat as the daemon wants to, and again while asks that were taken have no reply, until the broker took too
-/// long.
+/// Claims the seat from the generation that the daemon wants. It claims again while taken asks have no reply, until a
+/// deadline.
 pub(crate) fn claim<R: Wait + Clock>(
     rt: &R,
     shared: &Shared,
-    broker: &mut Link<'_, R>,
+    broker: &mut Connection<'_, R>,
 ) -> Claiming {
     let deadline = answer_by(rt);
     for _ in rt.forever() {
@@ -34,7 +34,7 @@ pub(crate) fn claim<R: Wait + Clock>(
 fn claim_once<R: Wait + Clock>(
     rt: &R,
     shared: &Shared,
-    broker: &mut Link<'_, R>,
+    broker: &mut Connection<'_, R>,
     deadline: Deadline,
 ) -> Claiming {
     let Some(frame) = shared.claim(rt) else {

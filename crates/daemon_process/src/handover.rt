@@ -7,9 +7,10 @@ use crate::exit::Exit;
 use crate::fault::DaemonFault;
 use crate::lobby::Lobby;
 use crate::shared::Shared;
+use crate::telling::tell_all;
 use daemon_desk::{Claiming, Hearing};
 use links::Frame;
-use sockets::{Deadline, Link};
+use sockets::{Connection, Deadline};
 use std::alloc::Global;
 use std::os::unix::net::UnixStream;
 use std::rt::Clock;
@@ -17,7 +18,7 @@ use std::sync::Wait;
 use std::time::Duration;
 use takeover_core::Phase;
 
-/// How many times longer a silence may last once the data is out.
+/// A silence may last this many times longer once the data is out.
 const LONGER: u32 = 10;
 
 /// Serves the connections of other daemons one behind another, until the daemon ends.
@@ -26,7 +27,7 @@ pub(crate) fn hand_over_all<R: Wait + Clock>(
     alloc: Global,
     shared: &Shared,
     lobby: &Lobby,
-    broker: Link<'_, R>,
+    broker: Connection<'_, R>,
     patience: Duration,
 ) {
     let mut broker = broker;
@@ -34,8 +35,8 @@ pub(crate) fn hand_over_all<R: Wait + Clock>(
         let Some(stream) = lobby.next(rt) else {
             return;
         };
-        if let Ok(mut link) = Link::over(alloc, rt, stream, Some(patience)) {
-            attend(rt, shared, lobby, &mut link, patience);
+        if let Ok(mut connection) = Connection::over(alloc, rt, stream, Some(patience)) {
+            attend(rt, shared, lobby, &mut connection, patience);
         }
         lobby.finish(rt);
         claim_back(rt, shared, &mut broker);
@@ -43,37 +44,37 @@ pub(crate) fn hand_over_all<R: Wait + Clock>(
     unreachable!()
 }
 
-/// Serves the connection of another daemon until it ends, and gives up what was under way by it.
+/// Serves the connection of another daemon until it ends. A takeover that is still under way is given up then.
 fn attend<R: Wait + Clock>(
     rt: &R,
     shared: &Shared,
     lobby: &Lobby,
-    link: &mut Link<'_, R>,
+    connection: &mut Connection<'_, R>,
     patience: Duration,
 ) {
-    converse(rt, shared, lobby, link, patience);
+    converse(rt, shared, lobby, connection, patience);
     if let Some(told) = shared.give_up(rt) {
-        let _told = link.write(&told);
+        let _told = connection.write(&told);
     }
-    link.end();
+    connection.end();
 }
 
-/// Hears what another daemon says, and tells it what it is to be told, until the connection ends, the other daemon is
-/// silent for too long, or the daemon wants to claim the seat.
+/// Hears the frames of another daemon and answers them. It returns when the connection ends, the other daemon is silent
+/// for too long, or this daemon is to claim the seat.
 fn converse<R: Wait + Clock>(
     rt: &R,
     shared: &Shared,
     lobby: &Lobby,
-    link: &mut Link<'_, R>,
+    connection: &mut Connection<'_, R>,
     patience: Duration,
 ) {
     let mut phase = shared.phase(rt);
     let mut deadline = Deadline::after(rt, patience);
     for _ in rt.forever() {
-        let Ok(Some(frame)) = link.read(deadline) else {
+        let Ok(Some(frame)) = connection.read(deadline) else {
             return;
         };
-        if !lobby.stay(rt) || !answer(rt, shared, link, &frame) {
+        if !lobby.stay(rt) || !answer(rt, shared, connection, &frame) {
             return;
         }
         let now = shared.phase(rt);
@@ -88,7 +89,7 @@ fn converse<R: Wait + Clock>(
     unreachable!()
 }
 
-/// Returns how many times the patience another daemon may be silent in a phase.
+/// Returns how long another daemon may be silent in a phase, as a multiple of the patience.
 fn times_of(phase: Phase) -> u32
     ensures times { result ≡ times_of phase }
 {
@@ -99,10 +100,15 @@ fn times_of(phase: Phase) -> u32
 }
 
 /// Answers a frame of another daemon. Returns whether the connection goes on.
-fn answer<R: Wait + Clock>(rt: &R, shared: &Shared, link: &mut Link<'_, R>, frame: &Frame) -> bool {
+fn answer<R: Wait + Clock>(
+    rt: &R,
+    shared: &Shared,
+    connection: &mut Connection<'_, R>,
+    frame: &Frame,
+) -> bool {
     match shared.hear(rt, frame) {
         Hearing::Tells(told) => {
-            if link.write(&told).is_err() {
+            if !tell_all(connection, told) {
                 return false;
             }
         }
@@ -111,7 +117,7 @@ fn answer<R: Wait + Clock>(rt: &R, shared: &Shared, link: &mut Link<'_, R>, fram
     }
     match shared.phase(rt) {
         Phase::Draining { .. } => match shared.drain(rt) {
-            Some(ready) => link.write(&ready).is_ok(),
+            Some(ready) => connection.write(&ready).is_ok(),
             None => false,
         },
         Phase::Holding { .. } => false,
@@ -119,8 +125,8 @@ fn answer<R: Wait + Clock>(rt: &R, shared: &Shared, link: &mut Link<'_, R>, fram
     }
 }
 
-/// Claims the seat where the daemon wants to, as after a handover, and notes how the daemon ends where it does.
-fn claim_back<R: Wait + Clock>(rt: &R, shared: &Shared, broker: &mut Link<'_, R>) {
+/// Claims the seat where the daemon is to, as after a handover. It notes the daemon's exit, if it ends.
+fn claim_back<R: Wait + Clock>(rt: &R, shared: &Shared, broker: &mut Connection<'_, R>) {
     if shared.claim(rt).is_none() || shared.is_over(rt) {
         return;
     }

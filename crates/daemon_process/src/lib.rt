@@ -15,6 +15,7 @@ mod rounds;
 mod serving;
 mod shared;
 mod takeover;
+mod telling;
 
 pub use fault::DaemonFault;
 pub use orders::{Orders, Start};

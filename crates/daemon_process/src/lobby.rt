@@ -6,10 +6,10 @@ use std::sync::{Condvar, Mutex, Wait};
 use std::thread;
 use std::time::Duration;
 
-/// How long no connection is taken after one could not be.
+/// How long no connection is accepted after an accept failed, in milliseconds.
 const PAUSE: u64 = 10;
 
-/// How long nothing wakes a thread that waits.
+/// The longest sleep of a thread that waits, in milliseconds.
 const LONGEST_SLEEP: u64 = 60_000;
 
 /// What stands under the lock.
@@ -17,11 +17,11 @@ const LONGEST_SLEEP: u64 = 60_000;
 struct State {
     /// The connection that is served next.
     waiting: Option<UnixStream>,
-    /// A handle of the one that is served now.
+    /// A handle of the connection that is served now.
     current: Option<UnixStream>,
-    /// Whether a takeover is under way by the one that is served now.
+    /// Whether the connection that is served now has a takeover under way.
     is_engaged: bool,
-    /// Whether the one that is served now was sent away, since another one waits.
+    /// Whether the connection that is served now was sent away, since another one waits.
     is_sent_away: bool,
     is_over: bool,
 }
@@ -34,7 +34,7 @@ pub(crate) struct Lobby {
 }
 
 impl State {
-    /// Sends the one away that is served now, where another one waits and no takeover is under way.
+    /// Sends the connection that is served now away, where another one waits and no takeover is under way.
     fn send_away(&mut self) {
         if self.is_engaged || self.waiting.is_none() {
             return;
@@ -45,7 +45,7 @@ impl State {
         self.is_sent_away = true;
     }
 
-    /// Takes the one that waits.
+    /// Takes the connection that waits.
     fn take(&mut self) -> Option<UnixStream> {
         let stream = self.waiting.take()?;
         self.current = stream.try_clone().ok();

@@ -10,7 +10,7 @@ use crate::serving::serve;
 use crate::shared::Shared;
 use daemon_desk::DaemonDesk;
 use manifest::Manifest;
-use sockets::{Closer, Link};
+use sockets::{Closer, Connection};
 use std::alloc::Global;
 use std::io::{self, Write};
 use std::net::Net;
@@ -20,9 +20,13 @@ use std::sync::Wait;
 use std::thread;
 use std::thread::{Scope, Threads};
 use std::time::Duration;
+use takeover_core::Versions;
 
-/// Runs a daemon over the checkout of a manifest, and writes what becomes of it to `out`, each line at once. It returns
-/// when another daemon took over or the mount is over.
+/// The versions of the image that a daemon writes and reads: whole, and in parts.
+const VERSIONS: [u16; 2] = [1, 2];
+
+/// Runs a daemon over the checkout of a manifest, and writes its lines to `out`, each at once. It returns when another
+/// daemon took over or the mount is over.
 pub fn run_daemon<R: Threads + Wait + Clock + Files + Net + Sync, W: Write>(
     rt: &R,
     alloc: Global,
@@ -30,7 +34,8 @@ pub fn run_daemon<R: Threads + Wait + Clock + Files + Net + Sync, W: Write>(
     manifest: Manifest,
     out: &mut W,
 ) -> Result<(), DaemonFault> {
-    let shared = Shared::new(DaemonDesk::new(alloc, manifest, orders.limit));
+    let versions = Versions::of(&VERSIONS);
+    let shared = Shared::new(DaemonDesk::new(alloc, manifest, orders.limit, versions));
     let exit = match begin(rt, alloc, &shared, orders) {
         Ok(seated) => run(rt, alloc, &shared, orders, seated, out),
         Err(exit) => exit,
@@ -62,7 +67,10 @@ fn run<R: Threads + Wait + Clock + Sync, W: Write>(
     out: &mut W,
 ) -> Exit {
     let Seated { arrival, listener } = seated;
-    let Arrival { link, workers } = arrival;
+    let Arrival {
+        connection,
+        workers,
+    } = arrival;
     let closer = match Closer::of(&listener) {
         Ok(closer) => closer,
         Err(error) => return Exit::Faulty(DaemonFault::CannotListen(error)),
@@ -72,7 +80,8 @@ fn run<R: Threads + Wait + Clock + Sync, W: Write>(
     let workers = workers.as_slice();
     thread::scope(thread::scope_env(), rt, |scope| {
         run_within(
-            scope, rt, alloc, shared, &lobby, &listener, &closer, link, workers, patience, out,
+            scope, rt, alloc, shared, &lobby, &listener, &closer, connection, workers, patience,
+            out,
         )
     })
 }
@@ -86,7 +95,7 @@ fn run_within<'s, 'e: 's, R: Threads + Wait + Clock + Sync + 's, W: Write>(
     lobby: &'e Lobby,
     listener: &'e UnixListener,
     closer: &Closer,
-    broker: Link<'e, R>,
+    broker: Connection<'e, R>,
     workers: &[UnixStream],
     patience: Duration,
     out: &mut W,

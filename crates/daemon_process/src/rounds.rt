@@ -13,9 +13,7 @@ use std::alloc::Global;
 use std::rt::Clock;
 use std::sync::Wait;
 use std::thread::Threads;
-use workers::{
-    Channel, MAX_CHANNELS, OpenGate, Rooms, Round, RoundFault, Stop, drain, serve_round,
-};
+use workers::{Channel, MAX_CHANNELS, NoHook, Rooms, Round, RoundFault, Stop, drain, serve_round};
 
 /// The most requests that a round serves of one worker.
 const TURNS: usize = 64;
@@ -28,7 +26,7 @@ pub(crate) struct Left<'a, R: Clock> {
     pub(crate) rooms: Rooms,
 }
 
-/// What a round leaves, with what is served in place of the lease.
+/// What a round leaves, with the served state in place of the lease.
 #[derive(Drop)]
 struct Back<C: Channel + Drop> {
     rooms: Rooms,
@@ -36,8 +34,8 @@ struct Back<C: Channel + Drop> {
     channels: Vec<C>,
 }
 
-/// Serves a round over a lease, and gives the lease back. Where memory is refused nothing was taken. Without a channel,
-/// or with more than 16, no round is served.
+/// Serves a round over a lease, and gives the lease back. Out of memory it took no ask. Without a channel, or with more
+/// than 16, it serves no round.
 pub(crate) fn serve_one<'a, R: Threads + Wait + Clock + Sync>(
     rt: &'a R,
     alloc: Global,
@@ -101,7 +99,7 @@ fn serve_over<C: Channel + Drop + Send, R: Threads + Wait + Sync>(
 {
     let backing = ManifestBacking::of(manifest);
     match serve_round(
-        rt, alloc, rooms, served, backing, channels, TURNS, &OpenGate, stop,
+        rt, alloc, rooms, served, backing, channels, TURNS, &NoHook, stop,
     ) {
         Ok(round) => settle(alloc, round),
         Err(RoundFault::NoMemory(back)) => Ok(Back {
@@ -113,8 +111,8 @@ fn serve_over<C: Channel + Drop + Send, R: Threads + Wait + Sync>(
     }
 }
 
-/// Returns what a round leaves whose receipts are its journal. Where memory is refused for the comparison it is taken
-/// as settled: each worker ended well, and so posted each reply.
+/// Compares a round's receipts with its journal, and returns what the round leaves. Out of memory it compares nothing:
+/// each worker ended well, so each reply was posted.
 fn settle<B: Backing + Drop, C: Channel + Drop>(
     alloc: Global,
     round: Round<B, C>,
@@ -136,7 +134,7 @@ fn settle<B: Backing + Drop, C: Channel + Drop>(
     }
 }
 
-/// Returns how the daemon ends whose channels stopped, if one did.
+/// Returns the daemon's exit, if one of its channels stopped.
 pub(crate) fn exit_of<R: Clock>(channels: &[Worker<'_, R>]) -> Option<Exit> {
     for channel in channels {
         match channel.channel().ended() {

@@ -15,11 +15,11 @@ use std::time::Duration;
 use std::{mem, thread};
 use workers::{Rooms, Stop};
 
-/// How long a daemon waits that was refused memory, in milliseconds.
+/// How long a daemon that was refused memory waits, in milliseconds.
 const PAUSE: u64 = 1;
 
-/// The channels of a daemon's workers with their generation, and the rooms that rounds work in. There are none before it
-/// served.
+/// The channels of a daemon's workers with their generation, and the rooms that rounds work in. There are no channels
+/// before the first round.
 #[derive(Drop)]
 struct Crew<'a, R: Clock> {
     generation: u64,
@@ -58,7 +58,7 @@ pub(crate) fn serve<R: Threads + Wait + Clock + Sync, W: Write>(
     unreachable!()
 }
 
-/// Serves a round over what was lent, and gives it back. Returns how the daemon ends, if it does.
+/// Serves a round over a lease, and gives it back. Returns the daemon's exit, if it ends.
 fn serve_lease<'a, R: Threads + Wait + Clock + Sync, W: Write>(
     rt: &'a R,
     alloc: Global,
@@ -92,7 +92,8 @@ fn serve_lease<'a, R: Threads + Wait + Clock + Sync, W: Write>(
     }
 }
 
-/// Has a channel for each worker at a generation, patient until a stop is asked. Returns whether they are new.
+/// Makes the workers' channels at a generation, if they are of another one, and lets them heed `stop`. Returns whether
+/// they are new.
 fn man<'a, R: Clock>(
     rt: &'a R,
     alloc: Global,

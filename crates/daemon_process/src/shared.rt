@@ -10,14 +10,14 @@ use std::time::Duration;
 use takeover_core::Phase;
 use workers::Stop;
 
-/// How long nothing wakes a thread that waits.
+/// The longest sleep of a thread that waits, in milliseconds.
 const LONGEST_SLEEP: u64 = 60_000;
 
 /// What stands under the lock.
 #[derive(Drop)]
 struct State {
     desk: DaemonDesk,
-    /// By which the round is asked to stop that runs now.
+    /// The stop of the round that runs now.
     stop: Option<Arc<Stop>>,
     exit: Option<Exit>,
 }
@@ -59,7 +59,7 @@ impl State {
         }
     }
 
-    /// Returns by what a round is asked to stop: what the last one had, unless that was asked.
+    /// Returns the stop of the next round: that of the last one, unless it was asked.
     fn stop_of_round(&mut self, alloc: Global) -> Result<Arc<Stop>, NoMemory> {
         if let Some(stop) = &self.stop {
             return Ok(Arc::try_clone(stop)?);
@@ -106,7 +106,7 @@ impl Shared {
             .sleep(rt, seen, Duration::from_millis(LONGEST_SLEEP));
     }
 
-    /// Makes what a daemon serves that mounts.
+    /// Makes the state to serve before the mount is asked for.
     pub(crate) fn prepare<R: Wait>(&self, rt: &R) -> Result<(), NoMemory> {
         self.state.lock(rt).desk.prepare()
     }
@@ -133,7 +133,7 @@ impl Shared {
         heard
     }
 
-    /// Ends the daemon's part in a takeover, and returns what the other daemon is to be told.
+    /// Ends the daemon's part in a takeover, and returns the frame to send to the other daemon.
     pub(crate) fn give_up<R: Wait>(&self, rt: &R) -> Option<Frame> {
         let told = self.state.lock(rt).desk.give_up();
         self.changes.notify_all();
@@ -163,8 +163,8 @@ impl Shared {
         self.changes.notify_all();
     }
 
-    /// Waits until the workers gave back what they serve, and returns what the other daemon is told then. It is nothing
-    /// where the daemon ends before.
+    /// Waits until the workers gave their lease back, and returns the frame to send to the other daemon. Returns none
+    /// where the daemon ends before that.
     pub(crate) fn drain<R: Wait>(&self, rt: &R) -> Option<Frame> {
         for _ in rt.forever() {
             let seen = self.changes();

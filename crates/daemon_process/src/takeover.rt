@@ -6,15 +6,16 @@ use crate::claiming::claim;
 use crate::exit::Exit;
 use crate::fault::DaemonFault;
 use crate::shared::Shared;
+use crate::telling::tell_all;
 use daemon_desk::{Claiming, Hearing};
 use links::Frame;
-use sockets::{Deadline, Link};
+use sockets::{Connection, Deadline};
 use std::rt::Clock;
 use std::sync::Wait;
 use std::time::Duration;
 use takeover_core::{Message, Phase};
 
-/// How many times longer than a silence the data and the claim may take.
+/// The data may take this many times the patience.
 const LONGER: u32 = 10;
 
 /// The exit of a daemon whose takeover ended without the seat.
@@ -24,8 +25,8 @@ const FAILED: Exit = Exit::Faulty(DaemonFault::TakeoverFailed);
 pub(crate) fn take_over<R: Wait + Clock>(
     rt: &R,
     shared: &Shared,
-    broker: &mut Link<'_, R>,
-    old: &mut Link<'_, R>,
+    broker: &mut Connection<'_, R>,
+    old: &mut Connection<'_, R>,
     patience: Duration,
 ) -> Result<(), Exit> {
     if let Err(exit) = get_data(rt, shared, old, patience) {
@@ -41,11 +42,11 @@ pub(crate) fn take_over<R: Wait + Clock>(
     }
 }
 
-/// Offers, and answers what the other daemon says until its data is raised.
+/// Offers, and answers the other daemon's frames until its data is restored.
 fn get_data<R: Wait + Clock>(
     rt: &R,
     shared: &Shared,
-    old: &mut Link<'_, R>,
+    old: &mut Connection<'_, R>,
     patience: Duration,
 ) -> Result<(), Exit> {
     let mut deadline = Deadline::after(rt, patience);
@@ -65,7 +66,7 @@ fn get_data<R: Wait + Clock>(
     unreachable!()
 }
 
-/// How far a new daemon is after a frame of the other one.
+/// The state of a new daemon after a frame of the other one.
 #[derive(Clone, Copy)]
 enum Step {
     /// It waits for the next one.
@@ -76,17 +77,17 @@ enum Step {
     Holds,
 }
 
-/// Hears a frame of the other daemon, and tells it what it is to be told.
+/// Hears a frame of the other daemon, and sends the answer.
 fn hear<R: Wait + Clock>(
     rt: &R,
     shared: &Shared,
-    old: &mut Link<'_, R>,
+    old: &mut Connection<'_, R>,
     frame: &Frame,
 ) -> Result<Step, Exit> {
     let mut step = Step::Waits;
     match shared.hear(rt, frame) {
         Hearing::Tells(told) => {
-            if old.write(&told).is_err() {
+            if !tell_all(old, told) {
                 return Err(FAILED);
             }
             step = Step::Ponged;
@@ -101,7 +102,7 @@ fn hear<R: Wait + Clock>(
     }
 }
 
-/// Returns the exit of a daemon that is gone by a frame of the other one.
+/// Returns the exit of a daemon that a frame of the other one ended.
 fn gone_by(frame: &Frame) -> Exit
     ensures exit { result ≡ exit_by frame.now }
 {

@@ -13,7 +13,7 @@ use std::sync::Wait;
 use std::thread::Threads;
 use std::time::Duration;
 use world_script::{
-    BrokerWords, Cause, DaemonWords, Ending, Failure, Fault, Sources, read_manifest, read_path,
+    BrokerWords, Cause, DaemonWords, Failure, Fault, ProgramEnd, Sources, read_manifest, read_path,
     write_fault,
 };
 
@@ -23,8 +23,8 @@ const STANDARD_OUTPUT: &str = "standard output";
 /// How many bytes of printed lines are gathered for one write.
 const CAPACITY: usize = 65_536;
 
-/// Runs a noted errand to its end, and returns the exit status. Lines go to `output`, and to `errors` what the system's
-/// errors are with.
+/// Runs a noted errand to its end, and returns the exit status. Lines go to `output`, and the system's errors to
+/// `errors`.
 pub fn run_noted<
     R: Threads + Wait + Clock + Files + Net + Sync,
     S: Sources,
@@ -49,10 +49,10 @@ pub fn run_noted<
     }
 }
 
-/// Returns how a process ended. A fault is told, and all that was gathered is written out.
-fn ending_of<'a, W: Write>(out: &mut W, ran: Result<(), Failure<'a>>) -> Ending<'a> {
+/// Returns the end of a process. The line of a fault is written, and `out` is flushed.
+fn ending_of<'a, W: Write>(out: &mut W, ran: Result<(), Failure<'a>>) -> ProgramEnd<'a> {
     let ending = match ran {
-        Ok(()) => Ending::Ran,
+        Ok(()) => ProgramEnd::Ran,
         Err(failure) => told(out, failure),
     };
     match out.flush() {
@@ -62,20 +62,20 @@ fn ending_of<'a, W: Write>(out: &mut W, ran: Result<(), Failure<'a>>) -> Ending<
 }
 
 /// Writes the line of a fault.
-fn told<'a, W: Write>(out: &mut W, failure: Failure<'a>) -> Ending<'a> {
+fn told<'a, W: Write>(out: &mut W, failure: Failure<'a>) -> ProgramEnd<'a> {
     match write_fault(out, failure.fault) {
-        Ok(()) => Ending::Told(failure),
+        Ok(()) => ProgramEnd::Told(failure),
         Err(error) => failure.untold(error),
     }
 }
 
-/// Says on standard error what an ending has to say, and returns the exit status.
-fn said<E: Write>(ending: Ending<'_>, errors: &mut E) -> u8 {
+/// Writes the lines of an end to standard error, and returns the exit status.
+fn said<E: Write>(ending: ProgramEnd<'_>, errors: &mut E) -> u8 {
     let _said = ending.say(errors);
     ending.status()
 }
 
-/// Returns a fault with the system's error with what has this name.
+/// Joins a fault with the system's error, which is with the file or stream of this name.
 fn caused<'a>(fault: Fault, name: &'a str, error: io::Error) -> Failure<'a> {
     Failure {
         fault,

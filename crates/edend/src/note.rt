@@ -117,7 +117,7 @@ impl NotedDaemon {
 }
 
 impl Note {
-    /// Returns a note of nothing.
+    /// Makes an empty note.
     pub fn new() -> Note {
         Note {
             errand: OnceLock::new(),

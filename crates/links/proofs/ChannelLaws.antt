@@ -3,7 +3,7 @@ use Rattle.std.proofs.Common.{◌≡◌, ℕ, Bool, true, false, cond, ltb, List
 use Rattle.std.specs.Io.KnownBytes.{Appends, Consumes}
 use Rattle.frames.specs.declared.frame.Frame.{Frame}
 use Rattle.frames.specs.FrameText.{body_of, frame_text, longest_body}
-use Rattle.links.specs.Channel.{LinkState, Exchanged, Hears, Takes, Heard, NoRoom, Unanswered, Unheard, take_of, text_of}
+use Rattle.links.specs.Channel.{ConnectionState, Exchanged, Hears, Takes, Heard, NoRoom, Unanswered, Unheard, take_of, text_of}
 use Rattle.links.specs.Reading.{Gives, Took}
 use Rattle.links.specs.Writing.{Sends}
 use Rattle.workers.specs.declared.channel.Taken.{Taken}
@@ -26,11 +26,11 @@ heard old new frame is =
 
 -- ---- a look for an ask, from a state that making room left as it was
 
-pub takes_heard : (old start mid new : LinkState) (answer : Frame) (taken : Taken) → start ≡ old → Exchanged start mid (take_of start) answer → Hears mid answer taken new → Takes old taken new
-takes_heard old start mid new answer taken same exchanged hears = let P : LinkState → Type 0 = λ state. Takes state taken new in subst P same (Heard mid answer exchanged hears)
+pub takes_heard : (old start mid new : ConnectionState) (answer : Frame) (taken : Taken) → start ≡ old → Exchanged start mid (take_of start) answer → Hears mid answer taken new → Takes old taken new
+takes_heard old start mid new answer taken same exchanged hears = let P : ConnectionState → Type 0 = λ state. Takes state taken new in subst P same (Heard mid answer exchanged hears)
 
-pub takes_unheard : (old start new : LinkState) → start ≡ old → Unanswered start (take_of start) new → Takes old took.Broken new
-takes_unheard old start new same unanswered = let P : LinkState → Type 0 = λ state. Takes state took.Broken new in subst P same (Unheard unanswered)
+pub takes_unheard : (old start new : ConnectionState) → start ≡ old → Unanswered start (take_of start) new → Takes old took.Broken new
+takes_unheard old start new same unanswered = let P : ConnectionState → Type 0 = λ state. Takes state took.Broken new in subst P same (Unheard unanswered)
 
-pub takes_nothing : (old new : LinkState) → new ≡ old → Takes old took.Empty new
+pub takes_nothing : (old new : ConnectionState) → new ≡ old → Takes old took.Empty new
 takes_nothing old new same = subst (Takes old took.Empty) (sym same) NoRoom

@@ -5,8 +5,8 @@ use Rattle.std.proofs.lemmas.List.{take-append-le}
 use borrow.Rule.Slice.PartMut.{put_mid, post_of}
 use Rattle.std.proofs.KnownBytes.{Consumes-nil, Consumes-kept, Consumes-trans}
 use Rattle.std.specs.Io.KnownBytes.{Consumes, IsAtEnd, Keeps}
-use Rattle.frames.specs.declared.fault.LinkFault.{LinkFault}
-use Rattle.frames.specs.declared.fault.LinkFault.TheVariants.{TooLong, BadKind, BadBody, Torn, Read, Write, NoMemory}
+use Rattle.frames.specs.declared.fault.FrameFault.{FrameFault}
+use Rattle.frames.specs.declared.fault.FrameFault.TheVariants.{TooLong, BadKind, BadBody, Torn, Read, Write, NoMemory}
 use Rattle.frames.specs.declared.frame.Frame.{Frame}
 use Rattle.frames.specs.Lacking.{IsHeadFault, lacking}
 use Rattle.frames.specs.Laws.{grown}
@@ -55,7 +55,7 @@ read_failed old mid new held enough xs few first kept = read_before old new held
 
 -- ---- a fault behind a front
 
-pub head_fault : (bytes : List ℕ) (left : Option (List ℕ)) (fault : LinkFault) → IsHeadFault fault → said bytes ≡ Faulty fault → IsFault bytes left fault
+pub head_fault : (bytes : List ℕ) (left : Option (List ℕ)) (fault : FrameFault) → IsHeadFault fault → said bytes ≡ Faulty fault → IsFault bytes left fault
 head_fault bytes left TooLong is says = says
 head_fault bytes left BadKind is says = says
 head_fault bytes left BadBody is says = absurd is
@@ -65,7 +65,7 @@ head_fault bytes left Write is says = absurd is
 head_fault bytes left NoMemory is says = absurd is
 
 -- a fault of bytes that were read behind a front is one of all of them
-pub joined_fault : (old mid new : Option (List ℕ)) (front : List ℕ) (fault : LinkFault) → Consumes old mid front → Took mid new (λ bytes. IsFault (front ++ bytes) new fault) → Took old new (λ bytes. IsFault bytes new fault)
+pub joined_fault : (old mid new : Option (List ℕ)) (front : List ℕ) (fault : FrameFault) → Consumes old mid front → Took mid new (λ bytes. IsFault (front ++ bytes) new fault) → Took old new (λ bytes. IsFault bytes new fault)
 joined_fault old mid new front fault first then = record {
   bytes = front ++ then.bytes;
   taken = Consumes-trans old mid new front then.bytes first then.taken;
@@ -141,11 +141,11 @@ body_unread known head n five lacks some = record {
 
 -- ---- all that a reader had
 
-some_faulty : (bytes : List ℕ) (fault : LinkFault) → said bytes ≡ Faulty fault → said bytes ≢ NotYet
+some_faulty : (bytes : List ℕ) (fault : FrameFault) → said bytes ≡ Faulty fault → said bytes ≢ NotYet
 some_faulty bytes fault is none = absurd cc
 
 -- a fault in front is one in front of more
-faulty_more : (all bytes left : List ℕ) (fault : LinkFault) → all ≡ bytes ++ left → said bytes ≡ Faulty fault → said all ≡ Faulty fault
+faulty_more : (all bytes left : List ℕ) (fault : FrameFault) → all ≡ bytes ++ left → said bytes ≡ Faulty fault → said all ≡ Faulty fault
 faulty_more all bytes left fault e is = ap said e ∙ grows bytes left (some_faulty bytes fault is) ∙ ap (λ what. grown what left) is
 
 -- and so is a frame
@@ -163,7 +163,7 @@ first_said all left frame is = ap said is.in_front ∙ text_again frame is.text 
 all_read : (all bytes left : List ℕ) → all ≡ bytes ++ left → left ≡ [] → all ≡ bytes
 all_read all bytes left e none = e ∙ ap (λ (t : List ℕ). bytes ++ t) none ∙ append-nil bytes
 
-gives_first : (all bytes left : List ℕ) (result : Result (Option Frame) LinkFault) → all ≡ bytes ++ left → Gives bytes (Some left) result → GivesFirst all left result
+gives_first : (all bytes left : List ℕ) (result : Result (Option Frame) FrameFault) → all ≡ bytes ++ left → Gives bytes (Some left) result → GivesFirst all left result
 gives_first all bytes left (Ok (Some frame)) e is =
     let first = text_more all bytes left frame e is in
     (first_said all left frame first, first)
@@ -179,7 +179,7 @@ gives_first all bytes left (Err Write) e is = absurd is
 gives_first all bytes left (Err NoMemory) e is = tt
 
 -- what was read gives what all that was known says
-pub gives_known : (old new : Option (List ℕ)) (result : Result (Option Frame) LinkFault) → Took old new (λ bytes. Gives bytes new result) → GivesKnown old new result
+pub gives_known : (old new : Option (List ℕ)) (result : Result (Option Frame) FrameFault) → Took old new (λ bytes. Gives bytes new result) → GivesKnown old new result
 gives_known None new result took = tt
 gives_known (Some all) None result took = absurd took.taken
 gives_known (Some all) (Some left) result took = gives_first all took.bytes left result took.taken took.holds

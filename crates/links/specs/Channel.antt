@@ -1,9 +1,10 @@
--- A channel over a link, as contracts see it, and what a look for an ask and a reply make of it. (This project's own.)
+-- A channel over a connection, as contracts see it, and what a look for an ask and a reply make of it. (This project's
+-- own.)
 use Rattle.std.specs.Prelude.{◌≡◌, ◌≢◌, ◌⊎◌, ◌<◌, ◌++◌, ℕ, List, [], ◌∷◌, length, flat_map, Option, Some, None, Result, Ok, Err}
 use Rattle.std.specs.Io.KnownBytes.{Appends, Consumes, Keeps}
 use Rattle.broker_core.specs.declared.fault.TakeFault.{TakeFault}
 use Rattle.broker_core.specs.declared.fault.TakeFault.TheVariants as refused
-use Rattle.frames.specs.declared.fault.LinkFault.{LinkFault}
+use Rattle.frames.specs.declared.fault.FrameFault.{FrameFault}
 use Rattle.frames.specs.declared.frame.Frame.{Frame}
 use Rattle.frames.specs.declared.frame.Frame.TheVariants as frames
 use Rattle.frames.specs.FrameText.{body_of, framed, kind_of}
@@ -23,13 +24,14 @@ use Rattle.workers.specs.declared.channel.Taken.TheVariants as took
 
 -- a channel: the generation at which it serves, why it stopped, and, where they are known, the bytes that come in and
 -- those that went out
-pub record LinkState : Type 0 where
+pub record ConnectionState : Type 0 where
   pub generation : ℕ
   pub ended : Option TakeFault
   pub incoming : Option (List ℕ)
   pub outgoing : Option (List ℕ)
 
-abbrev pub state_of : {R W : Type 0} → (R → Option (List ℕ)) → (W → Option (List ℕ)) → SocketChannel R W → LinkState
+abbrev pub state_of : {R W : Type 0} → (R → Option (List ℕ)) → (W → Option (List ℕ)) →
+    SocketChannel R W → ConnectionState
 state_of remaining contents channel = record {
   generation = channel.generation;
   ended = channel.ended;
@@ -42,34 +44,34 @@ abbrev pub text_of : Frame → List ℕ
 text_of frame = framed (kind_of frame) (body_of frame)
 
 -- a frame was written, and a frame was read
-pub record Exchanged (old new : LinkState) (said heard : Frame) : Type 0 where
+pub record Exchanged (old new : ConnectionState) (said heard : Frame) : Type 0 where
   pub generation : new.generation ≡ old.generation
   pub ended : new.ended ≡ old.ended
   pub wrote : Appends old.outgoing new.outgoing (text_of said)
   pub read : Consumes old.incoming new.incoming (text_of heard)
 
 -- reading gave no frame
-abbrev pub IsNoFrame : Result (Option Frame) LinkFault → Type 0
+abbrev pub IsNoFrame : Result (Option Frame) FrameFault → Type 0
 IsNoFrame (Ok (Some frame)) = ⊥
 IsNoFrame result = Unit {0}
 
 -- a frame was not answered: it could not be written whole, or then no frame could be read
-pub data Unanswered : LinkState → Frame → LinkState → Type 0 where
-  NotSent : {old new : LinkState} {said : Frame} (fault : LinkFault) →
+pub data Unanswered : ConnectionState → Frame → ConnectionState → Type 0 where
+  NotSent : {old new : ConnectionState} {said : Frame} (fault : FrameFault) →
       Writes old.outgoing new.outgoing said (Err fault) → Keeps old.incoming new.incoming → Unanswered old said new
-  NotHeard : {old new : LinkState} {said : Frame} (result : Result (Option Frame) LinkFault) →
+  NotHeard : {old new : ConnectionState} {said : Frame} (result : Result (Option Frame) FrameFault) →
       Writes old.outgoing new.outgoing said (Ok tt) → IsNoFrame result →
       Took old.incoming new.incoming (λ bytes. Gives bytes new.incoming result) → Unanswered old said new
 
 -- the answer to a frame
-abbrev pub Answers : LinkState → Frame → Option Frame → LinkState → Type 0
+abbrev pub Answers : ConnectionState → Frame → Option Frame → ConnectionState → Type 0
 Answers old said (Some heard) new = Exchanged old new said heard
 Answers old said None new = Unanswered old said new
 
 -- ---- replies
 
 -- the frame of a reply
-abbrev pub post_of : LinkState → Reply → Frame
+abbrev pub post_of : ConnectionState → Reply → Frame
 post_of channel reply = frames.Post channel.generation (reply_text reply)
 
 -- what the answer to a Post tells of the reply
@@ -78,11 +80,11 @@ posted_of frames.Posted = post.Done
 posted_of heard = post.Broken
 
 -- a reply was not answered; or memory for its frame was refused, and nothing was said
-abbrev pub IsUnposted : LinkState → Reply → LinkState → Type 0
+abbrev pub IsUnposted : ConnectionState → Reply → ConnectionState → Type 0
 IsUnposted old reply new = Unanswered old (post_of old reply) new ⊎ (new ≡ old)
 
 -- the outcome of a reply: what the other end tells of it; or it is Broken, since nothing was told
-abbrev pub Posts : LinkState → Reply → Posted → LinkState → Type 0
+abbrev pub Posts : ConnectionState → Reply → Posted → ConnectionState → Type 0
 Posts old reply posted new =
     ((heard : Frame) × (posted ≡ posted_of heard) × Exchanged old new (post_of old reply) heard)
     ⊎ ((posted ≡ post.Broken) × IsUnposted old reply new)
@@ -98,7 +100,7 @@ IsNoAnswer (frames.Stale now) = ⊥
 IsNoAnswer frame = Unit {0}
 
 -- the request that a frame has is answered by an error, where it cannot be read and the kernel waits for it
-abbrev pub Refuses : LinkState → List ℕ → WireFault → Taken → LinkState → Type 0
+abbrev pub Refuses : ConnectionState → List ℕ → WireFault → Taken → ConnectionState → Type 0
 Refuses old bytes fault took.Empty new =
     (reply : Reply) × (fault_reply_of bytes fault ≡ Some reply) × Posts old reply post.Done new
 Refuses old bytes fault took.Broken new =
@@ -107,16 +109,16 @@ Refuses old bytes fault took.Broken new =
 Refuses old bytes fault taken new = ⊥
 
 -- the outcome of the request that a frame has
-abbrev pub Serves : LinkState → List ℕ → Result Ask WireFault → Taken → LinkState → Type 0
+abbrev pub Serves : ConnectionState → List ℕ → Result Ask WireFault → Taken → ConnectionState → Type 0
 Serves old bytes (Ok ask) taken new = (taken ≡ took.Ask ask) × (new ≡ old)
 Serves old bytes (Err fault) taken new = Refuses old bytes fault taken new
 
 -- it has ended, for this cause
-abbrev pub Stops : LinkState → TakeFault → Taken → LinkState → Type 0
+abbrev pub Stops : ConnectionState → TakeFault → Taken → ConnectionState → Type 0
 Stops old why taken new = (taken ≡ took.Stopped) × (new ≡ record old { ended = Some why })
 
 -- the outcome of the answer to a Take
-abbrev pub Hears : LinkState → Frame → Taken → LinkState → Type 0
+abbrev pub Hears : ConnectionState → Frame → Taken → ConnectionState → Type 0
 Hears old (frames.Ask bytes) taken new = Serves old bytes (request_of bytes) taken new
 Hears old frames.Empty taken new = (taken ≡ took.Empty) × (new ≡ old)
 Hears old frames.Ended taken new = Stops old refused.Ended taken new
@@ -124,13 +126,13 @@ Hears old (frames.Stale now) taken new = Stops old (refused.Stale now) taken new
 Hears old frame taken new = (taken ≡ took.Broken) × (new ≡ old)
 
 -- the frame that asks
-abbrev pub take_of : LinkState → Frame
+abbrev pub take_of : ConnectionState → Frame
 take_of channel = frames.Take channel.generation
 
 -- The outcome of a look for an ask: it is asked, and the answer decides; or the asking is not answered; or nothing is
 -- asked at all, since there is no room for what may come.
-pub data Takes : LinkState → Taken → LinkState → Type 0 where
-  Heard : {old new : LinkState} {taken : Taken} (mid : LinkState) (answer : Frame) →
+pub data Takes : ConnectionState → Taken → ConnectionState → Type 0 where
+  Heard : {old new : ConnectionState} {taken : Taken} (mid : ConnectionState) (answer : Frame) →
       Exchanged old mid (take_of old) answer → Hears mid answer taken new → Takes old taken new
-  Unheard : {old new : LinkState} → Unanswered old (take_of old) new → Takes old took.Broken new
-  NoRoom : {channel : LinkState} → Takes channel took.Empty channel
+  Unheard : {old new : ConnectionState} → Unanswered old (take_of old) new → Takes old took.Broken new
+  NoRoom : {channel : ConnectionState} → Takes channel took.Empty channel

@@ -1,8 +1,8 @@
 -- What writing a frame puts behind what a writer holds. (This project's own.)
 use Rattle.std.specs.Prelude.{◌≡◌, ◌<◌, ℕ, List, length, take, Option, Some, Result, Ok, Err}
 use Rattle.std.specs.Io.KnownBytes.{Appends, Keeps}
-use Rattle.frames.specs.declared.fault.LinkFault.{LinkFault}
-use Rattle.frames.specs.declared.fault.LinkFault.TheVariants.{Write}
+use Rattle.frames.specs.declared.fault.FrameFault.{FrameFault}
+use Rattle.frames.specs.declared.fault.FrameFault.TheVariants.{Write}
 use Rattle.frames.specs.declared.frame.Frame.{Frame}
 use Rattle.frames.specs.FrameText.{IsNotWritten, frame_text}
 
@@ -26,7 +26,7 @@ pub record SendsPart (old new : Option (List ℕ)) (frame : Frame) : Type 0 wher
 
 -- the outcome of writing a frame: its text behind what was written, or a part of it where a write failed; and else
 -- nothing, where it has no text or memory is refused for it
-abbrev pub Writes : Option (List ℕ) → Option (List ℕ) → Frame → Result (Unit {0}) LinkFault → Type 0
+abbrev pub Writes : Option (List ℕ) → Option (List ℕ) → Frame → Result (Unit {0}) FrameFault → Type 0
 Writes old new frame (Ok done) = Sends old new frame
 Writes old new frame (Err Write) = SendsPart old new frame
 Writes old new frame (Err fault) = Keeps old new × IsNotWritten frame fault

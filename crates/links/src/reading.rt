@@ -1,11 +1,11 @@
 //! Frames, as they are read.
 ghost use Rattle.std.specs.Prelude.{◌≡◌, ◌<◌, ◌≤◌, Ok, length, take, IfOk, IfErr};
 ghost use Rattle.std.specs.Io.KnownBytes.{Consumes, IsAtEnd};
-ghost use Rattle.frames.specs.declared.fault.LinkFault.TheVariants.{Read as ReadFault};
+ghost use Rattle.frames.specs.declared.fault.FrameFault.TheVariants.{Read as ReadFault};
 ghost use Rattle.frames.specs.Lacking.{lacking};
 ghost use Rattle.links.specs.Reading.{Gives, GivesBehind, GivesHead, GivesKind, GivesKnown, Took};
 
-use crate::{Frame, LinkFault};
+use crate::{Frame, FrameFault};
 use frames::missing;
 use std::alloc::Global;
 use std::io::{ErrorKind, Read};
@@ -19,15 +19,15 @@ const LENGTH: usize = 4;
 /// How many bytes stand before a body.
 const HEAD: usize = 5;
 
-/// Reads until at least `enough` bytes stand in the room or the input ends, and returns how many do. It makes at most
-/// `left` reads, and takes those that it made off.
+/// Reads until the room has at least `enough` bytes or the input ends, and returns how many it has. It makes at most
+/// `left` reads, and lowers `left` by each.
 #[tactic(auto, using(crate::proofs::ReadingLaws::room_read, crate::proofs::ReadingLaws::room_same))]
 fn fill<R: Read>(
     reader: &mut R,
     room: &mut [u8],
     enough: usize,
     left: &mut usize,
-) -> Result<usize, LinkFault>
+) -> Result<usize, FrameFault>
     requires some { 0 < enough }
     requires room { enough ≤ length room.old }
     ensures within { IfOk result (λ count. count ≤ length room.new) }
@@ -49,24 +49,28 @@ fn fill<R: Read>(
                 }
             }
             Err(error) if error.kind() == ErrorKind::Interrupted => {}
-            Err(_) => return Err(LinkFault::Read),
+            Err(_) => return Err(FrameFault::Read),
         }
     }
-    Err(LinkFault::Read)
+    Err(FrameFault::Read)
 }
 
 /// Reads the kind behind a length that was read, and returns how long the body is.
 #[tactic(auto, using(crate::proofs::ReadingLaws::head_fault, crate::proofs::ReadingLaws::kind_fault, crate::proofs::ReadingLaws::kind_torn))]
-fn read_kind<R: Read>(reader: &mut R, head: &mut [u8], left: &mut usize) -> Result<usize, LinkFault>
+fn read_kind<R: Read>(
+    reader: &mut R,
+    head: &mut [u8],
+    left: &mut usize,
+) -> Result<usize, FrameFault>
     requires five { length head.old ≡ 5 }
     ensures kind { GivesKind (take 4 head.old) (R.remaining reader.old) (R.remaining reader.new)
         head.new result }
 {
     missing(&head[..LENGTH])?;
     match fill(reader, &mut head[LENGTH..], 1, left) {
-        Ok(0) => return Err(LinkFault::Torn),
+        Ok(0) => return Err(FrameFault::Torn),
         Ok(_) => {}
-        Err(_fault) => return Err(LinkFault::Read),
+        Err(_fault) => return Err(FrameFault::Read),
     }
     missing(head)
 }
@@ -77,18 +81,18 @@ fn read_head<R: Read>(
     reader: &mut R,
     head: &mut [u8],
     left: &mut usize,
-) -> Result<Option<usize>, LinkFault>
+) -> Result<Option<usize>, FrameFault>
     requires five { length head.old ≡ 5 }
     ensures head { GivesHead (R.remaining reader.old) (R.remaining reader.new) head.new result }
 {
     let Ok(held) = fill(reader, head, LENGTH, left) else {
-        return Err(LinkFault::Read);
+        return Err(FrameFault::Read);
     };
     if held == 0 {
         return Ok(None);
     }
     if held < LENGTH {
-        return Err(LinkFault::Torn);
+        return Err(FrameFault::Torn);
     }
     if held == LENGTH {
         return Ok(Some(read_kind(reader, head, left)?));
@@ -104,7 +108,7 @@ fn read_body<R: Read>(
     head: &[u8],
     len: usize,
     left: &mut usize,
-) -> Result<Frame, LinkFault>
+) -> Result<Frame, FrameFault>
     requires five { length head.now ≡ 5 }
     requires len { lacking head.now ≡ Ok len }
     ensures behind { GivesBehind head.now (R.remaining reader.old) (R.remaining reader.new) result }
@@ -114,20 +118,20 @@ fn read_body<R: Read>(
         return Frame::of_parts(head, body);
     }
     if body.resize(len, 0).is_err() {
-        return Err(LinkFault::NoMemory);
+        return Err(FrameFault::NoMemory);
     }
     let Ok(held) = fill(reader, body.as_mut_slice(), len, left) else {
-        return Err(LinkFault::Read);
+        return Err(FrameFault::Read);
     };
     if held < len {
-        return Err(LinkFault::Torn);
+        return Err(FrameFault::Torn);
     }
     Frame::of_parts(head, body)
 }
 
 /// Reads a head and then its body.
 #[tactic(auto, using(crate::proofs::ReadingLaws::joined_frame, crate::proofs::ReadingLaws::joined_fault))]
-fn read_parts<R: Read>(alloc: Global, reader: &mut R) -> Result<Option<Frame>, LinkFault>
+fn read_parts<R: Read>(alloc: Global, reader: &mut R) -> Result<Option<Frame>, FrameFault>
     ensures gives { Took (R.remaining reader.old) (R.remaining reader.new)
         (λ bytes. Gives bytes (R.remaining reader.new) result) }
 {
@@ -143,11 +147,11 @@ fn read_parts<R: Read>(alloc: Global, reader: &mut R) -> Result<Option<Frame>, L
     }
 }
 
-/// Reads the first frame of what a reader has left, and no byte behind it: none where the input ends before it. It makes
-/// at most 131,072 reads, and makes a read again only where it was interrupted. It takes no memory but for a body. Where
-/// it is Read, a part of a frame may be lost: close the connection.
+/// Reads one frame, and no byte behind it. Returns none where the input has ended. It makes at most 131,072 reads, and
+/// repeats only a read that was interrupted. It takes memory for a body alone. After a fault, close the connection: a
+/// part of a frame may be lost.
 #[tactic(auto, using(crate::proofs::ReadingLaws::gives_known))]
-pub fn read_frame<R: Read>(alloc: Global, reader: &mut R) -> Result<Option<Frame>, LinkFault>
+pub fn read_frame<R: Read>(alloc: Global, reader: &mut R) -> Result<Option<Frame>, FrameFault>
     ensures gives { Took (R.remaining reader.old) (R.remaining reader.new)
         (λ bytes. Gives bytes (R.remaining reader.new) result) }
     ensures first { GivesKnown (R.remaining reader.old) (R.remaining reader.new) result }

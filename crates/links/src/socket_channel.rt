@@ -1,4 +1,4 @@
-//! A worker's channel over a link to the broker.
+//! A worker's channel over a connection to the broker.
 ghost use Rattle.std.specs.Prelude.{◌≡◌, [], None, false, IfOk, IsSome, IsTrue};
 ghost use Rattle.fuse_wire.specs.RequestReading.{request_of};
 ghost use Rattle.links.specs.Channel.{Answers, Hears, Posts, Refuses, Serves, Stops, Takes, posted_of, state_of};
@@ -24,7 +24,7 @@ struct Rooms {
 }
 
 impl Rooms {
-    /// Takes memory for whatever request comes.
+    /// Takes memory for any one request.
     fn new(alloc: Global) -> Result<Rooms, NoMemory> {
         let first = NameRoom::new(alloc)?;
         let second = NameRoom::new(alloc)?;
@@ -109,7 +109,7 @@ impl<R: Read, W: Write> SocketChannel<R, W> {
         }
     }
 
-    /// Sees to it that whatever request comes can be read, and returns whether it can.
+    /// Makes room for any request, and returns whether it could.
     fn has_rooms(&mut self) -> bool
         ensures rooms { IsTrue result → IsSome self.new.rooms }
         ensures same { state_of R.remaining W.contents self.new
@@ -194,9 +194,9 @@ impl<R: Read, W: Write> SocketChannel<R, W> {
         }
     }
 
-    /// Asks the broker for the next ask. A request that cannot be read is answered by its error, and then there is none
-    /// now. No request is lost for want of memory: rooms for whatever comes are taken before the broker is asked, and
-    /// where they are refused it is not asked. Where it is Broken, close the connection.
+    /// Takes the next ask from the broker. It first makes room for any request, and is Empty without asking where that
+    /// room is refused: so no request is lost out of memory. A request that can't be read is answered by its error, and
+    /// the result is Empty. Where it is Broken, close the connection.
     pub fn take(&mut self) -> Taken
         ensures takes { Takes (state_of R.remaining W.contents self.old) result
             (state_of R.remaining W.contents self.new) }

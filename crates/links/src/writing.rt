@@ -1,10 +1,10 @@
 //! Frames, as they are written.
 ghost use Rattle.std.specs.Prelude.{◌≡◌, ◌<◌, ◌≤◌, [], length, take, OnOk, OnErr, IfOk, IfErr};
 ghost use Rattle.std.specs.Io.KnownBytes.{Appends};
-ghost use Rattle.frames.specs.declared.fault.LinkFault.TheVariants.{Write as WriteFault};
+ghost use Rattle.frames.specs.declared.fault.FrameFault.TheVariants.{Write as WriteFault};
 ghost use Rattle.links.specs.Writing.{Cuts, Writes};
 
-use crate::{Frame, LinkFault};
+use crate::{Frame, FrameFault};
 use std::alloc::Global;
 use std::io::{ErrorKind, Write};
 
@@ -13,7 +13,7 @@ pub const MAX_WRITES: usize = 131_072;
 
 /// Makes one write, and returns how many bytes it took: none where it was interrupted.
 #[tactic(auto, using(crate::proofs::WritingLaws::nothing_written))]
-fn write_once<W: Write>(writer: &mut W, bytes: &[u8]) -> Result<usize, LinkFault>
+fn write_once<W: Write>(writer: &mut W, bytes: &[u8]) -> Result<usize, FrameFault>
     ensures within { IfOk result (λ count. count ≤ length bytes.now) }
     ensures written { IfOk result (λ count. Appends (W.contents writer.old) (W.contents writer.new)
         (take count bytes.now)) }
@@ -21,16 +21,16 @@ fn write_once<W: Write>(writer: &mut W, bytes: &[u8]) -> Result<usize, LinkFault
     ensures kept { OnErr result (Appends (W.contents writer.old) (W.contents writer.new) []) }
 {
     match writer.write(bytes) {
-        Ok(0) => Err(LinkFault::Write),
+        Ok(0) => Err(FrameFault::Write),
         Ok(count) => Ok(count),
         Err(error) if error.kind() == ErrorKind::Interrupted => Ok(0),
-        Err(_) => Err(LinkFault::Write),
+        Err(_) => Err(FrameFault::Write),
     }
 }
 
 /// Writes bytes, in one write where the writer takes them all.
 #[tactic(auto, using(crate::proofs::WritingLaws::text_cut, crate::proofs::WritingLaws::text_grown, crate::proofs::WritingLaws::text_whole))]
-fn write_bytes<W: Write>(writer: &mut W, bytes: &[u8]) -> Result<(), LinkFault>
+fn write_bytes<W: Write>(writer: &mut W, bytes: &[u8]) -> Result<(), FrameFault>
     requires some { 0 < length bytes.now }
     ensures whole { OnOk result (Appends (W.contents writer.old) (W.contents writer.new) bytes.now) }
     ensures refused { IfErr result (λ fault. fault ≡ WriteFault) }
@@ -46,12 +46,12 @@ fn write_bytes<W: Write>(writer: &mut W, bytes: &[u8]) -> Result<(), LinkFault>
             return Ok(());
         }
     }
-    Err(LinkFault::Write)
+    Err(FrameFault::Write)
 }
 
-/// Writes the text of a frame, in one write where the writer takes it all. The text is the memory that it takes. Where
-/// it is Write, a part of the text may be out: close the connection. It flushes nothing.
-pub fn write_frame<W: Write>(alloc: Global, writer: &mut W, frame: &Frame) -> Result<(), LinkFault>
+/// Writes the text of a frame, in one write where the writer takes it all. It takes memory for the text alone, and
+/// flushes nothing. After a fault of the writer, close the connection: a part of the text may be out.
+pub fn write_frame<W: Write>(alloc: Global, writer: &mut W, frame: &Frame) -> Result<(), FrameFault>
     ensures writes { Writes (W.contents writer.old) (W.contents writer.new) frame.now result }
 {
     match frame.write(alloc) {

@@ -10,10 +10,10 @@ use std::time::{Duration, Instant};
 /// When a wait ends.
 #[derive(Clone, Copy)]
 pub enum Deadline {
-    /// It has no end of its own.
+    /// The wait has no end of its own.
     Never,
     At(Instant),
-    /// It ended before it began, as where the clock can't be read.
+    /// The wait is over at once, as where the clock can't be read.
     Passed,
 }
 

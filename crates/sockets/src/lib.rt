@@ -2,13 +2,14 @@
 #![tactic(auto)]
 
 mod closer;
+mod connection;
 mod deadline;
-mod link;
 mod listening;
+mod passage;
 mod timed;
 
 pub use closer::Closer;
+pub use connection::{Connection, connect};
 pub use deadline::{Deadline, Left};
-pub use link::{Link, connect};
 pub use listening::{Hidden, listen_at};
 pub use timed::Timed;

@@ -18,8 +18,8 @@ pub struct Hidden {
     name: String,
 }
 
-/// Listens at a path, for the user alone. A socket that stands there is replaced, and no moment is without one. What is
-/// no socket is left alone, and is an error.
+/// Listens at a path, for the user alone. A socket that stands there is replaced, and at no moment does the path lack
+/// one. Anything else that stands there is left alone, and is an error.
 pub fn listen_at<R: Files + Net>(rt: &R, alloc: Global, path: &str) -> io::Result<UnixListener> {
     Hidden::beside(rt, alloc, path)?.show(rt, path)
 }
@@ -55,7 +55,7 @@ fn bind_private<R: Files + Net>(rt: &R, name: &str) -> io::Result<UnixListener> 
 }
 
 impl Hidden {
-    /// Listens in a folder beside a path, so that all that may fail has failed before it is to be found there.
+    /// Listens in a folder beside a path. So whatever may fail has failed before anyone finds the socket.
     pub fn beside<R: Files + Net>(rt: &R, alloc: Global, path: &str) -> io::Result<Hidden> {
         check_place(rt, path)?;
         let folder = make_folder(rt, alloc, path)?;
@@ -72,7 +72,7 @@ impl Hidden {
         }
     }
 
-    /// Listens in a folder. Where that fails nothing is left in it.
+    /// Listens in a folder. Where that fails the folder is left empty.
     fn within<R: Files + Net>(
         rt: &R,
         alloc: Global,

@@ -1,7 +1,7 @@
 //! A connection that carries frames.
 use crate::Deadline;
 use crate::timed::Timed;
-use links::{Frame, LinkFault, read_frame, write_frame};
+use links::{Frame, FrameFault, read_frame, write_frame};
 use std::alloc::Global;
 use std::io::{self, BufReader};
 use std::net::{Net, Shutdown};
@@ -14,7 +14,7 @@ const AHEAD: usize = 65_536;
 
 /// One end of a connection. Both ends of it are closed where it is dropped.
 #[derive(Drop)]
-pub struct Link<'a, R> {
+pub struct Connection<'a, R> {
     alloc: Global,
     reader: BufReader<Timed<'a, R>>,
     writer: UnixStream,
@@ -25,18 +25,18 @@ pub fn connect<R: Net>(rt: &R, path: &str) -> io::Result<UnixStream> {
     UnixStream::connect(rt, path)
 }
 
-impl<'a, R: Clock> Link<'a, R> {
-    /// Returns a link over a connection. A write that waits longer than `patience` for its reader fails.
+impl<'a, R: Clock> Connection<'a, R> {
+    /// Returns a connection over a socket. A write that waits longer than `patience` for its reader fails.
     pub fn over(
         alloc: Global,
         clock: &'a R,
         stream: UnixStream,
         patience: Option<Duration>,
-    ) -> io::Result<Link<'a, R>> {
+    ) -> io::Result<Connection<'a, R>> {
         let writer = stream.try_clone()?;
         writer.set_write_timeout(patience)?;
         let reader = BufReader::with_capacity(alloc, AHEAD, Timed::over(clock, stream))?;
-        Ok(Link {
+        Ok(Connection {
             alloc,
             reader,
             writer,
@@ -44,14 +44,14 @@ impl<'a, R: Clock> Link<'a, R> {
     }
 
     /// Reads the next frame, of which every byte comes by `deadline`: none where the other end closed the connection
-    /// before it. After a fault close the link.
-    pub fn read(&mut self, deadline: Deadline) -> Result<Option<Frame>, LinkFault> {
+    /// before it. After a fault close the connection.
+    pub fn read(&mut self, deadline: Deadline) -> Result<Option<Frame>, FrameFault> {
         self.reader.get_mut().end_by(deadline);
         read_frame(self.alloc, &mut self.reader)
     }
 
-    /// Writes a frame. After a fault close the link.
-    pub fn write(&mut self, frame: &Frame) -> Result<(), LinkFault> {
+    /// Writes a frame. After a fault close the connection.
+    pub fn write(&mut self, frame: &Frame) -> Result<(), FrameFault> {
         write_frame(self.alloc, &mut self.writer, frame)
     }
 
@@ -76,7 +76,7 @@ impl<'a, R: Clock> Link<'a, R> {
         let _ended = self.writer.shutdown(Shutdown::Both);
     }
 
-    /// Returns the two handles of a channel, without what the link read ahead.
+    /// Returns the two handles of a channel, without what was read ahead.
     pub fn into_ends(self) -> (BufReader<Timed<'a, R>>, UnixStream) {
         (self.reader, self.writer)
     }

@@ -1,0 +1,63 @@
+//! How far a stream of bytes is into a frame.
+ghost use Rattle.std.specs.Prelude.{◌≡◌};
+ghost use Rattle.sockets.specs.Passage.{is_between, passed};
+
+/// How far a stream of bytes is into a frame. What no frame is, as a length that is too long, is the reader's to find.
+#[derive(Clone, Copy)]
+pub(crate) struct Passage {
+    /// How many bytes of a length came, from 0 to 3.
+    came: u32,
+    /// The number that they write, highest byte first.
+    len: u32,
+    /// How many bytes are to come behind a length that came: the kind's, and the body's.
+    left: u32,
+}
+
+impl Passage {
+    /// Returns that a stream begins.
+    pub(crate) fn new() -> Passage
+        ensures new { result ≡ record { came = 0; len = 0; left = 0 } }
+    {
+        Passage {
+            came: 0,
+            len: 0,
+            left: 0,
+        }
+    }
+
+    /// Returns whether the next byte begins a frame.
+    pub(crate) fn is_between(&self) -> bool
+        ensures between { result ≡ is_between self.now }
+    {
+        self.came == 0 && self.left == 0
+    }
+
+    /// Takes in the next byte.
+    fn pass(&mut self, byte: u8)
+        ensures passed { self.new ≡ passed self.old byte }
+    {
+        if self.left > 0 {
+            self.left -= 1;
+            return;
+        }
+        self.len = self.len.saturating_mul(256).saturating_add(u32::from(byte));
+        self.came = self.came.saturating_add(1);
+        if self.came >= 4 {
+            self.left = self.len.saturating_add(1);
+            self.came = 0;
+            self.len = 0;
+        }
+    }
+
+    /// Takes in the next bytes, and returns whether a frame ends in them.
+    pub(crate) fn pass_all(&mut self, bytes: &[u8]) -> bool {
+        let mut ended = false;
+        for byte in bytes {
+            self.pass(*byte);
+            if self.is_between() {
+                ended = true;
+            }
+        }
+        ended
+    }
+}
