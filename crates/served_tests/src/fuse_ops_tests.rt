@@ -190,7 +190,7 @@ fn answers_each_error_and_changes_nothing(rt: HostRuntime) {
     assert!(rt; all_go_so(rt.alloc(), &REFUSED));
 }
 
-/// Number 3 is the file `a`, before and after it lost its name. Nothing is in a file, so that a name is missing there
+/// Number 3 is the file `a`, before and after it lost its name. A file has no names in it, so that a name is missing there
 /// too, and nothing can be made in what is unlinked.
 static ASKED_OF_A_FILE: [Deed; 9] = [
     Deed::Enter(Asks::LookUp, 1, b"src", 2, Is::Directory),

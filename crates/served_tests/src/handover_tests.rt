@@ -1,5 +1,6 @@
-//! What a daemon that answered a few requests hands over, and what is served again of it. A call that is refused memory
-//! says so, and is made once more: so each allocation can be refused in turn (`rt try --test --fail-alloc N`).
+//! The image that a daemon hands over after a few requests, and the daemon that is restored from it. A call that is
+//! refused memory says so, and is made once more: so each allocation can be refused, one in a run (`rt try --test
+//! --fail-alloc N`).
 ghost use Rattle.std.specs.Prelude.{◌≡◌};
 
 use crate::again::{answer_to, manifest_of, name_of, served_of};
@@ -83,10 +84,10 @@ fn taken(
 }
 
 /// Returns whether what is served hands over these bytes at generation 6, and has the numbers that the wishes gave.
-fn is_as_wished(alloc: Global, served: &Served, bytes: &[u8]) -> bool {
+fn is_as_wished(alloc: Global, served: &Served, bytes: &[u8], version: u16) -> bool {
     let map = served.map();
     let counts = map.count(Number(2)) == 2 && map.count(Number(3)) == 1;
-    match handed(alloc, served, 6, 1) {
+    match handed(alloc, served, 6, version) {
         Ok(again) => counts && map.next() == 4 && again.as_slice() == bytes,
         Err(_) => false,
     }
@@ -115,10 +116,10 @@ fn refuses_cuts(alloc: Global, bytes: &[u8], manifest: &Manifest) -> bool {
 }
 
 /// Returns whether what is served again is as it was.
-fn keeps(alloc: Global, bytes: &[u8], manifest: &Manifest) -> bool {
+fn keeps(alloc: Global, bytes: &[u8], manifest: &Manifest, version: u16) -> bool {
     match taken(alloc, bytes, manifest, 6) {
         Ok(served) => {
-            let so = is_as_wished(alloc, &served, bytes);
+            let so = is_as_wished(alloc, &served, bytes, version);
             drop(served);
             so
         }
@@ -126,11 +127,13 @@ fn keeps(alloc: Global, bytes: &[u8], manifest: &Manifest) -> bool {
     }
 }
 
-/// Which fact is looked at.
+/// The fact that a test looks at.
 #[derive(Clone, Copy)]
 enum Fact {
     /// The next daemon serves the same.
     Keeps,
+    /// So it does in version 2.
+    KeepsInSecond,
     /// Another generation is refused.
     Generation,
     /// Each cut is refused.
@@ -142,7 +145,8 @@ enum Fact {
 /// Returns whether a fact holds of what was handed over at generation 6.
 fn holds_of(alloc: Global, bytes: &[u8], manifest: &Manifest, fact: Fact) -> bool {
     match fact {
-        Fact::Keeps => keeps(alloc, bytes, manifest),
+        Fact::Keeps => keeps(alloc, bytes, manifest, 1),
+        Fact::KeepsInSecond => keeps(alloc, bytes, manifest, 2),
         Fact::Generation => {
             refuses(alloc, bytes, manifest, 5) && refuses(alloc, bytes, manifest, 7)
         }
@@ -152,14 +156,18 @@ fn holds_of(alloc: Global, bytes: &[u8], manifest: &Manifest, fact: Fact) -> boo
 
 /// Returns whether a fact holds of what is served.
 fn holds_for(alloc: Global, served: &Served, manifest: &Manifest, fact: Fact) -> bool {
-    let version = if matches!(fact, Fact::Version) { 9 } else { 1 };
+    let version = match fact {
+        Fact::KeepsInSecond => 2,
+        Fact::Version => 9,
+        _ => 1,
+    };
     match handed(alloc, served, 6, version) {
-        Ok(bytes) => version == 1 && holds_of(alloc, bytes.as_slice(), manifest, fact),
+        Ok(bytes) => version != 9 && holds_of(alloc, bytes.as_slice(), manifest, fact),
         Err(fault) => version == 9 && fault == HandoverFault::Refused,
     }
 }
 
-/// Returns whether a fact holds of a daemon that was asked the wishes.
+/// Returns whether a fact holds of a daemon that answered the wishes.
 fn holds_after(alloc: Global, manifest: &Manifest, fact: Fact) -> bool {
     match served_of(alloc, manifest, 4) {
         Ok(mut served) => {
@@ -187,6 +195,7 @@ fn holds(alloc: Global, fact: Fact) -> bool {
 #[test]
 fn serves_again_what_was_handed_over(rt: HostRuntime) {
     assert!(rt; holds(rt.alloc(), Fact::Keeps));
+    assert!(rt; holds(rt.alloc(), Fact::KeepsInSecond));
 }
 
 #[test]

@@ -4,7 +4,7 @@ mod streams;
 
 use crate::links_tests::streams::{Interrupted, Pieces, Sink};
 use byte_codec::Bytes;
-use links::{Frame, LinkFault, read_frame, write_frame};
+use links::{Frame, FrameFault, read_frame, write_frame};
 use std::alloc::Global;
 use std::io::BufReader;
 use std::test::Fail;
@@ -16,17 +16,17 @@ static CLAIM: [u8; 13] = [0, 0, 0, 8, 9, 0, 0, 0, 0, 0, 0, 0, 1];
 static TWO: [u8; 18] = [0, 0, 0, 8, 9, 0, 0, 0, 0, 0, 0, 0, 1, 0, 0, 0, 0, 3];
 
 /// Streams with a faulty frame in front, each cut where the fault shows.
-static FAULTS: [(&[u8], LinkFault); 3] = [
-    (&[0, 1, 0, 1], LinkFault::TooLong),
-    (&[0, 0, 0, 0, 200], LinkFault::BadKind),
-    (&[0, 0, 0, 7, 9, 0, 0, 0, 0, 0, 0, 1], LinkFault::BadBody),
+static FAULTS: [(&[u8], FrameFault); 3] = [
+    (&[0, 1, 0, 1], FrameFault::TooLong),
+    (&[0, 0, 0, 0, 200], FrameFault::BadKind),
+    (&[0, 0, 0, 7, 9, 0, 0, 0, 0, 0, 0, 1], FrameFault::BadBody),
 ];
 
 /// Reads a frame, and once more from the same place where memory was refused.
-fn read_slice(alloc: Global, bytes: &mut &[u8]) -> Result<Option<Frame>, LinkFault> {
+fn read_slice(alloc: Global, bytes: &mut &[u8]) -> Result<Option<Frame>, FrameFault> {
     let all: &[u8] = *bytes;
     match read_frame(alloc, bytes) {
-        Err(LinkFault::NoMemory) => {
+        Err(FrameFault::NoMemory) => {
             *bytes = all;
             read_frame(alloc, bytes)
         }
@@ -35,7 +35,7 @@ fn read_slice(alloc: Global, bytes: &mut &[u8]) -> Result<Option<Frame>, LinkFau
 }
 
 /// Returns whether this is the claim of generation 1.
-fn is_claim(read: Result<Option<Frame>, LinkFault>) -> bool {
+fn is_claim(read: Result<Option<Frame>, FrameFault>) -> bool {
     matches!(read, Ok(Some(Frame::Claim { generation: 1 })))
 }
 
@@ -69,7 +69,7 @@ fn a_claim_comes_by_reads_of_every_size(rt: HostRuntime) {
 }
 
 /// Returns what the front of the claim's text gives.
-fn front_gives(alloc: Global, len: usize) -> Result<Option<Frame>, LinkFault> {
+fn front_gives(alloc: Global, len: usize) -> Result<Option<Frame>, FrameFault> {
     if len > CLAIM.len() {
         return Ok(None);
     }
@@ -80,7 +80,7 @@ fn front_gives(alloc: Global, len: usize) -> Result<Option<Frame>, LinkFault> {
 /// Returns whether each front of the claim's text is torn.
 fn fronts_are_torn(alloc: Global) -> bool {
     for len in 1..13 {
-        if !matches!(front_gives(alloc, len), Err(LinkFault::Torn)) {
+        if !matches!(front_gives(alloc, len), Err(FrameFault::Torn)) {
             return false;
         }
     }
@@ -98,7 +98,7 @@ fn an_end_between_frames_gives_none(rt: HostRuntime) {
 }
 
 /// Returns whether a faulty frame is told as soon as it shows, though nothing follows.
-fn faults_are_told(alloc: Global, faults: &[(&[u8], LinkFault)]) -> bool {
+fn faults_are_told(alloc: Global, faults: &[(&[u8], FrameFault)]) -> bool {
     for (stream, fault) in faults {
         let mut bytes = *stream;
         match read_slice(alloc, &mut bytes) {
@@ -123,10 +123,10 @@ fn read_fails(alloc: Global, fails: usize) -> bool {
         fails,
         reads: 0,
     };
-    matches!(read_frame(alloc, &mut reader), Err(LinkFault::Read)) && reader.reads == fails
+    matches!(read_frame(alloc, &mut reader), Err(FrameFault::Read)) && reader.reads == fails
 }
 
-/// Returns whether that is so of each read.
+/// Returns whether a failure of any of the reads ends the frame at once.
 fn each_read_fails(alloc: Global) -> bool {
     for fails in 1..14 {
         if !read_fails(alloc, fails) && !read_fails(alloc, fails) {
@@ -145,7 +145,7 @@ fn a_read_that_fails_is_told(rt: HostRuntime) {
 fn interrupted_reads(alloc: Global) -> Option<usize> {
     let mut reader = Interrupted { reads: 0 };
     match read_frame(alloc, &mut reader) {
-        Err(LinkFault::Read) => Some(reader.reads),
+        Err(FrameFault::Read) => Some(reader.reads),
         _ => None,
     }
 }
@@ -206,7 +206,7 @@ fn sink(alloc: Global, most: usize, fails: usize, stutters: bool) -> Option<Sink
 fn writes_claim(
     alloc: Global,
     writer: Option<Sink>,
-    fault: Option<LinkFault>,
+    fault: Option<FrameFault>,
     len: usize,
     writes: usize,
 ) -> bool {
@@ -229,7 +229,7 @@ fn writes(alloc: Global) -> bool {
         && writes_claim(
             alloc,
             sink(alloc, 0, 0, false),
-            Some(LinkFault::Write),
+            Some(FrameFault::Write),
             0,
             1,
         )
@@ -244,7 +244,7 @@ fn a_frame_is_one_write(rt: HostRuntime) {
 fn each_write_fails(alloc: Global) -> bool {
     for fails in 1..14 {
         let writer = sink(alloc, 1, fails, false);
-        if !writes_claim(alloc, writer, Some(LinkFault::Write), fails - 1, fails) {
+        if !writes_claim(alloc, writer, Some(FrameFault::Write), fails - 1, fails) {
             return false;
         }
     }
@@ -257,7 +257,7 @@ fn a_write_that_fails_is_told(rt: HostRuntime) {
 }
 
 /// Returns whether the writing of an Ask of this length comes to this fault, if any, with this count of bytes written.
-fn writes_ask(alloc: Global, len: usize, fault: Option<LinkFault>, written: usize) -> bool {
+fn writes_ask(alloc: Global, len: usize, fault: Option<FrameFault>, written: usize) -> bool {
     let mut writer = Vec::new(alloc);
     let Ok(bytes) = Vec::from_elem(alloc, 7, len) else {
         return false;
@@ -272,7 +272,7 @@ fn writes_ask(alloc: Global, len: usize, fault: Option<LinkFault>, written: usiz
 /// Returns whether the longest body is written, and nothing of one that is longer.
 fn writes_long(alloc: Global) -> bool {
     writes_ask(alloc, 65_536, None, 65_541)
-        && writes_ask(alloc, 65_537, Some(LinkFault::TooLong), 0)
+        && writes_ask(alloc, 65_537, Some(FrameFault::TooLong), 0)
 }
 
 #[test]

@@ -3,11 +3,13 @@
 mod asking;
 mod deeds;
 mod deep_tests;
+mod feeding_tests;
 mod handing_tests;
 mod images;
 mod limit_tests;
 mod raise_tests;
 mod size_tests;
+mod sized;
 mod vectors;
 
 use crate::map_codec_tests::asking::{Asking, Asks};
@@ -108,12 +110,12 @@ fn is_refused_or_spelled_so(alloc: Global, bytes: &[u8]) -> bool {
     }
 }
 
-/// Returns whether the changed image with one byte set is refused, or spelled so.
+/// Returns whether the changed image with one byte set is refused, or is the one spelling of what is read.
 fn is_refused_or_spelled_with(alloc: Global, at: usize, byte: u8) -> bool {
     is_refused_or_spelled_so(alloc, changed_with(at, byte).as_slice())
 }
 
-/// Returns that of each byte set to 00, to ff and with its lowest bit turned.
+/// Calls `is_refused_or_spelled_with` for each byte: set to 00, set to ff, and with its lowest bit turned.
 fn are_refused_or_spelled(alloc: Global, bytes: &[u8]) -> bool {
     for at in 0..bytes.len() {
         if !is_refused_or_spelled_with(alloc, at, 0)

@@ -1,13 +1,13 @@
-//! What a round leaves, by what its channels hold.
+//! Rounds over channels that hold a few asks, and what they leave.
 mod ending_tests;
 mod full_tests;
-mod gates;
+mod hooks;
 mod rooms_tests;
 mod rounds;
 mod scripted;
 mod shift_tests;
 
-use crate::workers_tests::gates::SecondFirst;
+use crate::workers_tests::hooks::SecondFirst;
 use crate::workers_tests::rounds::{Change, Left, round, round_again};
 use std::alloc::Global;
 use std::rt::Clock;
@@ -25,7 +25,7 @@ fn serves_second_first<R: Threads + Wait + Clock + Sync>(
     second: u64,
     change: Change,
 ) -> bool {
-    let gate = SecondFirst::new(rt);
+    let hook = SecondFirst::new(rt);
     let place = if first == 2 { 0 } else { 1 };
     let wanted = Left {
         records: 2,
@@ -41,14 +41,14 @@ fn serves_second_first<R: Threads + Wait + Clock + Sync>(
         &[first],
         &[second],
         64,
-        &gate,
+        &hook,
         &Stop::new(),
         change,
     );
-    left == Some(wanted) && !gate.gave_up.load(Ordering::SeqCst)
+    left == Some(wanted) && !hook.gave_up.load(Ordering::SeqCst)
 }
 
-/// Each worker has a thread of its own: where the channels were served one by one, a gate would give up.
+/// Each worker has a thread of its own: where the channels were served one by one, a hook would give up.
 #[test]
 fn channels_are_served_side_by_side(rt: HostRuntime) {
     let served = serves_second_first(&rt, rt.alloc(), 1, 2, Change::None);

@@ -13,7 +13,7 @@ const UPPER: &[u8] = b"commit 0123456789ABCDEF0123456789abcdef01234567\n";
 const ODD: &[u8] =
     b"commit 0123456789abcdef0123456789abcdef01234567\nfile 0644 9223372036854775807 z\nfile 7777 0 a b  c\nfile 0000 0 \xff\x01\xe9\ndir z\r\ndir ...\ndir  \ndir a\ndir a/a\ndir a/a/a\nfile 0644 1 a/a/a/a\n";
 
-/// As far as a name.
+/// A manifest up to the name of a directory.
 const DIR_LINE: &[u8] = b"commit 0123456789abcdef0123456789abcdef01234567\ndir ";
 
 const BAD_LINES: &[u8] = b";dir; dir z;Dir z;link z;commit z;file;file 0644;file 0644 1";
@@ -72,7 +72,7 @@ fn put_text(text: &mut Vec<u8>, above: &[u8], line: &[u8], end: &[u8]) -> Result
     text.extend_from_slice(end)
 }
 
-/// Returns whether a text is refused so.
+/// Returns whether a text is refused for this fault.
 fn is_fault(alloc: Global, text: &[u8], fault: ManifestFault) -> bool {
     match Manifest::read(alloc, text) {
         Ok(manifest) => {
@@ -83,7 +83,7 @@ fn is_fault(alloc: Global, text: &[u8], fault: ManifestFault) -> bool {
     }
 }
 
-/// Returns whether a text of three parts is refused so.
+/// Returns whether a text of three parts is refused for this fault.
 fn is_bad_line(alloc: Global, above: &[u8], line: &[u8], end: &[u8], fault: ManifestFault) -> bool {
     let mut text = Vec::new(alloc);
     let is_put = put_text(&mut text, above, line, end).is_ok();
@@ -103,7 +103,7 @@ fn are_bad_lines(alloc: Global, row: Row) -> bool {
     true
 }
 
-/// Returns the place of the first row that is not told so.
+/// Returns the index of the first row with another fault.
 fn first_untold(alloc: Global) -> Option<usize> {
     for place in 0..ROWS.len() {
         if !are_bad_lines(alloc, ROWS[place]) {
@@ -196,7 +196,7 @@ fn has_last_file(alloc: Global, text: &[u8]) -> bool {
     }
 }
 
-/// Returns that of line 65,537.
+/// Returns a fault of line 65,537.
 fn last_fault(kind: ManifestFaultKind) -> ManifestFault {
     ManifestFault { line: 65537, kind }
 }
@@ -225,7 +225,7 @@ fn are_too_many(alloc: Global, full: &[u8]) -> bool {
         && is_bad_line(alloc, full, b"dir f0", b"\n", last_fault(Twice))
 }
 
-/// Returns that of as many files as there may be.
+/// Returns whether a manifest with the most files is refused once it has a line more.
 fn refuses_a_line_more(alloc: Global) -> bool {
     let mut full = String::new(alloc);
     put_files(&mut full).is_ok() && are_too_many(alloc, full.as_bytes())
@@ -272,7 +272,7 @@ static SMALL_LINES: [Listed; 4] = [
     (1, b"README", Kind::File, 0o644, 7),
 ];
 
-/// Returns whether a line says this.
+/// Returns whether a line has the values of a row.
 fn says(line: &Line, row: Listed) -> bool {
     let (dir, name, kind, perm, size) = row;
     line.dir.0 == dir
@@ -282,7 +282,7 @@ fn says(line: &Line, row: Listed) -> bool {
         && line.size == size
 }
 
-/// Returns whether the lines say this; takes no memory.
+/// Returns whether the lines have the values of these rows. It takes no memory.
 fn say(lines: &[Line], rows: &[Listed]) -> bool {
     if lines.len() != rows.len() {
         return false;

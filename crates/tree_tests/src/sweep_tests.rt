@@ -1,5 +1,5 @@
-//! Sizes up to the limits, with ample memory. No clause can say that memory suffices: so a call that tells out of memory
-//! from some size on is found here alone.
+//! Sizes up to the limits, with ample memory. No clause can say that memory suffices: so a call that tells out of
+//! memory from some size on is found here alone.
 mod maps;
 mod texts;
 mod trees;
@@ -9,7 +9,7 @@ use crate::sweep_tests::texts::{are_names_read, is_each_count_read};
 use crate::sweep_tests::trees::{are_made, are_names_made};
 use std::alloc::Global;
 
-/// What is made in many sizes.
+/// A subject that is made in many sizes.
 #[derive(Clone, Copy)]
 enum Sweep {
     /// Manifests of ever more lines.
@@ -88,11 +88,11 @@ fn succeeds(alloc: Global, sweep: Sweep) -> bool {
     }
 }
 
-/// Returns the place of the first sweep that fails.
+/// Returns the index of the first sweep that fails.
 fn first_failed(alloc: Global, sweeps: &[Sweep]) -> Option<usize> {
-    for place in 0..sweeps.len() {
-        if !succeeds(alloc, sweeps[place]) {
-            return Some(place);
+    for index in 0..sweeps.len() {
+        if !succeeds(alloc, sweeps[index]) {
+            return Some(index);
         }
     }
     None

@@ -134,8 +134,8 @@ fn refuses_who_has_not_the_seat(rt: HostRuntime) {
     assert!(rt; all_go_so(rt.alloc(), &WITHOUT_THE_SEAT));
 }
 
-/// Returns whether this comes of a reply where a look-up of unique 1 was taken, and none of unique 2; it is taken once
-/// at most.
+/// Posts a reply twice while the look-up of unique 1 is taken and that of unique 2 waits. Returns whether the first
+/// post has this outcome, and the second is NotAsked.
 fn is_posted_so(alloc: Global, unique: u64, said: Said, posted: Result<(), PostFault>) -> bool {
     let deeds = [
         SERVE,
@@ -161,7 +161,7 @@ static REPLIES: [(u64, Said, Result<(), PostFault>); 9] = [
     (3, Said::Error(Errno::EIO), NOT_ASKED),
 ];
 
-/// Returns whether each of these replies comes to what it says.
+/// Calls `is_posted_so` with each of these replies.
 fn are_posted_so(alloc: Global, replies: &[(u64, Said, Result<(), PostFault>)]) -> bool {
     for (unique, said, posted) in replies {
         if !is_posted_so(alloc, *unique, *said, *posted) {
@@ -210,7 +210,7 @@ fn gives_what_came_first_first(rt: HostRuntime) {
     assert!(rt; all_go_so(rt.alloc(), &FIRST_FIRST));
 }
 
-/// Returns whether `first` and `second` items come one after the other where `items` items wait, and then nothing.
+/// Lets `items` items wait, and returns whether takes give `first` items, then `second` items, and then none.
 fn are_taken(alloc: Global, items: u64, first: usize, second: usize) -> bool {
     let deeds = [
         SERVE,
@@ -226,7 +226,7 @@ fn are_taken(alloc: Global, items: u64, first: usize, second: usize) -> bool {
 
 static BATCHES: [(u64, usize, usize); 4] = [(1, 0, 1), (2, 0, 2), (255, 0, 255), (256, 256, 0)];
 
-/// Returns whether that holds of each of these.
+/// Calls `are_taken` with each row.
 fn are_all_taken(alloc: Global, batches: &[(u64, usize, usize)]) -> bool {
     for (items, first, second) in batches {
         if !are_taken(alloc, *items, *first, *second) {

@@ -1,4 +1,4 @@
-//! Worked examples: what daemons are told at the broker's desk.
+//! Worked examples: the answers that daemons get at the broker's desk.
 mod steps;
 
 use crate::broker_desk_tests::steps::{Says, Step, Told, all_go_so};

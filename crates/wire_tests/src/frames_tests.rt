@@ -4,30 +4,30 @@ mod vectors;
 
 use crate::frames_tests::vectors::{CLAIM, FAULTS, TEXTS};
 use byte_codec::Bytes;
-use frames::{Frame, FrameReader, LinkFault};
+use frames::{Frame, FrameFault, FrameReader};
 use std::alloc::Global;
 use std::test::Fail;
 
 /// Calls `feed`, and once more where memory was refused.
-pub(crate) fn feed(reader: &mut FrameReader, piece: &[u8]) -> Result<(), LinkFault> {
+pub(crate) fn feed(reader: &mut FrameReader, piece: &[u8]) -> Result<(), FrameFault> {
     match reader.feed(piece) {
-        Err(LinkFault::NoMemory) => reader.feed(piece),
+        Err(FrameFault::NoMemory) => reader.feed(piece),
         fed => fed,
     }
 }
 
 /// Calls `next`, and once more where memory was refused.
-pub(crate) fn next(reader: &mut FrameReader) -> Result<Option<Frame>, LinkFault> {
+pub(crate) fn next(reader: &mut FrameReader) -> Result<Option<Frame>, FrameFault> {
     match reader.next() {
-        Err(LinkFault::NoMemory) => reader.next(),
+        Err(FrameFault::NoMemory) => reader.next(),
         taken => taken,
     }
 }
 
 /// Calls `write`, and once more where memory was refused.
-pub(crate) fn write(alloc: Global, frame: &Frame) -> Result<Vec<u8>, LinkFault> {
+pub(crate) fn write(alloc: Global, frame: &Frame) -> Result<Vec<u8>, FrameFault> {
     match frame.write(alloc) {
-        Err(LinkFault::NoMemory) => frame.write(alloc),
+        Err(FrameFault::NoMemory) => frame.write(alloc),
         written => written,
     }
 }
@@ -46,7 +46,7 @@ fn has_only(alloc: Global, reader: &mut FrameReader, text: &[u8]) -> bool {
     same && matches!(next(reader), Ok(None))
 }
 
-/// Returns whether a frame comes out of its text where that is cut in two at a place.
+/// Returns whether a frame comes out of its text where that is cut in two at an index.
 pub(crate) fn comes_out(alloc: Global, text: &[u8], cut: usize) -> bool {
     if cut > text.len() {
         return true;
@@ -90,7 +90,7 @@ fn a_text_is_read_and_written_again_in_every_cut(rt: HostRuntime) {
     assert!(rt; all_come_out(rt.alloc(), &TEXTS));
 }
 
-/// Returns whether the claim is told apart.
+/// Returns whether the claim is read as a claim from generation 1.
 fn is_claim(alloc: Global) -> bool {
     let mut reader = FrameReader::new(alloc);
     feed(&mut reader, &CLAIM).is_ok()
@@ -102,27 +102,26 @@ fn a_claim_is_read_as_one(rt: HostRuntime) {
     assert!(rt; is_claim(rt.alloc()));
 }
 
-/// Returns whether a stream is at this fault, at its front or at its end, and stays so: a torn one tells it at its end
-/// alone, a faulty one before.
-fn is_at_fault(alloc: Global, bytes: &[u8], fault: LinkFault) -> bool {
+/// Returns whether a stream has this fault, and keeps it: a torn stream tells it at its end, a faulty one before.
+fn is_at_fault(alloc: Global, bytes: &[u8], fault: FrameFault) -> bool {
     let mut reader = FrameReader::new(alloc);
     if feed(&mut reader, bytes).is_err() {
         return false;
     }
     let stands = match next(&mut reader) {
-        Ok(None) => fault == LinkFault::Torn,
+        Ok(None) => fault == FrameFault::Torn,
         Ok(Some(_)) => false,
         Err(told) => told == fault && feed(&mut reader, &CLAIM) == Err(fault),
     };
     let end = match fault {
-        LinkFault::Torn => Err(fault),
+        FrameFault::Torn => Err(fault),
         _ => Ok(()),
     };
     stands && reader.finish() == end
 }
 
 /// Returns whether each stream is at its fault.
-fn all_are_at_fault(alloc: Global, faults: &[(&[u8], LinkFault)]) -> bool {
+fn all_are_at_fault(alloc: Global, faults: &[(&[u8], FrameFault)]) -> bool {
     for (bytes, fault) in faults {
         if !is_at_fault(alloc, bytes, *fault) {
             return false;
@@ -137,12 +136,12 @@ fn a_fault_is_told_and_stands(rt: HostRuntime) {
 }
 
 /// Returns a frame of `len` bytes that are all the same.
-fn long_ask(alloc: Global, len: usize) -> Result<Frame, LinkFault> {
+fn long_ask(alloc: Global, len: usize) -> Result<Frame, FrameFault> {
     match Vec::from_elem(alloc, 7, len) {
         Ok(bytes) => Ok(Frame::Ask(Bytes::of(bytes))),
         Err(_) => match Vec::from_elem(alloc, 7, len) {
             Ok(bytes) => Ok(Frame::Ask(Bytes::of(bytes))),
-            Err(_) => Err(LinkFault::NoMemory),
+            Err(_) => Err(FrameFault::NoMemory),
         },
     }
 }
@@ -164,7 +163,7 @@ fn goes_through(alloc: Global, len: usize) -> bool {
 fn is_too_long(alloc: Global, len: usize) -> bool {
     match long_ask(alloc, len) {
         Ok(frame) => {
-            let refused = matches!(frame.write(alloc), Err(LinkFault::TooLong));
+            let refused = matches!(frame.write(alloc), Err(FrameFault::TooLong));
             drop(frame);
             refused
         }

@@ -173,7 +173,7 @@ fn goes_to(request: &Request, node: u64) -> bool {
     }
 }
 
-/// Returns that of the request of these bytes.
+/// Reads a request, and returns whether it goes to this number.
 fn is_read_to_go_to(alloc: Global, bytes: &[u8], node: u64) -> bool {
     match read(alloc, bytes) {
         Ok(ask) => {
@@ -197,7 +197,7 @@ static NODES: [(&[u8], u64); 9] = [
     (&BATCH_FORGET, 0),
 ];
 
-/// Returns that of each of these.
+/// Returns whether each request goes to the number beside it.
 fn each_goes_to(alloc: Global, requests: &[(&[u8], u64)]) -> bool {
     for (bytes, node) in requests {
         if !is_read_to_go_to(alloc, bytes, *node) {
@@ -216,7 +216,7 @@ static SERVED: [u32; 8] = [1, 2, 3, 9, 10, 11, 35, 42];
 
 static OTHERS: [u32; 6] = [0, 12, 14, 15, 43, 0xffff_ffff];
 
-/// Returns whether a request of an opcode is made just where that is one of the others.
+/// Returns whether `Request::other` makes a request of an opcode exactly where `other` says so.
 fn is_made(opcode: u32, other: bool) -> bool {
     let node = Number(7);
     match Request::other(opcode, node) {
@@ -225,7 +225,7 @@ fn is_made(opcode: u32, other: bool) -> bool {
     }
 }
 
-/// Returns that of each of these opcodes.
+/// Calls `is_made` with each opcode.
 fn are_made(opcodes: &[u32], other: bool) -> bool {
     for opcode in opcodes {
         if !is_made(*opcode, other) {

@@ -34,7 +34,7 @@ fn removed<T: Drop>(nodes: &mut Nodes<T>, slot: Slot) -> Option<T> {
     Some(value)
 }
 
-/// What is done with a slot, and its outcome.
+/// A use of a slot, with its outcome.
 #[derive(Clone, Copy)]
 enum Use {
     Touch,
@@ -42,7 +42,7 @@ enum Use {
     Write(char),
     /// The slot is the oldest of this count.
     IsOldest(usize),
-    /// The slot is the one that was given in another place.
+    /// The slot is the one that was given at this index.
     Is(usize),
 }
 
@@ -52,7 +52,7 @@ enum Deed {
     Add(char),
     /// A full arena gives the value back.
     Refuse(char),
-    /// Uses the slot that was given in this place.
+    /// Uses the slot that was given at this index.
     At(usize, Use),
     /// The values, the least recently used first.
     Order(&'static [char]),
@@ -90,7 +90,7 @@ fn has_order(nodes: &mut Nodes<char>, values: &[char]) -> bool {
     nodes.len() == values.len()
 }
 
-/// Uses a slot, and returns whether that comes to what it says.
+/// Uses a slot, and returns whether the outcome is the expected one.
 fn is_used(nodes: &mut Nodes<char>, slots: &[Slot], slot: Slot, act: Use) -> bool {
     match act {
         Use::Touch => is_touched(nodes, slot),
@@ -101,7 +101,7 @@ fn is_used(nodes: &mut Nodes<char>, slots: &[Slot], slot: Slot, act: Use) -> boo
     }
 }
 
-/// Makes a call, and returns whether it comes to what it says.
+/// Makes a call, and returns whether its outcome is the expected one.
 fn goes_so(nodes: &mut Nodes<char>, slots: &mut Vec<Slot>, deed: Deed) -> bool {
     match deed {
         Deed::Add(value) => is_added(nodes, slots, value),
@@ -115,7 +115,7 @@ fn goes_so(nodes: &mut Nodes<char>, slots: &mut Vec<Slot>, deed: Deed) -> bool {
     }
 }
 
-/// Makes the calls of a table, and returns whether each comes to what it says.
+/// Makes the calls of a table, and returns whether each outcome is the expected one.
 fn each_goes_so(nodes: &mut Nodes<char>, slots: &mut Vec<Slot>, deeds: &[Deed]) -> bool {
     for deed in deeds {
         if !goes_so(nodes, slots, *deed) {
@@ -125,7 +125,7 @@ fn each_goes_so(nodes: &mut Nodes<char>, slots: &mut Vec<Slot>, deeds: &[Deed]) 
     true
 }
 
-/// Makes the calls of a table on an arena of this capacity, and returns whether each comes to what it says.
+/// Makes the calls of a table on an arena of this capacity, and returns whether each outcome is the expected one.
 fn all_go_so(alloc: Global, capacity: usize, deeds: &[Deed]) -> bool
     requires least { 1 ≤ capacity }
     requires most { capacity ≤ 65536 }
@@ -218,7 +218,7 @@ fn empties(nodes: &mut Nodes<usize>, capacity: usize) -> bool {
     nodes.oldest().is_none() && nodes.len() == 0
 }
 
-/// Returns whether an arena of this capacity does both.
+/// Calls `fills` and `empties` on an arena of this capacity.
 fn fills_and_empties(alloc: Global, capacity: usize) -> bool
     requires least { 1 ≤ capacity }
     requires most { capacity ≤ 65536 }
@@ -268,7 +268,7 @@ fn drops_of_three<'a>(nodes: &mut Nodes<Counted<'a>>, drops: &'a Cell<u32>) -> O
     Some((came_back, was_removed, drops.get()))
 }
 
-/// Does that to a new arena, and returns how often values were dropped, and then how often once it ended.
+/// Calls `drops_of_three` on a new arena. Returns its counts of drops, and the count once the arena ended.
 fn drops_of_all(alloc: Global) -> Option<(Drops, u32)> {
     let drops = Cell::new(0);
     let mut nodes = Nodes::new(alloc, 3).ok()?;
@@ -293,7 +293,7 @@ fn drops_one<'a>(nodes: &mut Nodes<Counted<'a>>, drops: &'a Cell<u32>) -> bool {
     drops.get() == 1
 }
 
-/// Does that to a new arena, and returns whether no other value was dropped once it ended.
+/// Calls `drops_one` on a new arena, and returns whether no other value was dropped when the arena ended.
 fn drops_one_alone(alloc: Global) -> bool {
     let drops = Cell::new(0);
     match Nodes::new(alloc, 2) {
@@ -344,7 +344,7 @@ fn are_used(
     removed(nodes, slot) == Some(value)
 }
 
-/// Makes one call on both, and returns whether both answered the same.
+/// Makes one call on an arena and a list, and returns whether both answered the same.
 fn are_changed(nodes: &mut Nodes<u64>, list: &mut Vec<(Slot, u64)>, action: u64) -> bool {
     if action % 8 < 4 || list.is_empty() {
         return are_added(nodes, list, action);
@@ -364,7 +364,7 @@ fn agree(nodes: &Nodes<u64>, list: &[(Slot, u64)]) -> bool {
     nodes.len() == list.len() && nodes.oldest() == oldest
 }
 
-/// Makes many calls on both, and returns whether both answered the same each time and agree after each.
+/// Makes many calls on an arena and a list, and returns whether both answered the same each time and agree after each.
 fn agree_for_long(nodes: &mut Nodes<u64>, list: &mut Vec<(Slot, u64)>) -> bool {
     let mut random = 20_260_917;
     for _ in 0..20_000 {
@@ -376,7 +376,7 @@ fn agree_for_long(nodes: &mut Nodes<u64>, list: &mut Vec<(Slot, u64)>) -> bool {
     true
 }
 
-/// Returns that of an arena and a list that begin.
+/// Calls `agree_for_long` on a new arena and an empty list.
 fn agree_from_nothing(alloc: Global) -> bool {
     match Nodes::new(alloc, 6) {
         Ok(nodes) => {

@@ -1,5 +1,5 @@
-//! Sizes up to the limits, with ample memory. No clause can say that memory suffices: so a call that tells out of memory
-//! from some size on is found here alone.
+//! Sizes up to the limits, with ample memory. No clause can say that memory suffices: so a call that tells out of
+//! memory from some size on is found here alone.
 mod messages;
 mod streams;
 
@@ -8,7 +8,7 @@ use crate::sweep_tests::messages::{is_each_batch_made, is_each_name_made};
 use crate::sweep_tests::streams::{Carrier, is_each_body_carried, is_stream_read};
 use std::alloc::Global;
 
-/// What is made in many sizes.
+/// A subject that is made in many sizes.
 #[derive(Clone, Copy)]
 enum Sweep {
     /// Names of each length.
@@ -45,12 +45,13 @@ const MANY_NUMBERS: [Deed; 4] = [
     Deed::HeldAfter(10_000, None),
 ];
 
-static SWEEPS: [Sweep; 11] = [
+static SWEEPS: [Sweep; 12] = [
     Sweep::Names,
     Sweep::Batches,
     Sweep::Bodies(Carrier::Ask),
     Sweep::Bodies(Carrier::Post),
     Sweep::Bodies(Carrier::Data),
+    Sweep::Bodies(Carrier::Part),
     Sweep::Stream {
         pieces: 1,
         frames: 40_001,
@@ -82,11 +83,11 @@ fn succeeds(alloc: Global, sweep: Sweep) -> bool {
     }
 }
 
-/// Returns the place of the first sweep that fails.
+/// Returns the index of the first sweep that fails.
 fn first_failed(alloc: Global, sweeps: &[Sweep]) -> Option<usize> {
-    for place in 0..sweeps.len() {
-        if !succeeds(alloc, sweeps[place]) {
-            return Some(place);
+    for index in 0..sweeps.len() {
+        if !succeeds(alloc, sweeps[index]) {
+            return Some(index);
         }
     }
     None

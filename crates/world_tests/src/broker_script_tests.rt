@@ -7,7 +7,7 @@ use Step::{Begins, Comes, Leaves, On, Waits};
 /// A daemon attaches by the first connection.
 const FIRST: Step = On(0, Deed::Attaches);
 
-/// It mounts.
+/// Daemon 1 mounts.
 const MOUNTS: Step = On(0, Deed::Mounts);
 
 /// Another daemon attaches by the second connection.

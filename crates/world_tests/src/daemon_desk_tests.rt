@@ -1,10 +1,10 @@
-//! Worked examples: what daemons tell each other and ask of the broker, from desk to desk.
+//! Worked examples: the frames between daemons, and to the broker, from desk to desk.
 mod steps;
 
-use crate::daemon_desk_tests::steps::{Says, Step, Told, all_go_so};
+use crate::daemon_desk_tests::steps::{Says, Step, Told, all_go_so, all_go_so_in_parts};
 use Step::{
-    Claims, GivesUp, Hears, Lends, LooksUp, Mounts, Offers, Prepares, Readies, Returns, Sent,
-    Serves, Wants,
+    Claims, GivesUp, Hears, Lends, LooksUp, LooksUpEach, Mounts, Next, Offers, Prepares, Readies,
+    Returns, Sent, Serves, Wants,
 };
 use daemon_desk::{Claiming, Mounting};
 
@@ -175,7 +175,7 @@ fn serves_again_by_a_claim_where_a_takeover_ends_after_the_data(rt: HostRuntime)
     assert!(rt; all_go_so(rt.alloc(), &LEFT_LATE, &[]));
 }
 
-/// Daemon 1 is handed what daemon 0 serves.
+/// Daemon 0 hands its state over to daemon 1.
 static HANDED: [Step; 8] = [
     Prepares(0),
     MOUNTS,
@@ -232,4 +232,67 @@ static LENT: [Step; 10] = [
 #[test]
 fn lends_what_it_serves_once_and_takes_back_only_that(rt: HostRuntime) {
     assert!(rt; all_go_so(rt.alloc(), &LENT, &[]));
+}
+
+/// Daemon 1 is handed the first of two parts of the state of daemon 0.
+static BEGUN_IN_PARTS: [Step; 13] = [
+    Prepares(0),
+    MOUNTS,
+    LooksUpEach(0, 2),
+    Offers(1),
+    Hears(0, Told::Choice(1, 2)),
+    Hears(1, Told::Heeds),
+    Readies(0, Told::Ready(1, 1)),
+    Hears(1, Told::Pong(1)),
+    Hears(0, Told::Part(1, 1, 1, 2)),
+    Serves(0, None),
+    Hears(1, Told::Heeds),
+    Hears(1, Told::Ignores),
+    Wants(1, None),
+];
+
+static READ_TO_THE_END: [Step; 12] = [
+    Next(Told::Part(1, 1, 2, 2)),
+    Hears(1, Told::Heeds),
+    Hears(1, Told::Ignores),
+    Next(Told::Nothing),
+    Wants(1, Some(1)),
+    Claims(1, Says::Claimed(2), Claiming::Serves(2)),
+    LooksUpEach(1, 2),
+    LooksUp(1, 18),
+    GivesUp(0, Told::Failed(1)),
+    Claims(0, Says::Stale(2), Claiming::Stale),
+    Serves(0, None),
+    Serves(1, Some(2)),
+];
+
+static LEFT_BETWEEN_PARTS: [Step; 9] = [
+    Sent(1, Says::Failed(2), Told::Ignores),
+    Sent(1, Says::Failed(1), Told::Heeds),
+    Next(Told::Part(1, 1, 2, 2)),
+    Hears(1, Told::Ignores),
+    Wants(1, None),
+    GivesUp(0, Told::Failed(1)),
+    Wants(0, Some(1)),
+    Claims(0, Says::Claimed(2), Claiming::Serves(2)),
+    LooksUpEach(0, 2),
+];
+
+static GIVEN_UP_BETWEEN_PARTS: [Step; 5] = [
+    GivesUp(1, Told::Nothing),
+    Next(Told::Part(1, 1, 2, 2)),
+    Hears(1, Told::Ignores),
+    Hears(2, Told::Ignores),
+    Wants(1, None),
+];
+
+#[test]
+fn hands_over_in_parts(rt: HostRuntime) {
+    for endings in [
+        READ_TO_THE_END.as_slice(),
+        LEFT_BETWEEN_PARTS.as_slice(),
+        GIVEN_UP_BETWEEN_PARTS.as_slice(),
+    ] {
+        assert!(rt; all_go_so_in_parts(rt.alloc(), &BEGUN_IN_PARTS, endings));
+    }
 }

@@ -22,7 +22,7 @@ enum Says {
     Nothing,
 }
 
-/// Returns whether a request is the one that is asked.
+/// Returns whether a request is the expected one.
 fn asks(request: &Request, says: Says) -> bool {
     match (request, says) {
         (Request::Getattr { node }, Says::AskAttributes(number)) => *node == Number(number),
@@ -36,7 +36,7 @@ fn asks(request: &Request, says: Says) -> bool {
     }
 }
 
-/// Returns whether a line that was read says this.
+/// Returns whether a line was read as this.
 fn is_said(read: &Option<BrokerLine>, says: Says) -> bool {
     match (read, says) {
         (None, Says::Nothing) => true,

@@ -1,5 +1,5 @@
-//! Sizes up to the limits, with ample memory. No clause can say that memory suffices: so an event that is refused as out
-//! of memory from some size on is found here alone.
+//! Sizes up to the limits, with ample memory. No clause can say that memory suffices: so an event that is refused as
+//! out of memory from some size on is found here alone.
 mod long;
 
 use crate::sweep_tests::long::{are_handed_on, goes_on, is_run};
@@ -9,7 +9,7 @@ use std::alloc::Global;
 /// A count of rounds, and the deeds of each.
 pub type Round = (u32, &'static [Deed]);
 
-/// What is made in many sizes.
+/// A subject that is made in many sizes.
 #[derive(Clone, Copy)]
 enum Sweep {
     /// Rounds, of which no deed is refused.
@@ -46,7 +46,7 @@ const ITEMS_IN_HAND: [Round; 4] = [
     (4_000, &[Deed::Work(1, 1)]),
 ];
 
-/// Ever more that is forgotten at once.
+/// Forgets of ever higher counts.
 const FORGETS: [Round; 3] = [
     BEGIN,
     (10_000, &[Deed::Do(LOOK_UP_SRC)]),
@@ -78,11 +78,11 @@ fn succeeds(alloc: Global, sweep: Sweep) -> bool {
     }
 }
 
-/// Returns the place of the first sweep that fails.
+/// Returns the index of the first sweep that fails.
 fn first_failed(alloc: Global, sweeps: &[Sweep]) -> Option<usize> {
-    for place in 0..sweeps.len() {
-        if !succeeds(alloc, sweeps[place]) {
-            return Some(place);
+    for index in 0..sweeps.len() {
+        if !succeeds(alloc, sweeps[index]) {
+            return Some(index);
         }
     }
     None

@@ -3,6 +3,7 @@ pub(crate) mod deeds;
 pub(crate) mod events;
 mod facts;
 mod orders;
+mod parts_tests;
 pub(crate) mod refused_tests;
 pub(crate) mod runs;
 mod takeover_tests;
@@ -302,7 +303,7 @@ fn answers_eio_where_its_backing_fails(rt: HostRuntime) {
     assert!(rt; all_go_so(rt.alloc(), &BACKING_FAILS, &[Found::Alone(3, 4)]));
 }
 
-/// Over a backing that fails a file is asked for that is not loaded, at whatever place of the hand. A directory is not,
+/// Over a backing that fails a file is asked for that is not loaded, at any position of the hand. A directory is not,
 /// nor the file once it is loaded.
 static NOT_LOADED: [(Deed, Told); 17] = [
     (Deed::Start, Told::One(Fact::Started(1))),

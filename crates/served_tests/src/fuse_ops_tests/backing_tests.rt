@@ -1,4 +1,4 @@
-//! What is answered where the backing fails, and which files stay loaded, so that it isn't asked for them.
+//! Answers where the backing fails, and the files that stay loaded, so that it isn't asked for them.
 use super::deeds::{Asks, asked};
 use super::hosted::{Hosted, answer};
 use eden_base::{Errno, Number};
@@ -8,8 +8,8 @@ use std::alloc::Global;
 const FOUR_FILES: &[u8] =
     b"commit 0123456789abcdef0123456789abcdef01234567\ndir src\nfile 0644 12 src/a\nfile 0600 3 src/b\nfile 0644 40 README\n";
 
-/// Returns the requests of a test: each of the files is looked up, and then one is asked for that a limit of one
-/// unloaded.
+/// Returns the test's request at an index. The first four look the files up, and the last asks for one that a limit of
+/// one has unloaded.
 fn asked_in_turn(alloc: Global, place: usize) -> Option<Request> {
     match place {
         0 => asked(alloc, Asks::LookUp, 1, b"src"),
@@ -29,7 +29,7 @@ fn number_told(answer: Option<Answer>) -> u64 {
     }
 }
 
-/// Answers the request at a place, and returns whether there was one.
+/// Answers the request at an index, and returns whether there is one.
 fn ask(alloc: Global, served: &mut Hosted, place: usize) -> bool {
     match asked_in_turn(alloc, place) {
         Some(request) => {
@@ -41,7 +41,7 @@ fn ask(alloc: Global, served: &mut Hosted, place: usize) -> bool {
     }
 }
 
-/// Answers the requests before the place `end`, and returns whether each has one.
+/// Answers the requests before the index `end`, and returns whether each has a reply.
 fn ask_before(alloc: Global, served: &mut Hosted, end: usize) -> bool {
     for place in 0..end {
         if !ask(alloc, served, place) {
@@ -68,7 +68,7 @@ fn answer_again(alloc: Global, served: &mut Hosted, request: &Request) -> Option
     }
 }
 
-/// Returns that, and whether the request is answered with this number when it is made again and the backing answers.
+/// Returns whether a request is answered EIO while the backing fails, and with this number when it is made again.
 fn fails_first(
     alloc: Global,
     served: &mut Hosted,
@@ -80,7 +80,7 @@ fn fails_first(
         && number_told(answer_again(alloc, served, request)) == number
 }
 
-/// Returns that of the request at a place.
+/// Calls `fails_first` with the request at an index.
 fn fails_once(alloc: Global, served: &mut Hosted, place: usize, next: u64) -> Option<bool> {
     let number = if place == 4 { 3 } else { next };
     let request = asked_in_turn(alloc, place)?;
@@ -99,7 +99,7 @@ fn fails_in_turn(alloc: Global, served: &mut Hosted, place: usize, next: u64) ->
     }
 }
 
-/// Returns that of a daemon that begins.
+/// Calls `fails_in_turn` on a new daemon.
 fn fails_at(alloc: Global, place: usize, next: u64) -> Option<bool> {
     let mut served = Hosted::of(alloc, FOUR_FILES, 1)?;
     let fails = fails_in_turn(alloc, &mut served, place, next);
@@ -107,7 +107,7 @@ fn fails_at(alloc: Global, place: usize, next: u64) -> Option<bool> {
     fails
 }
 
-/// The place of a request, the next number then, and whether the request asks the backing.
+/// The index of a request, the next number then, and whether the request asks the backing.
 static FAILING: [(usize, u64, bool); 5] = [
     (0, 2, false),
     (1, 3, true),
@@ -123,7 +123,7 @@ fn answers_eio_where_the_backing_fails_and_changes_nothing(rt: HostRuntime) {
     }
 }
 
-/// Returns the number that is told of the request at a place, though the backing fails.
+/// Returns the number in the answer to the request at an index, though the backing fails.
 fn told_without(alloc: Global, served: &mut Hosted, place: usize) -> Option<u64> {
     let request = asked_in_turn(alloc, place)?;
     let answer = served.apply_failing(alloc, 0, &request);
@@ -131,7 +131,7 @@ fn told_without(alloc: Global, served: &mut Hosted, place: usize) -> Option<u64>
     Some(number_told(answer))
 }
 
-/// Returns that where each file was looked up, and stays loaded.
+/// Returns the number that the request at an index is answered with though the backing fails, once each file is loaded.
 fn told_loaded(alloc: Global, place: usize) -> Option<u64> {
     let mut served = Hosted::of(alloc, FOUR_FILES, 3)?;
     let told = if ask_before(alloc, &mut served, 4) {
@@ -143,7 +143,7 @@ fn told_loaded(alloc: Global, place: usize) -> Option<u64> {
     told
 }
 
-/// The place of a request, and the number that it has.
+/// The index of a request, and the number in its answer.
 static LOADED_BEFORE: [(usize, u64); 5] = [(0, 2), (1, 3), (2, 4), (3, 5), (4, 3)];
 
 #[test]
@@ -164,7 +164,7 @@ fn is_loaded(alloc: Global, served: &mut Hosted, node: u64) -> bool {
     }
 }
 
-/// Returns whether those of the three regular files are.
+/// Returns which of the three regular files are loaded.
 fn are_loaded(alloc: Global, served: &mut Hosted) -> [bool; 3] {
     let first = is_loaded(alloc, served, 3);
     let second = is_loaded(alloc, served, 4);
@@ -180,7 +180,7 @@ fn loaded_then(alloc: Global, served: &mut Hosted) -> Option<[bool; 3]> {
     }
 }
 
-/// Returns that at a limit.
+/// Returns which of the three regular files stay loaded at a limit.
 fn stay_loaded(alloc: Global, limit: usize) -> Option<[bool; 3]> {
     let mut served = Hosted::of(alloc, FOUR_FILES, limit)?;
     let loaded = loaded_then(alloc, &mut served);

@@ -1,4 +1,4 @@
-//! What a test asks of a daemon and is answered, as data, so that a test is a table.
+//! Requests to a daemon and its answers as data, so that a test is a table.
 use super::hosted::{Hosted, answer};
 use crate::again::name_of;
 use eden_base::{Attr, Errno, FileId, Kind, NoMemory, Number, Perm};
@@ -8,7 +8,7 @@ use std::alloc::Global;
 const TEXT: &[u8] =
     b"commit 0123456789abcdef0123456789abcdef01234567\ndir src\nfile 0644 12 src/a\n";
 
-/// What a test says of a file.
+/// A file, as a test expects it.
 #[derive(Clone, Copy)]
 pub enum Is {
     Directory,
@@ -106,7 +106,7 @@ fn batch_of(alloc: Global, items: &[Item; 6]) -> Option<Batch> {
     }
 }
 
-/// Returns whether a request is answered so.
+/// Returns whether a request gets this answer.
 fn is_answered(
     alloc: Global,
     served: &mut Hosted,
@@ -124,14 +124,14 @@ fn is_answered(
     }
 }
 
-/// Answers a request that is made for this once.
+/// Makes a request, answers it, and drops it.
 fn answer_once(alloc: Global, served: &mut Hosted, request: Request) -> Option<Answer> {
     let answer = served.apply(alloc, &request);
     drop(request);
     answer
 }
 
-/// Returns whether a number's attributes are answered so.
+/// Returns whether these attributes are answered for a number.
 fn is_shown(alloc: Global, served: &mut Hosted, node: u64, expected: Answer) -> bool {
     let node = Number(node);
     answer_once(alloc, served, Request::Getattr { node }) == Some(expected)
@@ -189,7 +189,7 @@ fn attrs_of(number: u64, is: Is) -> Answer {
     }
 }
 
-/// Does a deed, and returns whether it comes to what it says.
+/// Does a deed, and returns whether its outcome is the expected one.
 fn goes_so(alloc: Global, served: &mut Hosted, deed: Deed) -> bool {
     match deed {
         Deed::Refuse(asks, dir, name, errno) => {
@@ -213,7 +213,7 @@ fn goes_so(alloc: Global, served: &mut Hosted, deed: Deed) -> bool {
     }
 }
 
-/// Does each of `deeds`, one after the other, and returns whether all go so.
+/// Does each of `deeds`, one after the other, and returns whether each outcome is the expected one.
 fn each_goes_so(alloc: Global, served: &mut Hosted, deeds: &[Deed]) -> bool {
     for deed in deeds {
         if !goes_so(alloc, served, *deed) {
@@ -223,7 +223,7 @@ fn each_goes_so(alloc: Global, served: &mut Hosted, deeds: &[Deed]) -> bool {
     true
 }
 
-/// Does each of `deeds` on what the text says, and returns whether all go so.
+/// Does each of `deeds` on a new daemon, and returns whether each outcome is the expected one.
 pub(crate) fn all_go_so(alloc: Global, deeds: &[Deed]) -> bool {
     match Hosted::of(alloc, TEXT, 8) {
         Some(served) => {

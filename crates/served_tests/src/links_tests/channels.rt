@@ -1,4 +1,4 @@
-//! A channel over memory: what it takes of what it hears, and what it says.
+//! A channel over memory: what it hears, what its calls return, and what it says.
 use broker_core::TakeFault;
 use eden_base::Errno;
 use fuse_wire::{Answer, Reply};
@@ -192,7 +192,7 @@ fn joined(alloc: Global, parts: &[&[u8]]) -> Option<Vec<u8>> {
     Some(all)
 }
 
-/// Returns whether a channel was left so: what was taken, and why it ended.
+/// Returns whether a channel gave what was expected, and ended for the expected cause.
 fn is_left(expected: &Expected, taken: &Taken, ended: Option<TakeFault>) -> bool {
     match expected {
         Expected::Ask(unique) => {
@@ -204,7 +204,7 @@ fn is_left(expected: &Expected, taken: &Taken, ended: Option<TakeFault>) -> bool
     }
 }
 
-/// Returns whether a look for an ask comes to what a row says.
+/// Returns whether a `take` has the outcome that a row says.
 fn takes(alloc: Global, row: &Row) -> bool {
     let Some(hears) = joined(alloc, row.hears) else {
         return false;
@@ -222,7 +222,7 @@ fn takes(alloc: Global, row: &Row) -> bool {
         && &said[13..] == row.says
 }
 
-/// Returns whether each row comes so.
+/// Returns whether each row has its outcome.
 fn all_take(alloc: Global, rows: &[Row]) -> bool {
     for row in rows {
         if !takes(alloc, row) && !takes(alloc, row) {

@@ -1,4 +1,4 @@
-//! What is asked of a daemon before its image is taken, and how that image is spelled.
+//! Requests to a daemon before its image is written, and the bytes of that image.
 ghost use Rattle.std.specs.Prelude.{◌≡◌, IfOk};
 ghost use Rattle.map_image.specs.Fit.{IsFit};
 
@@ -66,7 +66,7 @@ fn image_taken(alloc: Global, served: &Served) -> Result<Image, NoMemory>
     }
 }
 
-/// Returns whether the image of what a daemon serves is spelled so.
+/// Returns whether the image of a daemon has these bytes.
 pub fn is_spelled(alloc: Global, served: &Served, bytes: &[u8]) -> bool {
     match image_taken(alloc, served) {
         Ok(image) => {
@@ -78,7 +78,7 @@ pub fn is_spelled(alloc: Global, served: &Served, bytes: &[u8]) -> bool {
     }
 }
 
-/// Makes requests, and returns whether the image after them is spelled so.
+/// Makes requests, and returns whether the image after them has these bytes.
 fn asks_and_spells(
     alloc: Global,
     served: &mut Served,
@@ -91,7 +91,7 @@ fn asks_and_spells(
     asks_all(alloc, served, manifest, askings) && is_spelled(alloc, served, bytes)
 }
 
-/// Returns that of a daemon that begins.
+/// Makes requests of a new daemon, and returns whether its image has these bytes.
 pub(crate) fn is_spelled_after(
     alloc: Global,
     manifest: &Manifest,

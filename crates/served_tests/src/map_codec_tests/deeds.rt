@@ -1,4 +1,4 @@
-//! What is done over one manifest and comes of it, as data, so that a test is a table.
+//! Deeds over one manifest, with their outcomes, as data, so that a test is a table.
 use super::asking::{Asking, is_spelled_after};
 use super::deep_tests::{is_chain_handed, is_chain_raised, is_circle_refused};
 use super::handing_tests::{is_not_taken_with, is_rest_not_taken};
@@ -20,29 +20,29 @@ file 0644 7 README
 
 #[derive(Clone, Copy)]
 pub enum Deed {
-    /// After these requests the image is spelled so.
+    /// After these requests the image has these bytes.
     Spell(&'static [Asking], &'static [u8]),
-    /// What is raised of an image has that image.
+    /// The daemon that this image restores has that image.
     Raise(&'static [u8]),
-    /// The changed image with a byte set is refused so.
+    /// The changed image with a byte set is refused for this cause.
     Refuse(usize, u8, RaiseFault),
     /// The changed image with the name of its first entry in the second too is refused.
     RefuseTwice,
     /// The changed image with a byte set isn't taken over.
     NotTaken(usize, u8),
-    /// Nor is it with a byte behind it.
+    /// The changed image with a byte behind it isn't taken over.
     RestNotTaken,
-    /// The image of this number of directories, each in the one before it, is raised, and handed over, or refused.
+    /// The image of this number of directories, each in the one before it, is restored, and handed over or refused.
     HandChain(u32, bool),
-    /// What is raised of the changed image with eight bytes set refuses a request so.
+    /// The daemon that the changed image with eight bytes set restores answers a request with this error.
     Limit(usize, [u8; 8], Asking, Errno),
-    /// The image of this number of directories, each in the one before it, is raised.
+    /// The image of this number of directories, each in the one before it, is restored.
     RaiseChain(u32),
     /// The image of this number of entries in a circle is refused.
     RefuseCircle(u32),
 }
 
-/// Does a deed, and returns whether it comes to what it says.
+/// Does a deed, and returns whether its outcome is the expected one.
 fn goes_so(alloc: Global, manifest: &Manifest, deed: Deed) -> bool {
     match deed {
         Deed::Spell(askings, bytes) => is_spelled_after(alloc, manifest, askings, bytes),
@@ -60,7 +60,7 @@ fn goes_so(alloc: Global, manifest: &Manifest, deed: Deed) -> bool {
     }
 }
 
-/// Does each deed, and returns whether all go so.
+/// Does each deed, and returns whether each outcome is the expected one.
 fn each_goes_so(alloc: Global, manifest: &Manifest, deeds: &[Deed]) -> bool {
     for deed in deeds {
         if !goes_so(alloc, manifest, *deed) {
@@ -70,7 +70,7 @@ fn each_goes_so(alloc: Global, manifest: &Manifest, deeds: &[Deed]) -> bool {
     true
 }
 
-/// Does each deed over the manifest, and returns whether all go so.
+/// Does each deed over the manifest, and returns whether each outcome is the expected one.
 pub(crate) fn all_go_so(alloc: Global, deeds: &[Deed]) -> bool {
     match manifest_of(alloc, CHECKOUT) {
         Ok(manifest) => {

@@ -92,13 +92,13 @@ fn put_circle(bytes: &mut Vec<u8>, count: u32) -> Result<(), AllocError> {
     put(bytes, &[[0; 8].as_slice()])
 }
 
-/// Returns whether a chain of `count` directories is raised.
+/// Returns whether a chain of `count` directories is restored.
 pub(crate) fn is_chain_raised(alloc: Global, manifest: &Manifest, count: u32) -> bool {
     let mut bytes = Vec::new(alloc);
     put_chain(&mut bytes, count).is_ok() && comes_to(alloc, manifest, bytes.as_slice(), None)
 }
 
-/// Returns whether a chain of `count` directories is raised, and handed over, or refused.
+/// Returns whether a chain of `count` directories is restored, and handed over or refused.
 pub(crate) fn is_chain_handed(
     alloc: Global,
     manifest: &Manifest,

@@ -28,12 +28,12 @@ pub(crate) fn is_not_taken(alloc: Global, manifest: &Manifest, bytes: &[u8]) -> 
     }
 }
 
-/// Returns that of the changed image with one byte set.
+/// Returns whether taking the changed image over is refused, with one byte set.
 pub(crate) fn is_not_taken_with(alloc: Global, manifest: &Manifest, at: usize, byte: u8) -> bool {
     is_not_taken(alloc, manifest, changed_with(at, byte).as_slice())
 }
 
-/// Returns that of the changed image with a byte behind it.
+/// Returns whether taking the changed image over is refused, with a byte behind it.
 pub(crate) fn is_rest_not_taken(alloc: Global, manifest: &Manifest) -> bool {
     match all(alloc, &[CHANGED.as_slice(), b"\0".as_slice()]) {
         Ok(longer) => {
@@ -81,7 +81,7 @@ fn is_handed_so(alloc: Global, served: &Served, bytes: &[u8], is_refused: bool) 
     }
 }
 
-/// Returns that of what is raised of these bytes.
+/// Restores an image, and returns whether it is handed over as the same bytes, or refused where it should be.
 pub(crate) fn is_raised_and_handed(
     alloc: Global,
     manifest: &Manifest,

@@ -29,25 +29,48 @@ pub(crate) fn text_of(alloc: Global, image: &Image, version: u16) -> Result<Vec<
     }
 }
 
-/// Returns whether an image is written as these bytes.
-pub(crate) fn has_text(alloc: Global, image: &Image, bytes: &[u8]) -> bool
+/// Returns whether an image is written in a version as these bytes.
+pub(crate) fn has_text_in(alloc: Global, image: &Image, version: u16, bytes: &[u8]) -> bool
     requires { IsFit image.now }
 {
-    match text_of(alloc, image, 1) {
+    match text_of(alloc, image, version) {
         Ok(text) => text.as_slice() == bytes,
         Err(_) => false,
     }
 }
 
-/// Returns whether the image of a text is written as that text in version 1, and in no version 2.
+/// Returns whether an image is written in version 1 as these bytes.
+pub(crate) fn has_text(alloc: Global, image: &Image, bytes: &[u8]) -> bool
+    requires { IsFit image.now }
+{
+    has_text_in(alloc, image, 1, bytes)
+}
+
+/// Returns whether an image is written in version 2 as these bytes of version 1, but for the number of the version.
+fn has_second_text(alloc: Global, image: &Image, bytes: &[u8]) -> bool
+    requires { IsFit image.now }
+{
+    match text_of(alloc, image, 2) {
+        Ok(mut text) => {
+            let version = text.get(5).copied();
+            if let Some(place) = text.get_mut(5) {
+                *place = 1;
+            }
+            version == Some(2) && text.as_slice() == bytes
+        }
+        Err(_) => false,
+    }
+}
+
+/// Returns whether the image of a text is written as that text in version 1, so in version 2, and in no version 3.
 pub(crate) fn is_written_again(alloc: Global, bytes: &[u8]) -> bool {
     match image_of_bytes(alloc, bytes) {
         Ok(image) => {
-            let is_same = has_text(alloc, &image, bytes);
-            let second = text_of(alloc, &image, 2);
+            let is_same = has_text(alloc, &image, bytes) && has_second_text(alloc, &image, bytes);
+            let third = text_of(alloc, &image, 3);
             drop(image);
-            let is_refused = matches!(second, Err(WriteFault::NoSuchVersion));
-            drop(second);
+            let is_refused = matches!(third, Err(WriteFault::NoSuchVersion));
+            drop(third);
             is_same && is_refused
         }
         Err(_) => false,

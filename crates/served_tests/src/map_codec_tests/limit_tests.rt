@@ -1,4 +1,4 @@
-//! What is answered where a count, or the numbers, came to their end before the image was taken.
+//! Answers where a count, or the numbers, came to their end before the image was written.
 ghost use Rattle.std.specs.Prelude.{◌≡◌};
 
 use super::asking::{Asking, Asks, is_spelled, request_of};
@@ -66,7 +66,7 @@ fn finds_src(alloc: Global, served: &mut Served, manifest: &Manifest) -> bool
     }
 }
 
-/// Returns whether what is served refuses a request so, keeps its image, and finds `src` again.
+/// Returns whether a daemon answers a request with this error, keeps its image, and finds `src` again.
 fn refuses_once(
     alloc: Global,
     served: &mut Served,
@@ -80,7 +80,7 @@ fn refuses_once(
     is_refused(alloc, served, manifest, asking, errno, bytes) && finds_src(alloc, served, manifest)
 }
 
-/// Returns that of what is raised.
+/// Calls `refuses_once` on the daemon that these bytes restore.
 fn refuses(alloc: Global, manifest: &Manifest, bytes: &[u8], asking: Asking, errno: Errno) -> bool {
     match raised(alloc, manifest, bytes) {
         Ok(mut served) => {
@@ -92,7 +92,7 @@ fn refuses(alloc: Global, manifest: &Manifest, bytes: &[u8], asking: Asking, err
     }
 }
 
-/// Returns that of what is raised of the changed image with eight bytes set.
+/// Calls `refuses` with the changed image, in which eight bytes are set.
 pub(crate) fn is_limited(
     alloc: Global,
     manifest: &Manifest,

@@ -1,4 +1,4 @@
-//! What is raised from images, and the first that stands against others.
+//! Images that are restored, and images that are refused for their first fault.
 ghost use Rattle.std.specs.Prelude.{◌≡◌, IfOk};
 
 use super::asking::is_spelled;
@@ -11,7 +11,7 @@ use manifest::Manifest;
 use map_codec::{RaiseFault, raise};
 use std::alloc::{AllocError, Global};
 
-/// Raises an image of these bytes; no fault is told where they are none.
+/// Restores an image from these bytes. Bytes that are no image are no fault here.
 fn raised_once(
     alloc: Global,
     manifest: &Manifest,
@@ -25,7 +25,7 @@ fn raised_once(
     }
 }
 
-/// Raises an image of these bytes, and once more where memory was refused.
+/// Restores an image from these bytes, and once more where memory was refused.
 pub fn raised(
     alloc: Global,
     manifest: &Manifest,
@@ -39,7 +39,7 @@ pub fn raised(
     }
 }
 
-/// Returns whether bytes are an image that is refused so, or raised where there is no fault.
+/// Returns whether the image of bytes is refused for this fault, or is restored where there is none.
 pub fn comes_to(
     alloc: Global,
     manifest: &Manifest,
@@ -55,7 +55,7 @@ pub fn comes_to(
     }
 }
 
-/// Returns whether the changed image with one byte set is refused so, and isn't taken over.
+/// Returns whether the changed image with one byte set is refused for this fault, and isn't taken over.
 pub(crate) fn comes_to_with(
     alloc: Global,
     manifest: &Manifest,
@@ -108,7 +108,7 @@ fn refuses_two_numbers_of_one_file(rt: HostRuntime) {
     assert!(rt; all_go_so(rt.alloc(), &[Deed::RefuseTwice]));
 }
 
-/// Returns whether the image of what was raised is the one that it was raised from.
+/// Returns whether a restored daemon has the image that it was restored from.
 pub(crate) fn is_raised_and_spelled(alloc: Global, manifest: &Manifest, bytes: &[u8]) -> bool {
     match raised(alloc, manifest, bytes) {
         Ok(served) => {

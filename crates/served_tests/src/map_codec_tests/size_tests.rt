@@ -1,43 +1,47 @@
-//! The longest text of an image, and a count that is too large for one.
-ghost use Rattle.std.specs.Prelude.{IfOk, IsTrue};
+//! The longest text of an image in each version, the parts of a text, and a count that is too large for one.
+ghost use Rattle.std.specs.Prelude.{◌≤◌, length, IfOk, IsTrue};
 ghost use Rattle.map_image.specs.Fit.{IsFit};
 
-use super::images::{image_of_bytes, is_written_again, put, text_of};
+use super::images::{has_text_in, image_of_bytes, text_of};
+use super::sized::sized;
 use super::vectors::CHANGED;
+use byte_codec::Bytes;
 use eden_base::NoMemory;
-use map_image::{Entries, Image, WriteFault};
+use map_image::{Entries, Image, WriteFault, cut};
 use std::alloc::{AllocError, Global};
 
-/// Puts the text of `count` entries without names, each held once.
-fn put_unlinked(bytes: &mut Vec<u8>, count: u32) -> Result<(), AllocError> {
-    let (head, _) = CHANGED.split_at(50);
-    put(bytes, &[head, count.to_be_bytes().as_slice()])?;
-    for i in 0..count {
-        let number = (u64::from(i) + 2).to_be_bytes();
-        let file = (u64::from(i) + 9).to_be_bytes();
-        put(
-            bytes,
-            &[
-                number.as_slice(),
-                [1, 0, 0, 0, 1].as_slice(),
-                file.as_slice(),
-            ],
-        )?;
+/// The length of a text, how many parts it has, and how long the last one is.
+type Size = (u32, usize, usize);
+
+/// The least text of an entry with a name; one part and a byte more; two parts and a byte more; the longest text of
+/// version 1 and a byte more; and longer ones.
+static SIZES: [Size; 11] = [
+    (85, 1, 85),
+    (4_095, 1, 4_095),
+    (4_096, 1, 4_096),
+    (4_097, 2, 1),
+    (8_192, 2, 4_096),
+    (8_193, 3, 1),
+    (65_000, 16, 3_560),
+    (65_001, 16, 3_561),
+    (65_536, 16, 4_096),
+    (65_537, 17, 1),
+    (1_000_000, 245, 576),
+];
+
+/// Returns whether the image of a text is written in a version as that text.
+fn is_written_in(alloc: Global, version: u16, bytes: &[u8]) -> bool {
+    match image_of_bytes(alloc, bytes) {
+        Ok(image) => {
+            let so = has_text_in(alloc, &image, version, bytes);
+            drop(image);
+            so
+        }
+        Err(_) => false,
     }
-    put(bytes, &[[0; 8].as_slice()])
 }
 
-/// Returns such a text, which it puts once more where memory was refused.
-fn unlinked(alloc: Global, count: u32) -> Vec<u8> {
-    let mut bytes = Vec::new(alloc);
-    if put_unlinked(&mut bytes, count).is_err() {
-        bytes.clear();
-        let _ = put_unlinked(&mut bytes, count);
-    }
-    bytes
-}
-
-/// Returns whether the image of a text is too long to be written.
+/// Returns whether the image of a text is too long to be written in version 1.
 fn is_too_long(alloc: Global, bytes: &[u8]) -> bool {
     match image_of_bytes(alloc, bytes) {
         Ok(image) => {
@@ -51,22 +55,100 @@ fn is_too_long(alloc: Global, bytes: &[u8]) -> bool {
     }
 }
 
-/// Returns whether the image of 3,092 entries has 64,994 bytes, and is written.
-fn writes_the_most(alloc: Global) -> bool {
-    let most = unlinked(alloc, 3092);
-    most.len() == 64994 && is_written_again(alloc, most.as_slice())
+/// Returns whether a text of version 1 is written up to 65,000 bytes, and is too long above.
+fn is_first_written(alloc: Global, len: u32) -> bool {
+    let text = sized(alloc, 1, len);
+    if len > 65_000 {
+        is_too_long(alloc, text.as_slice())
+    } else {
+        is_written_in(alloc, 1, text.as_slice())
+    }
 }
 
-/// Returns whether that of one more is too long.
-fn writes_no_more(alloc: Global) -> bool {
-    let more = unlinked(alloc, 3093);
-    is_too_long(alloc, more.as_slice())
+/// Cuts a text, and once more where memory was refused.
+fn parts_of(alloc: Global, text: &[u8]) -> Result<Vec<Bytes>, NoMemory>
+    requires { 1 ≤ length text.now }
+{
+    match cut(alloc, text) {
+        Ok(parts) => Ok(parts),
+        Err(NoMemory) => cut(alloc, text),
+    }
+}
+
+/// Returns whether there are `count` parts, each of 4,096 bytes but the last, which has `last`.
+fn are_sized(parts: &[Bytes], count: usize, last: usize) -> bool {
+    match parts {
+        [] => false,
+        [full @ .., end] => {
+            parts.len() == count
+                && end.as_slice().len() == last
+                && full.iter().all(|part| part.as_slice().len() == 4_096)
+        }
+    }
+}
+
+/// Puts parts one behind the other.
+fn put_parts(bytes: &mut Vec<u8>, parts: &[Bytes]) -> Result<(), AllocError> {
+    for part in parts {
+        bytes.extend_from_slice(part.as_slice())?;
+    }
+    Ok(())
+}
+
+/// Joins parts, and once more where memory was refused.
+fn joined(alloc: Global, parts: &[Bytes]) -> Vec<u8> {
+    let mut bytes = Vec::new(alloc);
+    if put_parts(&mut bytes, parts).is_err() {
+        bytes.clear();
+        let _ = put_parts(&mut bytes, parts);
+    }
+    bytes
+}
+
+/// Returns whether parts have these sizes, and joined again they are the text, whose image is written so in version 2.
+fn are_parts(alloc: Global, parts: &[Bytes], text: &[u8], size: Size) -> bool {
+    let again = joined(alloc, parts);
+    are_sized(parts, size.1, size.2)
+        && again.as_slice() == text
+        && is_written_in(alloc, 2, again.as_slice())
+}
+
+/// Returns whether a text comes in parts of these sizes.
+fn comes_in(alloc: Global, text: &[u8], size: Size) -> bool {
+    if text.is_empty() {
+        return false;
+    }
+    match parts_of(alloc, text) {
+        Ok(parts) => {
+            let so = are_parts(alloc, parts.as_slice(), text, size);
+            drop(parts);
+            so
+        }
+        Err(NoMemory) => false,
+    }
+}
+
+/// Returns whether texts of this size are written in version 1 and 2, and that of version 2 comes in its parts.
+fn is_written_and_cut(alloc: Global, size: Size) -> bool {
+    let text = sized(alloc, 2, size.0);
+    text.len() == size.0 as usize
+        && comes_in(alloc, text.as_slice(), size)
+        && is_first_written(alloc, size.0)
+}
+
+/// Returns the first size at which it is not so.
+fn first_failed(alloc: Global, sizes: &[Size]) -> Option<u32> {
+    for size in sizes {
+        if !is_written_and_cut(alloc, *size) {
+            return Some(size.0);
+        }
+    }
+    None
 }
 
 #[test]
-fn writes_65000_bytes_at_most(rt: HostRuntime) {
-    assert!(rt; writes_the_most(rt.alloc()));
-    assert!(rt; writes_no_more(rt.alloc()));
+fn writes_and_cuts_at_the_limits(rt: HostRuntime) {
+    assert!(rt; first_failed(rt.alloc(), &SIZES).is_none());
 }
 
 /// Asks whether an image is fit, and once more where memory was refused.
@@ -98,7 +180,7 @@ fn is_count_refused(alloc: Global, image: &Image) -> bool {
     }
 }
 
-/// Returns that of the changed image with such a count: a count is no part of being fit.
+/// Returns whether the changed image with a count of 33 bits is fit, and refused when it is written.
 fn refuses_a_great_count(alloc: Global) -> bool {
     match image_of_bytes(alloc, &CHANGED) {
         Ok(image) => {

@@ -1,13 +1,13 @@
-//! What is served, handed over, taken over, and handed over again.
+//! A daemon's state that is handed over, taken over, and handed over again.
 use fuse_ops::Served;
 use manifest::Manifest;
 use map_codec::{HandoverFault, hand_over, take_over};
 use std::alloc::Global;
 
 /// Hands over, and once more where memory was refused.
-fn handed(alloc: Global, served: &Served) -> Result<Vec<u8>, HandoverFault> {
-    match hand_over(alloc, served, 1, 1) {
-        Err(HandoverFault::NoMemory) => hand_over(alloc, served, 1, 1),
+fn handed(alloc: Global, served: &Served, version: u16) -> Result<Vec<u8>, HandoverFault> {
+    match hand_over(alloc, served, 1, version) {
+        Err(HandoverFault::NoMemory) => hand_over(alloc, served, 1, version),
         handed => handed,
     }
 }
@@ -21,10 +21,10 @@ fn taken(alloc: Global, bytes: &[u8], manifest: &Manifest) -> Result<Served, Han
 }
 
 /// Returns whether what is taken over from bytes hands the same bytes over.
-fn is_same_again(alloc: Global, bytes: &[u8], manifest: &Manifest) -> bool {
+fn is_same_again(alloc: Global, bytes: &[u8], manifest: &Manifest, version: u16) -> bool {
     match taken(alloc, bytes, manifest) {
         Ok(served) => {
-            let again = handed(alloc, &served);
+            let again = handed(alloc, &served, version);
             drop(served);
             match &again {
                 Ok(text) => text.as_slice() == bytes,
@@ -35,11 +35,16 @@ fn is_same_again(alloc: Global, bytes: &[u8], manifest: &Manifest) -> bool {
     }
 }
 
-/// Returns whether what is served goes on to another daemon.
-pub(crate) fn is_handed_on(alloc: Global, served: &Served, manifest: &Manifest) -> bool {
-    match handed(alloc, served) {
+/// Returns whether what is served goes on to another daemon in a version.
+pub(crate) fn is_handed_on(
+    alloc: Global,
+    served: &Served,
+    manifest: &Manifest,
+    version: u16,
+) -> bool {
+    match handed(alloc, served, version) {
         Ok(bytes) => {
-            let is_same = is_same_again(alloc, bytes.as_slice(), manifest);
+            let is_same = is_same_again(alloc, bytes.as_slice(), manifest, version);
             drop(bytes);
             is_same
         }

@@ -9,13 +9,11 @@ use fuse_wire::{Answer, Request};
 use manifest::Manifest;
 use std::alloc::Global;
 
-/// What is made in many sizes.
+/// A subject that is made in many sizes.
 #[derive(Clone, Copy)]
 pub enum Making {
-    /// This count of files, of which each is handed on with those before it.
-    Handed(u64),
-    /// This count of tens of files, handed on after each ten.
-    HandedInTens(u64),
+    /// In this version, `times` times `files` files, handed on with those before them after each time.
+    Handed(u16, u64, u64),
     /// A file with a name of each length, handed on.
     HandedByName,
     /// This count of files, which are not handed on.
@@ -77,11 +75,12 @@ fn makes_each(
     true
 }
 
-/// Makes `times` times `many` files, and returns whether all are handed on after each time.
+/// Makes `times` times `many` files, and returns whether all are handed on in a version after each time.
 fn hands_on_each(
     alloc: Global,
     served: &mut Served,
     manifest: &Manifest,
+    version: u16,
     times: u64,
     many: u64,
 ) -> bool
@@ -91,7 +90,7 @@ fn hands_on_each(
     for _ in 0..times {
         let below = from.wrapping_add(many);
         if !makes_each(alloc, served, manifest, from, below)
-            || !is_handed_on(alloc, served, manifest)
+            || !is_handed_on(alloc, served, manifest, version)
         {
             return false;
         }
@@ -105,7 +104,7 @@ fn is_name_handed_on(alloc: Global, manifest: &Manifest, len: usize) -> bool {
     match served_of(alloc, manifest, 8) {
         Ok(mut served) => {
             let is_so = makes(alloc, &mut served, manifest, &LONGEST_NAME[..len.min(255)])
-                && is_handed_on(alloc, &served, manifest);
+                && is_handed_on(alloc, &served, manifest, 1);
             drop(served);
             is_so
         }
@@ -113,7 +112,7 @@ fn is_name_handed_on(alloc: Global, manifest: &Manifest, len: usize) -> bool {
     }
 }
 
-/// Returns that of each length.
+/// Returns whether a file with a name of each length is handed on.
 fn is_each_name_handed_on(alloc: Global, manifest: &Manifest) -> bool {
     for len in 1..256usize {
         if !is_name_handed_on(alloc, manifest, len) {
@@ -134,7 +133,7 @@ fn is_limit_taken(alloc: Global, manifest: &Manifest, limit: usize) -> bool {
     }
 }
 
-/// Returns that of the limits 1, 2, 4 and so on up to 65,536.
+/// Returns whether a daemon may begin with each of the limits 1, 2, 4 up to 65,536.
 fn is_each_limit_taken(alloc: Global, manifest: &Manifest) -> bool {
     for shift in 0..17u32 {
         if !is_limit_taken(alloc, manifest, 1 << shift) {
@@ -149,15 +148,16 @@ fn goes_so(alloc: Global, served: &mut Served, manifest: &Manifest, making: Maki
     requires over { served.old.tree.manifest ≡ manifest.now }
 {
     match making {
-        Making::Handed(files) => hands_on_each(alloc, served, manifest, files, 1),
-        Making::HandedInTens(tens) => hands_on_each(alloc, served, manifest, tens, 10),
+        Making::Handed(version, times, many) => {
+            hands_on_each(alloc, served, manifest, version, times, many)
+        }
         Making::HandedByName => is_each_name_handed_on(alloc, manifest),
         Making::Made(files) => makes_each(alloc, served, manifest, 0, files),
         Making::Limits => is_each_limit_taken(alloc, manifest),
     }
 }
 
-/// Returns that of a daemon that begins.
+/// Calls `goes_so` on a new daemon.
 pub(crate) fn goes_so_in_new(alloc: Global, manifest: &Manifest, making: Making) -> bool {
     match served_of(alloc, manifest, 8) {
         Ok(mut served) => {

@@ -11,7 +11,7 @@ use std::sync::Wait;
 use std::sync::atomic::{AtomicU64, Ordering};
 use std::test::*;
 use std::thread::Threads;
-use workers::{Gate, OpenGate, RoundFault, Stop};
+use workers::{Hook, NoHook, RoundFault, Stop};
 
 /// How a round ended.
 #[derive(Clone, Copy, PartialEq, Eq)]
@@ -58,12 +58,12 @@ fn two<'a>(
 }
 
 /// Serves a round of such channels, and tells how it ended.
-fn ending_of<R: Threads + Wait + Sync, G: Gate + Sync>(
+fn ending_of<R: Threads + Wait + Sync, G: Hook + Sync>(
     rt: &R,
     alloc: Global,
     manifest: &Manifest,
     channels: Vec<Scripted<'_>>,
-    gate: &G,
+    hook: &G,
     stop: &Stop,
 ) -> Ended
     requires channels { vec_len channels ≡ 2 }
@@ -72,7 +72,7 @@ fn ending_of<R: Threads + Wait + Sync, G: Gate + Sync>(
         drop(channels);
         return Ended::Otherwise;
     };
-    let left = serve(rt, alloc, served, manifest, channels, 64, gate, stop);
+    let left = serve(rt, alloc, served, manifest, channels, 64, hook, stop);
     let ended = match &left {
         Ok(round) => Ended::Well(round.journal.records().len()),
         Err(RoundFault::Broken) => Ended::Broken,
@@ -93,7 +93,7 @@ fn ends_so<R: Threads + Wait + Sync>(
     let Ok(channels) = two(alloc, row.0, row.1, &posted) else {
         return false;
     };
-    ending_of(rt, alloc, manifest, channels, &OpenGate, &Stop::new()) == row.2
+    ending_of(rt, alloc, manifest, channels, &NoHook, &Stop::new()) == row.2
 }
 
 #[test]
@@ -116,7 +116,7 @@ struct Stopping<'a> {
     early: AtomicU64,
 }
 
-impl<'a> Gate for Stopping<'a> {
+impl<'a> Hook for Stopping<'a> {
     fn before(&self, _unique: u64) {}
 
     fn after(&self, _unique: u64) {
@@ -132,7 +132,7 @@ impl<'a> Gate for Stopping<'a> {
 fn stops_at_one<R: Threads + Wait + Sync>(rt: &R, alloc: Global, manifest: &Manifest) -> bool {
     let posted = AtomicU64::new(0);
     let stop = Stop::new();
-    let gate = Stopping {
+    let hook = Stopping {
         stop: &stop,
         posted: &posted,
         early: AtomicU64::new(0),
@@ -142,8 +142,8 @@ fn stops_at_one<R: Threads + Wait + Sync>(rt: &R, alloc: Global, manifest: &Mani
     let Ok(channels) = two(alloc, three, none, &posted) else {
         return false;
     };
-    let ended = ending_of(rt, alloc, manifest, channels, &gate, &stop);
-    ended == Ended::Well(1) && gate.early.load(Ordering::SeqCst) == 0
+    let ended = ending_of(rt, alloc, manifest, channels, &hook, &stop);
+    ended == Ended::Well(1) && hook.early.load(Ordering::SeqCst) == 0
 }
 
 #[test]

@@ -8,7 +8,7 @@ use std::alloc::Global;
 use std::sync::Wait;
 use std::test::*;
 use std::thread::Threads;
-use workers::{MAX_CHANNELS, MemoryChannel, OpenGate, Round, Stop, drain};
+use workers::{MAX_CHANNELS, MemoryChannel, NoHook, Round, Stop, drain};
 
 /// One ask more than a worker takes.
 static UNIQUES: [u64; 65] = [7; 65];
@@ -57,7 +57,7 @@ fn fills<R: Threads + Wait + Sync>(
         return false;
     }
     let stop = Stop::new();
-    let Ok(round) = serve(rt, alloc, served, manifest, channels, 64, &OpenGate, &stop) else {
+    let Ok(round) = serve(rt, alloc, served, manifest, channels, 64, &NoHook, &stop) else {
         return false;
     };
     let full = is_full(&round, row);

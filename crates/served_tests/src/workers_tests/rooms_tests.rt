@@ -13,7 +13,7 @@ use std::sync::Wait;
 use std::test::*;
 use std::thread::Threads;
 use workers::{
-    Channel, OpenGate, Posted, Returned, Rooms, Round, RoundFault, Settled, Stop, Taken, drain,
+    Channel, NoHook, Posted, Returned, Rooms, Round, RoundFault, Settled, Stop, Taken, drain,
     serve_round,
 };
 
@@ -86,7 +86,7 @@ fn longest_channel(alloc: Global) -> Result<Given, NoMemory> {
     Ok(Given { asks, replies: 0 })
 }
 
-/// Returns two such channels.
+/// Returns two channels of the longest asks.
 fn two(alloc: Global) -> Result<Vec<Given>, NoMemory>
     ensures two { IfOk result (λ channels. vec_len channels ≡ 2) }
 {
@@ -96,7 +96,7 @@ fn two(alloc: Global) -> Result<Vec<Given>, NoMemory>
     Ok(channels)
 }
 
-/// What stands between two rounds.
+/// The state between two rounds.
 type Between<'a> = Settled<ManifestBacking<'a>, Given>;
 
 /// Begins to serve two such channels.
@@ -113,7 +113,7 @@ fn begin<'a>(alloc: Global, manifest: &'a Manifest, rooms: Rooms) -> Result<Betw
     })
 }
 
-/// Returns what was given back for which memory was refused.
+/// Returns the state that a round gave back where memory was refused.
 fn between_of(back: Returned<ManifestBacking<'_>, Given>) -> Between<'_>
     ensures served { result.served ≡ back.entry.served }
 {
@@ -168,7 +168,7 @@ fn next<'a, R: Threads + Wait + Sync>(
     }
     let stop = Stop::new();
     match serve_round(
-        rt, alloc, rooms, served, backing, channels, 64, &OpenGate, &stop,
+        rt, alloc, rooms, served, backing, channels, 64, &NoHook, &stop,
     ) {
         Ok(round) => drained(alloc, round),
         Err(RoundFault::NoMemory(back)) => Some(between_of(back)),
@@ -211,7 +211,8 @@ fn a_round_takes_the_longest_asks(rt: HostRuntime) -> Result<(), Fail> {
     Ok(())
 }
 
-/// Passes also where one allocation is refused: no ask is lost by a worker that stops, and the next round takes the rest.
+/// Passes also where one allocation is refused: no ask is lost by a worker that stops, and the next round takes the
+/// rest.
 #[test]
 fn a_second_round_takes_what_is_left(rt: HostRuntime) -> Result<(), Fail> {
     let alloc = rt.alloc();

@@ -11,7 +11,7 @@ use std::alloc::Global;
 use std::sync::Wait;
 use std::thread::Threads;
 use workers::{
-    Channel, Gate, MAX_CHANNELS, MemoryChannel, OpenGate, Receipts, Rooms, Round, RoundFault, Stop,
+    Channel, Hook, MAX_CHANNELS, MemoryChannel, NoHook, Receipts, Rooms, Round, RoundFault, Stop,
     drain, serve_round,
 };
 
@@ -44,8 +44,8 @@ pub enum Change {
     Exchange,
 }
 
-/// What a round left, in numbers: the records of its journal, the place of each worker's first receipt, how many asks
-/// were taken from its first channel and replies posted to it, and whether it was settled.
+/// What a round left, in numbers: the records of its journal, the index in it of each worker's first receipt, how many
+/// asks its first channel gave and how many replies it got, and whether it was settled.
 #[derive(Clone, Copy, PartialEq, Eq)]
 pub struct Left {
     pub records: usize,
@@ -56,11 +56,11 @@ pub struct Left {
     pub is_settled: bool,
 }
 
-/// Returns the place of a worker's first receipt.
+/// Returns the index in the journal of a worker's first receipt.
 fn first_place(receipts: &[Receipts], worker: usize) -> Option<usize> {
     let kept = receipts.get(worker)?;
     let receipt = kept.as_slice().first()?;
-    Some(receipt.place)
+    Some(receipt.position)
 }
 
 /// Returns the receipts with a change, or nothing where there are too few.
@@ -128,15 +128,15 @@ fn told_of(
     Some(told)
 }
 
-/// Serves a round over a manifest in rooms of its own, and what it gave back once more where memory was refused.
-pub(crate) fn serve<'a, C: Channel + Drop + Send, G: Gate + Sync, R: Threads + Wait + Sync>(
+/// Serves a round over a manifest in rooms of its own, and once more where memory was refused.
+pub(crate) fn serve<'a, C: Channel + Drop + Send, G: Hook + Sync, R: Threads + Wait + Sync>(
     rt: &R,
     alloc: Global,
     served: Served,
     manifest: &'a Manifest,
     channels: Vec<C>,
     turns: usize,
-    gate: &G,
+    hook: &G,
     stop: &Stop,
 ) -> Result<Round<ManifestBacking<'a>, C>, RoundFault<ManifestBacking<'a>, C>>
     requires over { served.tree.manifest ≡ manifest.now }
@@ -146,7 +146,7 @@ pub(crate) fn serve<'a, C: Channel + Drop + Send, G: Gate + Sync, R: Threads + W
     let backing = ManifestBacking::of(manifest);
     let rooms = Rooms::new(alloc);
     let back = match serve_round(
-        rt, alloc, rooms, served, backing, channels, turns, gate, stop,
+        rt, alloc, rooms, served, backing, channels, turns, hook, stop,
     ) {
         Err(RoundFault::NoMemory(back)) => back,
         told => return told,
@@ -162,7 +162,7 @@ pub(crate) fn serve<'a, C: Channel + Drop + Send, G: Gate + Sync, R: Threads + W
         back.backing,
         back.channels,
         turns,
-        gate,
+        hook,
         stop,
     )
 }
@@ -182,13 +182,13 @@ fn two_channels(
 }
 
 /// Begins to serve, serves a round of these channels, and tells what it left.
-fn left_over<G: Gate + Sync, R: Threads + Wait + Sync>(
+fn left_over<G: Hook + Sync, R: Threads + Wait + Sync>(
     rt: &R,
     alloc: Global,
     manifest: &Manifest,
     channels: Vec<MemoryChannel>,
     turns: usize,
-    gate: &G,
+    hook: &G,
     stop: &Stop,
     change: Change,
 ) -> Option<Left>
@@ -199,7 +199,7 @@ fn left_over<G: Gate + Sync, R: Threads + Wait + Sync>(
         drop(channels);
         return None;
     };
-    match serve(rt, alloc, served, manifest, channels, turns, gate, stop) {
+    match serve(rt, alloc, served, manifest, channels, turns, hook, stop) {
         Ok(round) => told_of(alloc, round, change),
         Err(fault) => {
             drop(fault);
@@ -209,13 +209,13 @@ fn left_over<G: Gate + Sync, R: Threads + Wait + Sync>(
 }
 
 /// Serves a round of two channels, each with the asks of these uniques, and tells what it left.
-pub(crate) fn round<G: Gate + Sync, R: Threads + Wait + Sync>(
+pub(crate) fn round<G: Hook + Sync, R: Threads + Wait + Sync>(
     rt: &R,
     alloc: Global,
     first: &[u64],
     second: &[u64],
     turns: usize,
-    gate: &G,
+    hook: &G,
     stop: &Stop,
     change: Change,
 ) -> Option<Left>
@@ -225,14 +225,14 @@ pub(crate) fn round<G: Gate + Sync, R: Threads + Wait + Sync>(
         return None;
     };
     let told = match two_channels(alloc, first, second) {
-        Ok(channels) => left_over(rt, alloc, &manifest, channels, turns, gate, stop, change),
+        Ok(channels) => left_over(rt, alloc, &manifest, channels, turns, hook, stop, change),
         Err(NoMemory) => None,
     };
     drop(manifest);
     told
 }
 
-/// Serves such a round, and once more where it told nothing, as where memory was refused for what it begins with.
+/// Serves a round as `round` does, and once more where memory was refused.
 pub(crate) fn round_again<R: Threads + Wait + Sync>(
     rt: &R,
     alloc: Global,
@@ -244,8 +244,8 @@ pub(crate) fn round_again<R: Threads + Wait + Sync>(
 ) -> Option<Left>
     requires turns { (1 ≤ turns) × (turns ≤ 4096) }
 {
-    match round(rt, alloc, first, second, turns, &OpenGate, stop, change) {
+    match round(rt, alloc, first, second, turns, &NoHook, stop, change) {
         Some(left) => Some(left),
-        None => round(rt, alloc, first, second, turns, &OpenGate, stop, change),
+        None => round(rt, alloc, first, second, turns, &NoHook, stop, change),
     }
 }

@@ -14,7 +14,7 @@ use std::sync::Wait;
 use std::sync::ledger::Blank;
 use std::test::*;
 use workers::{
-    Ending, Journal, LockedMap, MemoryChannel, OpenGate, Opened, Opening, Receipts, Stop,
+    Ending, Journal, LockedMap, MemoryChannel, NoHook, Opened, Opening, Receipts, Stop,
     serve_channel,
 };
 
@@ -36,7 +36,7 @@ fn takes_two<N: Opening, B: Backing + Drop, R: Wait>(
     let room = Receipts::new(alloc, 2)?;
     let Opened { shared, share } = LockedMap::<N, B>::open(alloc, blank, served, backing, journal);
     let stop = Stop::new();
-    let shift = serve_channel(rt, &shared, channel, 2, room, share, &OpenGate, &stop);
+    let shift = serve_channel(rt, &shared, channel, 2, room, share, &NoHook, &stop);
     let parts = shared.into_inner().into_parts();
     let took = shift.ending == Ending::Done
         && shift.receipts.as_slice().len() == 2

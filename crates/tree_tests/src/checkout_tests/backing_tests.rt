@@ -13,7 +13,7 @@ fn told(manifest: &Manifest, file: FileId) -> Option<(u16, u64, u64)> {
     Some((content.perm.bits(), content.size, backing.failures()))
 }
 
-/// Returns that of the manifest that a text is.
+/// Reads a manifest, and calls `told` on it.
 fn told_of(alloc: Global, text: &[u8], file: FileId) -> Option<(u16, u64, u64)> {
     match Manifest::read(alloc, text) {
         Ok(manifest) => told(&manifest, file),

@@ -1,4 +1,4 @@
-//! What a test does with a tree and finds in it, as data, so that a test is a table.
+//! Calls of a tree and their results as data, so that a test is a table.
 use crate::again::{parsed, tree_of};
 use checkout::{Changes, CreateFault, Made, Tree};
 use eden_base::{FileId, Kind, Name, NoMemory, Perm};
@@ -132,7 +132,7 @@ fn nlink_of(tree: &Tree, file: FileId) -> Option<u32> {
     Some(attr.nlink)
 }
 
-/// Returns whether a tree tells this of a file.
+/// Returns whether a tree returns these values for a file.
 fn is_told(tree: &Tree, file: FileId, kind: Kind, nlink: u32, empty: bool) -> bool {
     let is_linked = file != FileId::ROOT && nlink != 0;
     tree.kind(file) == Some(kind)
@@ -149,7 +149,7 @@ fn is_perm(tree: &Tree, file: u64, bits: Option<u16>) -> bool {
     }
 }
 
-/// Returns the changes, which it asks for once more where memory was refused.
+/// Returns the changes of a tree. It asks once more where memory was refused.
 fn changes_again(tree: &Tree) -> Option<Changes> {
     match tree.changes() {
         Ok(changes) => Some(changes),
@@ -157,7 +157,7 @@ fn changes_again(tree: &Tree) -> Option<Changes> {
     }
 }
 
-/// Returns whether a file was made so.
+/// Returns whether a made file is the expected one.
 fn is_row(made: &Made, row: MadeRow) -> bool {
     let (file, kind, perm) = row;
     made.file.0 == file && made.kind == kind && made.perm.bits() == perm
@@ -175,7 +175,7 @@ fn are_rows(made: &[Made], rows: &[MadeRow]) -> bool {
     true
 }
 
-/// Returns whether a changed name is this.
+/// Returns whether a changed name is the expected one.
 fn is_named(link: &LinkChange, named: Named) -> bool {
     let (dir, bytes, file) = named;
     link.dir.0 == dir && link.name.bytes() == bytes && link.target == file.map(FileId)
@@ -207,7 +207,7 @@ pub(crate) fn differs(tree: &Tree, made: &[MadeRow], names: &[Named], next: u64)
     }
 }
 
-/// Does a deed, and returns whether it comes to what it says.
+/// Does a deed, and returns whether its outcome is the expected one.
 fn goes_so(alloc: Global, tree: &mut Tree, deed: Deed) -> bool {
     match deed {
         Deed::Make(dir, name, kind, perm, file) => {

@@ -10,7 +10,7 @@ use std::alloc::Global;
 /// Files that were made, names with what they give, and the next file.
 type Told = (&'static [MadeRow], &'static [Named], u64);
 
-/// Returns a file that was made; nothing where these are no permissions.
+/// Makes a made file of a row; none where its bits are no permissions.
 fn made_of(row: MadeRow) -> Option<Made> {
     let (file, kind, bits) = row;
     let file = FileId(file);
@@ -92,7 +92,7 @@ fn is_told_again(
     }
 }
 
-/// Returns that of what is told of a manifest.
+/// Calls `is_told_again` with the changes that are told of a manifest.
 fn goes_so_with(alloc: Global, manifest: &Manifest, told: Told, place: Option<usize>) -> bool {
     match changes_again(alloc, told) {
         Some(changes) => {
@@ -104,7 +104,7 @@ fn goes_so_with(alloc: Global, manifest: &Manifest, told: Told, place: Option<us
     }
 }
 
-/// Returns that of what is told of `SMALL`.
+/// Calls `goes_so_with` over the manifest `SMALL`.
 fn goes_so(alloc: Global, told: Told, place: Option<usize>) -> bool {
     match read_again(alloc, SMALL) {
         Ok(manifest) => {

@@ -76,7 +76,7 @@ fn finds_each(alloc: Global, map: &mut InodeMap, tree: &Tree) -> bool {
     }
 }
 
-/// Returns that of a map that begins.
+/// Calls `finds_each` on a new map.
 fn finds_each_in(alloc: Global, tree: &Tree) -> bool {
     match map_of(alloc, 4) {
         Ok(map) => {
@@ -89,7 +89,7 @@ fn finds_each_in(alloc: Global, tree: &Tree) -> bool {
     }
 }
 
-/// Returns that of a tree of a hundred directories.
+/// Calls `finds_each_in` with a tree of a hundred directories.
 fn finds_each_nested(alloc: Global) -> bool {
     match nested_tree(alloc) {
         Some(tree) => {

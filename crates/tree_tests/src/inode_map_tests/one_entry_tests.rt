@@ -48,7 +48,7 @@ fn map_of_place(
     InodeMap::of_entries(alloc, entries, next, 1)
 }
 
-/// Makes that map of a spot, and makes it again where memory was short.
+/// Calls `map_of_place` with the place of a spot, and once more where memory was refused.
 fn map_of_one(alloc: Global, number: Number, spot: Spot, count: u64) -> Option<InodeMap>
     requires above_root { 2 ≤ number.0 }
     requires fits { number.0 < end_of_numbers }
@@ -112,7 +112,7 @@ fn names_until_forgotten(alloc: Global, map: &mut InodeMap, tree: &Tree) -> bool
         && map.locate(tree, Number(5)).is_none()
 }
 
-/// Returns that of a map in which number 5 is unlinked.
+/// Calls `names_until_forgotten` on a map in which number 5 is unlinked.
 fn names_a_mark(alloc: Global, tree: &Tree) -> bool {
     match map_of_one(alloc, Number(5), Spot::Marked(7), 2) {
         Some(map) => {
@@ -125,7 +125,7 @@ fn names_a_mark(alloc: Global, tree: &Tree) -> bool {
     }
 }
 
-/// Returns that of a tree that has no files.
+/// Calls `names_a_mark` with a tree without files.
 fn names_a_mark_of_nothing(alloc: Global) -> bool {
     match tree_of(alloc, b"commit 0123456789abcdef0123456789abcdef01234567\n") {
         Some(tree) => {

@@ -208,7 +208,8 @@ fn step(
     }
 }
 
-/// Makes a thousand calls on both, and returns whether both answered the same each time and agree after each.
+/// Makes a thousand calls on a map and a plain list. Returns whether both answered the same each time and agree after
+/// each.
 fn agree_for_long(alloc: Global, map: &mut InodeMap, plain: &mut Plain) -> Result<bool, NameFault> {
     let mut dice = 20260u64;
     for _call in 0..1000u32 {
@@ -222,7 +223,7 @@ fn agree_for_long(alloc: Global, map: &mut InodeMap, plain: &mut Plain) -> Resul
     Ok(true)
 }
 
-/// Returns whether they do, and come to many numbers, bad forgets and entries.
+/// Calls `agree_for_long`, and returns whether it gave many numbers, bad forgets and entries.
 fn agree_on_much(alloc: Global, map: &mut InodeMap) -> bool {
     let mut plain = Plain {
         entries: Vec::new(alloc),
@@ -235,7 +236,7 @@ fn agree_on_much(alloc: Global, map: &mut InodeMap) -> bool {
     agreed == Ok(true) && is_much
 }
 
-/// Returns that of a map that begins.
+/// Calls `agree_on_much` on a new map.
 fn agree(alloc: Global) -> bool {
     match InodeMap::new(alloc, 4) {
         Ok(map) => {

@@ -82,7 +82,7 @@ fn gives(alloc: Global, map: &mut InodeMap, count: u64, deep: bool, giving: Givi
     true
 }
 
-/// Returns whether they are given in a map, which tells their entries.
+/// Calls `gives` on a new map, and returns whether it has an entry for each number.
 pub(crate) fn are_given(alloc: Global, count: u64, deep: bool, giving: Giving) -> bool {
     match map_of(alloc, 4) {
         Ok(map) => {
@@ -118,7 +118,7 @@ fn gives_names(alloc: Global, map: &mut InodeMap) -> bool {
     true
 }
 
-/// Returns whether they are given in a map.
+/// Calls `gives_names` on a new map.
 pub(crate) fn are_names_given(alloc: Global) -> bool {
     match map_of(alloc, 4) {
         Ok(map) => {
@@ -144,7 +144,7 @@ fn is_limit_taken(alloc: Global, limit: usize) -> bool
     }
 }
 
-/// Returns that of the limits 1, 2, 4 and so on up to 65,536, and that there is no room for more.
+/// Returns whether a map may begin with each of the limits 1, 2, 4 up to 65,536, and with none above.
 pub(crate) fn is_each_limit_taken(alloc: Global) -> bool {
     for shift in 0..17u32 {
         if !is_limit_taken(alloc, 1 << shift) {

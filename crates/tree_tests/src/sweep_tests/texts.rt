@@ -76,7 +76,7 @@ fn put_names(text: &mut Vec<u8>) -> Result<(), AllocError> {
     Ok(())
 }
 
-/// Returns whether a manifest of these is read.
+/// Returns whether a manifest with names of each length is read.
 pub(crate) fn are_names_read(alloc: Global) -> bool {
     let mut text = Vec::new(alloc);
     let are_read = put_names(&mut text).is_ok() && is_read(alloc, text.as_slice(), 255);

@@ -58,7 +58,7 @@ fn makes(alloc: Global, tree: &mut Tree, count: u64, deep: bool) -> bool {
     true
 }
 
-/// Returns whether they are made in a tree, which tells them.
+/// Calls `makes` on a new tree, and returns whether its changes have each directory.
 pub(crate) fn are_made(alloc: Global, count: u64, deep: bool) -> bool {
     match tree_of(alloc, SMALL) {
         Some(tree) => {
@@ -95,7 +95,7 @@ fn makes_names(alloc: Global, tree: &mut Tree) -> bool {
     true
 }
 
-/// Returns whether they are made in a tree.
+/// Calls `makes_names` on a new tree.
 pub(crate) fn are_names_made(alloc: Global) -> bool {
     match tree_of(alloc, SMALL) {
         Some(tree) => {

@@ -1,4 +1,4 @@
-//! What a test does with a broker and hears of it, as data, so that a test is a table.
+//! Calls of a broker and their results as data, so that a test is a table.
 use crate::again::parse;
 use broker_core::{Broker, DeliverFault, IssueFault, MountFault, PostFault, Seat, TakeFault};
 use eden_base::{Attr, ClaimFault, DaemonId, Errno, Kind, Number, Perm};
@@ -32,7 +32,7 @@ pub enum Said {
     Error(Errno),
 }
 
-/// A call and what it answers. Where no daemon is named it is daemon 1 at generation 1.
+/// A call and its result. Where no daemon is named it is daemon 1 at generation 1.
 #[derive(Clone, Copy)]
 pub enum Deed {
     Seat(Option<Seat>),
@@ -65,7 +65,7 @@ pub enum Deed {
     DeliverNothing(DeliverFault),
     /// Sends a look-up its whole way this often, and this answer reaches the kernel each time.
     LookUpEach(u64, Said),
-    /// Does it once for each number from 2 to this one.
+    /// Sends a look-up its whole way for each number from 2 to this one.
     LookUpNumbers(u64),
     /// A daemon claims the seat at a generation.
     Claim(u64, u64, Result<u64, ClaimFault>),
@@ -74,7 +74,7 @@ pub enum Deed {
     Held(u64, u64),
     /// Tells the least held number above a number.
     HeldAfter(u64, Option<u64>),
-    /// A number is held, and posted replies and waiting items tell of it, as often as these say.
+    /// How often a number is held, is given out by posted replies, and is taken back by waiting items.
     Stand(u64, [u64; 3]),
 }
 
@@ -132,7 +132,7 @@ fn issue(broker: &mut Broker, request: &Request) -> Result<Option<u64>, IssueFau
     }
 }
 
-/// Issues a wish, and returns whether it is answered so.
+/// Issues a wish, and returns whether the result is the expected one.
 fn is_issued(
     alloc: Global,
     broker: &mut Broker,
@@ -187,7 +187,7 @@ fn deliver(broker: &mut Broker) -> Result<Reply, DeliverFault> {
     }
 }
 
-/// Takes for a daemon at a generation, and returns the unique of what came, 0 of items and where nothing is taken.
+/// Takes for a daemon at a generation, and returns the unique of what came, 0 of items and of an empty queue.
 fn unique_taken(broker: &mut Broker, daemon: DaemonId, generation: u64) -> u64 {
     match broker.take(daemon, generation) {
         Ok(ask) => {
@@ -272,7 +272,7 @@ fn answers_each(broker: &mut Broker, request: &Request, times: u64, said: Said) 
     true
 }
 
-/// Does that with a look-up.
+/// Calls `answers_each` with a look-up.
 fn is_found_each(alloc: Global, broker: &mut Broker, times: u64, said: Said) -> bool {
     match request(alloc, Wish::LookUp) {
         Some(request) => {
@@ -294,7 +294,7 @@ fn answers_numbers(broker: &mut Broker, request: &Request, last: u64) -> bool {
     answers(broker, request, Said::Entry(last))
 }
 
-/// Does that with a look-up.
+/// Calls `answers_numbers` with a look-up.
 fn are_numbers_found(alloc: Global, broker: &mut Broker, last: u64) -> bool {
     match request(alloc, Wish::LookUp) {
         Some(request) => {
@@ -306,14 +306,15 @@ fn are_numbers_found(alloc: Global, broker: &mut Broker, last: u64) -> bool {
     }
 }
 
-/// Returns whether a number is held, and posted replies and waiting items tell of it, as often as `counts` say.
+/// Returns whether a number is held, given out by posted replies, and taken back by waiting items as often as `counts`
+/// say.
 fn stands(broker: &Broker, number: Number, counts: [u64; 3]) -> bool {
     broker.held(number) == counts[0]
         && broker.entries_posted(number) == counts[1]
         && broker.forgets_waiting(number) == counts[2]
 }
 
-/// Makes a call, and returns whether it answers what it says.
+/// Makes a call, and returns whether its result is the expected one.
 fn goes_so(alloc: Global, broker: &mut Broker, deed: Deed) -> bool {
     match deed {
         Deed::Seat(seat) => broker.seat() == seat,
@@ -353,7 +354,7 @@ fn goes_so(alloc: Global, broker: &mut Broker, deed: Deed) -> bool {
     }
 }
 
-/// Makes the calls of a table, and returns whether each answers what it says.
+/// Makes the calls of a table, and returns whether each result is the expected one.
 fn each_goes_so(alloc: Global, broker: &mut Broker, deeds: &[Deed]) -> bool {
     for deed in deeds {
         if !goes_so(alloc, broker, *deed) {
@@ -371,7 +372,7 @@ fn new_broker(alloc: Global) -> Option<Broker> {
     }
 }
 
-/// Makes the calls of a table on a broker that begins, and returns whether each answers what it says.
+/// Makes the calls of a table on a new broker, and returns whether each result is the expected one.
 pub(crate) fn all_go_so(alloc: Global, deeds: &[Deed]) -> bool {
     match new_broker(alloc) {
         Some(broker) => {

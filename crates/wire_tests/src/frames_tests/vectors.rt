@@ -1,11 +1,11 @@
-//! Texts that were written out by hand.
-use frames::LinkFault;
+//! Texts of frames, written out by hand.
+use frames::FrameFault;
 
-/// A daemon claims the seat from generation 1.
+/// The text of a Claim from generation 1.
 pub static CLAIM: [u8; 13] = [0, 0, 0, 8, 9, 0, 0, 0, 0, 0, 0, 0, 1];
 
-/// A frame of each kind, and the longest offer.
-pub static TEXTS: [&[u8]; 26] = [
+/// A frame of each kind, the longest offer, and a part of no bytes.
+pub static TEXTS: [&[u8]; 28] = [
     &[0, 0, 0, 8, 1, 0, 0, 0, 0, 0, 0, 1, 2],
     &[0, 0, 0, 3, 2, 7, 8, 9],
     &[0, 0, 0, 0, 3],
@@ -32,39 +32,52 @@ pub static TEXTS: [&[u8]; 26] = [
     &[0, 0, 0, 13, 38, 0, 0, 0, 1, 0, 0, 0, 0, 0, 0, 0, 9, 69],
     &[0, 0, 0, 4, 39, 255, 255, 255, 255],
     &[
+        0, 0, 0, 22, 40, 0, 0, 0, 1, 0, 0, 0, 0, 0, 0, 0, 9, 0, 0, 0, 2, 0, 1, 0, 0, 69, 68,
+    ],
+    &[
+        0, 0, 0, 20, 40, 0, 0, 0, 1, 0, 0, 0, 0, 0, 0, 0, 9, 255, 255, 255, 254, 255, 255, 255, 255,
+    ],
+    &[
         0, 0, 0, 17, 32, 8, 0, 1, 0, 2, 0, 3, 0, 4, 0, 5, 0, 6, 0, 7, 255, 255,
     ],
 ];
 
-/// Streams that are at fault, each as soon as it can be seen, or where they end.
-pub static FAULTS: [(&[u8], LinkFault); 18] = [
-    (&[0, 1, 0, 1], LinkFault::TooLong),
-    (&[255, 255, 255, 255, 9], LinkFault::TooLong),
-    (&[0, 0, 0, 8, 200], LinkFault::BadKind),
-    (&[0, 0, 0, 0, 0], LinkFault::BadKind),
-    (&[0, 0, 0, 0, 18], LinkFault::BadKind),
-    (&[0, 0, 0, 0, 31], LinkFault::BadKind),
-    (&[0, 0, 0, 0, 40], LinkFault::BadKind),
-    (&[0, 0, 0, 7, 9, 0, 0, 0, 0, 0, 0, 1], LinkFault::BadBody),
+/// Streams with their faults. Each ends where the fault is first seen, or within a frame.
+pub static FAULTS: [(&[u8], FrameFault); 20] = [
+    (&[0, 1, 0, 1], FrameFault::TooLong),
+    (&[255, 255, 255, 255, 9], FrameFault::TooLong),
+    (&[0, 0, 0, 8, 200], FrameFault::BadKind),
+    (&[0, 0, 0, 0, 0], FrameFault::BadKind),
+    (&[0, 0, 0, 0, 18], FrameFault::BadKind),
+    (&[0, 0, 0, 0, 31], FrameFault::BadKind),
+    (&[0, 0, 0, 0, 41], FrameFault::BadKind),
+    (&[0, 0, 0, 7, 9, 0, 0, 0, 0, 0, 0, 1], FrameFault::BadBody),
     (
         &[0, 0, 0, 9, 9, 0, 0, 0, 0, 0, 0, 0, 1, 0],
-        LinkFault::BadBody,
+        FrameFault::BadBody,
     ),
-    (&[0, 0, 0, 1, 3, 0], LinkFault::BadBody),
-    (&[0, 0, 0, 7, 4, 0, 0, 0, 0, 0, 0, 1], LinkFault::BadBody),
-    (&[0, 0, 0, 0, 32], LinkFault::BadBody),
-    (&[0, 0, 0, 2, 32, 1, 0], LinkFault::BadBody),
+    (&[0, 0, 0, 1, 3, 0], FrameFault::BadBody),
+    (&[0, 0, 0, 7, 4, 0, 0, 0, 0, 0, 0, 1], FrameFault::BadBody),
+    (&[0, 0, 0, 0, 32], FrameFault::BadBody),
+    (&[0, 0, 0, 2, 32, 1, 0], FrameFault::BadBody),
     (
         &[
             0, 0, 0, 19, 32, 9, 0, 1, 0, 2, 0, 3, 0, 4, 0, 5, 0, 6, 0, 7, 0, 8, 0, 9,
         ],
-        LinkFault::BadBody,
+        FrameFault::BadBody,
     ),
     (
         &[0, 0, 0, 11, 38, 0, 0, 0, 1, 0, 0, 0, 0, 0, 0, 0],
-        LinkFault::BadBody,
+        FrameFault::BadBody,
     ),
-    (&[0, 0, 0], LinkFault::Torn),
-    (&[0, 0, 0, 8], LinkFault::Torn),
-    (&[0, 0, 0, 8, 9, 0, 0, 0, 0, 0, 0, 0], LinkFault::Torn),
+    (&[0, 0, 0, 0, 40], FrameFault::BadBody),
+    (
+        &[
+            0, 0, 0, 19, 40, 0, 0, 0, 1, 0, 0, 0, 0, 0, 0, 0, 9, 0, 0, 0, 2, 0, 1, 0,
+        ],
+        FrameFault::BadBody,
+    ),
+    (&[0, 0, 0], FrameFault::Torn),
+    (&[0, 0, 0, 8], FrameFault::Torn),
+    (&[0, 0, 0, 8, 9, 0, 0, 0, 0, 0, 0, 0], FrameFault::Torn),
 ];

@@ -1,4 +1,4 @@
-//! The calls that take memory, each made once more where it was refused, and what they come to.
+//! The calls that take memory, each made once more where it was refused, and their results.
 ghost use Rattle.std.specs.Prelude.{◌≡◌, IfOk};
 ghost use Rattle.fuse_wire.specs.Request.{IsSendable};
 
@@ -98,7 +98,7 @@ pub(crate) fn is_written_again(alloc: Global, bytes: &[u8], written: &[u8]) -> b
     }
 }
 
-/// Returns whether the copy of a request is it.
+/// Returns whether the copy of a request equals it.
 fn is_copied(alloc: Global, request: &Request) -> bool {
     match copy(alloc, request) {
         Ok(copy) => {
@@ -110,7 +110,7 @@ fn is_copied(alloc: Global, request: &Request) -> bool {
     }
 }
 
-/// Returns whether the copy of a request to rooms is it.
+/// Returns whether the copy of a request into rooms equals it.
 fn is_copied_to_rooms(alloc: Global, request: &Request) -> bool {
     match rooms(alloc) {
         Ok((first, second, batch)) => {
@@ -123,7 +123,7 @@ fn is_copied_to_rooms(alloc: Global, request: &Request) -> bool {
     }
 }
 
-/// Reads a request to rooms; memory was refused where nothing is told.
+/// Reads a request to rooms. Returns none where memory was refused.
 fn read_to_rooms(alloc: Global, bytes: &[u8]) -> Result<Ask, WireFault> {
     match rooms(alloc) {
         Ok((first, second, batch)) => read_request_to(first, second, batch, bytes),
@@ -131,7 +131,7 @@ fn read_to_rooms(alloc: Global, bytes: &[u8]) -> Result<Ask, WireFault> {
     }
 }
 
-/// Returns whether what is read to rooms is an ask.
+/// Returns whether the request that is read into rooms equals an ask.
 fn is_read_to_rooms(alloc: Global, bytes: &[u8], ask: &Ask) -> bool {
     match read_to_rooms(alloc, bytes) {
         Ok(read) => {
@@ -143,8 +143,8 @@ fn is_read_to_rooms(alloc: Global, bytes: &[u8], ask: &Ask) -> bool {
     }
 }
 
-/// Returns whether the request of the bytes is written as these bytes, each copy of it is it, and so is what is read to
-/// rooms.
+/// Returns whether the request of the bytes is written as these bytes again, and equals its copies and what is read
+/// into rooms.
 pub(crate) fn is_kept(alloc: Global, bytes: &[u8]) -> bool {
     match read(alloc, bytes) {
         Ok(ask) => {
@@ -170,7 +170,7 @@ pub(crate) fn is_refused(alloc: Global, bytes: &[u8], fault: WireFault) -> bool 
     }
 }
 
-/// Returns whether the copies of a batch are it.
+/// Returns whether the copies of a batch equal it.
 fn is_batch_copied(alloc: Global, batch: &Batch) -> bool {
     match copy_of(alloc, batch) {
         Ok(copy) => {
@@ -182,7 +182,7 @@ fn is_batch_copied(alloc: Global, batch: &Batch) -> bool {
     }
 }
 
-/// Returns whether the copy of a batch to room is it.
+/// Returns whether the copy of a batch into a room equals it.
 fn is_batch_copied_to_room(alloc: Global, batch: &Batch) -> bool {
     match batch_room(alloc) {
         Ok(room) => batch.copy_to(room) == *batch,
@@ -190,7 +190,7 @@ fn is_batch_copied_to_room(alloc: Global, batch: &Batch) -> bool {
     }
 }
 
-/// Returns whether a batch of items has just these, and each copy of it is it.
+/// Returns whether a batch of items has just these, and equals each of its copies.
 fn is_batch_kept(alloc: Global, items: &Items) -> bool {
     match batch_of(alloc, items) {
         Ok(batch) => {
@@ -204,7 +204,7 @@ fn is_batch_kept(alloc: Global, items: &Items) -> bool {
     }
 }
 
-/// Returns that of the items of these bytes.
+/// Reads the items of a batch, and calls `is_batch_kept` with them.
 pub(crate) fn are_items_kept(alloc: Global, bytes: &[u8]) -> bool {
     match read_items(bytes) {
         Ok(items) => is_batch_kept(alloc, &items),

@@ -59,7 +59,7 @@ const ANSWERS: [Spelled; 4] = [
     (6, Answer::Done, &DONE),
 ];
 
-/// Returns whether each of these replies is written and read so.
+/// Returns whether each of these replies is written as its bytes, and read from them.
 pub(crate) fn are_replies_kept(replies: &[Spelled]) -> bool {
     for (unique, answer, bytes) in replies {
         let reply = Reply {

@@ -72,7 +72,7 @@ fn is_name_kept(alloc: Global, len: u16) -> bool {
     }
 }
 
-/// Returns that of each name that is not too long.
+/// Calls `is_name_kept` with each length up to 255.
 fn is_each_name_kept(alloc: Global) -> bool {
     for len in 1..256u16 {
         if !is_name_kept(alloc, len) {
@@ -101,7 +101,7 @@ fn is_count_kept(alloc: Global, count: u16) -> bool {
     }
 }
 
-/// Returns that of each of these counts.
+/// Calls `is_count_kept` with each count.
 fn is_each_count_kept(alloc: Global, counts: &[u16]) -> bool {
     for count in counts {
         if !is_count_kept(alloc, *count) {

@@ -1,86 +1,86 @@
 //! Messages as a C program with `linux/fuse.h` (7.38) laid them out on a little-endian machine.
 
-/// LOOKUP of `src` in 1, unique 3.
+/// LOOKUP of `src` in directory 1, with unique 3.
 pub const LOOKUP: [u8; 44] = [
     44, 0, 0, 0, 1, 0, 0, 0, 3, 0, 0, 0, 0, 0, 0, 0, 1, 0, 0, 0, 0, 0, 0, 0, 0, 0, 0, 0, 0, 0, 0,
     0, 0, 0, 0, 0, 0, 0, 0, 0, 115, 114, 99, 0,
 ];
 
-/// LOOKUP in 1 of a name that takes memory, of 17 bytes, unique 3.
+/// LOOKUP in directory 1, with unique 3, of a name of 17 bytes: such a name takes memory.
 pub const LONG_LOOKUP: [u8; 58] = [
     58, 0, 0, 0, 1, 0, 0, 0, 3, 0, 0, 0, 0, 0, 0, 0, 1, 0, 0, 0, 0, 0, 0, 0, 0, 0, 0, 0, 0, 0, 0,
     0, 0, 0, 0, 0, 0, 0, 0, 0, 110, 110, 110, 110, 110, 110, 110, 110, 110, 110, 110, 110, 110,
     110, 110, 110, 110, 0,
 ];
 
-/// FORGET of 2, twice.
+/// FORGET that takes number 2 back twice.
 pub const FORGET: [u8; 48] = [
     48, 0, 0, 0, 2, 0, 0, 0, 0, 0, 0, 0, 0, 0, 0, 0, 2, 0, 0, 0, 0, 0, 0, 0, 0, 0, 0, 0, 0, 0, 0,
     0, 0, 0, 0, 0, 0, 0, 0, 0, 2, 0, 0, 0, 0, 0, 0, 0,
 ];
 
-/// GETATTR of 2, unique 4.
+/// GETATTR of number 2, with unique 4.
 pub const GETATTR: [u8; 56] = [
     56, 0, 0, 0, 3, 0, 0, 0, 4, 0, 0, 0, 0, 0, 0, 0, 2, 0, 0, 0, 0, 0, 0, 0, 0, 0, 0, 0, 0, 0, 0,
     0, 0, 0, 0, 0, 0, 0, 0, 0, 0, 0, 0, 0, 0, 0, 0, 0, 0, 0, 0, 0, 0, 0, 0, 0,
 ];
 
-/// MKDIR of `d` in 1 with 0o700, unique 5.
+/// MKDIR of `d` in directory 1 with 0o700, with unique 5.
 pub const MKDIR: [u8; 50] = [
     50, 0, 0, 0, 9, 0, 0, 0, 5, 0, 0, 0, 0, 0, 0, 0, 1, 0, 0, 0, 0, 0, 0, 0, 0, 0, 0, 0, 0, 0, 0,
     0, 0, 0, 0, 0, 0, 0, 0, 0, 192, 1, 0, 0, 0, 0, 0, 0, 100, 0,
 ];
 
-/// UNLINK of `a` in 1, unique 6.
+/// UNLINK of `a` in directory 1, with unique 6.
 pub const UNLINK: [u8; 42] = [
     42, 0, 0, 0, 10, 0, 0, 0, 6, 0, 0, 0, 0, 0, 0, 0, 1, 0, 0, 0, 0, 0, 0, 0, 0, 0, 0, 0, 0, 0, 0,
     0, 0, 0, 0, 0, 0, 0, 0, 0, 97, 0,
 ];
 
-/// RMDIR of `d` in 1, unique 7.
+/// RMDIR of `d` in directory 1, with unique 7.
 pub const RMDIR: [u8; 42] = [
     42, 0, 0, 0, 11, 0, 0, 0, 7, 0, 0, 0, 0, 0, 0, 0, 1, 0, 0, 0, 0, 0, 0, 0, 0, 0, 0, 0, 0, 0, 0,
     0, 0, 0, 0, 0, 0, 0, 0, 0, 100, 0,
 ];
 
-/// CREATE of `a` in 1 with 0o644, unique 8.
+/// CREATE of `a` in directory 1 with 0o644, with unique 8.
 pub const CREATE: [u8; 58] = [
     58, 0, 0, 0, 35, 0, 0, 0, 8, 0, 0, 0, 0, 0, 0, 0, 1, 0, 0, 0, 0, 0, 0, 0, 0, 0, 0, 0, 0, 0, 0,
     0, 0, 0, 0, 0, 0, 0, 0, 0, 0, 0, 0, 0, 164, 129, 0, 0, 0, 0, 0, 0, 0, 0, 0, 0, 97, 0,
 ];
 
-/// The same with flags, a umask and a caller's ids.
+/// That CREATE as a kernel sends it: with flags, a umask and the caller's ids.
 pub const CREATE_OF_KERNEL: [u8; 58] = [
     58, 0, 0, 0, 35, 0, 0, 0, 8, 0, 0, 0, 0, 0, 0, 0, 1, 0, 0, 0, 0, 0, 0, 0, 232, 3, 0, 0, 232, 3,
     0, 0, 146, 16, 0, 0, 0, 0, 0, 0, 65, 130, 0, 0, 164, 129, 0, 0, 18, 0, 0, 0, 0, 0, 0, 0, 97, 0,
 ];
 
-/// MKDIR of `d` with a umask and a caller's ids.
+/// That MKDIR as a kernel sends it: with a umask and the caller's ids.
 pub const MKDIR_OF_KERNEL: [u8; 50] = [
     50, 0, 0, 0, 9, 0, 0, 0, 5, 0, 0, 0, 0, 0, 0, 0, 1, 0, 0, 0, 0, 0, 0, 0, 232, 3, 0, 0, 232, 3,
     0, 0, 146, 16, 0, 0, 0, 0, 0, 0, 192, 1, 0, 0, 18, 0, 0, 0, 100, 0,
 ];
 
-/// GETATTR of 2 with a handle.
+/// That GETATTR as a kernel sends it: with a file handle.
 pub const GETATTR_OF_KERNEL: [u8; 56] = [
     56, 0, 0, 0, 3, 0, 0, 0, 4, 0, 0, 0, 0, 0, 0, 0, 2, 0, 0, 0, 0, 0, 0, 0, 0, 0, 0, 0, 0, 0, 0,
     0, 0, 0, 0, 0, 0, 0, 0, 0, 1, 0, 0, 0, 0, 0, 0, 0, 9, 0, 0, 0, 0, 0, 0, 0,
 ];
 
-/// BATCH_FORGET of 2, once, and 3, twice.
+/// BATCH_FORGET that takes number 2 back once and number 3 twice.
 pub const BATCH_FORGET: [u8; 80] = [
     80, 0, 0, 0, 42, 0, 0, 0, 0, 0, 0, 0, 0, 0, 0, 0, 0, 0, 0, 0, 0, 0, 0, 0, 0, 0, 0, 0, 0, 0, 0,
     0, 0, 0, 0, 0, 0, 0, 0, 0, 2, 0, 0, 0, 0, 0, 0, 0, 2, 0, 0, 0, 0, 0, 0, 0, 1, 0, 0, 0, 0, 0, 0,
     0, 3, 0, 0, 0, 0, 0, 0, 0, 2, 0, 0, 0, 0, 0, 0, 0,
 ];
 
-/// OPEN of 2 without a body, unique 9.
+/// OPEN of number 2 without a body, with unique 9.
 pub const OPEN: [u8; 40] = [
     40, 0, 0, 0, 14, 0, 0, 0, 9, 0, 0, 0, 0, 0, 0, 0, 2, 0, 0, 0, 0, 0, 0, 0, 0, 0, 0, 0, 0, 0, 0,
     0, 0, 0, 0, 0, 0, 0, 0, 0,
 ];
 
-/// The entry of 2, a directory of 0o755, for unique 3.
+/// The reply to unique 3: the entry of number 2, a directory of 0o755.
 pub const ENTRY: [u8; 144] = [
     144, 0, 0, 0, 0, 0, 0, 0, 3, 0, 0, 0, 0, 0, 0, 0, 2, 0, 0, 0, 0, 0, 0, 0, 0, 0, 0, 0, 0, 0, 0,
     0, 0, 0, 0, 0, 0, 0, 0, 0, 0, 0, 0, 0, 0, 0, 0, 0, 0, 0, 0, 0, 0, 0, 0, 0, 2, 0, 0, 0, 0, 0, 0,
@@ -89,7 +89,7 @@ pub const ENTRY: [u8; 144] = [
     0, 0, 0, 0, 0, 0, 0, 0, 0, 0, 0, 16, 0, 0, 0, 0, 0, 0,
 ];
 
-/// The new file 4 of 0o644, open, for unique 8.
+/// The reply to unique 8: number 4, a new file of 0o644 that is opened.
 pub const OPENED: [u8; 160] = [
     160, 0, 0, 0, 0, 0, 0, 0, 8, 0, 0, 0, 0, 0, 0, 0, 4, 0, 0, 0, 0, 0, 0, 0, 0, 0, 0, 0, 0, 0, 0,
     0, 0, 0, 0, 0, 0, 0, 0, 0, 0, 0, 0, 0, 0, 0, 0, 0, 0, 0, 0, 0, 0, 0, 0, 0, 4, 0, 0, 0, 0, 0, 0,
@@ -99,7 +99,7 @@ pub const OPENED: [u8; 160] = [
     0, 0, 0, 0,
 ];
 
-/// The attributes of 2, a file of 12 bytes and 0o644, for unique 4.
+/// The reply to unique 4: the attributes of number 2, a file of 12 bytes and 0o644.
 pub const ATTRS: [u8; 120] = [
     120, 0, 0, 0, 0, 0, 0, 0, 4, 0, 0, 0, 0, 0, 0, 0, 0, 0, 0, 0, 0, 0, 0, 0, 0, 0, 0, 0, 0, 0, 0,
     0, 2, 0, 0, 0, 0, 0, 0, 0, 12, 0, 0, 0, 0, 0, 0, 0, 0, 0, 0, 0, 0, 0, 0, 0, 0, 0, 0, 0, 0, 0,
@@ -107,5 +107,5 @@ pub const ATTRS: [u8; 120] = [
     129, 0, 0, 1, 0, 0, 0, 0, 0, 0, 0, 0, 0, 0, 0, 0, 0, 0, 0, 0, 16, 0, 0, 0, 0, 0, 0,
 ];
 
-/// Done, for unique 6.
+/// The reply to unique 6, without a value.
 pub const DONE: [u8; 16] = [16, 0, 0, 0, 0, 0, 0, 0, 6, 0, 0, 0, 0, 0, 0, 0];

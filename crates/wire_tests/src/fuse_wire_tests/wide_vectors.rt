@@ -2,13 +2,13 @@
 //! and from those of the other fields. A C compiler laid them out by the structs of `linux/fuse.h` (7.38), on a
 //! little-endian machine.
 
-/// LOOKUP.
+/// LOOKUP of `name`, with zeros in the fields that the reader ignores. So are those below.
 pub const LOOKUP: [u8; 45] = [
     45, 0, 0, 0, 1, 0, 0, 0, 17, 18, 19, 20, 21, 22, 23, 24, 25, 26, 27, 28, 29, 30, 31, 32, 0, 0,
     0, 0, 0, 0, 0, 0, 0, 0, 0, 0, 0, 0, 0, 0, 110, 97, 109, 101, 0,
 ];
 
-/// The same, with what is ignored filled in.
+/// The LOOKUP above, with other bytes in the fields that the reader ignores.
 pub const LOOKUP_FILLED: [u8; 45] = [
     45, 0, 0, 0, 1, 0, 0, 0, 17, 18, 19, 20, 21, 22, 23, 24, 25, 26, 27, 28, 29, 30, 31, 32, 33,
     34, 35, 36, 37, 38, 39, 40, 41, 42, 43, 44, 45, 46, 47, 48, 110, 97, 109, 101, 0,
@@ -20,7 +20,7 @@ pub const UNLINK: [u8; 45] = [
     0, 0, 0, 0, 0, 0, 0, 0, 0, 0, 0, 0, 0, 0, 110, 97, 109, 101, 0,
 ];
 
-/// The same, with what is ignored filled in.
+/// The UNLINK above, with other bytes in the fields that the reader ignores.
 pub const UNLINK_FILLED: [u8; 45] = [
     45, 0, 0, 0, 10, 0, 0, 0, 17, 18, 19, 20, 21, 22, 23, 24, 25, 26, 27, 28, 29, 30, 31, 32, 33,
     34, 35, 36, 37, 38, 39, 40, 41, 42, 43, 44, 45, 46, 47, 48, 110, 97, 109, 101, 0,
@@ -32,7 +32,7 @@ pub const RMDIR: [u8; 45] = [
     0, 0, 0, 0, 0, 0, 0, 0, 0, 0, 0, 0, 0, 0, 110, 97, 109, 101, 0,
 ];
 
-/// The same, with what is ignored filled in.
+/// The RMDIR above, with other bytes in the fields that the reader ignores.
 pub const RMDIR_FILLED: [u8; 45] = [
     45, 0, 0, 0, 11, 0, 0, 0, 17, 18, 19, 20, 21, 22, 23, 24, 25, 26, 27, 28, 29, 30, 31, 32, 33,
     34, 35, 36, 37, 38, 39, 40, 41, 42, 43, 44, 45, 46, 47, 48, 110, 97, 109, 101, 0,
@@ -44,7 +44,7 @@ pub const OPEN: [u8; 40] = [
     0, 0, 0, 0, 0, 0, 0, 0, 0, 0, 0, 0, 0, 0,
 ];
 
-/// The same, with what is ignored filled in.
+/// The OPEN above, with other bytes in the fields that the reader ignores.
 pub const OPEN_FILLED: [u8; 40] = [
     40, 0, 0, 0, 14, 0, 0, 0, 17, 18, 19, 20, 21, 22, 23, 24, 25, 26, 27, 28, 29, 30, 31, 32, 33,
     34, 35, 36, 37, 38, 39, 40, 41, 42, 43, 44, 45, 46, 47, 48,
@@ -56,7 +56,7 @@ pub const FORGET: [u8; 48] = [
     0, 0, 0, 0, 0, 0, 0, 0, 0, 0, 0, 0, 0, 0, 65, 66, 67, 68, 69, 70, 71, 72,
 ];
 
-/// The same, with what is ignored filled in.
+/// The FORGET above, with other bytes in the fields that the reader ignores.
 pub const FORGET_FILLED: [u8; 48] = [
     48, 0, 0, 0, 2, 0, 0, 0, 17, 18, 19, 20, 21, 22, 23, 24, 25, 26, 27, 28, 29, 30, 31, 32, 33,
     34, 35, 36, 37, 38, 39, 40, 41, 42, 43, 44, 45, 46, 47, 48, 65, 66, 67, 68, 69, 70, 71, 72,
@@ -68,7 +68,7 @@ pub const GETATTR: [u8; 56] = [
     0, 0, 0, 0, 0, 0, 0, 0, 0, 0, 0, 0, 0, 0, 0, 0, 0, 0, 0, 0, 0, 0, 0, 0, 0, 0, 0, 0, 0, 0,
 ];
 
-/// The same, with what is ignored filled in.
+/// The GETATTR above, with other bytes in the fields that the reader ignores.
 pub const GETATTR_FILLED: [u8; 56] = [
     56, 0, 0, 0, 3, 0, 0, 0, 17, 18, 19, 20, 21, 22, 23, 24, 25, 26, 27, 28, 29, 30, 31, 32, 33,
     34, 35, 36, 37, 38, 39, 40, 41, 42, 43, 44, 45, 46, 47, 48, 65, 66, 67, 68, 69, 70, 71, 72, 73,
@@ -81,7 +81,7 @@ pub const MKDIR: [u8; 53] = [
     0, 0, 0, 0, 0, 0, 0, 0, 0, 0, 0, 0, 0, 0, 255, 15, 0, 0, 0, 0, 0, 0, 110, 97, 109, 101, 0,
 ];
 
-/// The same, with what is ignored filled in.
+/// The MKDIR above, with other bytes in the fields that the reader ignores.
 pub const MKDIR_FILLED: [u8; 53] = [
     53, 0, 0, 0, 9, 0, 0, 0, 17, 18, 19, 20, 21, 22, 23, 24, 25, 26, 27, 28, 29, 30, 31, 32, 33,
     34, 35, 36, 37, 38, 39, 40, 41, 42, 43, 44, 45, 46, 47, 48, 255, 79, 67, 68, 69, 70, 71, 72,
@@ -95,7 +95,7 @@ pub const CREATE: [u8; 61] = [
     110, 97, 109, 101, 0,
 ];
 
-/// The same, with what is ignored filled in.
+/// The CREATE above, with other bytes in the fields that the reader ignores.
 pub const CREATE_FILLED: [u8; 61] = [
     61, 0, 0, 0, 35, 0, 0, 0, 17, 18, 19, 20, 21, 22, 23, 24, 25, 26, 27, 28, 29, 30, 31, 32, 33,
     34, 35, 36, 37, 38, 39, 40, 41, 42, 43, 44, 45, 46, 47, 48, 65, 66, 67, 68, 255, 143, 71, 72,
@@ -110,7 +110,7 @@ pub const BATCH_FORGET: [u8; 80] = [
     111, 112,
 ];
 
-/// The same, with what is ignored filled in.
+/// The BATCH_FORGET above, with other bytes in the fields that the reader ignores.
 pub const BATCH_FORGET_FILLED: [u8; 80] = [
     80, 0, 0, 0, 42, 0, 0, 0, 17, 18, 19, 20, 21, 22, 23, 24, 25, 26, 27, 28, 29, 30, 31, 32, 33,
     34, 35, 36, 37, 38, 39, 40, 41, 42, 43, 44, 45, 46, 47, 48, 2, 0, 0, 0, 65, 66, 67, 68, 81, 82,
@@ -118,7 +118,7 @@ pub const BATCH_FORGET_FILLED: [u8; 80] = [
     105, 106, 107, 108, 109, 110, 111, 112,
 ];
 
-/// The entry of a directory of 0o7777.
+/// The reply with the entry of a directory of 0o7777.
 pub const ENTRY: [u8; 144] = [
     144, 0, 0, 0, 0, 0, 0, 0, 17, 18, 19, 20, 21, 22, 23, 24, 33, 34, 35, 36, 37, 38, 39, 40, 0, 0,
     0, 0, 0, 0, 0, 0, 0, 0, 0, 0, 0, 0, 0, 0, 0, 0, 0, 0, 0, 0, 0, 0, 0, 0, 0, 0, 0, 0, 0, 0, 33,
@@ -127,7 +127,7 @@ pub const ENTRY: [u8; 144] = [
     255, 79, 0, 0, 49, 50, 51, 52, 0, 0, 0, 0, 0, 0, 0, 0, 0, 0, 0, 0, 0, 16, 0, 0, 0, 0, 0, 0,
 ];
 
-/// The entry of a file of 0o7777, open.
+/// The reply with the entry of a file of 0o7777 that is opened.
 pub const OPENED: [u8; 160] = [
     160, 0, 0, 0, 0, 0, 0, 0, 17, 18, 19, 20, 21, 22, 23, 24, 33, 34, 35, 36, 37, 38, 39, 40, 0, 0,
     0, 0, 0, 0, 0, 0, 0, 0, 0, 0, 0, 0, 0, 0, 0, 0, 0, 0, 0, 0, 0, 0, 0, 0, 0, 0, 0, 0, 0, 0, 33,
@@ -137,7 +137,7 @@ pub const OPENED: [u8; 160] = [
     0, 0, 0, 0, 0, 0, 0, 0, 0, 0, 0, 0, 0, 0, 0,
 ];
 
-/// The attributes of that file.
+/// The attributes of a file of 0o7777.
 pub const ATTRS: [u8; 120] = [
     120, 0, 0, 0, 0, 0, 0, 0, 17, 18, 19, 20, 21, 22, 23, 24, 0, 0, 0, 0, 0, 0, 0, 0, 0, 0, 0, 0,
     0, 0, 0, 0, 33, 34, 35, 36, 37, 38, 39, 40, 41, 42, 43, 44, 45, 46, 47, 48, 0, 0, 0, 0, 0, 0,
@@ -146,10 +146,10 @@ pub const ATTRS: [u8; 120] = [
     0, 0, 0, 0, 0,
 ];
 
-/// Done.
+/// The reply without a value.
 pub const DONE: [u8; 16] = [16, 0, 0, 0, 0, 0, 0, 0, 17, 18, 19, 20, 21, 22, 23, 24];
 
-/// The error ESTALE.
+/// The reply with the error ESTALE.
 pub const STALE: [u8; 16] = [
     16, 0, 0, 0, 140, 255, 255, 255, 17, 18, 19, 20, 21, 22, 23, 24,
 ];

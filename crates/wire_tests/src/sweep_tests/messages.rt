@@ -33,7 +33,7 @@ fn is_name_made(alloc: Global, bytes: &[u8]) -> bool {
     }
 }
 
-/// Returns that of each length.
+/// Calls `is_name_made` with each length up to 255.
 pub(crate) fn is_each_name_made(alloc: Global) -> bool {
     for len in 1..256usize {
         if !is_name_made(alloc, &LONGEST_NAME[..len]) {
@@ -75,7 +75,7 @@ fn is_batch_made(alloc: Global, items: &[Item]) -> bool
     }
 }
 
-/// Returns that of each length.
+/// Calls `is_batch_made` with each length up to 256.
 pub(crate) fn is_each_batch_made(alloc: Global) -> bool {
     for len in 0..257usize {
         if !is_batch_made(alloc, &MOST_ITEMS[..len]) {

@@ -11,6 +11,7 @@ pub enum Carrier {
     Ask,
     Post,
     Data,
+    Part,
 }
 
 /// Returns how long the fields are that stand before the bytes.
@@ -19,6 +20,7 @@ fn fields_len(carrier: Carrier) -> usize {
         Carrier::Ask => 0,
         Carrier::Post => 8,
         Carrier::Data => 12,
+        Carrier::Part => 20,
     }
 }
 
@@ -33,6 +35,13 @@ fn frame(carrier: Carrier, bytes: Bytes) -> Frame {
         Carrier::Data => Frame::Takeover(Message::Data {
             session: 1,
             generation: 1,
+            bytes,
+        }),
+        Carrier::Part => Frame::Takeover(Message::Part {
+            session: 1,
+            generation: 1,
+            position: 1,
+            count: 2,
             bytes,
         }),
     }
@@ -63,7 +72,7 @@ fn is_carried(alloc: Global, carrier: Carrier, len: usize) -> bool {
     }
 }
 
-/// Returns that of lengths up to 65,520, in steps of 1,008.
+/// Calls `is_carried` with lengths up to 65,520, in steps of 1,008.
 fn is_each_step_carried(alloc: Global, carrier: Carrier) -> bool {
     for step in 0..66u16 {
         if !is_carried(alloc, carrier, 1_008 * usize::from(step)) {
@@ -73,7 +82,7 @@ fn is_each_step_carried(alloc: Global, carrier: Carrier) -> bool {
     true
 }
 
-/// Returns that of these lengths and of each from there to the longest.
+/// Calls `is_carried` with those lengths, and with each length from there up to the longest.
 pub(crate) fn is_each_body_carried(alloc: Global, carrier: Carrier) -> bool {
     if !is_each_step_carried(alloc, carrier) {
         return false;

@@ -30,14 +30,14 @@ pub enum Deed {
     Claims(u64),
 }
 
-/// What happens, and what is printed then.
+/// A step of a test, with what is printed then.
 #[derive(Clone, Copy)]
 pub enum Step {
     /// The next line of the script is begun, and prints this.
     Begins(&'static [u8]),
-    /// What is awaited did not come.
+    /// The line still waits.
     Waits,
-    /// What is awaited came, which prints this.
+    /// The line ends, and prints this.
     Comes(&'static [u8]),
     /// A daemon does this on a connection, counted from 0.
     On(usize, Deed),
@@ -171,7 +171,7 @@ fn lacks(came: &Came) -> bool {
     matches!(came, Came::Lacks)
 }
 
-/// Looks whether what is awaited came, once more where memory was refused.
+/// Looks whether the line's wait is over, once more where memory was refused.
 fn looked(course: &mut Course) -> Option<Came> {
     let awaited = course.awaited?;
     let came = look(&mut course.desk, &awaited)?;

@@ -1,9 +1,9 @@
-//! Steps at three desks, with what becomes of each. A step that was refused memory is made once more.
+//! Steps at three desks, with their outcomes. A step that was refused memory is made once more.
 ghost use Rattle.std.specs.Prelude.{◌≡◌};
 
 use checkout::ManifestBacking;
 use daemon::Lease;
-use daemon_desk::{Claiming, DaemonDesk, Hearing, Mounting};
+use daemon_desk::{Claiming, DaemonDesk, FrameList, Hearing, Mounting};
 use eden_base::{Name, Number};
 use frames::Frame;
 use fuse_ops::Served;
@@ -14,6 +14,12 @@ use takeover_core::{Message, Versions};
 
 /// A checkout with one directory.
 const CHECKOUT: &[u8] = b"commit 0123456789abcdef0123456789abcdef01234567\ndir src\n";
+
+/// The bytes of each name of a long checkout: sixteen such names take more than a part.
+const NAME_LEN: usize = 255;
+
+/// The first letters of these names.
+const LETTERS: &[u8; 16] = b"abcdefghijklmnop";
 
 /// What a desk is sent.
 #[derive(Clone, Copy)]
@@ -46,6 +52,8 @@ pub enum Told {
     Ready(u32, u64),
     Pong(u32),
     Data(u32, u64),
+    /// Of this session, generation, position and count.
+    Part(u32, u64, u32, u32),
     Failed(u32),
     Nothing,
     Heeds,
@@ -55,28 +63,32 @@ pub enum Told {
     Other,
 }
 
-/// A step of the desk of a number, counted from 0, with what becomes of it.
+/// A step at a desk, counted from 0, with its outcome.
 #[derive(Clone, Copy)]
 pub enum Step {
-    /// It makes what it would serve.
+    /// It makes the state to serve.
     Prepares(usize),
     /// The broker answers its Mount.
     Mounts(usize, Says, Mounting),
-    /// What it offers is what was told last.
+    /// It offers, and that frame is the last one.
     Offers(usize),
-    /// It hears what was told last.
+    /// It hears the last frame.
     Hears(usize, Told),
-    /// It hears this.
+    /// The frame behind the last one is the last one now.
+    Next(Told),
+    /// It hears this frame.
     Sent(usize, Says, Told),
     /// Workers may take at this generation.
     Serves(usize, Option<u64>),
-    /// It lends what it serves, or nothing.
+    /// It lends its state to workers, or has none to lend.
     Lends(usize, bool),
-    /// What was lent is given to it.
+    /// It gets the lease back.
     Returns(usize),
-    /// It lends what it serves, `src` is looked up with this number, and it is given that back.
+    /// It lends its state, a look-up of `src` gives this number, and it gets the lease back.
     LooksUp(usize, u64),
-    /// It may be ready to hand over.
+    /// It lends its state, look-ups of the long names give numbers from this one on, and it gets the lease back.
+    LooksUpEach(usize, u64),
+    /// It says whether it is ready to hand over.
     Readies(usize, Told),
     /// It gives up.
     GivesUp(usize, Told),
@@ -86,12 +98,13 @@ pub enum Step {
     Claims(usize, Says, Claiming),
 }
 
-/// The desks, what was told last, and what is lent.
+/// The desks, the last frame, the frames behind it, and the lease.
 #[derive(Drop)]
 struct Room {
     alloc: Global,
     desks: Vec<DaemonDesk>,
     last: Option<Frame>,
+    behind: Option<FrameList>,
     lease: Option<Lease>,
 }
 
@@ -140,6 +153,13 @@ fn told_of(frame: &Frame) -> Told {
             generation,
             ..
         } => Told::Data(*session, *generation),
+        Message::Part {
+            session,
+            generation,
+            position,
+            count,
+            ..
+        } => Told::Part(*session, *generation, *position, *count),
         Message::Failed { session } => Told::Failed(*session),
     }
 }
@@ -152,14 +172,14 @@ fn heard(desk: &mut DaemonDesk, frame: &Frame) -> Hearing {
     }
 }
 
-/// Looks `src` up in the root, and returns its number.
-fn number_of(alloc: Global, manifest: &Manifest, served: &mut Served) -> Option<u64>
+/// Looks a name up in the root, and returns its number.
+fn number_of(alloc: Global, manifest: &Manifest, served: &mut Served, name: &[u8]) -> Option<u64>
     requires over { served.old.tree.manifest ≡ manifest.now }
     ensures same_manifest { served.new.tree.manifest ≡ served.old.tree.manifest }
 {
     let request = Request::Lookup {
         dir: Number::ROOT,
-        name: Name::parse(alloc, b"src").ok()?,
+        name: Name::parse(alloc, name).ok()?,
     };
     let mut backing = ManifestBacking::of(manifest);
     let answer = served.apply(alloc, &mut backing, &request);
@@ -171,19 +191,37 @@ fn number_of(alloc: Global, manifest: &Manifest, served: &mut Served) -> Option<
     }
 }
 
-/// Looks `src` up, once more where memory was refused.
-fn found_number(alloc: Global, manifest: &Manifest, served: &mut Served) -> Option<u64>
+/// Looks a name up, once more where memory was refused.
+fn found_number(alloc: Global, manifest: &Manifest, served: &mut Served, name: &[u8]) -> Option<u64>
     requires over { served.old.tree.manifest ≡ manifest.now }
     ensures same_manifest { served.new.tree.manifest ≡ served.old.tree.manifest }
 {
-    if let Some(number) = number_of(alloc, manifest, served) {
+    if let Some(number) = number_of(alloc, manifest, served, name) {
         return Some(number);
     }
-    number_of(alloc, manifest, served)
+    number_of(alloc, manifest, served, name)
+}
+
+/// Looks a name up in what was lent.
+fn lent_number(alloc: Global, lease: &mut Lease, name: &[u8]) -> Option<u64> {
+    found_number(alloc, &lease.manifest, &mut lease.served, name)
+}
+
+/// Returns whether the long names are looked up with numbers that follow each other.
+fn are_numbered(alloc: Global, lease: &mut Lease, first: u64) -> bool {
+    let mut number = first;
+    for letter in LETTERS {
+        let name = [*letter; NAME_LEN];
+        if lent_number(alloc, lease, name.as_slice()) != Some(number) {
+            return false;
+        }
+        number = number.saturating_add(1);
+    }
+    true
 }
 
 impl Room {
-    /// Keeps what is told, and returns it.
+    /// Keeps a frame as the last one, and returns what it tells.
     fn keep(&mut self, told: Option<Frame>) -> Told {
         let said = match &told {
             Some(frame) => told_of(frame),
@@ -195,10 +233,15 @@ impl Room {
         said
     }
 
-    /// Keeps what becomes of a frame that was heard.
+    /// Keeps the answer to a frame as the last frame, and returns what it tells.
     fn keep_heard(&mut self, hearing: Hearing) -> Told {
         match hearing {
-            Hearing::Tells(frame) => self.keep(Some(frame)),
+            Hearing::Tells(frames) => {
+                let mut frames = frames;
+                let first = frames.next();
+                drop(self.behind.replace(frames));
+                self.keep(first)
+            }
             Hearing::Heeds => Told::Heeds,
             Hearing::Ignores => Told::Ignores,
             Hearing::Closes => Told::Closes,
@@ -206,13 +249,22 @@ impl Room {
         }
     }
 
-    /// Lets a desk hear what was told last.
+    /// Lets a desk hear the last frame.
     fn hears(&mut self, at: usize) -> Told {
         let (Some(desk), Some(frame)) = (self.desks.get_mut(at), &self.last) else {
             return Told::Other;
         };
         let hearing = heard(desk, frame);
         self.keep_heard(hearing)
+    }
+
+    /// Keeps the frame behind the last one as the last one, and returns what it tells.
+    fn next(&mut self) -> Told {
+        let Some(frames) = &mut self.behind else {
+            return Told::Other;
+        };
+        let frame = frames.next();
+        self.keep(frame)
     }
 
     /// Lets a desk hear a frame.
@@ -226,24 +278,29 @@ impl Room {
         self.keep_heard(hearing)
     }
 
-    /// Lets a desk lend what it serves for a lookup.
+    /// Lets a desk lend its state for a lookup of `src`, and returns the number.
     fn looked_up(&mut self, at: usize) -> Option<u64> {
         let desk = self.desks.get_mut(at)?;
-        let Lease {
-            generation,
-            manifest,
-            mut served,
-        } = desk.lend()?;
-        let number = found_number(self.alloc, &manifest, &mut served);
-        desk.take_back(Lease {
-            generation,
-            manifest,
-            served,
-        });
+        let mut lease = desk.lend()?;
+        let number = lent_number(self.alloc, &mut lease, b"src");
+        desk.take_back(lease);
         number
     }
 
-    /// Lets a desk lend what it serves, and keeps that. Returns whether there was something.
+    /// Lets a desk lend its state for a lookup of each long name.
+    fn looked_up_each(&mut self, at: usize, first: u64) -> bool {
+        let Some(desk) = self.desks.get_mut(at) else {
+            return false;
+        };
+        let Some(mut lease) = desk.lend() else {
+            return false;
+        };
+        let so = are_numbered(self.alloc, &mut lease, first);
+        desk.take_back(lease);
+        so
+    }
+
+    /// Lets a desk lend its state, and keeps the lease. Returns whether there was one.
     fn lends(&mut self, at: usize) -> bool {
         let Some(desk) = self.desks.get_mut(at) else {
             return false;
@@ -255,7 +312,7 @@ impl Room {
         true
     }
 
-    /// Gives what is lent to a desk.
+    /// Gives the lease to a desk.
     fn returns(&mut self, at: usize) -> bool {
         let (Some(desk), Some(lease)) = (self.desks.get_mut(at), self.lease.take()) else {
             return false;
@@ -282,7 +339,7 @@ impl Room {
         self.keep(said)
     }
 
-    /// Keeps what a desk offers.
+    /// Keeps a desk's offer as the last frame.
     fn offers(&mut self, at: usize) -> bool {
         let Some(desk) = self.desks.get(at) else {
             return false;
@@ -305,6 +362,7 @@ impl Room {
             },
             Step::Offers(at) => self.offers(at),
             Step::Hears(at, told) => self.hears(at) == told,
+            Step::Next(told) => self.next() == told,
             Step::Sent(at, says, told) => self.is_sent(at, says) == told,
             Step::Serves(at, generation) => match self.desks.get(at) {
                 Some(desk) => desk.serving() == generation,
@@ -313,6 +371,7 @@ impl Room {
             Step::Lends(at, lends) => self.lends(at) == lends,
             Step::Returns(at) => self.returns(at),
             Step::LooksUp(at, number) => self.looked_up(at) == Some(number),
+            Step::LooksUpEach(at, first) => self.looked_up_each(at, first),
             Step::Readies(at, told) => self.readies(at) == told,
             Step::GivesUp(at, told) => self.gives_up(at) == told,
             Step::Wants(at, generation) => match self.desks.get(at) {
@@ -359,26 +418,62 @@ fn wanted_by(desk: &DaemonDesk) -> Option<u64> {
     wanted
 }
 
-/// Opens three desks over one manifest.
-fn make_room(alloc: Global) -> Option<Room> {
-    let manifest = Manifest::read(alloc, CHECKOUT).ok()?;
+/// Puts bytes behind a text, once more where memory was refused.
+fn is_put(text: &mut Vec<u8>, bytes: &[u8]) -> bool {
+    text.extend_from_slice(bytes).is_ok() || text.extend_from_slice(bytes).is_ok()
+}
+
+/// Writes a checkout with a directory, and a file of each long name.
+fn long_checkout(alloc: Global) -> Option<Vec<u8>> {
+    let mut text = Vec::new(alloc);
+    if !is_put(&mut text, CHECKOUT) {
+        return None;
+    }
+    for letter in LETTERS {
+        let name = [*letter; NAME_LEN];
+        let is_whole = is_put(&mut text, b"file 0644 0 ")
+            && is_put(&mut text, name.as_slice())
+            && is_put(&mut text, b"\n");
+        if !is_whole {
+            return None;
+        }
+    }
+    Some(text)
+}
+
+/// Opens three desks over one manifest, with these versions.
+fn make_room(alloc: Global, checkout: &[u8], versions: &Versions) -> Option<Room> {
+    let manifest = Manifest::read(alloc, checkout).ok()?;
     let mut desks = Vec::new(alloc);
     for _desk in 0..3 {
         let shared = manifest.share().ok()?;
-        desks.push(DaemonDesk::new(alloc, shared, 8)).ok()?;
+        let desk = DaemonDesk::new(alloc, shared, 8, versions.copy());
+        desks.push(desk).ok()?;
     }
     drop(manifest);
     Some(Room {
         alloc,
         desks,
         last: None,
+        behind: None,
         lease: None,
     })
 }
 
-/// Makes all steps at three new desks, and then the endings, and returns whether each goes as it says.
-pub fn all_go_so(alloc: Global, steps: &[Step], endings: &[Step]) -> bool {
-    let Some(mut room) = make_room(alloc) else {
+/// Opens the desks, once more where memory was refused, makes all steps there, and then the endings, and returns whether
+/// each goes as it says.
+fn all_go(
+    alloc: Global,
+    checkout: &[u8],
+    versions: &Versions,
+    steps: &[Step],
+    endings: &[Step],
+) -> bool {
+    let room = match make_room(alloc, checkout, versions) {
+        None => make_room(alloc, checkout, versions),
+        room => room,
+    };
+    let Some(mut room) = room else {
         return false;
     };
     let mut so = true;
@@ -390,4 +485,23 @@ pub fn all_go_so(alloc: Global, steps: &[Step], endings: &[Step]) -> bool {
     }
     drop(room);
     so
+}
+
+/// Makes all steps at three new desks with version 1, and then the endings, and returns whether each goes as it says.
+pub fn all_go_so(alloc: Global, steps: &[Step], endings: &[Step]) -> bool {
+    all_go(alloc, CHECKOUT, &Versions::of(&[1]), steps, endings)
+}
+
+/// Does so with versions 1 and 2, over a checkout whose image has two parts once its long names were looked up.
+pub fn all_go_so_in_parts(alloc: Global, steps: &[Step], endings: &[Step]) -> bool {
+    match long_checkout(alloc) {
+        Some(checkout) => all_go(
+            alloc,
+            checkout.as_slice(),
+            &Versions::of(&[1, 2]),
+            steps,
+            endings,
+        ),
+        None => false,
+    }
 }

@@ -65,7 +65,7 @@ pub(crate) fn goes_on(alloc: Global, rounds: &[Round]) -> bool {
     }
 }
 
-/// Hands the seat on from a daemon to one that starts, whose offer is the message of this place.
+/// Hands the seat on from a daemon to one that starts, whose offer is the message of this position.
 fn is_handed_on(alloc: Global, world: &mut World, old: u64, offer: u64) -> bool {
     let new = old.wrapping_add(1);
     let after = |messages: u64| offer.wrapping_add(messages);
@@ -97,7 +97,7 @@ fn hands_on(alloc: Global, world: &mut World, times: u64) -> bool {
     true
 }
 
-/// Returns that of a new world.
+/// Calls `hands_on` on a new world.
 pub(crate) fn are_handed_on(alloc: Global, times: u64) -> bool {
     match new_world(alloc) {
         Some(world) => {
@@ -148,7 +148,7 @@ fn are_run(alloc: Global, events: &mut Vec<Event>, count: usize) -> bool {
     }
 }
 
-/// Returns that of a list that is made.
+/// Calls `are_run` with a list that has room for `count` events.
 pub(crate) fn is_run(alloc: Global, count: usize) -> bool {
     match room(alloc, count) {
         Some(events) => {

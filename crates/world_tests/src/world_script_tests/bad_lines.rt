@@ -2,7 +2,7 @@
 use super::{MANIFEST, prints};
 use std::alloc::Global;
 
-static BAD_LINES: [&[u8]; 78] = [
+static BAD_LINES: [&[u8]; 88] = [
     b"\n",
     b" \n",
     b"\r\n",
@@ -11,8 +11,18 @@ static BAD_LINES: [&[u8]; 78] = [
     b" start\n",
     b"start\r\n",
     b"Start\n",
-    b"start 1\n",
-    b"start 1 2\n",
+    b"start 1 \n",
+    b"start  1\n",
+    b"start 1  2\n",
+    b"start 1\r\n",
+    b"start 1,2\n",
+    b"start +1\n",
+    b"start -1\n",
+    b"start x\n",
+    b"start 1 65536\n",
+    b"start 18446744073709551617\n",
+    b"start 1 2 3 4 5 6 7 8 9\n",
+    b"start 1 2 3 4 5 6 7 8 \n",
     b"show \n",
     b"show 1\n",
     b"mount\n",

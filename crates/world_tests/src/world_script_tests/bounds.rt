@@ -11,8 +11,8 @@ fn add_manifest(text: &mut String, lines: u32) -> Result<(), AllocError> {
     Ok(())
 }
 
-/// Returns whether this is printed for a daemon that starts behind a manifest of `lines` lines. It is run again where
-/// an allocation may have been refused.
+/// Starts a daemon behind a manifest of `lines` lines, and returns whether this is printed. It is run again where an
+/// allocation may have been refused.
 fn starts_behind(alloc: Global, lines: u32, printed: &[u8]) -> bool {
     starts_once(alloc, lines, printed) || starts_once(alloc, lines, printed)
 }

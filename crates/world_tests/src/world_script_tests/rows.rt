@@ -3,7 +3,7 @@ use super::{MANIFEST, prints};
 use std::alloc::Global;
 
 /// The start of a script, its rest, and the printed lines.
-static ROWS: [(&[u8], &[u8], &[u8]); 40] = [
+static ROWS: [(&[u8], &[u8], &[u8]); 44] = [
     (
         MANIFEST,
         b"start\nmount 1\nshow\n",
@@ -98,7 +98,7 @@ static ROWS: [(&[u8], &[u8], &[u8]); 40] = [
         b"start\nmount 1\nissue lookup 1 README\ntake 1\nwork 1 1 fail\npost 1 1\ndeliver\ndo lookup 1 README\nissue getattr 2\ntake 1\nwork 1 1 fail\nshow\n",
         b"daemon 1\nmounted 1\nasked 1\ntook 1\nmade 1 error EIO\nposted 1\nanswer 1 error EIO\nanswer 2 entry 2 file 0644 7 1\nasked 3\ntook 3\nmade 3 attr 2 file 0644 7 1\nseat 1 1 next 3\nnumber 2 held 1 up 0 down 0 count 1 at 1 README\n",
     ),
-    // The first bad line is told, and nothing is run.
+    // The first bad line is told, and no line is run.
     (
         MANIFEST,
         b"start\nmount 1\nfoo\nbar\n",
@@ -179,7 +179,7 @@ static ROWS: [(&[u8], &[u8], &[u8]); 40] = [
         b"start\nmount 1\ndo lookup 1 src\ndo lookup 1 README\ndo lookup 1 README\ndo lookup 1 README\ndo create 1 0600 t\ndo unlink 1 t\nstart\nhear 1 2\nhear 2 3\ndrained 1\nhear 2 4\nhear 1 5\nhear 2 6\nclaim 2\ndo getattr 4\ndo forget 3 2\nshow\n",
         b"daemon 1\nmounted 1\nanswer 1 entry 2 dir 0755 0 2\nanswer 2 entry 3 file 0644 7 1\nanswer 3 entry 3 file 0644 7 1\nanswer 4 entry 3 file 0644 7 1\nanswer 5 opened 4 file 0600 0 1\nanswer 6 done\ndaemon 2\nsaid 3 choice 1 1\nheard\nsaid 4 ready 1 1\nsaid 5 pong 1\nsaid 6 data 1 1 147\nheard\nclaimed 2\nanswer 7 attr 4 file 0600 0 0\nforgot Lowered\nseat 2 2 next 5\nnumber 2 held 1 up 0 down 0 count 1 at 1 src\nnumber 3 held 1 up 0 down 0 count 1 at 1 README\nnumber 4 held 1 up 0 down 0 count 1 unlinked 6\n",
     ),
-    // A daemon is ready only once nothing is in hand, and nothing unposted.
+    // A daemon is ready only once its hand is empty and every reply is posted.
     (
         MANIFEST,
         b"start\nmount 1\ndo lookup 1 src\ndo lookup 1 README\nissue forget 3 1\nissue getattr 2\ntake 1\ntake 1\nwork 1 1\nstart\nhear 1 2\ndrained 1\npost 1 1\ndrained 1\nwork 1 1\ndrained 1\ndeliver\n",
@@ -203,11 +203,35 @@ static ROWS: [(&[u8], &[u8], &[u8]); 40] = [
         b"start\nmount 1\nstart\nstart\nhear 1 2\nhear 2 4\nhear 3 4\ndrained 1\nhear 2 5\nhear 1 6\nhear 2 7\nhear 3 7\nhear 2 7\nclaim 3\nclaim 2\ngiveup 1\nclaim 1\nshow\n",
         b"daemon 1\nmounted 1\ndaemon 2\ndaemon 3\nsaid 4 choice 1 1\nheard\nheard\nsaid 5 ready 1 1\nsaid 6 pong 1\nsaid 7 data 1 1 62\nheard\nheard\nignored\nclaimed 2\nrefused Stale 2\nsaid 8 failed 1\nrefused Stale 2\nseat 2 3 next 2\n",
     ),
-    // After a crash the old data is of no use.
+    // After a crash no daemon can claim with the old data.
     (
         MANIFEST,
         b"start\nmount 1\nstart\nhear 1 2\nhear 2 3\ndrained 1\nhear 2 4\nhear 1 5\nhear 2 6\ncrash 1\nclaim 2\nshow\nstart\nmount 3\nstart\nhear 4 3\nhear 4 6\nclaim 4\n",
         b"daemon 1\nmounted 1\ndaemon 2\nsaid 3 choice 1 1\nheard\nsaid 4 ready 1 1\nsaid 5 pong 1\nsaid 6 data 1 1 62\nheard\ncrashed\nrefused Ended\nseat none\ndaemon 3\nmounted 2\ndaemon 4\nheard\nheard\nrefused Stale 2\n",
+    ),
+    // The greatest version that both daemons have is chosen: here version 1, whose image goes in one message.
+    (
+        MANIFEST,
+        b"start 2 1\nmount 1\nstart 1\nhear 1 2\nhear 2 3\ndrained 1\nhear 2 4\nhear 1 5\nhear 2 6\nclaim 2\n",
+        b"daemon 1\nmounted 1\ndaemon 2\nsaid 3 choice 1 1\nheard\nsaid 4 ready 1 1\nsaid 5 pong 1\nsaid 6 data 1 1 62\nheard\nclaimed 2\n",
+    ),
+    // Eight versions, and zeros in front. The image of version 2 goes in parts, also where one is enough.
+    (
+        MANIFEST,
+        b"start 00001 0 65535 1 7 7 7 2\nmount 1\nstart 2 0\nhear 1 2\nhear 2 3\ndrained 1\nhear 2 4\nhear 1 5\nhear 2 6\nclaim 2\n",
+        b"daemon 1\nmounted 1\ndaemon 2\nsaid 3 choice 1 2\nheard\nsaid 4 ready 1 1\nsaid 5 pong 1\nsaid 6 parts 1 1 1 62\nheard\nclaimed 2\n",
+    ),
+    // No version is one that both have.
+    (
+        MANIFEST,
+        b"start 2\nmount 1\nstart\nhear 1 2\nhear 2 3\nclaim 2\n",
+        b"daemon 1\nmounted 1\ndaemon 2\nsaid 3 nocommon\nheard\nrefused WrongPhase\n",
+    ),
+    // A version that no image has: the old daemon serves on.
+    (
+        MANIFEST,
+        b"start 65535\nmount 1\nstart 65535\nhear 1 2\nhear 2 3\ndrained 1\nhear 2 4\nhear 1 5\nshow\n",
+        b"daemon 1\nmounted 1\ndaemon 2\nsaid 3 choice 1 65535\nheard\nsaid 4 ready 1 1\nsaid 5 pong 1\nsaid 6 failed 1\nseat 1 1 next 2\n",
     ),
 ];
 

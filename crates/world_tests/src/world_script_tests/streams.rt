@@ -53,8 +53,8 @@ fn after_text(after: AfterText, buf: &mut [u8]) -> io::Result<usize>
     }
 }
 
-/// Returns whether this comes of a reader that goes on so, after `reads` reads, with no byte written. It is run again
-/// where an allocation may have been refused.
+/// Runs a script from a reader that fails or ends as `after` says. Returns whether the result is `want` after `reads`
+/// reads, with no byte written. It is run again where an allocation may have been refused.
 fn reads_so(alloc: Global, after: AfterText, want: Result<(), Fault>, reads: usize) -> bool {
     reads_once(alloc, after, want, reads) || reads_once(alloc, after, want, reads)
 }
@@ -107,8 +107,8 @@ impl Write for Full {
 const THREE_LINES: &[u8] =
     b"commit 0123456789abcdef0123456789abcdef01234567\n--\nstart\nmount 1\nshow\n";
 
-/// Returns whether this comes of a writer that takes `room` bytes, after `writes` writes. It is run again where an
-/// allocation may have been refused.
+/// Runs a script with a writer that takes `room` bytes. Returns whether the result is `want` after `writes` writes. It
+/// is run again where an allocation may have been refused.
 fn writes_so(alloc: Global, room: usize, want: Result<(), Fault>, writes: u32) -> bool {
     writes_once(alloc, room, want, writes) || writes_once(alloc, room, want, writes)
 }

@@ -1,4 +1,4 @@
-//! What happens to a world in a test and its outcome, as data, so that a test is a table.
+//! Events of a world and their outcomes as data, so that a test is a table.
 use eden_base::Errno;
 use inode_map::Forgot;
 use world::Refusal;
@@ -8,6 +8,8 @@ use world::Refusal;
 pub enum Wish {
     LookUp(u64, &'static [u8]),
     Create(u64, &'static [u8]),
+    /// A file in the root whose name has 255 bytes, and ends with this number.
+    CreateLong(u64),
     Unlink(u64, &'static [u8]),
     Getattr(u64),
     Open(u64),
@@ -18,7 +20,10 @@ pub enum Wish {
 /// An event.
 #[derive(Clone, Copy)]
 pub enum Deed {
+    /// A daemon that has version 1 alone.
     Start,
+    /// A daemon that has these versions, of which there are at most eight.
+    StartWith(&'static [u16]),
     Mount(u64),
     Issue(Wish),
     Take(u64),
@@ -26,7 +31,7 @@ pub enum Deed {
     WorkFails(u64, u64),
     Post(u64, u64),
     Deliver,
-    /// The message of this place, which is the second.
+    /// The daemon, and the position of the message that it hears.
     Hear(u64, u64),
     Drained(u64),
     GiveUp(u64),
@@ -76,7 +81,7 @@ pub enum Fact {
     Refused(Refusal),
 }
 
-/// What an event made happen.
+/// The outcome of an event.
 #[derive(Clone, Copy)]
 pub enum Told {
     Nothing,
@@ -88,10 +93,20 @@ pub enum Told {
     All(&'static [Fact]),
 }
 
-/// What is found in a world after its events.
+/// One part of a text: its session and generation, its position, how many there are, and its length.
+#[derive(Clone, Copy)]
+pub struct Part {
+    pub session: u32,
+    pub generation: u64,
+    pub position: u32,
+    pub count: u32,
+    pub length: usize,
+}
+
+/// A fact about a world after its events.
 #[derive(Clone, Copy)]
 pub enum Found {
-    /// Daemon 1 keeps this number of `src` alone, the kernel holds it once, and that one is given next.
+    /// Daemon 1 keeps this number of `src` alone, and the kernel holds it once. The second number is given next.
     Alone(u64, u64),
     /// Who has the seat at which generation.
     Seat(u64, u64),
@@ -99,17 +114,23 @@ pub enum Found {
     NotServed(u64),
     /// A daemon has this many messages in hand, and this many replies that it did not post.
     UnderWay(u64, usize, usize),
-    /// The place of the message that is data of the seat's generation, if there is one.
+    /// The position of the message that is data of the seat's generation, if there is one.
     Handed(Option<usize>),
+    /// A daemon counts each number from 2 on once, as many as this, and the kernel holds it once.
+    EachOnce(u64, u64),
+    /// The message of a position begins a session with a version.
+    Chosen(usize, u32, u16),
+    /// The message of a position is a part.
+    Part(usize, Part),
 }
 
-/// What is said of number 2: what daemon 1 counts, what the kernel holds, how many replies that wait for the kernel
-/// give it out, and how often the items that wait for a daemon take it back.
+/// Four counts of number 2: daemon 1's, the kernel's, that of waiting replies which give it out, and that of waiting
+/// items which take it back.
 pub type Counts = [u64; 4];
 
 pub(crate) const LOOK_UP_SRC: Wish = Wish::LookUp(1, b"src");
 
-/// What a file has that was made.
+/// The attributes of a made file.
 pub(crate) const CREATED: Look = Look::File(0, 1);
 
 /// An entry of `src` under number 2.

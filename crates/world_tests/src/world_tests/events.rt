@@ -5,6 +5,7 @@ use eden_base::{DaemonId, Name, Number, Perm};
 use fuse_wire::{Batch, Item, Request};
 use manifest::Manifest;
 use std::alloc::Global;
+use takeover_core::Versions;
 use world::Event;
 
 const TEXT: &[u8] =
@@ -23,6 +24,22 @@ fn name(alloc: Global, bytes: &[u8]) -> Option<Name> {
     match Name::parse(alloc, bytes) {
         Ok(name) => Some(name),
         Err(_refused) => Name::parse(alloc, bytes).ok(),
+    }
+}
+
+/// Makes a name of 255 bytes that ends with a number.
+fn long_name_once(alloc: Global, number: u64) -> Option<Name> {
+    let text = format!(in alloc; "{number:n>255}").ok()?;
+    let name = Name::parse(alloc, text.as_bytes());
+    drop(text);
+    name.ok()
+}
+
+/// Makes that name, and once more where memory was refused.
+fn long_name(alloc: Global, number: u64) -> Option<Name> {
+    match long_name_once(alloc, number) {
+        Some(name) => Some(name),
+        None => long_name_once(alloc, number),
     }
 }
 
@@ -54,6 +71,11 @@ fn request(alloc: Global, wish: Wish) -> Option<Request> {
             name: name(alloc, bytes)?,
             perm: Perm { bits: 0o644 },
         }),
+        Wish::CreateLong(number) => Some(Request::Create {
+            dir: Number::ROOT,
+            name: long_name(alloc, number)?,
+            perm: Perm { bits: 0o644 },
+        }),
         Wish::Unlink(dir, bytes) => Some(Request::Unlink {
             dir: Number(dir),
             name: name(alloc, bytes)?,
@@ -68,10 +90,18 @@ fn request(alloc: Global, wish: Wish) -> Option<Request> {
     }
 }
 
-fn work(daemon: u64, place: u64, fails: bool) -> Event {
+/// Makes the start of a daemon with these versions, of which there are at most eight.
+pub(crate) fn start(versions: &[u16]) -> Option<Event> {
+    if versions.len() > Versions::MAX_LEN {
+        return None;
+    }
+    Some(Event::Start(Versions::of(versions)))
+}
+
+fn work(daemon: u64, position: u64, fails: bool) -> Event {
     Event::Work {
         daemon: DaemonId(daemon),
-        place,
+        position,
         fails,
     }
 }
@@ -79,20 +109,21 @@ fn work(daemon: u64, place: u64, fails: bool) -> Event {
 /// Makes the event of a deed.
 pub(crate) fn event(alloc: Global, deed: Deed) -> Option<Event> {
     match deed {
-        Deed::Start => Some(Event::Start),
+        Deed::Start => start(&[1]),
+        Deed::StartWith(versions) => start(versions),
         Deed::Mount(daemon) => Some(Event::Mount(DaemonId(daemon))),
         Deed::Issue(wish) => Some(Event::Issue(request(alloc, wish)?)),
         Deed::Take(daemon) => Some(Event::Take(DaemonId(daemon))),
-        Deed::Work(daemon, place) => Some(work(daemon, place, false)),
-        Deed::WorkFails(daemon, place) => Some(work(daemon, place, true)),
-        Deed::Post(daemon, place) => Some(Event::Post {
+        Deed::Work(daemon, position) => Some(work(daemon, position, false)),
+        Deed::WorkFails(daemon, position) => Some(work(daemon, position, true)),
+        Deed::Post(daemon, position) => Some(Event::Post {
             daemon: DaemonId(daemon),
-            place,
+            position,
         }),
         Deed::Deliver => Some(Event::Deliver),
-        Deed::Hear(daemon, place) => Some(Event::Hear {
+        Deed::Hear(daemon, position) => Some(Event::Hear {
             daemon: DaemonId(daemon),
-            place,
+            position,
         }),
         Deed::Drained(daemon) => Some(Event::Drained(DaemonId(daemon))),
         Deed::GiveUp(daemon) => Some(Event::GiveUp(DaemonId(daemon))),

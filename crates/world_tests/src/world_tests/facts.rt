@@ -1,10 +1,11 @@
-//! What a world tells and has, beside what a test says of it.
-use super::deeds::{Counts, Fact, Found, Look, Said, Told};
+//! Comparison of a world's outcomes and state with those that a test expects.
+use super::deeds::{Counts, Fact, Found, Look, Part, Said, Told};
 use super::events::item;
 use broker_core::Seat;
 use eden_base::{Attr, DaemonId, Kind, Number, Perm, Place};
 use fuse_wire::{Answer, Reply};
 use inode_map::{Forgot, InodeMap};
+use takeover_core::Message;
 use world::{Happened, Outcome, World};
 
 fn attr(look: Look) -> Attr {
@@ -59,7 +60,7 @@ pub(crate) fn happened(fact: Fact) -> Happened {
         },
         Fact::Posted(unique) => Happened::Posted(unique),
         Fact::Delivered(unique, said) => Happened::Answered(reply(unique, said)),
-        Fact::Said(place) => Happened::Said(place),
+        Fact::Said(position) => Happened::Said(position),
         Fact::Heard => Happened::Heard,
         Fact::Ignored => Happened::Ignored,
         Fact::Claimed(generation) => Happened::Claimed(generation),
@@ -137,7 +138,57 @@ fn keeps_alone(world: &World, number: Number, next: u64) -> bool {
     keeps_src_alone(served.map(), number, next) && world.broker().held(number) == 1
 }
 
-/// Returns whether this is found in a world.
+/// Returns whether a daemon counts each number from 2 on once, as many as this, and the kernel holds it once.
+fn counts_each_once(world: &World, daemon: DaemonId, numbers: u64) -> bool {
+    let Some(served) = world.served(daemon) else {
+        return false;
+    };
+    let broker = world.broker();
+    let mut last = Number::ROOT;
+    for _ in 0..numbers {
+        let next = Number(last.0.saturating_add(1));
+        if served.map().count(next) != 1 || broker.held(next) != 1 {
+            return false;
+        }
+        last = next;
+    }
+    served.map().after(last).is_none()
+}
+
+/// Returns the message of a position.
+fn message(world: &World, position: usize) -> Option<&Message> {
+    world.messages().get(position.checked_sub(1)?)
+}
+
+/// Returns whether a message is this part.
+fn is_part(message: Option<&Message>, part: Part) -> bool {
+    match message {
+        Some(
+            Message::Part {
+                session,
+                generation,
+                position,
+                count,
+                bytes,
+            },
+        ) => {
+            (*session, *generation) == (part.session, part.generation)
+                && (*position, *count) == (part.position, part.count)
+                && bytes.as_slice().len() == part.length
+        }
+        _other => false,
+    }
+}
+
+/// Returns whether a message begins this session with this version.
+fn is_choice(message: Option<&Message>, begun: u32, chosen: u16) -> bool {
+    match message {
+        Some(Message::Choice { session, version }) => *session == begun && *version == chosen,
+        _other => false,
+    }
+}
+
+/// Returns whether a fact holds of a world.
 fn is_found(world: &World, found: Found) -> bool {
     match found {
         Found::Alone(number, next) => keeps_alone(world, Number(number), next),
@@ -150,11 +201,16 @@ fn is_found(world: &World, found: Found) -> bool {
             let daemon = DaemonId(daemon);
             world.hand(daemon).len() == hand && world.unposted(daemon).len() == unposted
         }
-        Found::Handed(place) => world.handed() == place,
+        Found::Handed(position) => world.handed() == position,
+        Found::EachOnce(daemon, numbers) => counts_each_once(world, DaemonId(daemon), numbers),
+        Found::Chosen(position, session, version) => {
+            is_choice(message(world, position), session, version)
+        }
+        Found::Part(position, part) => is_part(message(world, position), part),
     }
 }
 
-/// Returns whether each of these is found in a world.
+/// Returns whether each of these facts holds of a world.
 pub(crate) fn is_each_found(world: &World, found: &[Found]) -> bool {
     for one in found {
         if !is_found(world, *one) {

@@ -4,12 +4,13 @@ use super::events::{event, is_put, manifest, room};
 use eden_base::{DaemonId, NoMemory, Number};
 use manifest::Manifest;
 use std::alloc::Global;
+use takeover_core::Versions;
 use world::{Event, World};
 
 /// Two asks of five events, and a forget of three.
 const LONG: usize = 13;
 
-/// The choices of each event: an ask, a forget, a take, a work of three places, a post of two, a delivery.
+/// The choices of each event: an ask, a forget, a take, a work of three positions, a post of two, a delivery.
 const CHOICES: usize = 9;
 
 /// Which choice was made at each event, and whether a later one could have been.
@@ -51,7 +52,8 @@ fn times(order: &Order, at: usize, choice: usize) -> usize {
         .count()
 }
 
-/// Returns whether a choice is open: the kernel asks twice and forgets once, and all else needs something to hand on.
+/// Returns whether a choice is open. The kernel asks twice and forgets once, and each other choice needs a message to
+/// pass on.
 fn is_open(world: &World, order: &Order, at: usize, choice: usize) -> bool {
     let daemon = DaemonId(1);
     match choice {
@@ -105,7 +107,7 @@ fn turn(order: &mut Order) -> bool {
     false
 }
 
-/// Returns whether nothing is under way, and the kernel holds what daemon 1 counts, twice in all.
+/// Returns whether all queues are empty, and the kernel holds what daemon 1 counts, twice in all.
 fn is_even(world: &World) -> bool {
     let daemon = DaemonId(1);
     let Some(served) = world.served(daemon) else {
@@ -125,7 +127,7 @@ fn is_even(world: &World) -> bool {
 
 /// Goes by an order where daemon 1 serves, and the kernel holds number 2 once, and returns whether it ends evenly.
 fn goes_evenly(world: &mut World, first: &Event, choices: &[Event], order: &mut Order) -> bool {
-    drop(world.step(&Event::Start));
+    drop(world.step(&Event::Start(Versions::of(&[1]))));
     drop(world.step(&Event::Mount(DaemonId(1))));
     drop(world.step(first));
     for at in 0..LONG {
@@ -136,7 +138,7 @@ fn goes_evenly(world: &mut World, first: &Event, choices: &[Event], order: &mut 
     is_even(world)
 }
 
-/// Returns that of a new world.
+/// Calls `goes_evenly` on a new world.
 fn ends_evenly(
     alloc: Global,
     manifest: &Manifest,
@@ -172,7 +174,7 @@ fn even_orders(alloc: Global, manifest: &Manifest, first: &Event, choices: &[Eve
     0
 }
 
-/// Returns that of a manifest, with room for the choices.
+/// Calls `even_orders` with the events of all choices.
 fn even_orders_in(alloc: Global, manifest: &Manifest, events: &mut Vec<Event>) -> u64 {
     if !are_put(alloc, events, &CHOICE) {
         return 0;
@@ -187,7 +189,7 @@ fn even_orders_in(alloc: Global, manifest: &Manifest, events: &mut Vec<Event>) -
     }
 }
 
-/// Makes that room.
+/// Calls `even_orders_in` with room for the choices.
 fn even_orders_of_manifest(alloc: Global, manifest: &Manifest) -> Option<u64> {
     let mut events = room(alloc, CHOICES)?;
     let orders = even_orders_in(alloc, manifest, &mut events);
@@ -195,7 +197,7 @@ fn even_orders_of_manifest(alloc: Global, manifest: &Manifest) -> Option<u64> {
     Some(orders)
 }
 
-/// Returns that of the test's manifest.
+/// Calls `even_orders_of_manifest` with the test's manifest.
 fn even_orders_of_all(alloc: Global) -> Option<u64> {
     let manifest = manifest(alloc)?;
     let orders = even_orders_of_manifest(alloc, &manifest);

@@ -5,6 +5,7 @@ use super::facts::{counts, happened};
 use super::runs::new_world;
 use eden_base::DaemonId;
 use std::alloc::Global;
+use takeover_core::Versions;
 use world::{Event, Happened, Outcome, Refusal, World};
 
 /// Returns what an event told last.
@@ -63,7 +64,7 @@ fn tells_last(alloc: Global, world: &mut World, deeds: &[(Deed, Option<Fact>)]) 
     is_even(world)
 }
 
-/// Returns that of a new world.
+/// Calls `tells_last` on a new world.
 fn tells_last_from_nothing(alloc: Global, deeds: &[(Deed, Option<Fact>)]) -> bool {
     match new_world(alloc) {
         Some(world) => {
@@ -107,11 +108,31 @@ static TAKEN_OVER: [(Deed, Option<Fact>); 11] = [
     (Deed::Claim(2), Some(Fact::Claimed(2))),
 ];
 
-/// Passes also where one allocation is refused: a message that was not heard, data that was not made and data that was
-/// not raised for want of room change nothing, and come again.
+/// The same by daemons of version 2, whose image goes as its only part.
+static TAKEN_IN_PARTS: [(Deed, Option<Fact>); 11] = [
+    (Deed::StartWith(&[2]), None),
+    (Deed::Mount(1), Some(Fact::Mounted(1))),
+    (Deed::StartWith(&[2]), Some(Fact::Started(2))),
+    (Deed::Hear(1, 2), Some(Fact::Said(3))),
+    (Deed::Hear(2, 3), Some(Fact::Heard)),
+    (Deed::Drained(1), Some(Fact::Said(4))),
+    (Deed::Hear(2, 4), Some(Fact::Said(5))),
+    (Deed::Hear(1, 5), Some(Fact::Said(6))),
+    (Deed::Hear(2, 6), Some(Fact::Heard)),
+    (Deed::GiveUp(1), Some(Fact::Said(7))),
+    (Deed::Claim(2), Some(Fact::Claimed(2))),
+];
+
+/// Passes also where one allocation is refused: out of memory a message that is not heard, and data that is not made or
+/// restored, change nothing and come again.
 #[test]
 fn takes_over_after_memory_was_refused(rt: HostRuntime) {
     assert!(rt; tells_last_from_nothing(rt.alloc(), &TAKEN_OVER));
+}
+
+#[test]
+fn takes_over_in_parts_after_memory_was_refused(rt: HostRuntime) {
+    assert!(rt; tells_last_from_nothing(rt.alloc(), &TAKEN_IN_PARTS));
 }
 
 /// Returns what a `do` told last, or, where memory ran out, what was told last then: when its reply, which waited, was
@@ -127,9 +148,9 @@ fn finished(world: &mut World, event: &Event) -> Option<Happened> {
     told_by(world, event)
 }
 
-/// Returns whether the kernel is answered by a `do`, with nothing left under way, where daemon 1 mounts.
+/// Mounts daemon 1, and returns whether a `do` answers the kernel and leaves all queues empty.
 fn finishes(world: &mut World, ask: &Event) -> bool {
-    let _started = last_told(world, &Event::Start);
+    let _started = last_told(world, &Event::Start(Versions::of(&[1])));
     let mounted = last_told(world, &Event::Mount(DaemonId(1)));
     let told = finished(world, ask);
     let is_answered = matches!(told, Some(Happened::Answered(_)));
@@ -137,7 +158,7 @@ fn finishes(world: &mut World, ask: &Event) -> bool {
     mounted == Some(Happened::Mounted(1)) && is_answered && is_idle && is_even(world)
 }
 
-/// Returns that of a new world.
+/// Calls `finishes` on a new world.
 fn finishes_in_new(alloc: Global, ask: &Event) -> bool {
     match new_world(alloc) {
         Some(world) => {

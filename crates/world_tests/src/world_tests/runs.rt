@@ -8,7 +8,7 @@ use std::alloc::Global;
 use world::{Event, Outcome, World, run};
 
 /// Returns whether each event had its outcome.
-fn are_told(outcomes: &[Outcome], deeds: &[(Deed, Told)]) -> bool {
+pub(crate) fn are_told(outcomes: &[Outcome], deeds: &[(Deed, Told)]) -> bool {
     if outcomes.len() != deeds.len() {
         return false;
     }
@@ -68,7 +68,7 @@ fn is_found_after(
     }
 }
 
-/// Returns that of the events of deeds.
+/// Makes the events of deeds, and calls `is_found_after` with them.
 fn goes_with(
     alloc: Global,
     events: &mut Vec<Event>,
@@ -147,7 +147,7 @@ fn each_counts(alloc: Global, world: &mut World, deeds: &[(Deed, Told, Counts)])
     true
 }
 
-/// Returns that of a new world.
+/// Calls `each_counts` on a new world.
 pub(crate) fn all_count(alloc: Global, deeds: &[(Deed, Told, Counts)]) -> bool {
     match new_world(alloc) {
         Some(world) => {

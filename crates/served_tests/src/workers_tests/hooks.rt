@@ -1,11 +1,11 @@
-//! A gate that lets two asks pass in one order alone.
+//! A hook that lets two asks pass in one order alone.
 use std::rt::Clock;
 use std::sync::atomic::{AtomicBool, Ordering};
 use std::thread;
 use std::time::Duration;
-use workers::Gate;
+use workers::Hook;
 
-/// How often a gate looks, a millisecond apart.
+/// How often a hook looks, a millisecond apart.
 const LOOKS: u32 = 10_000;
 
 /// Holds the asks of unique 1 and 2 each until the other came, and 1 then until the reply to 2 was posted.
@@ -19,8 +19,7 @@ pub struct SecondFirst<'a, R: Clock> {
 }
 
 impl<'a, R: Clock> SecondFirst<'a, R> {
-    /// Makes a gate at which no ask came yet.
-    /// Makes a gate at which no ask came yet.
+    /// Makes a hook at which no ask came yet.
     pub fn new(clock: &'a R) -> SecondFirst<'a, R> {
         SecondFirst {
             clock,
@@ -31,7 +30,7 @@ impl<'a, R: Clock> SecondFirst<'a, R> {
         }
     }
 
-    /// Waits until something is so.
+    /// Waits until a flag is set.
     fn wait_for(&self, so: &AtomicBool) {
         for _look in 0..LOOKS {
             if so.load(Ordering::SeqCst) {
@@ -43,7 +42,7 @@ impl<'a, R: Clock> SecondFirst<'a, R> {
     }
 }
 
-impl<'a, R: Clock> Gate for SecondFirst<'a, R> {
+impl<'a, R: Clock> Hook for SecondFirst<'a, R> {
     fn before(&self, unique: u64) {
         if unique == 1 {
             self.first_came.store(true, Ordering::SeqCst);

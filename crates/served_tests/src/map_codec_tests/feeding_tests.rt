@@ -1,0 +1,233 @@
+//! Images fed in pieces: every cut gives the image, or the fault, that the whole gives.
+ghost use Rattle.std.specs.Prelude.{IfOk};
+ghost use Rattle.map_image.specs.Fit.{IsFit};
+
+use super::images::{all, fault_of, has_text};
+use super::vectors::{CHANGED, LOOKED_UP, MOVED, changed_with};
+use eden_base::NoMemory;
+use map_image::{Image, ImageFault, ImageReader};
+use std::alloc::{AllocError, Global};
+
+/// Returns a reader that took nothing, made once more where memory was refused.
+fn reader_of(alloc: Global) -> Result<ImageReader, ImageFault> {
+    match ImageReader::new(alloc) {
+        Ok(reader) => Ok(reader),
+        Err(NoMemory) => match ImageReader::new(alloc) {
+            Ok(reader) => Ok(reader),
+            Err(NoMemory) => Err(ImageFault::NoMemory),
+        },
+    }
+}
+
+/// Feeds a piece, and once more where memory was refused.
+fn feed(reader: &mut ImageReader, piece: &[u8]) -> Result<(), ImageFault> {
+    match reader.feed(piece) {
+        Ok(()) => Ok(()),
+        Err(ImageFault::NoMemory) => reader.feed(piece),
+        Err(fault) => Err(fault),
+    }
+}
+
+/// Copies a reader, and once more where memory was refused.
+fn copy_of(reader: &ImageReader) -> Result<ImageReader, NoMemory> {
+    match reader.copy() {
+        Ok(copy) => Ok(copy),
+        Err(NoMemory) => reader.copy(),
+    }
+}
+
+/// Feeds a piece and ends. Returns the image.
+fn ended(reader: ImageReader, piece: &[u8]) -> Result<Image, ImageFault>
+    ensures fit { IfOk result IsFit }
+{
+    let mut reader = reader;
+    feed(&mut reader, piece)?;
+    reader.finish()
+}
+
+/// Returns the image of bytes in two pieces, the first of this length.
+fn image_of_two(alloc: Global, bytes: &[u8], len: usize) -> Result<Image, ImageFault>
+    ensures fit { IfOk result IsFit }
+{
+    let (first, second) = bytes
+        .split_at_checked(len)
+        .unwrap_or((bytes, b"".as_slice()));
+    let mut reader = reader_of(alloc)?;
+    feed(&mut reader, first)?;
+    ended(reader, second)
+}
+
+/// Returns the image of bytes that come one by one.
+fn image_of_each(alloc: Global, bytes: &[u8]) -> Result<Image, ImageFault>
+    ensures fit { IfOk result IsFit }
+{
+    let mut reader = reader_of(alloc)?;
+    for byte in bytes {
+        feed(&mut reader, &[*byte])?;
+    }
+    reader.finish()
+}
+
+/// Returns whether there is an image, spelled so.
+fn is_spelled(alloc: Global, image: Result<Image, ImageFault>, bytes: &[u8]) -> bool
+    requires fit { IfOk image IsFit }
+{
+    match image {
+        Ok(image) => {
+            let so = has_text(alloc, &image, bytes);
+            drop(image);
+            so
+        }
+        Err(_) => false,
+    }
+}
+
+/// Returns the fault, if there is one.
+fn told(image: Result<Image, ImageFault>) -> Option<ImageFault> {
+    match image {
+        Ok(image) => {
+            drop(image);
+            None
+        }
+        Err(fault) => Some(fault),
+    }
+}
+
+/// Returns whether an image is read in every cut into two pieces.
+fn is_read_in_each_cut(alloc: Global, bytes: &[u8]) -> bool {
+    for len in 0..bytes.len() + 1 {
+        if !is_spelled(alloc, image_of_two(alloc, bytes, len), bytes) {
+            return false;
+        }
+    }
+    true
+}
+
+/// Returns whether it is read byte by byte.
+fn is_read_in_bytes(alloc: Global, bytes: &[u8]) -> bool {
+    is_spelled(alloc, image_of_each(alloc, bytes), bytes)
+}
+
+#[test]
+fn reads_an_image_in_every_cut(rt: HostRuntime) {
+    assert!(rt; is_read_in_each_cut(rt.alloc(), &LOOKED_UP));
+    assert!(rt; is_read_in_each_cut(rt.alloc(), &CHANGED));
+    assert!(rt; is_read_in_each_cut(rt.alloc(), &MOVED));
+}
+
+#[test]
+fn reads_an_image_byte_by_byte(rt: HostRuntime) {
+    assert!(rt; is_read_in_bytes(rt.alloc(), &LOOKED_UP));
+    assert!(rt; is_read_in_bytes(rt.alloc(), &CHANGED));
+    assert!(rt; is_read_in_bytes(rt.alloc(), &MOVED));
+}
+
+/// Returns whether bytes have the same fault in every cut, and byte by byte, as the whole has.
+fn is_refused_in_each_cut(alloc: Global, bytes: &[u8]) -> bool {
+    let fault = fault_of(alloc, bytes);
+    for len in 0..bytes.len() + 1 {
+        if told(image_of_two(alloc, bytes, len)) != fault {
+            return false;
+        }
+    }
+    told(image_of_each(alloc, bytes)) == fault
+}
+
+/// A byte of the magic, the version, the second entry's number, the first one's mark, name and count, the made file's
+/// mark and permissions, and the counts of the three lists.
+static CHANGES: [(usize, u8); 11] = [
+    (3, 0x46),
+    (5, 9),
+    (86, 2),
+    (62, 2),
+    (77, 0x2f),
+    (66, 0),
+    (140, 2),
+    (141, 0x10),
+    (53, 4),
+    (131, 2),
+    (146, 1),
+];
+
+/// Returns that of the image with one byte set.
+fn are_refused_in_each_cut(alloc: Global, changes: &[(usize, u8)]) -> bool {
+    for (at, byte) in changes {
+        if !is_refused_in_each_cut(alloc, changed_with(*at, *byte).as_slice()) {
+            return false;
+        }
+    }
+    true
+}
+
+/// Returns that of the image with a byte behind it.
+fn is_more_refused_in_each_cut(alloc: Global) -> bool {
+    match all(alloc, &[CHANGED.as_slice(), b"\0".as_slice()]) {
+        Ok(bytes) => is_refused_in_each_cut(alloc, bytes.as_slice()),
+        Err(AllocError) => false,
+    }
+}
+
+#[test]
+fn tells_the_same_fault_in_every_cut(rt: HostRuntime) {
+    assert!(rt; are_refused_in_each_cut(rt.alloc(), &CHANGES));
+    assert!(rt; is_more_refused_in_each_cut(rt.alloc()));
+}
+
+/// Returns what is told of two pieces and of an end.
+fn told_of(alloc: Global, first: &[u8], second: &[u8]) -> [Option<ImageFault>; 3] {
+    let Ok(mut reader) = reader_of(alloc) else {
+        return [Some(ImageFault::NoMemory); 3];
+    };
+    let one = feed(&mut reader, first).err();
+    let two = feed(&mut reader, second).err();
+    [one, two, told(reader.finish())]
+}
+
+/// Returns whether a fault is told as soon as its field is whole, and then at each call.
+fn stands(alloc: Global) -> bool {
+    let wrong = changed_with(5, 9);
+    let (front, rest) = wrong.split_at(5);
+    let (version, _) = rest.split_at(1);
+    let bad = Some(ImageFault::BadVersion);
+    told_of(alloc, front, b"") == [None, None, Some(ImageFault::Short)]
+        && told_of(alloc, front, version) == [None, bad, bad]
+        && told_of(alloc, &wrong, &CHANGED) == [bad, bad, bad]
+}
+
+#[test]
+fn tells_a_fault_again(rt: HostRuntime) {
+    assert!(rt; stands(rt.alloc()));
+}
+
+/// Returns whether a reader and its copy, made behind this many bytes, both read the rest.
+fn are_alike_behind(alloc: Global, bytes: &[u8], len: usize) -> bool {
+    let (first, second) = bytes
+        .split_at_checked(len)
+        .unwrap_or((bytes, b"".as_slice()));
+    let Ok(mut reader) = reader_of(alloc) else {
+        return false;
+    };
+    let fed = feed(&mut reader, first);
+    let Ok(copy) = copy_of(&reader) else {
+        return false;
+    };
+    fed.is_ok()
+        && is_spelled(alloc, ended(copy, second), bytes)
+        && is_spelled(alloc, ended(reader, second), bytes)
+}
+
+/// Returns that of each length.
+fn are_copies_alike(alloc: Global, bytes: &[u8]) -> bool {
+    for len in 0..bytes.len() + 1 {
+        if !are_alike_behind(alloc, bytes, len) {
+            return false;
+        }
+    }
+    true
+}
+
+#[test]
+fn a_copy_reads_on(rt: HostRuntime) {
+    assert!(rt; are_copies_alike(rt.alloc(), &CHANGED));
+    assert!(rt; are_copies_alike(rt.alloc(), &MOVED));
+}

@@ -1,0 +1,51 @@
+//! Texts of many lengths that are cut into parts.
+ghost use Rattle.std.specs.Prelude.{◌≤◌, length};
+
+use eden_base::NoMemory;
+use map_image::cut;
+use std::alloc::{AllocError, Global};
+
+/// The least length, the one that is reached no more, and the step from one to the next.
+pub type Lengths = (usize, usize, usize);
+
+/// Returns whether a text is cut into as many parts as hold it.
+fn is_cut(alloc: Global, text: &[u8]) -> bool {
+    if text.is_empty() {
+        return false;
+    }
+    match cut(alloc, text) {
+        Ok(parts) => parts.len() == text.len().div_ceil(4_096),
+        Err(NoMemory) => false,
+    }
+}
+
+/// Returns the first of these lengths at which a text is not cut.
+fn first_uncut(alloc: Global, zeros: &[u8], lengths: Lengths) -> Option<usize> {
+    for len in (lengths.0..lengths.1).step_by(lengths.2.max(1)) {
+        let (text, _) = zeros.split_at(len.min(zeros.len()));
+        if !is_cut(alloc, text) {
+            return Some(len);
+        }
+    }
+    None
+}
+
+/// Returns that of each of these lengths.
+fn first_uncut_of(alloc: Global, zeros: &[u8], all: &[Lengths]) -> Option<usize> {
+    for lengths in all {
+        let uncut = first_uncut(alloc, zeros, *lengths);
+        if uncut.is_some() {
+            return uncut;
+        }
+    }
+    None
+}
+
+/// Returns that where the text is all zeros, or 0 where there is none so long.
+pub(crate) fn first_uncut_in(alloc: Global, all: &[Lengths]) -> Option<usize> {
+    let zeros = vec![in alloc; 0u8; 410_000];
+    match zeros {
+        Ok(zeros) => first_uncut_of(alloc, zeros.as_slice(), all),
+        Err(AllocError) => Some(0),
+    }
+}

@@ -1,0 +1,450 @@
+//! An image that goes over in parts: of 200 files that were looked up once each it has 5,262 bytes.
+use super::deeds::{CREATED, Deed, Fact, Found, Look, Part, Said, Told, Wish};
+use super::events::{are_put, is_put, room};
+use super::facts::{is_each_found, is_told};
+use super::runs::are_told;
+use eden_base::{Name, NoMemory, Number};
+use fuse_wire::Request;
+use manifest::Manifest;
+use std::alloc::{AllocError, Global};
+use world::{Event, Outcome, Refusal, run};
+
+/// How many files the manifest has.
+const FILES: u64 = 200;
+
+/// The versions of all daemons here.
+const BOTH: &[u16] = &[1, 2];
+
+/// A daemon of these versions mounts.
+const BEGIN: [Deed; 2] = [Deed::StartWith(BOTH), Deed::Mount(1)];
+
+/// Writes the manifest.
+fn add_files(text: &mut String) -> Result<(), AllocError> {
+    text.push_str("commit 0123456789abcdef0123456789abcdef01234567\n")?;
+    for file in 0..FILES {
+        writeln!(text, "file 0644 0 f{file:03}")?;
+    }
+    Ok(())
+}
+
+/// Reads the manifest.
+fn manifest(alloc: Global) -> Option<Manifest> {
+    let mut text = String::new(alloc);
+    let written = add_files(&mut text);
+    let manifest = Manifest::read(alloc, text.as_bytes());
+    drop(text);
+    written.ok()?;
+    manifest.ok()
+}
+
+/// Makes a lookup of a file.
+fn lookup(alloc: Global, file: u64) -> Option<Event> {
+    let text = format!(in alloc; "f{file:03}").ok()?;
+    let name = Name::parse(alloc, text.as_bytes());
+    drop(text);
+    Some(Event::Do(Request::Lookup {
+        dir: Number::ROOT,
+        name: name.ok()?,
+    }))
+}
+
+/// Puts a lookup behind the other events.
+fn put_lookup(alloc: Global, events: &mut Vec<Event>, file: u64) -> Option<()> {
+    let lookup = lookup(alloc, file)?;
+    events.push(lookup).ok()
+}
+
+/// Puts the lookups behind a mount, and returns whether all were made.
+fn are_begun(alloc: Global, events: &mut Vec<Event>) -> bool {
+    for deed in BEGIN {
+        if !is_put(alloc, events, deed) {
+            return false;
+        }
+    }
+    for file in 0..FILES {
+        if put_lookup(alloc, events, file).is_none() {
+            return false;
+        }
+    }
+    true
+}
+
+/// Returns whether each file was looked up.
+fn are_looked_up(outcomes: &[Outcome]) -> bool {
+    let mut unique = 1;
+    for outcome in outcomes {
+        let entry = Said::Entry(unique + 1, Look::File(0, 1));
+        if !is_told(outcome, Told::Answered(unique, entry)) {
+            return false;
+        }
+        unique += 1;
+    }
+    true
+}
+
+/// Returns whether these are the outcomes of a mount, of the lookups, and of deeds.
+fn all_are_told(outcomes: &[Outcome], deeds: &[(Deed, Told)]) -> bool {
+    let begun = BEGIN.len() + FILES as usize;
+    if outcomes.len() < begun {
+        return false;
+    }
+    let (begun, rest) = outcomes.split_at(begun);
+    are_looked_up(&begun[BEGIN.len()..]) && are_told(rest, deeds)
+}
+
+/// Runs events, and returns whether deeds have their outcomes, and these are found in the world after them.
+fn goes_once(
+    alloc: Global,
+    manifest: &Manifest,
+    events: &[Event],
+    deeds: &[(Deed, Told)],
+    found: &[Found],
+) -> bool {
+    match run(alloc, manifest, 1024, events) {
+        Ok((world, outcomes)) => {
+            let goes = all_are_told(outcomes.as_slice(), deeds) && is_each_found(&world, found);
+            drop(world);
+            drop(outcomes);
+            goes
+        }
+        Err(NoMemory) => false,
+    }
+}
+
+/// Returns that of the events of deeds, behind the mount and the lookups.
+fn goes_with(
+    alloc: Global,
+    events: &mut Vec<Event>,
+    deeds: &[(Deed, Told)],
+    found: &[Found],
+) -> bool {
+    if !are_begun(alloc, events) || !are_put(alloc, events, deeds) {
+        return false;
+    }
+    match manifest(alloc) {
+        Some(manifest) => {
+            let goes = goes_once(alloc, &manifest, events.as_slice(), deeds, found);
+            drop(manifest);
+            goes
+        }
+        None => false,
+    }
+}
+
+/// Returns that of a list that is made.
+fn goes(alloc: Global, deeds: &[(Deed, Told)], found: &[Found]) -> bool {
+    match room(alloc, 300) {
+        Some(events) => {
+            let mut events = events;
+            let goes = goes_with(alloc, &mut events, deeds, found);
+            drop(events);
+            goes
+        }
+        None => false,
+    }
+}
+
+/// Returns whether deeds go so in the first run or, as where memory was refused, in the second.
+fn all_go_so(alloc: Global, deeds: &[(Deed, Told)], found: &[Found]) -> bool {
+    goes(alloc, deeds, found) || goes(alloc, deeds, found)
+}
+
+/// Both parts are heard in order, and each once more. Nothing comes of one that is not the next.
+static HANDED_ON: [(Deed, Told); 13] = [
+    (Deed::StartWith(BOTH), Told::One(Fact::Started(2))),
+    (Deed::Hear(1, 2), Told::One(Fact::Said(3))),
+    (Deed::Hear(2, 3), Told::One(Fact::Heard)),
+    (Deed::Drained(1), Told::One(Fact::Said(4))),
+    (Deed::Hear(2, 4), Told::One(Fact::Said(5))),
+    (Deed::Hear(1, 5), Told::One(Fact::Said(6))),
+    (Deed::Hear(2, 7), Told::One(Fact::Ignored)),
+    (Deed::Hear(2, 6), Told::One(Fact::Heard)),
+    (Deed::Hear(2, 6), Told::One(Fact::Ignored)),
+    (Deed::Hear(2, 7), Told::One(Fact::Heard)),
+    (Deed::Hear(2, 6), Told::One(Fact::Ignored)),
+    (Deed::Hear(2, 7), Told::One(Fact::Ignored)),
+    (Deed::Claim(2), Told::One(Fact::Claimed(2))),
+];
+
+/// The first of two parts of session 1.
+const FIRST: Part = Part {
+    session: 1,
+    generation: 1,
+    position: 1,
+    count: 2,
+    length: 4_096,
+};
+
+const SECOND: Part = Part {
+    position: 2,
+    length: 1_166,
+    ..FIRST
+};
+
+#[test]
+fn hands_200_numbers_on_in_two_parts(rt: HostRuntime) {
+    let alloc = rt.alloc();
+    let said = [
+        Found::Chosen(3, 1, 2),
+        Found::Part(6, FIRST),
+        Found::Part(7, SECOND),
+        Found::Handed(Some(6)),
+        Found::EachOnce(1, 200),
+    ];
+    assert!(rt; all_go_so(alloc, &HANDED_ON[..6], &said));
+    let handed = [
+        Found::Seat(2, 2),
+        Found::Handed(None),
+        Found::EachOnce(2, 200),
+    ];
+    assert!(rt; all_go_so(alloc, &HANDED_ON, &handed));
+}
+
+/// The last part is lost. The old daemon says that it gave up, the new one hears of it, and the seat goes back.
+static LOST: [(Deed, Told); 13] = [
+    (Deed::StartWith(BOTH), Told::One(Fact::Started(2))),
+    (Deed::Hear(1, 2), Told::One(Fact::Said(3))),
+    (Deed::Hear(2, 3), Told::One(Fact::Heard)),
+    (Deed::Drained(1), Told::One(Fact::Said(4))),
+    (Deed::Hear(2, 4), Told::One(Fact::Said(5))),
+    (Deed::Hear(1, 5), Told::One(Fact::Said(6))),
+    (Deed::Hear(2, 6), Told::One(Fact::Heard)),
+    (
+        Deed::Claim(2),
+        Told::One(Fact::Refused(Refusal::WrongPhase)),
+    ),
+    (Deed::GiveUp(1), Told::One(Fact::Said(8))),
+    (Deed::Hear(2, 8), Told::One(Fact::Heard)),
+    (Deed::Hear(2, 7), Told::One(Fact::Ignored)),
+    (
+        Deed::Claim(2),
+        Told::One(Fact::Refused(Refusal::WrongPhase)),
+    ),
+    (Deed::Claim(1), Told::One(Fact::Claimed(2))),
+];
+
+#[test]
+fn goes_back_where_a_part_is_lost(rt: HostRuntime) {
+    let found = [
+        Found::Seat(1, 2),
+        Found::NotServed(2),
+        Found::EachOnce(1, 200),
+    ];
+    assert!(rt; all_go_so(rt.alloc(), &LOST, &found));
+}
+
+/// The new daemon gives up between two parts, and the old one is still asked for nothing.
+static GIVEN_UP: [(Deed, Told); 11] = [
+    (Deed::StartWith(BOTH), Told::One(Fact::Started(2))),
+    (Deed::Hear(1, 2), Told::One(Fact::Said(3))),
+    (Deed::Hear(2, 3), Told::One(Fact::Heard)),
+    (Deed::Drained(1), Told::One(Fact::Said(4))),
+    (Deed::Hear(2, 4), Told::One(Fact::Said(5))),
+    (Deed::Hear(1, 5), Told::One(Fact::Said(6))),
+    (Deed::Hear(2, 6), Told::One(Fact::Heard)),
+    (Deed::GiveUp(2), Told::One(Fact::Heard)),
+    (Deed::Hear(2, 7), Told::One(Fact::Ignored)),
+    (Deed::GiveUp(1), Told::One(Fact::Said(8))),
+    (Deed::Claim(1), Told::One(Fact::Claimed(2))),
+];
+
+#[test]
+fn goes_back_where_the_new_daemon_gives_up(rt: HostRuntime) {
+    let found = [Found::Seat(1, 2), Found::EachOnce(1, 200)];
+    assert!(rt; all_go_so(rt.alloc(), &GIVEN_UP, &found));
+}
+
+/// Six files of long names more make three parts, which are heard in order alone.
+static OUT_OF_ORDER: [(Deed, Told); 23] = [
+    (
+        Deed::Do(Wish::CreateLong(1)),
+        Told::Answered(201, Said::Opened(202, CREATED)),
+    ),
+    (
+        Deed::Do(Wish::CreateLong(2)),
+        Told::Answered(202, Said::Opened(203, CREATED)),
+    ),
+    (
+        Deed::Do(Wish::CreateLong(3)),
+        Told::Answered(203, Said::Opened(204, CREATED)),
+    ),
+    (
+        Deed::Do(Wish::CreateLong(4)),
+        Told::Answered(204, Said::Opened(205, CREATED)),
+    ),
+    (
+        Deed::Do(Wish::CreateLong(5)),
+        Told::Answered(205, Said::Opened(206, CREATED)),
+    ),
+    (
+        Deed::Do(Wish::CreateLong(6)),
+        Told::Answered(206, Said::Opened(207, CREATED)),
+    ),
+    (Deed::StartWith(BOTH), Told::One(Fact::Started(2))),
+    (Deed::Hear(1, 2), Told::One(Fact::Said(3))),
+    (Deed::Hear(2, 3), Told::One(Fact::Heard)),
+    (Deed::Drained(1), Told::One(Fact::Said(4))),
+    (Deed::Hear(2, 4), Told::One(Fact::Said(5))),
+    (Deed::Hear(1, 5), Told::One(Fact::Said(6))),
+    (Deed::Hear(2, 8), Told::One(Fact::Ignored)),
+    (Deed::Hear(2, 7), Told::One(Fact::Ignored)),
+    (Deed::Hear(2, 6), Told::One(Fact::Heard)),
+    (Deed::Hear(2, 8), Told::One(Fact::Ignored)),
+    (Deed::Hear(2, 6), Told::One(Fact::Ignored)),
+    (Deed::Hear(2, 7), Told::One(Fact::Heard)),
+    (Deed::Hear(2, 7), Told::One(Fact::Ignored)),
+    (Deed::Hear(2, 6), Told::One(Fact::Ignored)),
+    (Deed::Hear(2, 8), Told::One(Fact::Heard)),
+    (Deed::Hear(2, 8), Told::One(Fact::Ignored)),
+    (Deed::Claim(2), Told::One(Fact::Claimed(2))),
+];
+
+#[test]
+fn hears_three_parts_in_their_order_alone(rt: HostRuntime) {
+    let last = Part {
+        position: 3,
+        count: 3,
+        length: 436,
+        ..FIRST
+    };
+    let found = [
+        Found::Seat(2, 2),
+        Found::Part(8, last),
+        Found::EachOnce(2, 206),
+    ];
+    assert!(rt; all_go_so(rt.alloc(), &OUT_OF_ORDER, &found));
+}
+
+/// Two sessions of one holder, with two parts and with three. Daemon 2 is left in session 1, and daemon 3 comes with
+/// session 2. Neither takes a part of the other's, and what daemon 2 raises is of no use.
+static TWO_SESSIONS: [(Deed, Told); 33] = [
+    (Deed::StartWith(BOTH), Told::One(Fact::Started(2))),
+    (Deed::Hear(1, 2), Told::One(Fact::Said(3))),
+    (Deed::Hear(2, 3), Told::One(Fact::Heard)),
+    (Deed::Drained(1), Told::One(Fact::Said(4))),
+    (Deed::Hear(2, 4), Told::One(Fact::Said(5))),
+    (Deed::Hear(1, 5), Told::One(Fact::Said(6))),
+    (Deed::GiveUp(1), Told::One(Fact::Said(8))),
+    (Deed::Claim(1), Told::One(Fact::Claimed(2))),
+    (
+        Deed::Do(Wish::CreateLong(1)),
+        Told::Answered(201, Said::Opened(202, CREATED)),
+    ),
+    (
+        Deed::Do(Wish::CreateLong(2)),
+        Told::Answered(202, Said::Opened(203, CREATED)),
+    ),
+    (
+        Deed::Do(Wish::CreateLong(3)),
+        Told::Answered(203, Said::Opened(204, CREATED)),
+    ),
+    (
+        Deed::Do(Wish::CreateLong(4)),
+        Told::Answered(204, Said::Opened(205, CREATED)),
+    ),
+    (
+        Deed::Do(Wish::CreateLong(5)),
+        Told::Answered(205, Said::Opened(206, CREATED)),
+    ),
+    (
+        Deed::Do(Wish::CreateLong(6)),
+        Told::Answered(206, Said::Opened(207, CREATED)),
+    ),
+    (Deed::StartWith(BOTH), Told::One(Fact::Started(3))),
+    (Deed::Hear(1, 9), Told::One(Fact::Said(10))),
+    (Deed::Hear(3, 10), Told::One(Fact::Heard)),
+    (Deed::Hear(3, 6), Told::One(Fact::Ignored)),
+    (Deed::Drained(1), Told::One(Fact::Said(11))),
+    (Deed::Hear(3, 11), Told::One(Fact::Said(12))),
+    (Deed::Hear(1, 12), Told::One(Fact::Said(13))),
+    (Deed::Hear(3, 7), Told::One(Fact::Ignored)),
+    (Deed::Hear(3, 14), Told::One(Fact::Ignored)),
+    (Deed::Hear(3, 13), Told::One(Fact::Heard)),
+    (Deed::Hear(3, 7), Told::One(Fact::Ignored)),
+    (Deed::Hear(2, 6), Told::One(Fact::Heard)),
+    (Deed::Hear(2, 14), Told::One(Fact::Ignored)),
+    (Deed::Hear(3, 14), Told::One(Fact::Heard)),
+    (Deed::Hear(2, 15), Told::One(Fact::Ignored)),
+    (Deed::Hear(2, 7), Told::One(Fact::Heard)),
+    (Deed::Hear(3, 15), Told::One(Fact::Heard)),
+    (Deed::Claim(2), Told::One(Fact::Refused(Refusal::Stale(2)))),
+    (Deed::Claim(3), Told::One(Fact::Claimed(3))),
+];
+
+#[test]
+fn hears_no_part_of_another_session(rt: HostRuntime) {
+    let found = [
+        Found::Seat(3, 3),
+        Found::NotServed(2),
+        Found::Part(7, SECOND),
+        Found::EachOnce(3, 206),
+    ];
+    assert!(rt; all_go_so(rt.alloc(), &TWO_SESSIONS, &found));
+}
+
+/// Daemon 2 has the seat, and hands it on in a session 1 of its own. Daemon 3 hears the parts of daemon 1's in their
+/// place, and its claim is stale.
+static OLD_HOLDER: [(Deed, Told); 25] = [
+    (Deed::StartWith(BOTH), Told::One(Fact::Started(2))),
+    (Deed::Hear(1, 2), Told::One(Fact::Said(3))),
+    (Deed::Hear(2, 3), Told::One(Fact::Heard)),
+    (Deed::Drained(1), Told::One(Fact::Said(4))),
+    (Deed::Hear(2, 4), Told::One(Fact::Said(5))),
+    (Deed::Hear(1, 5), Told::One(Fact::Said(6))),
+    (Deed::Hear(2, 6), Told::One(Fact::Heard)),
+    (Deed::Hear(2, 7), Told::One(Fact::Heard)),
+    (Deed::Claim(2), Told::One(Fact::Claimed(2))),
+    (Deed::StartWith(BOTH), Told::One(Fact::Started(3))),
+    (Deed::Hear(2, 8), Told::One(Fact::Said(9))),
+    (Deed::Hear(3, 9), Told::One(Fact::Heard)),
+    (Deed::Drained(2), Told::One(Fact::Said(10))),
+    (Deed::Hear(3, 10), Told::One(Fact::Said(11))),
+    (Deed::Hear(2, 11), Told::One(Fact::Said(12))),
+    (Deed::Hear(3, 6), Told::One(Fact::Heard)),
+    (Deed::Hear(3, 12), Told::One(Fact::Ignored)),
+    (Deed::Hear(3, 13), Told::One(Fact::Ignored)),
+    (Deed::Hear(3, 7), Told::One(Fact::Heard)),
+    (Deed::Claim(3), Told::One(Fact::Refused(Refusal::Stale(2)))),
+    (Deed::Hear(3, 12), Told::One(Fact::Ignored)),
+    (Deed::GiveUp(2), Told::One(Fact::Said(14))),
+    (Deed::Claim(2), Told::One(Fact::Claimed(3))),
+    (Deed::GiveUp(1), Told::One(Fact::Said(15))),
+    (Deed::Claim(1), Told::One(Fact::Refused(Refusal::Stale(3)))),
+];
+
+/// Daemon 3 hears the first part of daemon 2's session, and takes none of daemon 1's behind it.
+static NEW_HOLDER: [(Deed, Told); 20] = [
+    (Deed::StartWith(BOTH), Told::One(Fact::Started(2))),
+    (Deed::Hear(1, 2), Told::One(Fact::Said(3))),
+    (Deed::Hear(2, 3), Told::One(Fact::Heard)),
+    (Deed::Drained(1), Told::One(Fact::Said(4))),
+    (Deed::Hear(2, 4), Told::One(Fact::Said(5))),
+    (Deed::Hear(1, 5), Told::One(Fact::Said(6))),
+    (Deed::Hear(2, 6), Told::One(Fact::Heard)),
+    (Deed::Hear(2, 7), Told::One(Fact::Heard)),
+    (Deed::Claim(2), Told::One(Fact::Claimed(2))),
+    (Deed::StartWith(BOTH), Told::One(Fact::Started(3))),
+    (Deed::Hear(2, 8), Told::One(Fact::Said(9))),
+    (Deed::Hear(3, 9), Told::One(Fact::Heard)),
+    (Deed::Drained(2), Told::One(Fact::Said(10))),
+    (Deed::Hear(3, 10), Told::One(Fact::Said(11))),
+    (Deed::Hear(2, 11), Told::One(Fact::Said(12))),
+    (Deed::Hear(3, 12), Told::One(Fact::Heard)),
+    (Deed::Hear(3, 7), Told::One(Fact::Ignored)),
+    (Deed::Hear(3, 6), Told::One(Fact::Ignored)),
+    (Deed::Hear(3, 13), Told::One(Fact::Heard)),
+    (Deed::Claim(3), Told::One(Fact::Claimed(3))),
+];
+
+#[test]
+fn takes_no_part_of_another_holder(rt: HostRuntime) {
+    let alloc = rt.alloc();
+    let stayed = [
+        Found::Seat(2, 3),
+        Found::NotServed(3),
+        Found::EachOnce(2, 200),
+    ];
+    assert!(rt; all_go_so(alloc, &OLD_HOLDER, &stayed));
+    let handed = [Found::Seat(3, 3), Found::EachOnce(3, 200)];
+    assert!(rt; all_go_so(alloc, &NEW_HOLDER, &handed));
+}
