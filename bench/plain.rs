@@ -4,8 +4,10 @@
 //!
 //!   plain broker SOCKET SCRIPT
 //!   plain daemon --mount|--takeover BROKER TAKEOVER MANIFEST [--workers N]
-//!   plain bare SOCKET ROUNDS            answers ROUNDS pairs of a Take and a Post at once, and asks them: two bare round
-//!                                       trips each; prints the nanoseconds of a pair
+//!   plain answer SOCKET ROUNDS          a broker that always has an ask at hand, and answers at once: ROUNDS pairs of a Take
+//!                                       and a Post; prints the nanoseconds of a pair
+//!   plain trips SOCKET                  two bare round trips of that broker, again and again: a Take, and a Post of the same
+//!                                       reply
 use std::collections::{BTreeMap, HashMap, HashSet, VecDeque};
 use std::io::{BufReader, Read, Write};
 use std::os::unix::net::{UnixListener, UnixStream};
@@ -39,21 +41,21 @@ const PONG: u8 = 37;
 const DATA: u8 = 38;
 const FAILED: u8 = 39;
 
-struct Link {
+struct Connection {
     reader: BufReader<UnixStream>,
     writer: UnixStream,
 }
 
-impl Link {
-    fn over(stream: UnixStream) -> io::Result<Link> {
-        Ok(Link {
+impl Connection {
+    fn over(stream: UnixStream) -> io::Result<Connection> {
+        Ok(Connection {
             writer: stream.try_clone()?,
             reader: BufReader::with_capacity(65_536, stream),
         })
     }
 
-    fn at(path: &str) -> io::Result<Link> {
-        Link::over(UnixStream::connect(path)?)
+    fn at(path: &str) -> io::Result<Connection> {
+        Connection::over(UnixStream::connect(path)?)
     }
 
     fn write(&mut self, kind: u8, parts: &[&[u8]]) -> io::Result<()> {
@@ -291,15 +293,15 @@ impl Hall {
     }
 
     fn serve(&self, stream: UnixStream) -> io::Result<()> {
-        let mut link = Link::over(stream)?;
-        let (_attach, body) = link.read()?;
+        let mut connection = Connection::over(stream)?;
+        let (_attach, body) = connection.read()?;
         let (daemon, is_first) = self.attach(&body);
-        let mut served = link.write(ATTACHED, &[&daemon.to_be_bytes()]);
+        let mut served = connection.write(ATTACHED, &[&daemon.to_be_bytes()]);
         while served.is_ok() {
-            served = match link.read() {
+            served = match connection.read() {
                 Ok((kind, body)) => {
                     let (kind, body) = self.answer(daemon, kind, &body);
-                    link.write(kind, &[&body])
+                    connection.write(kind, &[&body])
                 }
                 Err(error) => Err(error),
             };
@@ -553,16 +555,16 @@ impl Daemon {
         self.changes.notify_all();
     }
 
-    fn work(&self, link: &mut Link, generation: u64) -> io::Result<()> {
+    fn work(&self, connection: &mut Connection, generation: u64) -> io::Result<()> {
         let generation = generation.to_be_bytes();
         while !self.stops.load(Ordering::SeqCst) {
-            let (kind, text) = link.ask(TAKE, &[&generation])?;
+            let (kind, text) = connection.ask(TAKE, &[&generation])?;
             match kind {
                 EMPTY => {}
                 ASK => {
                     let reply = self.served.lock().unwrap().as_mut().and_then(|served| served.apply(&text));
                     if let Some(reply) = reply {
-                        if link.ask(POST, &[&generation, &reply])?.0 != POSTED {
+                        if connection.ask(POST, &[&generation, &reply])?.0 != POSTED {
                             return Err(io::ErrorKind::InvalidData.into());
                         }
                     }
@@ -577,9 +579,9 @@ impl Daemon {
         Ok(())
     }
 
-    fn serve(&self, mut link: Link) {
+    fn serve(&self, mut connection: Connection) {
         while let Some(generation) = self.begin() {
-            if self.work(&mut link, generation).is_err() {
+            if self.work(&mut connection, generation).is_err() {
                 self.end("fault: broken");
             }
             self.finish();
@@ -587,24 +589,24 @@ impl Daemon {
     }
 
     /// Serves one takeover: stops the workers, sends the data, and claims when the connection ends.
-    fn hand_over(&self, mut link: Link, broker: &mut Link) -> io::Result<()> {
-        link.read()?;
+    fn hand_over(&self, mut connection: Connection, broker: &mut Connection) -> io::Result<()> {
+        connection.read()?;
         self.stops.store(true, Ordering::SeqCst);
-        link.write(CHOICE, &[&1u32.to_be_bytes(), &1u16.to_be_bytes()])?;
+        connection.write(CHOICE, &[&1u32.to_be_bytes(), &1u16.to_be_bytes()])?;
         let mut state = self.state.lock().unwrap();
         while state.at_work > 0 {
             state = self.changes.wait(state).unwrap();
         }
         let generation = state.generation.to_be_bytes();
         drop(state);
-        link.ask(READY, &[&1u32.to_be_bytes(), &generation])?;
+        connection.ask(READY, &[&1u32.to_be_bytes(), &generation])?;
         let image = self.served.lock().unwrap().as_ref().map(Served::image).unwrap_or_default();
-        let _closed = link.ask(DATA, &[&1u32.to_be_bytes(), &generation, &image]);
-        drop(link);
+        let _closed = connection.ask(DATA, &[&1u32.to_be_bytes(), &generation, &image]);
+        drop(connection);
         self.claim(broker, be64(&generation))
     }
 
-    fn claim(&self, broker: &mut Link, generation: u64) -> io::Result<()> {
+    fn claim(&self, broker: &mut Connection, generation: u64) -> io::Result<()> {
         let (kind, body) = broker.ask(CLAIM, &[&generation.to_be_bytes()])?;
         match kind {
             CLAIMED => self.serve_at(be64(&body)),
@@ -622,11 +624,11 @@ impl Daemon {
     }
 }
 
-/// Gets the data of the daemon at the other end of a link.
-fn take_over(link: &mut Link, served: &mut Served) -> io::Result<u64> {
-    link.ask(OFFER, &[&[1, 0, 1]])?;
-    let (_ready, body) = link.read()?;
-    let (kind, data) = link.ask(PONG, &[&body[..4]])?;
+/// Gets the data of the daemon at the other end of a connection.
+fn take_over(connection: &mut Connection, served: &mut Served) -> io::Result<u64> {
+    connection.ask(OFFER, &[&[1, 0, 1]])?;
+    let (_ready, body) = connection.read()?;
+    let (kind, data) = connection.ask(PONG, &[&body[..4]])?;
     if kind == FAILED {
         return Err(io::ErrorKind::InvalidData.into());
     }
@@ -636,20 +638,20 @@ fn take_over(link: &mut Link, served: &mut Served) -> io::Result<u64> {
 
 fn daemon(start: &str, at: &str, takeover: &str, manifest: &str, workers: usize) -> io::Result<()> {
     let mut served = Served::of(&fs::read_to_string(manifest)?);
-    let mut broker = Link::at(at)?;
+    let mut broker = Connection::at(at)?;
     let (_attached, id) = broker.ask(ATTACH, &[&0u64.to_be_bytes()])?;
-    let mut links = Vec::new();
+    let mut connections = Vec::new();
     for _ in 0..workers {
-        let mut link = Link::at(at)?;
-        link.ask(ATTACH, &[&id])?;
-        links.push(link);
+        let mut connection = Connection::at(at)?;
+        connection.ask(ATTACH, &[&id])?;
+        connections.push(connection);
     }
     let hidden = format!("{takeover}.{}", std::process::id());
     let listener = UnixListener::bind(&hidden)?;
     let body = if start == "--mount" {
         broker.ask(MOUNT, &[])?.1
     } else {
-        let mut old = Link::at(takeover)?;
+        let mut old = Connection::at(takeover)?;
         let generation = take_over(&mut old, &mut served)?;
         broker.ask(CLAIM, &[&generation.to_be_bytes()])?.1
     };
@@ -664,15 +666,15 @@ fn daemon(start: &str, at: &str, takeover: &str, manifest: &str, workers: usize)
     daemon.serve_at(be64(&body));
     thread::spawn(move || {
         for stream in listener.incoming().flatten() {
-            let handed = Link::over(stream).and_then(|link| handing.hand_over(link, &mut broker));
+            let handed = Connection::over(stream).and_then(|connection| handing.hand_over(connection, &mut broker));
             if handed.is_err() {
                 handing.end("fault: broken");
             }
         }
     });
-    for link in links {
+    for connection in connections {
         let working = daemon.clone();
-        thread::spawn(move || working.serve(link));
+        thread::spawn(move || working.serve(connection));
     }
     let mut state = daemon.state.lock().unwrap();
     while state.end.is_none() {
@@ -682,32 +684,50 @@ fn daemon(start: &str, at: &str, takeover: &str, manifest: &str, workers: usize)
     Ok(())
 }
 
-// ---- bare round trips
+// ---- a broker that always has an ask at hand, and a client that does nothing else
 
-fn bare(socket: &str, rounds: u64) -> io::Result<()> {
-    let listener = UnixListener::bind(socket)?;
-    let answering = thread::spawn(move || -> io::Result<()> {
-        let mut link = Link::over(listener.accept()?.0)?;
-        let ask = request(3, 1, 1, &[0; 16]);
-        while let Ok((kind, _body)) = link.read() {
-            match kind {
-                TAKE => link.write(ASK, &[&ask])?,
-                _ => link.write(POSTED, &[])?,
+/// Answers the frames of a connection until as many pairs were answered as are to be, and prints the nanoseconds of one.
+fn answer_each(stream: UnixStream, rounds: u64) -> io::Result<()> {
+    let mut connection = Connection::over(stream)?;
+    let ask = request(3, 1, 1, &[0; 16]);
+    let mut began = Instant::now();
+    let mut posted = 0;
+    loop {
+        let (kind, body) = connection.read()?;
+        match kind {
+            ATTACH => connection.write(ATTACHED, &[&be64(&body).max(1).to_be_bytes()])?,
+            MOUNT => connection.write(MOUNTED, &[&1u64.to_be_bytes()])?,
+            TAKE if posted < rounds => connection.write(ASK, &[&ask])?,
+            POST if body.len() == 128 && le32(&body[12..]) == 0 => {
+                posted += 1;
+                if posted == rounds / 10 {
+                    began = Instant::now();
+                }
+                if posted == rounds {
+                    println!("{}", began.elapsed().as_nanos() / u128::from(rounds - rounds / 10));
+                }
+                connection.write(POSTED, &[])?;
             }
+            _ => connection.write(ENDED, &[])?,
         }
-        Ok(())
-    });
-    let mut link = Link::at(socket)?;
-    let text = attr_reply(1, 1, Attr { is_dir: true, perm: 0o755, size: 0, nlink: 2 });
-    let began = Instant::now();
-    for _ in 0..rounds {
-        link.ask(TAKE, &[&1u64.to_be_bytes()])?;
-        link.ask(POST, &[&1u64.to_be_bytes(), &text])?;
     }
-    println!("{}", began.elapsed().as_nanos() / rounds as u128);
-    drop(link);
-    answering.join().unwrap()?;
-    fs::remove_file(socket)
+}
+
+fn answer(socket: &str, rounds: u64) -> io::Result<()> {
+    for stream in UnixListener::bind(socket)?.incoming() {
+        let stream = stream?;
+        thread::spawn(move || answer_each(stream, rounds));
+    }
+    Ok(())
+}
+
+fn trips(socket: &str) -> io::Result<()> {
+    let mut connection = Connection::at(socket)?;
+    let text = attr_reply(1, 1, Attr { is_dir: true, perm: 0o755, size: 0, nlink: 2 });
+    while connection.ask(TAKE, &[&1u64.to_be_bytes()])?.0 == ASK {
+        connection.ask(POST, &[&1u64.to_be_bytes(), &text])?;
+    }
+    Ok(())
 }
 
 fn main() -> io::Result<()> {
@@ -715,7 +735,8 @@ fn main() -> io::Result<()> {
     let words: Vec<&str> = words.iter().map(String::as_str).collect();
     match words[1..] {
         ["broker", socket, script] => broker(socket, script),
-        ["bare", socket, rounds] => bare(socket, rounds.parse().unwrap()),
+        ["answer", socket, rounds] => answer(socket, rounds.parse().unwrap()),
+        ["trips", socket] => trips(socket),
         ["daemon", start, at, takeover, manifest] => daemon(start, at, takeover, manifest, 2),
         ["daemon", start, at, takeover, manifest, "--workers", n] => daemon(start, at, takeover, manifest, n.parse().unwrap()),
         _ => Err(io::ErrorKind::InvalidInput.into()),

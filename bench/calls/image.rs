@@ -237,6 +237,16 @@ fn image_read(text: &[u8]) -> Result<Image, Fault> {
     read(text)
 }
 
+/// Joins parts of 4,096 bytes, and reads them.
+#[inline(never)]
+fn image_fed(text: &[u8]) -> Result<Image, Fault> {
+    let mut joined = Vec::new();
+    for part in text.chunks(4096) {
+        joined.extend_from_slice(part);
+    }
+    read(&joined)
+}
+
 #[inline(never)]
 fn image_raised(image: Image, manifest: &Manifest) -> Result<Served, Fault> {
     raise(image, manifest)
@@ -283,7 +293,9 @@ fn text_of(entries: u64) -> Vec<u8> {
 pub fn measure(words: &[String]) -> String {
     let entries: u64 = words[0].parse().expect("ENTRIES is a number");
     let manifest = Manifest::of(entries);
-    let image = image_read(&text_of(entries)).expect("the text is an image's");
+    let text = text_of(entries);
+    let image = image_read(&text).expect("the text is an image's");
+    drop(image_fed(&text));
     let served = image_raised(image, &manifest).expect("nothing stands against the image");
     assert_eq!(served.names.values().map(|names| names.len() as u64).sum::<u64>(), entries);
     let image = image_taken(&served).expect("there is an image");

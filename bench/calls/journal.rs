@@ -27,7 +27,7 @@ struct Record {
 }
 
 struct Receipt {
-    place: usize,
+    position: usize,
     request: Request,
     answer: Option<Answer>,
 }
@@ -37,13 +37,13 @@ fn is_settled(journal: &[Record], workers: &[Vec<Receipt>]) -> bool {
     let mut seen = vec![false; journal.len()];
     let mut count = 0;
     for receipt in workers.iter().flatten() {
-        let Some(record) = journal.get(receipt.place) else {
+        let Some(record) = journal.get(receipt.position) else {
             return false;
         };
-        if seen[receipt.place] || record.request != receipt.request || record.answer != receipt.answer {
+        if seen[receipt.position] || record.request != receipt.request || record.answer != receipt.answer {
             return false;
         }
-        seen[receipt.place] = true;
+        seen[receipt.position] = true;
         count += 1;
     }
     count == journal.len()
@@ -81,7 +81,7 @@ pub fn measure(words: &[String]) -> String {
         panic!("journal RECORDS WORKERS ROUNDS");
     };
     let journal: Vec<Record> = (0..records).map(|i| Record { request: request_of(i), answer: answer_of(i) }).collect();
-    let receipt = |i: u64| Receipt { place: i as usize, request: request_of(i), answer: answer_of(i) };
+    let receipt = |i: u64| Receipt { position: i as usize, request: request_of(i), answer: answer_of(i) };
     let receipts = |worker: u64| (0..records).filter(|i| i % workers == worker).map(receipt).collect();
     let each: Vec<Vec<Receipt>> = (0..workers).map(receipts).collect();
     format!("settled {}", (0..rounds).filter(|_| settled(&journal, &each)).count())

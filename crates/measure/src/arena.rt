@@ -11,7 +11,7 @@ use std::time::CpuClock;
 /// How often each call is made.
 const ROUNDS: u32 = 1_000_000;
 
-/// The calls of a round: the last two columns pick any slot, and those before them one of eight.
+/// The names of the rounds' calls. The last two pick any slot, those before them one of eight.
 const NAMES: [&str; 6] = [
     "oldest/touch",
     "oldest/remove/add",

@@ -1,7 +1,6 @@
-//! What an image costs: it is read, raised to what a daemon serves, made of that again and written, once each, so that
-//! the instructions of a call can be counted. `measure image ENTRIES UNLINKED` does so for ENTRIES entries, of which
-//! UNLINKED are unlinked, and with the word `times` it tells the nanoseconds of each call for an entry. An image that is
-//! too long is not written.
+//! What an image costs: it is read, restored, made again and written, once each, so that the instructions of a call can
+//! be counted. `measure image ENTRIES UNLINKED` does so for ENTRIES entries, of which UNLINKED are unlinked, and with
+//! the word `times` it tells the nanoseconds of each call for an entry. An image that is too long is not written.
 ghost use Rattle.std.specs.Prelude.{IfOk};
 ghost use Rattle.map_image.specs.Fit.{CountsFit, IsFit};
 
@@ -15,7 +14,7 @@ use eden_base::NoMemory;
 use fuse_ops::Served;
 use manifest::Manifest;
 use map_codec::{RaiseFault, image_of, raise};
-use map_image::{Image, ImageFault, WriteFault, read, write};
+use map_image::{Image, ImageFault, ImageReader, WriteFault, read, write};
 use std::alloc::{AllocError, Global};
 
 /// Returns how many attributes may be loaded. With the number itself in the call, the proof of `image_raised` takes
@@ -92,7 +91,7 @@ fn count_text(count: u64) -> [u8; 4] {
     (count.min(0xffff_ffff) as u32).to_be_bytes()
 }
 
-/// Spells what stands before the entries. Files of the manifest come first, and then those that were made.
+/// Spells the head of an image. The manifest's files have the lower ids, and the made files the higher ones.
 fn put_head(text: &mut Vec<u8>, entries: u64, unlinked: u64) -> Result<(), AllocError> {
     let next = entries.wrapping_add(2);
     let next_number = next.to_be_bytes();
@@ -157,6 +156,27 @@ fn image_read(alloc: Global, text: &[u8]) -> Result<Image, ImageFault>
     read(alloc, text)
 }
 
+/// Feeds a text in parts of 4,096 bytes.
+#[inline(never)]
+fn image_fed(alloc: Global, text: &[u8]) -> Result<Image, ImageFault> {
+    let Ok(mut reader) = ImageReader::new(alloc) else {
+        return Err(ImageFault::NoMemory);
+    };
+    for part in text.chunks(4096) {
+        reader.feed(part)?;
+    }
+    reader.finish()
+}
+
+/// Feeds a text. Returns the time.
+fn time_fed(rt: &HostRuntime, text: &[u8], entries: u64) -> u64 {
+    let started = moment(rt);
+    let fed = image_fed(rt.alloc(), text);
+    let time = each_since(rt, started, entries);
+    drop(fed);
+    time
+}
+
 #[inline(never)]
 fn image_raised(alloc: Global, image: Image, manifest: &Manifest) -> Result<Served, RaiseFault>
     requires fit { IsFit image }
@@ -183,6 +203,7 @@ fn image_written(alloc: Global, image: &Image) -> Result<Vec<u8>, WriteFault>
 #[derive(Clone, Copy)]
 struct Took {
     read: u64,
+    feed: u64,
     raise: u64,
     image_of: u64,
     write: u64,
@@ -211,6 +232,7 @@ fn time_taken(rt: &HostRuntime, served: &Served, entries: u64) -> Result<Took, N
     drop(image);
     Ok(Took {
         read: 0,
+        feed: 0,
         raise: 0,
         image_of,
         write,
@@ -218,7 +240,7 @@ fn time_taken(rt: &HostRuntime, served: &Served, entries: u64) -> Result<Took, N
     })
 }
 
-/// Raises an image, and goes on with what is served then. The manifest has its files, so that memory alone can lack.
+/// Restores an image, and goes on with the served state. The manifest has its files, so only memory can be refused.
 fn time_raise(
     rt: &HostRuntime,
     image: Image,
@@ -238,7 +260,7 @@ fn time_raise(
     Ok(Took { raise, ..took? })
 }
 
-/// Reads the image that bytes spell, and goes on with it. They do spell one, so that memory alone can lack.
+/// Reads an image, and goes on with it. The bytes do spell one, so only memory can be refused.
 fn time_read(
     rt: &HostRuntime,
     text: &[u8],
@@ -250,8 +272,9 @@ fn time_read(
         return Err(NoMemory);
     };
     let read = each_since(rt, started, entries);
+    let feed = time_fed(rt, text, entries);
     let took = time_raise(rt, image, manifest, entries)?;
-    Ok(Took { read, ..took })
+    Ok(Took { read, feed, ..took })
 }
 
 /// Makes a manifest with a file for each entry.
@@ -289,8 +312,8 @@ pub(crate) fn measure(rt: &HostRuntime, words: &[&str]) -> Result<Option<Told>, 
     match words {
         [_, _] => Ok(Some(Told::of(&["bytes"], &[took.bytes]))),
         [_, _, "times"] => Ok(Some(Told::of(
-            &["read", "raise", "image_of", "write"],
-            &[took.read, took.raise, took.image_of, took.write],
+            &["read", "feed", "raise", "image_of", "write"],
+            &[took.read, took.feed, took.raise, took.image_of, took.write],
         ))),
         _ => Ok(None),
     }

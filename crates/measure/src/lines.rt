@@ -4,7 +4,7 @@ use eden_base::NoMemory;
 use manifest::Manifest;
 use std::alloc::{AllocError, Global};
 
-/// Writes a line of a manifest: a directory at each sixty-fourth place, and its files behind it.
+/// Returns line `i` of a manifest: each sixty-fourth line is a directory, and the lines behind it are its files.
 fn line_of(alloc: Global, i: u64) -> Result<String, AllocError> {
     let dir = i / EACH;
     if i % EACH == 0 {

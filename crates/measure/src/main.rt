@@ -109,7 +109,7 @@ fn told_of<R: Threads + Wait + Clock + Sync>(
     }
 }
 
-/// Makes the calls that a line of words is for, and prints what came of them.
+/// Makes the calls that a line of words is for, and prints their numbers.
 fn measure<R: Threads + Wait + Clock + Sync>(
     rt: &HostRuntime,
     threads: &R,

@@ -21,7 +21,7 @@ const SOUGHT: u64 = 1000;
 
 const LOADED_LIMIT: usize = 64;
 
-/// A number of the map, where it stands, and a name that its directory lacks.
+/// A number of the map, its place, and a name that its directory lacks.
 #[derive(Drop)]
 struct Sought {
     number: Number,
@@ -52,7 +52,7 @@ fn fill(alloc: Global, map: &mut InodeMap, entries: u64, every: u64) -> Result<(
     Ok(())
 }
 
-/// Returns the number of an entry, by its place, with a fresh name.
+/// Returns entry `i` as a sought number, with a fresh name.
 fn sought_of(alloc: Global, i: u64, fresh: Name) -> Result<Sought, NoMemory> {
     let name = name_of(alloc, i)?;
     Ok(Sought {
@@ -346,7 +346,7 @@ fn knows_last(alloc: Global, entries: Vec<Kept>, next: u64) -> Result<bool, NoMe
     Ok(known)
 }
 
-/// Makes that of `entries` entries.
+/// Makes a map of a chain of `entries` entries, and returns whether it knows the last.
 fn knows_last_of(alloc: Global, entries: u32) -> Result<bool, NoMemory> {
     let list = list_chain(alloc, entries)?;
     let next = entries as u64 + 2;

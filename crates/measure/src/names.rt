@@ -1,13 +1,13 @@
-//! Names in directories of 63 files each, by the place of an entry among all: a directory stands at each sixty-fourth
-//! place, and its files behind it.
+//! The names of made entries, by index: entry 0 is a directory, entries 1 to 63 are its files, entry 64 is the next
+//! directory, and so on.
 use eden_base::{Name, NoMemory};
 use std::alloc::{AllocError, Global};
 
-/// How many names stand in a directory, with its own.
+/// How many entries a directory and its files are.
 pub(crate) const EACH: u64 = 64;
 
-/// Returns the number of an entry's directory: the root's for a directory, and that one's for a file. The entry at
-/// place 0 has number 2.
+/// Returns the number of the directory in which entry `i` stands: the root's, where `i` is a directory itself. Entry 0
+/// has number 2, and each other one the next.
 pub(crate) fn parent_of(i: u64) -> u64 {
     if i % EACH == 0 {
         1

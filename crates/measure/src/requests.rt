@@ -262,7 +262,7 @@ fn take_back(alloc: Global, served: &mut Hosted, node: Number) -> bool {
     answer.is_none()
 }
 
-/// Looks a name up that has a number of which nothing is loaded, and then once more. Takes one back, so that it is held
+/// Looks a name up whose number has no attribute loaded, and then once more. Takes one back, so that it is held
 /// twice as the others are, and tells whether both gave one number.
 fn ask_other_again(alloc: Global, served: &mut Hosted, request: &Request) -> bool {
     let node = look_up_unloaded(alloc, served, request);
@@ -330,7 +330,7 @@ fn ask_listed(alloc: Global, served: &mut Hosted, list: &[Asked]) -> u64 {
     done
 }
 
-/// Makes files in a directory so deep, and asks each of them.
+/// Makes files in a directory at this depth, and asks each of them.
 fn ask_made(alloc: Global, served: &mut Hosted, depth: u64) -> Result<u64, NoMemory> {
     let dir = make_deep(alloc, served, depth)?;
     let list = list_asked(alloc, dir)?;

@@ -32,7 +32,7 @@ fn request_of(alloc: Global, i: u32) -> Result<Request, NoMemory> {
     }
 }
 
-/// Returns what that request is answered.
+/// Returns the answer to that request.
 fn answer_of(i: u32) -> Option<Answer> {
     let number = number_of(i);
     let attr = Attr {
@@ -65,7 +65,7 @@ fn fill(alloc: Global, journal: &mut Journal, records: u32) -> Result<(), NoMemo
 fn receipt_of(alloc: Global, i: u32) -> Result<Receipt, NoMemory> {
     let what = request_of(alloc, i)?;
     Ok(Receipt {
-        place: i as usize,
+        position: i as usize,
         ask: Ask {
             unique: u64::from(i),
             what,
@@ -104,7 +104,7 @@ fn settled(alloc: Global, journal: &Journal, workers: &[Receipts]) -> Result<boo
     is_settled(alloc, journal, workers)
 }
 
-/// Asks so often whether a round is settled, and counts how often it is.
+/// Asks `rounds` times whether a round is settled, and counts how often it is.
 fn ask_often(alloc: Global, journal: &Journal, workers: &[Receipts], rounds: u32) -> u32 {
     let mut times = 0u32;
     for _ in 0..rounds {
@@ -115,7 +115,7 @@ fn ask_often(alloc: Global, journal: &Journal, workers: &[Receipts], rounds: u32
     times
 }
 
-/// Asks so often of a journal and receipts that are made for it.
+/// Makes a journal and its receipts, and calls `ask_often` with them.
 fn ask_made(
     alloc: Global,
     journal: &mut Journal,
@@ -130,7 +130,7 @@ fn ask_made(
     Ok(times)
 }
 
-/// Makes a round, and asks so often whether it is settled.
+/// Makes a round, and calls `ask_often` with it.
 fn times_settled(alloc: Global, records: u32, workers: u32, rounds: u32) -> Result<u32, NoMemory> {
     let mut journal = Journal::new(alloc, records as usize)?;
     let times = ask_made(alloc, &mut journal, records, workers, rounds);

@@ -16,7 +16,7 @@ use std::sync::Wait;
 use std::thread::Threads;
 use std::time::Duration;
 use workers::{
-    Channel, MAX_CHANNELS, OpenGate, Posted, Rooms, Round, Settled, Stop, Taken, drain, serve_round,
+    Channel, MAX_CHANNELS, NoHook, Posted, Rooms, Round, Settled, Stop, Taken, drain, serve_round,
 };
 
 /// The most requests that a worker takes in a round.
@@ -59,7 +59,7 @@ impl Channel for Rooted {
     }
 }
 
-/// What stands between two rounds.
+/// The state between two rounds.
 type Between<'a> = Settled<ManifestBacking<'a>, Rooted>;
 
 /// Returns a channel for each worker.
@@ -130,14 +130,14 @@ fn next<'a, R: Threads + Wait + Sync>(
     }
     let stop = Stop::new();
     match serve_round(
-        rt, alloc, rooms, served, backing, channels, TURNS, &OpenGate, &stop,
+        rt, alloc, rooms, served, backing, channels, TURNS, &NoHook, &stop,
     ) {
         Ok(round) => drained(alloc, round),
         Err(_fault) => None,
     }
 }
 
-/// Serves `rounds` rounds one after another, each with as many asks.
+/// Serves `rounds` rounds one after another, each of `asks` asks for each worker.
 fn serve_rounds<'a, R: Threads + Wait + Sync>(
     rt: &R,
     alloc: Global,

@@ -1,12 +1,12 @@
 //! What frames cost, so that the instructions of a call can be counted: `measure frames FORM ROUNDS` writes a frame,
-//! feeds its text to a reader in one piece, and takes the first frame off, once a round. With `behind FRAMES` that many
-//! more frames are unread. With `pieces BYTES` the text of a frame for each round is fed in pieces of BYTES bytes, and
+//! feeds its text to a reader in one piece, and takes the first frame off, once a round. With `behind FRAMES` another
+//! FRAMES frames are unread. With `pieces BYTES` the text of a frame for each round is fed in pieces of BYTES bytes, and
 //! after each piece all whole frames are taken.
 use crate::told::Told;
 use crate::words::number_at;
 use byte_codec::Bytes;
 use eden_base::NoMemory;
-use frames::{Frame, FrameReader, LinkFault};
+use frames::{Frame, FrameFault, FrameReader};
 use std::alloc::{AllocError, Global};
 use takeover_core::Message;
 
@@ -32,17 +32,17 @@ fn frame_of(alloc: Global, form: &str) -> Result<Frame, AllocError> {
 }
 
 #[inline(never)]
-fn write(alloc: Global, frame: &Frame) -> Result<Vec<u8>, LinkFault> {
+fn write(alloc: Global, frame: &Frame) -> Result<Vec<u8>, FrameFault> {
     frame.write(alloc)
 }
 
 #[inline(never)]
-fn feed(reader: &mut FrameReader, piece: &[u8]) -> Result<(), LinkFault> {
+fn feed(reader: &mut FrameReader, piece: &[u8]) -> Result<(), FrameFault> {
     reader.feed(piece)
 }
 
 #[inline(never)]
-fn next(reader: &mut FrameReader) -> Result<Option<Frame>, LinkFault> {
+fn next(reader: &mut FrameReader) -> Result<Option<Frame>, FrameFault> {
     reader.next()
 }
 

@@ -1,4 +1,4 @@
-//! What came of calls.
+//! The numbers that a measurement prints.
 use std::io::Result;
 
 /// How many numbers can be told.
@@ -12,7 +12,7 @@ pub(crate) struct Told {
 }
 
 impl Told {
-    /// Returns these numbers, by these names.
+    /// Makes named numbers.
     pub(crate) fn of(names: &'static [&'static str], told: &[u64]) -> Told {
         let mut numbers = [0; MOST];
         for (number, its) in numbers.iter_mut().zip(told) {

@@ -92,7 +92,7 @@ fn messages(alloc: Global, form: &str) -> Result<Vec<Vec<u8>>, AllocError> {
     Ok(texts)
 }
 
-/// Reads one message, as a caller does that no compiler joins with the reader.
+/// Reads one message. It is not inlined, so that the reader is called as by another crate.
 #[inline(never)]
 fn read(alloc: Global, text: &[u8]) -> Result<Ask, WireFault> {
     read_request(alloc, text)
@@ -117,7 +117,7 @@ fn uniques(asks: &[Ask]) -> u64 {
     sum
 }
 
-/// Reads the items of one message, as a caller does that no compiler joins with the reader.
+/// Reads the items of one message. It is not inlined, so that the reader is called as by another crate.
 #[inline(never)]
 fn items(text: &[u8]) -> Result<Items, WireFault> {
     read_items(text)
