@@ -71,13 +71,12 @@ fn are_begun(alloc: Global, events: &mut Vec<Event>) -> bool {
 
 /// Returns whether each file was looked up.
 fn are_looked_up(outcomes: &[Outcome]) -> bool {
-    let mut unique = 1;
-    for outcome in outcomes {
+    for (index, outcome) in outcomes.iter().enumerate() {
+        let unique = index as u64 + 1;
         let entry = Said::Entry(unique + 1, Look::File(0, 1));
         if !is_told(outcome, Told::Answered(unique, entry)) {
             return false;
         }
-        unique += 1;
     }
     true
 }
