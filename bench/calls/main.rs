@@ -1,6 +1,7 @@
 //! Plain Rust beside the calls that `crates/measure` makes, so that the instructions of one can be compared: it makes the
 //! same calls and prints the same lines. Nothing is proved here. `bench/instructions` builds it, and runs both.
 //!
+//!   calls arena CAPACITY                rounds of calls on a full arena
 //!   calls requests LINES DEPTH|random     requests to what a daemon serves
 //!   calls checkout LINES                  calls on a manifest's tree
 //!   calls map ENTRIES [random]            calls on the numbers that a daemon gave
@@ -8,6 +9,7 @@
 //!   calls journal RECORDS WORKERS ROUNDS  whether a round is settled
 //!   calls frames FORM ROUNDS [behind FRAMES|pieces BYTES]   frames written, fed and taken off
 //!   calls wire FORM ROUNDS                requests read
+mod arena;
 mod checkout;
 mod frames;
 mod hashing;
@@ -22,6 +24,7 @@ mod wire;
 fn main() {
     let words: Vec<String> = std::env::args().skip(1).collect();
     let told = match words[0].as_str() {
+        "arena" => arena::measure(&words[1..]),
         "requests" => requests::measure(&words[1..]),
         "checkout" => checkout::measure(&words[1..]),
         "map" => map::measure(&words[1..]),

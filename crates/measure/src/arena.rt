@@ -48,6 +48,7 @@ fn fill(alloc: Global, nodes: &mut Nodes<u64>) -> Result<Vec<Slot>, NoMemory> {
 }
 
 /// Calls `oldest`, and `touch` of what it answers.
+#[inline(never)]
 fn touch_oldest(nodes: &mut Nodes<u64>) {
     for _ in 0..ROUNDS {
         if let Some(slot) = nodes.oldest() {
@@ -57,6 +58,7 @@ fn touch_oldest(nodes: &mut Nodes<u64>) {
 }
 
 /// Calls `oldest`, `remove` of what it answers, and `add`.
+#[inline(never)]
 fn replace_oldest(nodes: &mut Nodes<u64>) {
     for _ in 0..ROUNDS {
         if let Some(slot) = nodes.oldest() {
@@ -67,6 +69,7 @@ fn replace_oldest(nodes: &mut Nodes<u64>) {
 }
 
 /// Calls `is_held` and `touch` of slots in a random order.
+#[inline(never)]
 fn touch_any(nodes: &mut Nodes<u64>, slots: &[Slot]) {
     let mut random = 1;
     for _ in 0..ROUNDS {
@@ -80,6 +83,7 @@ fn touch_any(nodes: &mut Nodes<u64>, slots: &[Slot]) {
 }
 
 /// Calls `is_held`, `get` and `get_mut` of slots in a random order.
+#[inline(never)]
 fn write_any(nodes: &mut Nodes<u64>, slots: &[Slot]) {
     let mut random = 1;
     for _ in 0..ROUNDS {
