@@ -1,4 +1,5 @@
 //! Worked examples: the frames between daemons, and to the broker, from desk to desk.
+mod lookups;
 mod steps;
 
 use crate::daemon_desk_tests::steps::{Says, Step, Told, all_go_so, all_go_so_in_parts};
