@@ -18,6 +18,9 @@ const BOTH: &[u16] = &[1, 2];
 /// A daemon of these versions mounts.
 const BEGIN: [Deed; 2] = [Deed::StartWith(BOTH), Deed::Mount(1)];
 
+/// Deeds with their outcomes, one behind the other.
+type Deeds = &'static [(Deed, Told)];
+
 /// Writes the manifest.
 fn add_files(text: &mut String) -> Result<(), AllocError> {
     text.push_str("commit 0123456789abcdef0123456789abcdef01234567\n")?;
@@ -69,6 +72,16 @@ fn are_begun(alloc: Global, events: &mut Vec<Event>) -> bool {
     true
 }
 
+/// Puts the deeds of all lists behind the other events, and returns whether all were made.
+fn each_is_put(alloc: Global, events: &mut Vec<Event>, lists: &[Deeds]) -> bool {
+    for deeds in lists {
+        if !are_put(alloc, events, deeds) {
+            return false;
+        }
+    }
+    true
+}
+
 /// Returns whether each file was looked up.
 fn are_looked_up(outcomes: &[Outcome]) -> bool {
     for (index, outcome) in outcomes.iter().enumerate() {
@@ -81,14 +94,30 @@ fn are_looked_up(outcomes: &[Outcome]) -> bool {
     true
 }
 
-/// Returns whether these are the outcomes of a mount, of the lookups, and of deeds.
-fn all_are_told(outcomes: &[Outcome], deeds: &[(Deed, Told)]) -> bool {
+/// Returns whether the deeds of all lists have their outcomes, one list behind the other.
+fn each_is_told(outcomes: &[Outcome], lists: &[Deeds]) -> bool {
+    let mut rest = outcomes;
+    for deeds in lists {
+        if rest.len() < deeds.len() {
+            return false;
+        }
+        let (told, behind) = rest.split_at(deeds.len());
+        if !are_told(told, deeds) {
+            return false;
+        }
+        rest = behind;
+    }
+    rest.is_empty()
+}
+
+/// Returns whether these are the outcomes of a mount, of the lookups, and of the deeds of all lists.
+fn all_are_told(outcomes: &[Outcome], lists: &[Deeds]) -> bool {
     let begun = BEGIN.len() + FILES as usize;
     if outcomes.len() < begun {
         return false;
     }
     let (begun, rest) = outcomes.split_at(begun);
-    are_looked_up(&begun[BEGIN.len()..]) && are_told(rest, deeds)
+    are_looked_up(&begun[BEGIN.len()..]) && each_is_told(rest, lists)
 }
 
 /// Runs events, and returns whether deeds have their outcomes, and these are found in the world after them.
@@ -96,12 +125,12 @@ fn goes_once(
     alloc: Global,
     manifest: &Manifest,
     events: &[Event],
-    deeds: &[(Deed, Told)],
+    lists: &[Deeds],
     found: &[Found],
 ) -> bool {
     match run(alloc, manifest, 1024, events) {
         Ok((world, outcomes)) => {
-            let goes = all_are_told(outcomes.as_slice(), deeds) && is_each_found(&world, found);
+            let goes = all_are_told(outcomes.as_slice(), lists) && is_each_found(&world, found);
             drop(world);
             drop(outcomes);
             goes
@@ -111,18 +140,13 @@ fn goes_once(
 }
 
 /// Returns that of the events of deeds, behind the mount and the lookups.
-fn goes_with(
-    alloc: Global,
-    events: &mut Vec<Event>,
-    deeds: &[(Deed, Told)],
-    found: &[Found],
-) -> bool {
-    if !are_begun(alloc, events) || !are_put(alloc, events, deeds) {
+fn goes_with(alloc: Global, events: &mut Vec<Event>, lists: &[Deeds], found: &[Found]) -> bool {
+    if !are_begun(alloc, events) || !each_is_put(alloc, events, lists) {
         return false;
     }
     match manifest(alloc) {
         Some(manifest) => {
-            let goes = goes_once(alloc, &manifest, events.as_slice(), deeds, found);
+            let goes = goes_once(alloc, &manifest, events.as_slice(), lists, found);
             drop(manifest);
             goes
         }
@@ -131,11 +155,11 @@ fn goes_with(
 }
 
 /// Returns that of a list that is made.
-fn goes(alloc: Global, deeds: &[(Deed, Told)], found: &[Found]) -> bool {
+fn goes(alloc: Global, lists: &[Deeds], found: &[Found]) -> bool {
     match room(alloc, 300) {
         Some(events) => {
             let mut events = events;
-            let goes = goes_with(alloc, &mut events, deeds, found);
+            let goes = goes_with(alloc, &mut events, lists, found);
             drop(events);
             goes
         }
@@ -143,19 +167,64 @@ fn goes(alloc: Global, deeds: &[(Deed, Told)], found: &[Found]) -> bool {
     }
 }
 
-/// Returns whether deeds go so in the first run or, as where memory was refused, in the second.
-fn all_go_so(alloc: Global, deeds: &[(Deed, Told)], found: &[Found]) -> bool {
-    goes(alloc, deeds, found) || goes(alloc, deeds, found)
+/// Returns whether the deeds of all lists go so in the first run or, as where memory was refused, in the second.
+fn all_go_so(alloc: Global, lists: &[Deeds], found: &[Found]) -> bool {
+    goes(alloc, lists, found) || goes(alloc, lists, found)
 }
 
-/// Both parts are heard in order, and each once more. Nothing comes of one that is not the next.
-static HANDED_ON: [(Deed, Told); 13] = [
+/// Daemon 2 offers, and daemon 1 says its image in parts, of which the first is message 6.
+static PARTED: [(Deed, Told); 6] = [
     (Deed::StartWith(BOTH), Told::One(Fact::Started(2))),
     (Deed::Hear(1, 2), Told::One(Fact::Said(3))),
     (Deed::Hear(2, 3), Told::One(Fact::Heard)),
     (Deed::Drained(1), Told::One(Fact::Said(4))),
     (Deed::Hear(2, 4), Told::One(Fact::Said(5))),
     (Deed::Hear(1, 5), Told::One(Fact::Said(6))),
+];
+
+/// The rows of parts that daemon 2 hears of daemon 1, and a session 1 of its own, whose first part is message 12.
+static HANDED_AGAIN: [(Deed, Told); 9] = [
+    (Deed::Hear(2, 6), Told::One(Fact::Heard)),
+    (Deed::Hear(2, 7), Told::One(Fact::Heard)),
+    (Deed::Claim(2), Told::One(Fact::Claimed(2))),
+    (Deed::StartWith(BOTH), Told::One(Fact::Started(3))),
+    (Deed::Hear(2, 8), Told::One(Fact::Said(9))),
+    (Deed::Hear(3, 9), Told::One(Fact::Heard)),
+    (Deed::Drained(2), Told::One(Fact::Said(10))),
+    (Deed::Hear(3, 10), Told::One(Fact::Said(11))),
+    (Deed::Hear(2, 11), Told::One(Fact::Said(12))),
+];
+
+/// Six files of long names.
+static SIX_FILES: [(Deed, Told); 6] = [
+    (
+        Deed::Do(Wish::CreateLong(1)),
+        Told::Answered(201, Said::Opened(202, CREATED)),
+    ),
+    (
+        Deed::Do(Wish::CreateLong(2)),
+        Told::Answered(202, Said::Opened(203, CREATED)),
+    ),
+    (
+        Deed::Do(Wish::CreateLong(3)),
+        Told::Answered(203, Said::Opened(204, CREATED)),
+    ),
+    (
+        Deed::Do(Wish::CreateLong(4)),
+        Told::Answered(204, Said::Opened(205, CREATED)),
+    ),
+    (
+        Deed::Do(Wish::CreateLong(5)),
+        Told::Answered(205, Said::Opened(206, CREATED)),
+    ),
+    (
+        Deed::Do(Wish::CreateLong(6)),
+        Told::Answered(206, Said::Opened(207, CREATED)),
+    ),
+];
+
+/// Both parts are heard in order, and each once more. Nothing comes of one that is not the next.
+static HANDED_ON: [(Deed, Told); 7] = [
     (Deed::Hear(2, 7), Told::One(Fact::Ignored)),
     (Deed::Hear(2, 6), Told::One(Fact::Heard)),
     (Deed::Hear(2, 6), Told::One(Fact::Ignored)),
@@ -190,23 +259,17 @@ fn hands_200_numbers_on_in_two_parts(rt: HostRuntime) {
         Found::Handed(Some(6)),
         Found::EachOnce(1, 200),
     ];
-    assert!(rt; all_go_so(alloc, &HANDED_ON[..6], &said));
+    assert!(rt; all_go_so(alloc, &[&PARTED], &said));
     let handed = [
         Found::Seat(2, 2),
         Found::Handed(None),
         Found::EachOnce(2, 200),
     ];
-    assert!(rt; all_go_so(alloc, &HANDED_ON, &handed));
+    assert!(rt; all_go_so(alloc, &[&PARTED, &HANDED_ON], &handed));
 }
 
 /// The last part is lost. The old daemon says that it gave up, the new one hears of it, and the seat goes back.
-static LOST: [(Deed, Told); 13] = [
-    (Deed::StartWith(BOTH), Told::One(Fact::Started(2))),
-    (Deed::Hear(1, 2), Told::One(Fact::Said(3))),
-    (Deed::Hear(2, 3), Told::One(Fact::Heard)),
-    (Deed::Drained(1), Told::One(Fact::Said(4))),
-    (Deed::Hear(2, 4), Told::One(Fact::Said(5))),
-    (Deed::Hear(1, 5), Told::One(Fact::Said(6))),
+static LOST: [(Deed, Told); 7] = [
     (Deed::Hear(2, 6), Told::One(Fact::Heard)),
     (
         Deed::Claim(2),
@@ -229,17 +292,11 @@ fn goes_back_where_a_part_is_lost(rt: HostRuntime) {
         Found::NotServed(2),
         Found::EachOnce(1, 200),
     ];
-    assert!(rt; all_go_so(rt.alloc(), &LOST, &found));
+    assert!(rt; all_go_so(rt.alloc(), &[&PARTED, &LOST], &found));
 }
 
 /// The new daemon gives up between two parts, and the old one is still asked for nothing.
-static GIVEN_UP: [(Deed, Told); 11] = [
-    (Deed::StartWith(BOTH), Told::One(Fact::Started(2))),
-    (Deed::Hear(1, 2), Told::One(Fact::Said(3))),
-    (Deed::Hear(2, 3), Told::One(Fact::Heard)),
-    (Deed::Drained(1), Told::One(Fact::Said(4))),
-    (Deed::Hear(2, 4), Told::One(Fact::Said(5))),
-    (Deed::Hear(1, 5), Told::One(Fact::Said(6))),
+static GIVEN_UP: [(Deed, Told); 5] = [
     (Deed::Hear(2, 6), Told::One(Fact::Heard)),
     (Deed::GiveUp(2), Told::One(Fact::Heard)),
     (Deed::Hear(2, 7), Told::One(Fact::Ignored)),
@@ -250,41 +307,11 @@ static GIVEN_UP: [(Deed, Told); 11] = [
 #[test]
 fn goes_back_where_the_new_daemon_gives_up(rt: HostRuntime) {
     let found = [Found::Seat(1, 2), Found::EachOnce(1, 200)];
-    assert!(rt; all_go_so(rt.alloc(), &GIVEN_UP, &found));
+    assert!(rt; all_go_so(rt.alloc(), &[&PARTED, &GIVEN_UP], &found));
 }
 
 /// Six files of long names more make three parts, which are heard in order alone.
-static OUT_OF_ORDER: [(Deed, Told); 23] = [
-    (
-        Deed::Do(Wish::CreateLong(1)),
-        Told::Answered(201, Said::Opened(202, CREATED)),
-    ),
-    (
-        Deed::Do(Wish::CreateLong(2)),
-        Told::Answered(202, Said::Opened(203, CREATED)),
-    ),
-    (
-        Deed::Do(Wish::CreateLong(3)),
-        Told::Answered(203, Said::Opened(204, CREATED)),
-    ),
-    (
-        Deed::Do(Wish::CreateLong(4)),
-        Told::Answered(204, Said::Opened(205, CREATED)),
-    ),
-    (
-        Deed::Do(Wish::CreateLong(5)),
-        Told::Answered(205, Said::Opened(206, CREATED)),
-    ),
-    (
-        Deed::Do(Wish::CreateLong(6)),
-        Told::Answered(206, Said::Opened(207, CREATED)),
-    ),
-    (Deed::StartWith(BOTH), Told::One(Fact::Started(2))),
-    (Deed::Hear(1, 2), Told::One(Fact::Said(3))),
-    (Deed::Hear(2, 3), Told::One(Fact::Heard)),
-    (Deed::Drained(1), Told::One(Fact::Said(4))),
-    (Deed::Hear(2, 4), Told::One(Fact::Said(5))),
-    (Deed::Hear(1, 5), Told::One(Fact::Said(6))),
+static OUT_OF_ORDER: [(Deed, Told); 11] = [
     (Deed::Hear(2, 8), Told::One(Fact::Ignored)),
     (Deed::Hear(2, 7), Told::One(Fact::Ignored)),
     (Deed::Hear(2, 6), Told::One(Fact::Heard)),
@@ -311,44 +338,18 @@ fn hears_three_parts_in_their_order_alone(rt: HostRuntime) {
         Found::Part(8, last),
         Found::EachOnce(2, 206),
     ];
-    assert!(rt; all_go_so(rt.alloc(), &OUT_OF_ORDER, &found));
+    assert!(rt; all_go_so(rt.alloc(), &[&SIX_FILES, &PARTED, &OUT_OF_ORDER], &found));
 }
+
+/// Daemon 1 gives up once its parts are said, and serves on.
+static TAKEN_BACK: [(Deed, Told); 2] = [
+    (Deed::GiveUp(1), Told::One(Fact::Said(8))),
+    (Deed::Claim(1), Told::One(Fact::Claimed(2))),
+];
 
 /// Two sessions of one holder, with two parts and with three. Daemon 2 is left in session 1, and daemon 3 comes with
 /// session 2. Neither takes a part of the other's, and what daemon 2 raises is of no use.
-static TWO_SESSIONS: [(Deed, Told); 33] = [
-    (Deed::StartWith(BOTH), Told::One(Fact::Started(2))),
-    (Deed::Hear(1, 2), Told::One(Fact::Said(3))),
-    (Deed::Hear(2, 3), Told::One(Fact::Heard)),
-    (Deed::Drained(1), Told::One(Fact::Said(4))),
-    (Deed::Hear(2, 4), Told::One(Fact::Said(5))),
-    (Deed::Hear(1, 5), Told::One(Fact::Said(6))),
-    (Deed::GiveUp(1), Told::One(Fact::Said(8))),
-    (Deed::Claim(1), Told::One(Fact::Claimed(2))),
-    (
-        Deed::Do(Wish::CreateLong(1)),
-        Told::Answered(201, Said::Opened(202, CREATED)),
-    ),
-    (
-        Deed::Do(Wish::CreateLong(2)),
-        Told::Answered(202, Said::Opened(203, CREATED)),
-    ),
-    (
-        Deed::Do(Wish::CreateLong(3)),
-        Told::Answered(203, Said::Opened(204, CREATED)),
-    ),
-    (
-        Deed::Do(Wish::CreateLong(4)),
-        Told::Answered(204, Said::Opened(205, CREATED)),
-    ),
-    (
-        Deed::Do(Wish::CreateLong(5)),
-        Told::Answered(205, Said::Opened(206, CREATED)),
-    ),
-    (
-        Deed::Do(Wish::CreateLong(6)),
-        Told::Answered(206, Said::Opened(207, CREATED)),
-    ),
+static TWO_SESSIONS: [(Deed, Told); 19] = [
     (Deed::StartWith(BOTH), Told::One(Fact::Started(3))),
     (Deed::Hear(1, 9), Told::One(Fact::Said(10))),
     (Deed::Hear(3, 10), Told::One(Fact::Heard)),
@@ -378,27 +379,18 @@ fn hears_no_part_of_another_session(rt: HostRuntime) {
         Found::Part(7, SECOND),
         Found::EachOnce(3, 206),
     ];
-    assert!(rt; all_go_so(rt.alloc(), &TWO_SESSIONS, &found));
+    assert!(rt;
+        all_go_so(
+            rt.alloc(),
+            &[&PARTED, &TAKEN_BACK, &SIX_FILES, &TWO_SESSIONS],
+            &found
+        )
+    );
 }
 
 /// Daemon 2 has the seat, and hands it on in a session 1 of its own. Daemon 3 hears the parts of daemon 1's in their
 /// place, and its claim is stale.
-static OLD_HOLDER: [(Deed, Told); 25] = [
-    (Deed::StartWith(BOTH), Told::One(Fact::Started(2))),
-    (Deed::Hear(1, 2), Told::One(Fact::Said(3))),
-    (Deed::Hear(2, 3), Told::One(Fact::Heard)),
-    (Deed::Drained(1), Told::One(Fact::Said(4))),
-    (Deed::Hear(2, 4), Told::One(Fact::Said(5))),
-    (Deed::Hear(1, 5), Told::One(Fact::Said(6))),
-    (Deed::Hear(2, 6), Told::One(Fact::Heard)),
-    (Deed::Hear(2, 7), Told::One(Fact::Heard)),
-    (Deed::Claim(2), Told::One(Fact::Claimed(2))),
-    (Deed::StartWith(BOTH), Told::One(Fact::Started(3))),
-    (Deed::Hear(2, 8), Told::One(Fact::Said(9))),
-    (Deed::Hear(3, 9), Told::One(Fact::Heard)),
-    (Deed::Drained(2), Told::One(Fact::Said(10))),
-    (Deed::Hear(3, 10), Told::One(Fact::Said(11))),
-    (Deed::Hear(2, 11), Told::One(Fact::Said(12))),
+static OLD_HOLDER: [(Deed, Told); 10] = [
     (Deed::Hear(3, 6), Told::One(Fact::Heard)),
     (Deed::Hear(3, 12), Told::One(Fact::Ignored)),
     (Deed::Hear(3, 13), Told::One(Fact::Ignored)),
@@ -412,22 +404,7 @@ static OLD_HOLDER: [(Deed, Told); 25] = [
 ];
 
 /// Daemon 3 hears the first part of daemon 2's session, and takes none of daemon 1's behind it.
-static NEW_HOLDER: [(Deed, Told); 20] = [
-    (Deed::StartWith(BOTH), Told::One(Fact::Started(2))),
-    (Deed::Hear(1, 2), Told::One(Fact::Said(3))),
-    (Deed::Hear(2, 3), Told::One(Fact::Heard)),
-    (Deed::Drained(1), Told::One(Fact::Said(4))),
-    (Deed::Hear(2, 4), Told::One(Fact::Said(5))),
-    (Deed::Hear(1, 5), Told::One(Fact::Said(6))),
-    (Deed::Hear(2, 6), Told::One(Fact::Heard)),
-    (Deed::Hear(2, 7), Told::One(Fact::Heard)),
-    (Deed::Claim(2), Told::One(Fact::Claimed(2))),
-    (Deed::StartWith(BOTH), Told::One(Fact::Started(3))),
-    (Deed::Hear(2, 8), Told::One(Fact::Said(9))),
-    (Deed::Hear(3, 9), Told::One(Fact::Heard)),
-    (Deed::Drained(2), Told::One(Fact::Said(10))),
-    (Deed::Hear(3, 10), Told::One(Fact::Said(11))),
-    (Deed::Hear(2, 11), Told::One(Fact::Said(12))),
+static NEW_HOLDER: [(Deed, Told); 5] = [
     (Deed::Hear(3, 12), Told::One(Fact::Heard)),
     (Deed::Hear(3, 7), Told::One(Fact::Ignored)),
     (Deed::Hear(3, 6), Told::One(Fact::Ignored)),
@@ -443,7 +420,7 @@ fn takes_no_part_of_another_holder(rt: HostRuntime) {
         Found::NotServed(3),
         Found::EachOnce(2, 200),
     ];
-    assert!(rt; all_go_so(alloc, &OLD_HOLDER, &stayed));
+    assert!(rt; all_go_so(alloc, &[&PARTED, &HANDED_AGAIN, &OLD_HOLDER], &stayed));
     let handed = [Found::Seat(3, 3), Found::EachOnce(3, 200)];
-    assert!(rt; all_go_so(alloc, &NEW_HOLDER, &handed));
+    assert!(rt; all_go_so(alloc, &[&PARTED, &HANDED_AGAIN, &NEW_HOLDER], &handed));
 }
