@@ -132,7 +132,7 @@ fn first_len(bytes: &[u8]) -> Result<Option<usize>, FrameFault>
     }
 }
 
-/// Returns how long the whole frame is that begins at a place.
+/// Returns how long the whole frame is that begins at an offset.
 fn len_at(bytes: &[u8], at: usize) -> Result<Option<usize>, FrameFault>
     requires within { at ≤ length bytes.now }
     ensures len { Measures (drop at bytes.now) result }
@@ -141,7 +141,7 @@ fn len_at(bytes: &[u8], at: usize) -> Result<Option<usize>, FrameFault>
     first_len(rest)
 }
 
-/// Returns whether a stream may end behind these bytes, of which those before a place were read.
+/// Returns whether a stream may end behind these bytes, of which those before an offset were read.
 #[tactic(auto, using(crate::proofs::Ending::passed, crate::proofs::Ending::torn, crate::proofs::Ending::faulty, crate::proofs::Ending::whole))]
 pub(crate) fn end_of(bytes: &[u8], read: usize) -> Result<(), FrameFault>
     requires within { read ≤ length bytes.now }

@@ -80,71 +80,71 @@ name_again name is =
 
 -- ---- a mode and a name
 
--- a count of bytes from a place on, and the rest
+-- a count of bytes from an offset on, and the rest
 pub parted : (bytes : List ℕ) (n m : ℕ) → take m (drop n bytes) ++ drop (n + m) bytes ≡ drop n bytes
 parted bytes n m = ap (λ (d : List ℕ). take m (drop n bytes) ++ d) (sym (drop-drop m n bytes)) ∙ take-append-drop m (drop n bytes)
 
 abbrev pub pair : List ℕ → Perm → List ℕ × Perm
 pair name perm = (name, perm)
 
--- the parts of a body that has a mode at a place and a count of bytes behind it
-made_front : (place rest : ℕ) (body : List ℕ) → AreBytes body → place + 4 + rest ≤ length body
-    → (take place body ++ u32_bytes (u32_at (drop place body)) ++ take rest (drop (place + 4) body)) ++ drop (place + 4 + rest) body ≡ body
-made_front place rest body are long =
-    let second = drop place body in
-    let word = u32_front second (AreBytes-drop place body are) (omega (arith, length-drop place body)) in
-    let word' : u32_bytes (u32_at second) ++ drop (place + 4) body ≡ second = ap (λ (d : List ℕ). u32_bytes (u32_at second) ++ d) (sym (drop-drop 4 place body)) ∙ word in
-    let last : take rest (drop (place + 4) body) ++ drop (place + 4 + rest) body ≡ drop (place + 4) body = parted body (place + 4) rest in
-    append_assoc (take place body ++ u32_bytes (u32_at second)) (take rest (drop (place + 4) body)) (drop (place + 4 + rest) body)
-    ∙ ap (λ (d : List ℕ). (take place body ++ u32_bytes (u32_at second)) ++ d) last
-    ∙ append_assoc (take place body) (u32_bytes (u32_at second)) (drop (place + 4) body)
-    ∙ ap (λ (d : List ℕ). take place body ++ d) word'
-    ∙ take-append-drop place body
+-- the parts of a body that has a mode at an offset and a count of bytes behind it
+made_front : (offset rest : ℕ) (body : List ℕ) → AreBytes body → offset + 4 + rest ≤ length body
+    → (take offset body ++ u32_bytes (u32_at (drop offset body)) ++ take rest (drop (offset + 4) body)) ++ drop (offset + 4 + rest) body ≡ body
+made_front offset rest body are long =
+    let second = drop offset body in
+    let word = u32_front second (AreBytes-drop offset body are) (omega (arith, length-drop offset body)) in
+    let word' : u32_bytes (u32_at second) ++ drop (offset + 4) body ≡ second = ap (λ (d : List ℕ). u32_bytes (u32_at second) ++ d) (sym (drop-drop 4 offset body)) ∙ word in
+    let last : take rest (drop (offset + 4) body) ++ drop (offset + 4 + rest) body ≡ drop (offset + 4) body = parted body (offset + 4) rest in
+    append_assoc (take offset body ++ u32_bytes (u32_at second)) (take rest (drop (offset + 4) body)) (drop (offset + 4 + rest) body)
+    ∙ ap (λ (d : List ℕ). (take offset body ++ u32_bytes (u32_at second)) ++ d) last
+    ∙ append_assoc (take offset body) (u32_bytes (u32_at second)) (drop (offset + 4) body)
+    ∙ ap (λ (d : List ℕ). take offset body ++ d) word'
+    ∙ take-append-drop offset body
 
-pub made_found : (place rest : ℕ) (body name : List ℕ) (perm : Perm) → AreBytes body → made_of place rest body ≡ Ok (name, perm) → IsMadeBody place rest name perm body
+pub made_found : (offset rest : ℕ) (body name : List ℕ) (perm : Perm) → AreBytes body → made_of offset rest body ≡ Ok (name, perm) → IsMadeBody offset rest name perm body
 unfolding made_of
-made_found place rest body name perm are e =
-    let fixed = place + 4 + rest in
-    let second = drop place body in
+made_found offset rest body name perm are e =
+    let fixed = offset + 4 + rest in
+    let second = drop offset body in
     let read = perm_of (u32_at second) in
-    let g = guard_ok (ltb (length body) fixed) BadBody (name_of (drop fixed body) >>= λ n. Ok (n, perm_of (u32_at (drop place body)))) (name, perm) e in
-    let b = bind_ok (name_of (drop fixed body)) (λ n. Ok (pair n (perm_of (u32_at (drop place body))))) (name, perm) g.1 in
+    let g = guard_ok (ltb (length body) fixed) BadBody (name_of (drop fixed body) >>= λ n. Ok (n, perm_of (u32_at (drop offset body)))) (name, perm) e in
+    let b = bind_ok (name_of (drop fixed body)) (λ n. Ok (pair n (perm_of (u32_at (drop offset body))))) (name, perm) g.1 in
     let same : pair b.0 read ≡ pair name perm = ok_is (pair b.0 read) (pair name perm) b.2 in
     let found = name_found (drop fixed body) b.0 b.1 in
     let names : b.0 ≡ name = ap (λ (p : List ℕ × Perm). p.0) same in
     let perms : read ≡ perm = ap (λ (p : List ℕ × Perm). p.1) same in
     let long : fixed ≤ length body = ltb-false _ _ g.0 in
     record {
-      before = take place body;
+      before = take offset body;
       mode = u32_at second;
-      behind = take rest (drop (place + 4) body);
-      len_before = omega (arith, length-take place body);
-      is_mode = record { in_range = u32_below second (AreBytes-drop place body are); low = ap (λ (p : Perm). p.bits) perms };
-      len_behind = omega (arith, length-take rest (drop (place + 4) body), length-drop (place + 4) body);
+      behind = take rest (drop (offset + 4) body);
+      len_before = omega (arith, length-take offset body);
+      is_mode = record { in_range = u32_below second (AreBytes-drop offset body are); low = ap (λ (p : Perm). p.bits) perms };
+      len_behind = omega (arith, length-take rest (drop (offset + 4) body), length-drop (offset + 4) body);
       is_name = subst IsNameText names found.0;
-      parts = sym (made_front place rest body are long) ∙ ap (λ (d : List ℕ). (take place body ++ u32_bytes (u32_at second) ++ take rest (drop (place + 4) body)) ++ d) (found.1 ∙ ap name_text names);
+      parts = sym (made_front offset rest body are long) ∙ ap (λ (d : List ℕ). (take offset body ++ u32_bytes (u32_at second) ++ take rest (drop (offset + 4) body)) ++ d) (found.1 ∙ ap name_text names);
     }
 
 beside_again : {F : Type 0} (read : Result (List ℕ) F) (name : List ℕ) (p q : Perm) → read ≡ Ok name → p ≡ q → (read >>= λ n. done (pair n p)) ≡ done (pair name q)
 beside_again read name p q is same = rw (is, same) refl
 
-pub made_again : (place rest : ℕ) (body name : List ℕ) (perm : Perm) → IsMadeBody place rest name perm body → made_of place rest body ≡ Ok (name, perm)
+pub made_again : (offset rest : ℕ) (body name : List ℕ) (perm : Perm) → IsMadeBody offset rest name perm body → made_of offset rest body ≡ Ok (name, perm)
 unfolding made_of
-made_again place rest body name perm is =
-    let fixed = place + 4 + rest in
+made_again offset rest body name perm is =
+    let fixed = offset + 4 + rest in
     let r2 = is.behind ++ name_text name in
     let r1 = u32_bytes is.mode ++ r2 in
     let all : body ≡ is.before ++ r1 = is.parts ∙ simp append_assoc in
-    let at_mode : drop place body ≡ r1 = behind body is.before r1 0 place place all is.len_before (omega arith) in
-    let at_rest : drop (place + 4) body ≡ r2 = behind body (u32_bytes is.mode) r2 place 4 (place + 4) at_mode (length-u32_bytes is.mode) refl in
-    let at_name : drop fixed body ≡ name_text name = behind body is.behind (name_text name) (place + 4) rest fixed at_rest is.len_behind refl in
-    let mode : u32_at (drop place body) ≡ is.mode = ap u32_at at_mode ∙ u32_again is.mode r2 is.is_mode.in_range in
-    let low : u32_at (drop place body) % 4096 ≡ perm.bits = ap (λ (m : ℕ). m % 4096) mode ∙ is.is_mode.low in
+    let at_mode : drop offset body ≡ r1 = behind body is.before r1 0 offset offset all is.len_before (omega arith) in
+    let at_rest : drop (offset + 4) body ≡ r2 = behind body (u32_bytes is.mode) r2 offset 4 (offset + 4) at_mode (length-u32_bytes is.mode) refl in
+    let at_name : drop fixed body ≡ name_text name = behind body is.behind (name_text name) (offset + 4) rest fixed at_rest is.len_behind refl in
+    let mode : u32_at (drop offset body) ≡ is.mode = ap u32_at at_mode ∙ u32_again is.mode r2 is.is_mode.in_range in
+    let low : u32_at (drop offset body) % 4096 ≡ perm.bits = ap (λ (m : ℕ). m % 4096) mode ∙ is.is_mode.low in
     let len : length body ≡ length (is.before ++ r1) = ap length all in
     let long : ltb (length body) fixed ≡ false = le-ltb _ _ (omega (arith, len, length-append is.before r1, length-append (u32_bytes is.mode) r2, length-append is.behind (name_text name), is.len_before, is.len_behind, length-u32_bytes is.mode)) in
     let read : name_of (drop fixed body) ≡ Ok name = ap name_of at_name ∙ name_again name is.is_name in
-    let perms : perm_of (u32_at (drop place body)) ≡ perm = same_perm (perm_of (u32_at (drop place body))) perm low in
-    rw long (beside_again (name_of (drop fixed body)) name (perm_of (u32_at (drop place body))) perm read perms)
+    let perms : perm_of (u32_at (drop offset body)) ≡ perm = same_perm (perm_of (u32_at (drop offset body))) perm low in
+    rw long (beside_again (name_of (drop fixed body)) name (perm_of (u32_at (drop offset body))) perm read perms)
 
 -- ---- forgets
 

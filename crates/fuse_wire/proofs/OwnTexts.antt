@@ -14,12 +14,12 @@ use Rattle.fuse_wire.proofs.Lengths.{length-zeros}
 use Rattle.fuse_wire.proofs.RequestKinds.{own_nodeid}
 use Rattle.fuse_wire.proofs.Requests.{request_again}
 
-pub made_is_body : (place mode rest : ℕ) (name : List ℕ) (perm : Perm) → IsMode perm mode → IsNameText name → IsMadeBody place rest name perm (made_body place mode rest name)
-made_is_body place mode rest name perm is_mode is = record {
-  before = zeros place;
+pub made_is_body : (offset mode rest : ℕ) (name : List ℕ) (perm : Perm) → IsMode perm mode → IsNameText name → IsMadeBody offset rest name perm (made_body offset mode rest name)
+made_is_body offset mode rest name perm is_mode is = record {
+  before = zeros offset;
   mode = mode;
   behind = zeros rest;
-  len_before = length-zeros place;
+  len_before = length-zeros offset;
   is_mode = is_mode;
   len_behind = length-zeros rest;
   is_name = is;

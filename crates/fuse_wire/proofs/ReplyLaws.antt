@@ -129,7 +129,7 @@ header_again reply fits =
       rest = at16;
     }
 
--- attributes at a place of a payload
+-- attributes at an offset of a payload
 attributes_at : (bytes before : List ℕ) (number : Number) (attr : Attr) (after : List ℕ) (n k : ℕ) → drop 16 bytes ≡ before ++ (attributes number attr ++ after) → length before ≡ n → 16 + n ≡ k → FitsAttr number attr
     → (number_at (drop k bytes) ≡ number) × (attr_at (drop k bytes) ≡ attr)
 attributes_at bytes before number attr after n k rest len is fits =

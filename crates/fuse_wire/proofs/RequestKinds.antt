@@ -46,11 +46,11 @@ named o node body what make e then =
     let found = name_found body b.0 b.1 in
     subst (WhatIs o node body) (ok_is (make b.0) what b.2) (then b.0 found.0 found.1)
 
-made : (o : Opcode) (place rest : ℕ) (node : Number) (body : List ℕ) (what : Request) (make : List ℕ × Perm → Request) → AreBytes body → (made_of place rest body >>= λ made. Ok (make made)) ≡ Ok what
-    → ((name : List ℕ) (perm : Perm) → IsMadeBody place rest name perm body → WhatIs o node body (make (name, perm))) → WhatIs o node body what
-made o place rest node body what make are e then =
-    let b = bind_ok (made_of place rest body) (λ made. Ok (make made)) what e in
-    let found = made_found place rest body b.0.0 b.0.1 are b.1 in
+made : (o : Opcode) (offset rest : ℕ) (node : Number) (body : List ℕ) (what : Request) (make : List ℕ × Perm → Request) → AreBytes body → (made_of offset rest body >>= λ made. Ok (make made)) ≡ Ok what
+    → ((name : List ℕ) (perm : Perm) → IsMadeBody offset rest name perm body → WhatIs o node body (make (name, perm))) → WhatIs o node body what
+made o offset rest node body what make are e then =
+    let b = bind_ok (made_of offset rest body) (λ made. Ok (make made)) what e in
+    let found = made_found offset rest body b.0.0 b.0.1 are b.1 in
     subst (WhatIs o node body) (ok_is (make b.0) what b.2) (then b.0.0 b.0.1 found)
 
 pub what_found : (o : Opcode) (node : Number) (body : List ℕ) (what : Request) → AreBytes body → opcode_of (code o) ≡ o → what_of o node body ≡ Ok what → WhatIs o node body what

@@ -1,4 +1,4 @@
--- How a reply is read: the fields that vary, at the places that the length of the whole tells, and then the bytes as a
+-- How a reply is read: the fields that vary, at the offsets that the length of the whole tells, and then the bytes as a
 -- whole, since a reply has one spelling (linux/fuse.h: fuse_out_header, and the struct of each answer).
 use Rattle.std.specs.Prelude.{ℕ, zero, suc, ◌==◌, nat_lt, ℤ, pos, negsuc, List, length, drop, Option, Some, None, Result, Ok, Err, if◌then◌else◌}
 use Rattle.std.specs.Str.{bytes_eq}

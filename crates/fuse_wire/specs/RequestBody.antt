@@ -29,9 +29,9 @@ name_text name = name ++ 0 ∷ []
 abbrev pub item_text : Item → List ℕ
 item_text item = u64_bytes item.node.0 ++ u64_bytes item.k
 
--- a fixed part, in which a mode stands at a place with a count of bytes behind it, then a name
+-- a fixed part, in which a mode stands at an offset with a count of bytes behind it, then a name
 abbrev pub made_body : ℕ → ℕ → ℕ → List ℕ → List ℕ
-made_body place mode rest name = (zeros place ++ u32_bytes mode ++ zeros rest) ++ name_text name
+made_body offset mode rest name = (zeros offset ++ u32_bytes mode ++ zeros rest) ++ name_text name
 
 -- the count and four bytes, then the items
 abbrev pub batch_body : List Item → List ℕ
@@ -57,11 +57,11 @@ pub record IsMode (perm : Perm) (mode : ℕ) : Type 0 where
   pub low : mode % 4096 ≡ perm.bits
 
 -- CREATE and MKDIR: a fixed part of which the mode is looked at, then a name
-pub record IsMadeBody (place rest : ℕ) (name : List ℕ) (perm : Perm) (bytes : List ℕ) : Type 0 where
+pub record IsMadeBody (offset rest : ℕ) (name : List ℕ) (perm : Perm) (bytes : List ℕ) : Type 0 where
   pub before : List ℕ
   pub mode : ℕ
   pub behind : List ℕ
-  pub len_before : length before ≡ place
+  pub len_before : length before ≡ offset
   pub is_mode : IsMode perm mode
   pub len_behind : length behind ≡ rest
   pub is_name : IsNameText name
@@ -117,11 +117,11 @@ name_of body =
 abbrev pub named_with : Perm → List ℕ → Result (List ℕ × Perm) WireFault
 named_with perm rest = name_of rest >>= λ name. Ok (name, perm)
 
--- the permissions of the mode at a place, and the name behind it, after a count of bytes
+-- the permissions of the mode at an offset, and the name behind it, after a count of bytes
 unfoldable pub made_of : ℕ → ℕ → List ℕ → Result (List ℕ × Perm) WireFault
-made_of place rest body =
-    if nat_lt (length body) (place + 4 + rest) then Err BadBody
-    else named_with (perm_of (u32_at (drop place body))) (drop (place + 4 + rest) body)
+made_of offset rest body =
+    if nat_lt (length body) (offset + 4 + rest) then Err BadBody
+    else named_with (perm_of (u32_at (drop offset body))) (drop (offset + 4 + rest) body)
 
 -- the item in the first sixteen bytes
 abbrev pub item_at : List ℕ → Item

@@ -2,11 +2,11 @@
 use Rattle.std.specs.Prelude.{◌≡◌, ◌≤◌, ℕ, ◌+◌, List, ◌++◌, length, take, drop}
 use Rattle.fuse_wire.specs.declared.writer.Writer.{Writer}
 
--- from a place on these bytes stand in the message; the others are as they were
+-- from an offset on these bytes stand in the message; the others are as they were
 abbrev pub Writes : List ℕ → List ℕ → ℕ → List ℕ → Type 0
 Writes old new at bytes = new ≡ (take at old ++ bytes) ++ drop (at + length bytes) old
 
--- a count of bytes has room from the next field's place on
+-- a count of bytes has room from the next field's offset on
 abbrev pub HasRoom : Writer → ℕ → Type 0
 HasRoom writer count = writer.at + count ≤ length writer.bytes.now
 

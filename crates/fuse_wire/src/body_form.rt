@@ -56,58 +56,58 @@ pub(crate) fn read_name<M: Memory>(memory: M, body: &[u8]) -> Result<Name, WireF
     }
 }
 
-/// Returns the length of a fixed part, in which a mode stands at `place` with `rest` bytes behind it, and of the name
+/// Returns the length of a fixed part, in which a mode stands at `offset` with `rest` bytes behind it, and of the name
 /// behind that part.
 #[tactic(auto, using(crate::proofs::Lengths::lengths))]
-pub(crate) fn made_len(place: usize, rest: usize, name: &Name) -> usize
-    requires { place + rest ≤ 12 }
-    ensures len { (mode : ℕ) → result ≡ length (made_body place mode rest name.now) }
+pub(crate) fn made_len(offset: usize, rest: usize, name: &Name) -> usize
+    requires { offset + rest ≤ 12 }
+    ensures len { (mode : ℕ) → result ≡ length (made_body offset mode rest name.now) }
     ensures at_most { result ≤ 272 }
     ensures is_name { IsNameText name.now }
 {
-    place + MODE_LEN + rest + name_len(name)
+    offset + MODE_LEN + rest + name_len(name)
 }
 
-/// Writes `place` bytes that are 0, a mode, `rest` bytes that are 0, then a name.
+/// Writes `offset` bytes that are 0, a mode, `rest` bytes that are 0, then a name.
 #[tactic(auto, using(crate::proofs::Written::written))]
-pub(crate) fn put_made(fields: &mut Writer, place: usize, mode: u32, rest: usize, name: &Name)
-    requires { HasRoom fields.old (length (made_body place mode rest name.now)) }
-    ensures { Puts fields.old fields.new (made_body place mode rest name.now) }
+pub(crate) fn put_made(fields: &mut Writer, offset: usize, mode: u32, rest: usize, name: &Name)
+    requires { HasRoom fields.old (length (made_body offset mode rest name.now)) }
+    ensures { Puts fields.old fields.new (made_body offset mode rest name.now) }
 {
-    fields.put_zeros(place);
+    fields.put_zeros(offset);
     fields.put_u32(mode);
     fields.put_zeros(rest);
     put_name(fields, name);
 }
 
-/// Returns the permissions of the mode at `place`, and what stands `rest` bytes behind it.
+/// Returns the permissions of the mode at `offset`, and what stands `rest` bytes behind it.
 #[tactic(auto, unfolding(crate::specs::RequestBody::made_of))]
-fn mode_part(place: usize, rest: usize, body: &[u8]) -> Result<(Perm, &[u8]), WireFault>
-    requires { place + rest ≤ 12 }
-    ensures rest { IfOk result (λ part. made_of place rest body.now ≡ named_with part.0 part.1.now) }
-    ensures fault { IfErr result (λ fault. Gives TakesNone (Err fault) (made_of place rest body.now)) }
+fn mode_part(offset: usize, rest: usize, body: &[u8]) -> Result<(Perm, &[u8]), WireFault>
+    requires { offset + rest ≤ 12 }
+    ensures rest { IfOk result (λ part. made_of offset rest body.now ≡ named_with part.0 part.1.now) }
+    ensures fault { IfErr result (λ fault. Gives TakesNone (Err fault) (made_of offset rest body.now)) }
 {
-    let fixed = place + MODE_LEN + rest;
+    let fixed = offset + MODE_LEN + rest;
     if body.len() < fixed {
         return Err(WireFault::BadBody);
     }
-    let (_, mode_on) = body.split_at(place);
+    let (_, mode_on) = body.split_at(offset);
     let mode = Reader::new(mode_on).u32();
     let (_, named) = body.split_at(fixed);
     Ok((mode::perm_of(mode), named))
 }
 
-/// Reads a name, and the permissions of the mode that stands at `place`, `rest` bytes before the name.
+/// Reads a name, and the permissions of the mode that stands at `offset`, `rest` bytes before the name.
 pub(crate) fn read_made<M: Memory>(
     memory: M,
-    place: usize,
+    offset: usize,
     rest: usize,
     body: &[u8],
 ) -> Result<(Name, Perm), WireFault>
-    requires { place + rest ≤ 12 }
-    ensures { Gives (MayLack M.may_lack TakesSome) result (made_of place rest body.now) }
+    requires { offset + rest ≤ 12 }
+    ensures { Gives (MayLack M.may_lack TakesSome) result (made_of offset rest body.now) }
 {
-    let (perm, named) = mode_part(place, rest, body)?;
+    let (perm, named) = mode_part(offset, rest, body)?;
     let name = read_name(memory, named)?;
     Ok((name, perm))
 }

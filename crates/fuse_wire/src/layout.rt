@@ -1,4 +1,4 @@
-//! The lengths of the parts of a message, in bytes, and their places.
+//! The lengths of the parts of a message, in bytes, and their offsets.
 
 /// The end of `struct fuse_in_header`: uid, gid, pid, padding.
 pub(crate) const SENDER_LEN: usize = 16;
@@ -6,13 +6,13 @@ pub(crate) const SENDER_LEN: usize = 16;
 /// A mode.
 pub(crate) const MODE_LEN: usize = 4;
 
-/// The place of the mode in `struct fuse_create_in`: flags, mode, umask, open_flags.
+/// The offset of the mode in `struct fuse_create_in`: flags, mode, umask, open_flags.
 pub(crate) const CREATE_MODE: usize = 4;
 
 /// The end of `struct fuse_create_in`, behind the mode: umask, open_flags.
 pub(crate) const CREATE_REST_LEN: usize = 8;
 
-/// The place of the mode in `struct fuse_mkdir_in`: mode, umask.
+/// The offset of the mode in `struct fuse_mkdir_in`: mode, umask.
 pub(crate) const MKDIR_MODE: usize = 0;
 
 /// The end of `struct fuse_mkdir_in`, behind the mode: umask.
@@ -63,7 +63,7 @@ pub(crate) const DONE_REPLY_LEN: usize = REPLY_HEADER_LEN;
 /// A whole reply that is `Answer::Attrs`.
 pub(crate) const ATTRS_REPLY_LEN: usize = REPLY_HEADER_LEN + ATTR_VALID_LEN + ATTRIBUTES_LEN;
 
-/// The place of the attributes in a reply that is `Answer::Attrs`.
+/// The offset of the attributes in a reply that is `Answer::Attrs`.
 pub(crate) const ATTRS_REPLY_ATTRIBUTES: usize = REPLY_HEADER_LEN + ATTR_VALID_LEN;
 
 /// A whole reply that is `Answer::Entry`.
@@ -72,7 +72,7 @@ pub(crate) const ENTRY_REPLY_LEN: usize = REPLY_HEADER_LEN + ENTRY_LEN;
 /// A whole reply that is `Answer::Opened`.
 pub(crate) const OPENED_REPLY_LEN: usize = REPLY_HEADER_LEN + ENTRY_LEN + OPEN_LEN;
 
-/// The place of the attributes in a reply that is `Answer::Entry` or `Answer::Opened`.
+/// The offset of the attributes in a reply that is `Answer::Entry` or `Answer::Opened`.
 pub(crate) const ENTRY_REPLY_ATTRIBUTES: usize = REPLY_HEADER_LEN + ENTRY_LEN - ATTRIBUTES_LEN;
 
 /// The `blksize` of each file.

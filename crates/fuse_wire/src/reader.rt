@@ -4,7 +4,7 @@ ghost use Rattle.fuse_wire.specs.Field.{u32_at, u64_at};
 
 use byteorder::{ByteOrder, LittleEndian};
 
-/// A message, and the place of the next field in it.
+/// A message, and the offset of the next field in it.
 #[derive(Drop)]
 pub(crate) struct Reader<'a> {
     pub bytes: &'a [u8],

@@ -105,12 +105,12 @@ fn answer_of(error: i32, bytes: &[u8]) -> Option<Answer>
 
 /// Reads the fields of `struct fuse_attr` that vary.
 #[tactic(auto, unfolding(crate::specs::ReplyReading::attr_at))]
-fn attributes_at(bytes: &[u8], place: usize) -> (Number, Attr)
-    requires { place + 88 ≤ length bytes.now }
-    ensures number { result.0 ≡ number_at (drop place bytes.now) }
-    ensures attr { result.1 ≡ attr_at (drop place bytes.now) }
+fn attributes_at(bytes: &[u8], offset: usize) -> (Number, Attr)
+    requires { offset + 88 ≤ length bytes.now }
+    ensures number { result.0 ≡ number_at (drop offset bytes.now) }
+    ensures attr { result.1 ≡ attr_at (drop offset bytes.now) }
 {
-    let (_, attributes) = bytes.split_at(place);
+    let (_, attributes) = bytes.split_at(offset);
     let mut fields = Reader::new(attributes);
     let number = Number(fields.u64());
     let size = fields.u64();

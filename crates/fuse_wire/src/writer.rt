@@ -5,7 +5,7 @@ ghost use Rattle.fuse_wire.specs.Writing.{Puts, HasRoom};
 
 use byteorder::{ByteOrder, LittleEndian};
 
-/// The bytes of a message, and the place of the next field in them.
+/// The bytes of a message, and the offset of the next field in them.
 #[derive(Drop)]
 pub(crate) struct Writer<'a> {
     pub bytes: &'a mut [u8],

@@ -13,4 +13,4 @@ returns-in_err-name g c =
     let fault = c.in_err-name.field-0.0 in
     let told : c.from_residual-in_err-name.result ≡ Err fault = search rules in
     let whole = subst (Gives (MayLack may TakesSome) (Err fault)) (sym c.in_ok-perm.ensures.rest) (fault_beside may c.in_ok-perm.perm fault (name_of c.in_ok-perm.named.now) c.in_err-name.ensures) in
-    subst (λ (r : Result (List ℕ × Perm) WireFault). Gives (MayLack may TakesSome) r (made_of c.args.place c.args.rest c.args.body.now)) (sym told) whole
+    subst (λ (r : Result (List ℕ × Perm) WireFault). Gives (MayLack may TakesSome) r (made_of c.args.offset c.args.rest c.args.body.now)) (sym told) whole

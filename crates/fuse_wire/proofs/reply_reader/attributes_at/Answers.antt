@@ -6,7 +6,7 @@ use Rattle.fuse_wire.proofs.reply_reader.attributes_at.Goals as goal
 pub returns-clause-attr : goal.returns-clause-attr
 unfolding attr_at
 returns-clause-attr c =
-    let bytes = drop c.args.place c.args.bytes.now in
+    let bytes = drop c.args.offset c.args.bytes.now in
     let at8 : c.u64.new.self.at ≡ 8 = omega arith in
     let at60 : c.skip.new.self.at ≡ 60 = omega arith in
     let at64 : c.u32-mode.new.self.at ≡ 64 = omega arith in
