@@ -1,6 +1,6 @@
 -- What a daemon makes of a message that it hears, and of its own program's calls in a takeover. What it says and
 -- becomes is the table's (`takeover_core`); what is added here is the data, which is made of what the daemon serves,
--- and what is raised from it. (EdenFS's documents on takeover; the table is this project's own.)
+-- and what is restored from it. (EdenFS's documents on takeover; the table is this project's own.)
 use Rattle.std.specs.Prelude.{◌≡◌, ℕ, ◌+◌, ◌==◌, nat_lt, ◌⊎◌, Bool, true, false, List, [], ◌∷◌, ◌++◌, length, Option, Some, None, unwrap_or, IsSome, Result, Ok, Err, if◌then◌else◌}
 use Rattle.std.specs.Option.{option_map}
 use Rattle.eden_base.specs.declared.claim.ClaimFault.{ClaimFault}
@@ -94,7 +94,7 @@ bytes_of (message.Data session generation bytes) = bytes
 bytes_of (message.Part session generation position count bytes) = bytes
 bytes_of other = []
 
--- what is raised from the data is held, until the seat is claimed
+-- what is restored from the data is held, until the seat is claimed
 pub record TakesOver (old : DaemonState) (manifest : Manifest) (limit : ℕ) (bytes : List ℕ) (node : NodeState)
     (generation : ℕ) (reaction : Reaction) (new : DaemonState) : Type 0 where
   pub served : ServedState
@@ -106,20 +106,20 @@ pub record TakesOver (old : DaemonState) (manifest : Manifest) (limit : ℕ) (by
     reading = read_in (table.after node (table.Raised true)).phase old.reading;
   }
 
--- a daemon that raised nothing is gone
+-- a daemon that restored nothing is gone
 pub record Loses (old : DaemonState) (node : NodeState) (reaction : Reaction) (new : DaemonState) : Type 0 where
   pub said : Message
   pub says : table.said (table.heard node (table.Raised false)) ≡ Some said
   pub reacts : reaction ≡ Says said []
   pub becomes : new ≡ turned_to old (table.after node (table.Raised false))
 
--- nothing is raised from the data
+-- nothing is restored from the data
 pub record CannotTakeOver (old : DaemonState) (manifest : Manifest) (text : List ℕ) (node : NodeState) (generation : ℕ)
     (reaction : Reaction) (new : DaemonState) : Type 0 where
   pub cannot : CannotBeTakenOver manifest generation text
   pub loses : Loses old node reaction new
 
--- it is raised, or nothing is
+-- it is restored, or nothing is
 abbrev pub TakesData : Manifest → ℕ → DaemonState → List ℕ → NodeState → ℕ → Reaction → DaemonState → Type 0
 TakesData manifest limit old bytes node generation reaction new =
     TakesOver old manifest limit bytes node generation reaction new
@@ -190,7 +190,7 @@ ReactsBy manifest limit bytes old node (answer.GotPart session generation versio
     TakesPart manifest limit old (read_before position old ++ bytes) node generation position count reaction new
 ReactsBy manifest limit bytes old node other reaction new = TurnsBy old node other reaction new
 
--- an answer that wants memory: data is to be made, or to be read and raised
+-- an answer that wants memory: data is to be made, or to be read and restored
 abbrev pub brings_data : Answer → Bool
 brings_data (answer.MakeData session generation version) = true
 brings_data (answer.GotData session generation version) = true

@@ -205,7 +205,7 @@ impl Daemon {
     }
 
     /// Returns what it is to become of a message of another daemon, other than a part that others follow. Data that it
-    /// is to hand over is made of what it serves, and data that is handed to it is read and raised over the manifest.
+    /// is to hand over is made of what it serves, and data that is handed to it is read and restored over the manifest.
     /// The last part is read by a copy of what read the others. So it may be heard again where memory is refused.
     pub fn hear(
         &self,

@@ -1,4 +1,4 @@
-//! What a daemon takes over: data that comes whole, or part by part, is read and raised.
+//! What a daemon takes over: data that comes whole, or part by part, is read and restored.
 ghost use Rattle.std.specs.Prelude.{◌≡◌, ◌≤◌, ◌++◌, ℕ, nat_lt, false, true, Some, is_none, length, IsTrue, IfOk, OnErr, OnOk};
 ghost use Rattle.map_image.specs.Feeding.{standing_fault};
 ghost use Rattle.takeover_core.specs.Phases.{after, is_raising, is_taking, phase_after, Fed, Raised};
@@ -72,7 +72,7 @@ fn read_last(
     read_first(alloc, bytes)
 }
 
-/// Holds what is raised from the data, or is gone where nothing can be raised from it.
+/// Holds what is restored from the data, or is gone where nothing can be restored from it.
 pub(crate) fn take_data(
     alloc: Global,
     daemon: &Daemon,
@@ -130,7 +130,7 @@ pub(crate) fn take_last(
     }
 }
 
-/// Holds what is raised from what was read, or is gone where nothing can be raised from it.
+/// Holds what is restored from what was read, or is gone where nothing can be restored from it.
 fn take_read(
     alloc: Global,
     daemon: &Daemon,
@@ -159,7 +159,7 @@ fn take_read(
     }
 }
 
-/// Holds what was raised, until it claims the seat.
+/// Holds what was restored, until it claims the seat.
 fn hold(node: Node, server: Server) -> Turn
     requires raising { IsTrue (is_raising node.phase) }
     ensures holds { result ≡ record { node = after node (Raised true); held = Some server; reaction = Reaction.Heeds } }
@@ -170,7 +170,7 @@ fn hold(node: Node, server: Server) -> Turn
     Turn::holding(node, server)
 }
 
-/// Takes in that nothing was raised.
+/// Takes in that nothing was restored.
 fn lose(daemon: &Daemon, node: Node) -> Turn
     requires raising { IsTrue (is_raising node.phase) }
     ensures loses { Loses daemon.now node result.reaction (turned daemon.now result) }

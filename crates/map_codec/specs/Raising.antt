@@ -1,4 +1,4 @@
--- What a daemon serves that is raised from an image over a manifest, and what stands against it. (This project's own;
+-- What a daemon serves that is restored from an image over a manifest, and what stands against it. (This project's own;
 -- EdenFS's daemon takes what it is sent as it is.)
 use Rattle.std.specs.Prelude.{◌≡◌, ◌≢◌, ℕ, ◌<◌, ◌&&◌, Bool, true, false, nat_lt, nat_le, List, slice_get, Option, Some, None, is_some, Result, Ok, Err}
 use Rattle.std.specs.List.{AllByRecursion, list_all}
@@ -95,12 +95,12 @@ pub record TellsATree (m : Manifest) (image : Image) : Type 0 where
   pub commit : image.commit ≡ m.commit
   pub changes : IsBadChange m image.changes None
 
--- an image may be raised over a manifest
+-- an image may be restored over a manifest
 pub record IsRaisable (m : Manifest) (image : Image) : Type 0 where
   pub tree : TellsATree m image
   pub entries : AreRaisable (tree_told m image) image.entries image.next_number
 
--- what is raised: what the image tells, of which nothing is loaded yet
+-- what is restored: what the image tells, of which nothing is loaded yet
 abbrev pub raised : Manifest → Image → ℕ → ServedState
 raised m image limit = served_of image.entries image.next_number limit (tree_told m image)
 

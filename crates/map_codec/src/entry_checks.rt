@@ -1,4 +1,4 @@
-//! What stands against the entries of an image, once the tree is there that they are raised over.
+//! What stands against the entries of an image, once the tree is there that they are restored over.
 ghost use Rattle.std.specs.Prelude.{◌≡◌};
 ghost use Rattle.map_codec.specs.Raising.{are_below, are_right_marks, is_next, is_right_mark, TellsApart};
 

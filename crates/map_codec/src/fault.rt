@@ -1,7 +1,7 @@
-//! What stops an image from being raised, and a handover.
+//! What stops an image from being restored, and a handover.
 use thiserror::Error;
 
-/// Why nothing that a daemon could serve is raised from an image. The first that holds is told, in this order.
+/// Why nothing that a daemon could serve is restored from an image. The first that holds is told, in this order.
 #[derive(Clone, Copy, Debug, PartialEq, Eq, Error)]
 pub enum RaiseFault {
     #[error("the image is of another commit")]

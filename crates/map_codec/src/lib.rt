@@ -1,4 +1,4 @@
-//! The image of what a daemon serves, and what is served raised from an image; and both as the bytes that one daemon
+//! The image of what a daemon serves, and what is served restored from an image; and both as the bytes that one daemon
 //! hands to the next.
 #![tactic(auto)]
 

@@ -1,4 +1,4 @@
-//! What a daemon serves, raised from an image.
+//! What a daemon serves, restored from an image.
 ghost use Rattle.std.specs.Prelude.{◌≡◌, true, None, IfErr, IfOk, OnOk};
 ghost use Rattle.manifest.specs.Tree.{IsTree};
 ghost use Rattle.fuse_ops.specs.Soundness.{IsSound};
@@ -100,8 +100,8 @@ fn entries_of(image: Image) -> Vec<Kept>
     image.entries.into_vec()
 }
 
-/// Raises what a daemon serves from an image, over the manifest that the daemon was handed. At most `limit` attributes
-/// are loaded at once, or one if that is 0; none is at first.
+/// Restores what a daemon serves from an image, over the manifest that the daemon was handed. At most `limit`
+/// attributes are loaded at once, or one if that is 0; none is at first.
 pub fn raise(
     alloc: Global,
     image: Image,

@@ -70,7 +70,7 @@ fn raise_told(fault: RaiseFault) -> HandoverFault
     }
 }
 
-/// Raises what is served from an image over a manifest.
+/// Restores what is served from an image over a manifest.
 fn served_again(
     alloc: Global,
     image: Image,

@@ -4,8 +4,7 @@ ghost use Rattle.std.specs.Borrow.{ftrue};
 
 use std::marker::{Model, PhantomData, Send};
 
-/// The bytes that were taken, in their order. They are kept nowhere: contracts name them, and nothing is done for them
-/// while the program runs.
+/// The bytes that were taken, in their order. They are kept nowhere: contracts name them, and no code runs for them.
 #[derive(Drop)]
 pub struct Taken {
     mark: PhantomData<u8>,

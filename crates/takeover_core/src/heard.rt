@@ -16,7 +16,7 @@ pub enum Heard {
         generation: u64,
         version: u16,
     },
-    /// The message's data is to be read and raised: `Node::raised` follows.
+    /// The message's data is to be read and restored: `Node::raised` follows.
     GotData {
         session: u32,
         generation: u64,

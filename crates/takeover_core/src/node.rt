@@ -164,7 +164,7 @@ impl Node {
         }
     }
 
-    /// Takes in whether the data was read and raised, and returns the message that is to be said, if there is one.
+    /// Takes in whether the data was read and restored, and returns the message that is to be said, if there is one.
     pub fn raised(&mut self, succeeded: bool) -> Option<Message>
         requires raising { IsTrue (is_raising self.old.phase) }
         ensures message { result ≡ said (heard self.old (Raised succeeded)) }

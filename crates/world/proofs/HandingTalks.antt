@@ -305,7 +305,7 @@ no-seat old daemon was h there none seat at here =
     let two : None ≡ Some seat.generation = sym none ∙ part in
     let no : ⊥ = cc in no
 
--- what is raised knows what the holder knows
+-- what is restored knows what the holder knows
 takes-handing : (w : World) (old : State) (daemon : DaemonId) (was : DaemonState) (bytes : List ℕ) (node : NodeState) (s g : ℕ) (reaction : Reaction) (later : DaemonState) (new : State) → Follows w old → IsHanding old → daemon_of old daemon ≡ Some was → part_at was.node.phase ≡ None → node.phase ≡ Raising s g →
     IsFromHolder old g bytes → TakesOver was old.manifest old.limit bytes node g reaction later → new ≡ with_daemon (saying old reaction) daemon later → IsHanding new
 takes-handing w old daemon was bytes node s g reaction later new m h there alone raising source t makes =
@@ -352,7 +352,7 @@ takes-handing w old daemon was bytes node s g reaction later new m h there alone
         reads = λ seat holder handed has e. absurd (let two : None ≡ Some seat.generation = sym (ap reads_at phase) ∙ e in let none : ⊥ = cc in none);
       }
 
--- nothing could be raised, and the daemon is gone
+-- nothing could be restored, and the daemon is gone
 cannot-handing : (old : State) (daemon : DaemonId) (was : DaemonState) (bytes : List ℕ) (node : NodeState) (s g : ℕ) (reaction : Reaction) (later : DaemonState) (new : State) → IsHanding old → daemon_of old daemon ≡ Some was → ((at : ℕ) → IsTurn at false was.node.phase Gone) → node.phase ≡ Raising s g →
     CannotTakeOver was old.manifest bytes node g reaction later → new ≡ with_daemon (saying old reaction) daemon later → IsHanding new
 cannot-handing old daemon was bytes node s g reaction later new h there turn raising t makes =
@@ -364,7 +364,7 @@ cannot-handing old daemon was bytes node s g reaction later new h there turn rai
           ap (λ (p : Phase). table.said (table.heard (node_of node.versions node.sessions p) (table.Raised false))) (sym raising) ∙ (t.loses).says in
           let same : Failed s ≡ (t.loses).said = cc in same
 
--- it is raised, or nothing is
+-- it is restored, or nothing is
 takes-data : (w : World) (old : State) (daemon : DaemonId) (was : DaemonState) (bytes : List ℕ) (node : NodeState) (s g : ℕ) (reaction : Reaction) (later : DaemonState) (new : State) → Follows w old → IsHanding old → daemon_of old daemon ≡ Some was → part_at was.node.phase ≡ None → ((at : ℕ) → IsTurn at false was.node.phase Gone) → node.phase ≡ Raising s g →
     IsFromHolder old g bytes → TakesData old.manifest old.limit was bytes node g reaction later → new ≡ with_daemon (saying old reaction) daemon later → IsHanding new
 takes-data w old daemon was bytes node s g reaction later new m h there alone turn raising source (inl t) makes = takes-handing w old daemon was bytes node s g reaction later new m h there alone raising source t makes

@@ -348,7 +348,7 @@ static TAKEN_BACK: [(Deed, Told); 2] = [
 ];
 
 /// Two sessions of one holder, with two parts and with three. Daemon 2 is left in session 1, and daemon 3 comes with
-/// session 2. Neither takes a part of the other's, and what daemon 2 raises is of no use.
+/// session 2. Neither takes a part of the other's, and what daemon 2 restores serves nobody.
 static TWO_SESSIONS: [(Deed, Told); 19] = [
     (Deed::StartWith(BOTH), Told::One(Fact::Started(3))),
     (Deed::Hear(1, 9), Told::One(Fact::Said(10))),

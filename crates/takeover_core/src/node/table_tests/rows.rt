@@ -169,7 +169,7 @@ pub(super) static CALLS: [Call; 44] = [
     Call::Crash,
 ];
 
-/// What is said, or is to be done. What says nothing is `Heard` where it is taken.
+/// What is said, or is to be done. A message that is taken in silence is `Heard`.
 #[derive(Clone, Copy)]
 pub(super) enum Answer {
     Ignored,
