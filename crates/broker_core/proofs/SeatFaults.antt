@@ -1,5 +1,6 @@
 -- Who takes or posts has the seat, and nothing else stands against whoever has it.
 use Rattle.std.proofs.Common.{◌≡◌, ℕ, Bool, true, false, ◌&&◌, Option, Some, None, is_none, refl, ap, ◌∙◌, if◌then◌else◌}
+use Rattle.std.proofs.lemmas.Bool.{and_parts}
 use Rattle.std.specs.Prelude.{◌==◌}
 use Rattle.eden_base.proofs.NumberTests.{eq-true, true-eq}
 use Rattle.eden_base.specs.declared.number.DaemonId.{DaemonId}
@@ -12,11 +13,6 @@ use Rattle.broker_core.specs.declared.fault.NotSeated.{NotSeated}
 use Rattle.broker_core.specs.declared.fault.NotSeated.TheVariants as unseated
 use Rattle.broker_core.specs.declared.seat.Seat.{Seat}
 
-both : (c d : Bool) → (c && d) ≡ true → (c ≡ true) × (d ≡ true)
-both true true e = (refl, refl)
-both true false e = absurd (let none : ⊥ = cc in none)
-both false d e = absurd (let none : ⊥ = cc in none)
-
 -- where nothing stands against it, the seat is the daemon's at that generation
 seated : (seat : Option Seat) (daemon : DaemonId) (generation : ℕ) → seat_fault seat daemon generation ≡ None → seat ≡ Some (record { generation = generation; daemon = daemon })
 seated None daemon generation h = absurd (let none : ⊥ = cc in none)
@@ -24,7 +20,7 @@ seated (Some seat) daemon generation h = in_ (seat.daemon.0 == daemon.0 && seat.
   in_ : (b : Bool) → (seat.daemon.0 == daemon.0 && seat.generation == generation) ≡ b → (if b then None else Some (unseated.Stale seat.generation)) ≡ None → Some seat ≡ Some (record { generation = generation; daemon = daemon })
   in_ false e f = absurd (let none : ⊥ = cc in none)
   in_ true e f =
-      let r = both (seat.daemon.0 == daemon.0) (seat.generation == generation) e in
+      let r = and_parts (seat.daemon.0 == daemon.0) (seat.generation == generation) e in
       let d : seat.daemon.0 ≡ daemon.0 = true-eq seat.daemon.0 daemon.0 r.0 in
       let g : seat.generation ≡ generation = true-eq seat.generation generation r.1 in
       λ i. Some (record { generation = g i; daemon = record { 0 = d i } })

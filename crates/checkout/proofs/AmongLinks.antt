@@ -1,5 +1,6 @@
 -- Which links are among those of a manifest with changes made.
 use Rattle.std.proofs.Common.{◌≡◌, ℕ, suc, ◌+◌, ◌==◌, ◌&&◌, ◌||◌, ◌⊎◌, Bool, true, false, not, cond, List, [], ◌∷◌, Option, Some, None, refl, sym, ap, subst, ◌∙◌, inl, inr, arith, eq-eqb}
+use Rattle.std.proofs.lemmas.Bool.{and_parts, or_cases}
 use Rattle.std.proofs.lemmas.Bool.Decides.{nat_tests}
 use Rattle.std.proofs.lemmas.List.Folds.{list_any-append}
 use Rattle.std.specs.FinMap.{FinMap, get}
@@ -45,14 +46,6 @@ pub same_bool : (a b : Bool) → (a ≡ true → b ≡ true) → (b ≡ true →
 same_bool true b f g = sym (f refl)
 same_bool false true f g = g refl
 same_bool false false f g = refl
-
-pub both_hold : (a b : Bool) → (a && b) ≡ true → (a ≡ true) × (b ≡ true)
-both_hold true b h = (refl, h)
-both_hold false b h = absurd (cc)
-
-pub either_holds : (a b : Bool) → (a || b) ≡ true → (a ≡ true) ⊎ (b ≡ true)
-either_holds true b h = inl refl
-either_holds false b h = inr h
 
 none_there : (place : ℕ × List ℕ) (cs : List LinkChange) → not (list_any (λ change. is_at place (place_of change)) cs) ≡ true → change_at place cs ≡ None
 none_there place [] h = refl
@@ -126,10 +119,10 @@ module _ (m : Manifest) (c : Changes) (is : IsManifest m) (itself : bad_itself m
   pub links_found : (t : Link → Bool) → list_any t (changed_links m c) ≡ true → FoundLink t
   links_found t h =
       let left : Link → Bool = λ link. not (list_any (λ change. is_at link.0 (place_of change)) c.links) in
-      elim (either_holds (list_any t (filter left (lines_links 2 m.lines))) (list_any t (filter_map given c.links)) (sym (list_any-append t (filter left (lines_links 2 m.lines)) (filter_map given c.links)) ∙ h)) [
+      elim (or_cases (list_any t (filter left (lines_links 2 m.lines))) (list_any t (filter_map given c.links)) (sym (list_any-append t (filter left (lines_links 2 m.lines)) (filter_map given c.links)) ∙ h)) [
         | inl g ↦
             let r = line_found (λ x. left x && t x) 2 m.lines (any-filter left t (lines_links 2 m.lines) g) in
-            let w = both_hold (left ((r.line.dir.0, r.line.name), file_with (2 + r.place))) (t ((r.line.dir.0, r.line.name), file_with (2 + r.place))) r.passes in
+            let w = and_parts (left ((r.line.dir.0, r.line.name), file_with (2 + r.place))) (t ((r.line.dir.0, r.line.name), file_with (2 + r.place))) r.passes in
             let none = none_there (r.line.dir.0, r.line.name) c.links w.0 in
             record {
               place = (r.line.dir.0, r.line.name);

@@ -1,5 +1,6 @@
 -- Entries of a map as a list, and lists whose places rise.
 use Rattle.std.proofs.Common.{◌≡◌, ℕ, ◌+◌, ◌<◌, Bool, false, cond, T, List, [], ◌∷◌, ◌++◌, map, length, get_or, Some, refl, sym, ap, ◌∙◌, arith}
+use Rattle.std.proofs.Math.Facts.{and_yes}
 use Rattle.std.proofs.Math.ListN.{get_or-map}
 use Rattle.std.proofs.lemmas.List.{length-map}
 use Rattle.std.proofs.lemmas.List.Elements.{All-contains_itself, All-weaker, Contains-append_right, recursion_from_All}
@@ -13,14 +14,14 @@ use Rattle.std.specs.List.Sorted.{IsPermutation, IsSortedBy, IsStrictlySortedBy}
 use Rattle.std.specs.Ordering.{eq_by_cmp, is_eq, is_lt, ordering_reverse}
 use Rattle.std.specs.declared.cmp.Ordering.{Ordering}
 use Rattle.std.specs.declared.cmp.Ordering.TheVariants.{Less, Equal, Greater}
-use Rattle.manifest.proofs.MapLemmas.{both_hold, no_tie_behind}
+use Rattle.manifest.proofs.MapLemmas.{no_tie_behind}
 
 -- what holds of each key and its value holds of all entries
 pub all_entries : {K X : Type 0} {R : K → K → Ordering} (o : IsTotalOrder R) (P : K × X → Type 0) (es : List (K × X)) → T (is_sorted R es) →
     ((k : K) (v : X) → find R k es ≡ Some v → P (k, v)) → AllByRecursion P es
 all_entries o P [] rise h = tt
 all_entries {R = R} o P (e ∷ es) rise h =
-    let w = both_hold (below_all R e.0 es) (is_sorted R es) rise in (
+    let w = and_yes (below_all R e.0 es) (is_sorted R es) rise in (
       h e.0 e.1 (ap (λ r. cond (is_eq r) (Some e.1) (find R e.0 es)) (tied_itself o e.0)),
       all_entries o P es w.1 (λ k v found. h k v (ap (λ b. cond b (Some e.1) (find R k es)) (no_tie_behind o e.0 k es v w.0 found) ∙ found)),
     )
@@ -52,7 +53,7 @@ contains_found {K = K} {X = X} R same f q v (e ∷ es) h =
 
 all_below : {K X : Type 0} (R : K → K → Ordering) (k : K) (es : List (K × X)) → T (below_all R k es) → AllByRecursion (λ y. R k y ≡ Less) (map (λ (e : K × X). e.0) es)
 all_below R k [] h = tt
-all_below R k (e ∷ es) h = let w = both_hold (is_lt (R k e.0)) (below_all R k es) h in (less (R k e.0) w.0, all_below R k es w.1)
+all_below R k (e ∷ es) h = let w = and_yes (is_lt (R k e.0)) (below_all R k es) h in (less (R k e.0) w.0, all_below R k es w.1)
   where
     less : (r : Ordering) → T (is_lt r) → r ≡ Less
     less Less t = refl
@@ -63,7 +64,7 @@ all_below R k (e ∷ es) h = let w = both_hold (is_lt (R k e.0)) (below_all R k 
 pub keys_rise : {K X : Type 0} (R : K → K → Ordering) (es : List (K × X)) → T (is_sorted R es) → IsStrictlySortedBy R (map (λ (e : K × X). e.0) es)
 unfolding IsStrictlySortedBy
 keys_rise R [] h = tt
-keys_rise R (e ∷ es) h = let w = both_hold (below_all R e.0 es) (is_sorted R es) h in (all_below R e.0 es w.0, keys_rise R es w.1)
+keys_rise R (e ∷ es) h = let w = and_yes (below_all R e.0 es) (is_sorted R es) h in (all_below R e.0 es w.0, keys_rise R es w.1)
 
 pub all-append : {X : Type 0} (P : X → Type 0) (xs ys : List X) → AllByRecursion P xs → AllByRecursion P ys → AllByRecursion P (xs ++ ys)
 all-append P [] ys g h = h

@@ -1,5 +1,6 @@
 -- Where no change is bad by itself or meets another: what each file and each link of the changed tree is.
 use Rattle.std.proofs.Common.{◌≡◌, ◌<◌, ◌≤◌, ◌⊎◌, ◌==◌, ◌&&◌, ℕ, Bool, true, false, not, List, Option, Some, None, IsSome, is_some, refl, sym, ap, ◌∙◌, inl, inr, arith, eq-eqb}
+use Rattle.std.proofs.lemmas.Bool.{and_parts}
 use Rattle.std.proofs.lemmas.Bool.Decides.{nat_tests}
 use Rattle.std.proofs.lemmas.List.Elements.{All-contains, All-from_recursion}
 use Rattle.std.specs.FinMap.{FinMap, get}
@@ -31,11 +32,6 @@ pub holds_of_none : (test : LinkChange → Bool) (c : Changes) → first_link_wh
 holds_of_none test c none x h =
     let P : LinkChange → Type 0 = λ y. test y ≡ false in
     All-contains P c.links x (All-from_recursion P c.links (all_good (λ _ change. test change) P (λ _ y fails. fails) (first_link c) None c.links none)) h
-
-pub both_true : (a b : Bool) → (a && b) ≡ true → (a ≡ true) × (b ≡ true)
-both_true true true h = (refl, refl)
-both_true true false h = absurd (cc)
-both_true false b h = absurd (cc)
 
 dir_if_so : (k : Option Kind) → is_dir k ≡ true → k ≡ Some Dir
 dir_if_so None h = absurd (cc)
@@ -108,7 +104,7 @@ module _ (m : Manifest) (c : Changes) (is : IsManifest m) (itself : bad_itself m
   -- what a change gives
   given_is_target : (dir : FileId) (name : List ℕ) (file : FileId) → child_of tree dir name ≡ Some file → StandsAt base c.links (dir.0, name) → (is_some (kind_with m c.made file) ≡ true) × (not (file.0 == 1) ≡ true)
   given_is_target dir name file h r =
-      both_true (is_some (kind_with m c.made file)) (not (file.0 == 1)) (ap (is_target m c.made) (sym (r.gives ∙ h)) ∙ (change_is_good m c good.links r.change r.listed).target)
+      and_parts (is_some (kind_with m c.made file)) (not (file.0 == 1)) (ap (is_target m c.made) (sym (r.gives ∙ h)) ∙ (change_is_good m c good.links r.change r.listed).target)
 
   pub gives_file : (dir : FileId) (name : List ℕ) (file : FileId) → child_of tree dir name ≡ Some file → IsSome (file_of tree file)
   gives_file dir name file h =

@@ -1,5 +1,6 @@
 -- Where no change cuts a directory off each directory with a link in it stands in another, or is the root.
 use Rattle.std.proofs.Common.{◌≡◌, ◌+◌, ◌==◌, ◌&&◌, ◌||◌, ℕ, suc, Bool, true, false, not, cond, List, [], ◌∷◌, Some, None, refl, sym, ap, subst, ◌∙◌, inl, inr, arith, eq-eqb}
+use Rattle.std.proofs.lemmas.Bool.{not-true, or_parts}
 use Rattle.std.proofs.lemmas.Bool.Decides.{nat_tests}
 use Rattle.std.specs.FinMap.{FinMap, get}
 use Rattle.std.specs.List.{AllByRecursion, Contains, cons_option, filter, filter_map, list_any, slice_get}
@@ -56,15 +57,6 @@ each_given P (x ∷ xs) h =
       | Some file ↦ λ e. (h.0 file e, each_given P xs h.1)
     ] refl
 
-neither : (a b : Bool) → (a || b) ≡ false → (a ≡ false) × (b ≡ false)
-neither false false h = (refl, refl)
-neither false true h = absurd (cc)
-neither true b h = absurd (cc)
-
-not_so : (b : Bool) → not b ≡ true → b ≡ false
-not_so false h = refl
-not_so true h = absurd (cc)
-
 -- the tree gives what the link gives
 abbrev pub Stands : Tree → Link → Type 0
 Stands t link = get t.links link.0 ≡ Some link.1
@@ -82,7 +74,7 @@ each_link t c is has =
     kept : (i : ℕ) (line : Line) → slice_get t.manifest.lines i ≡ Some line → not (touched t c has (line.dir.0, line.name)) ≡ true → get t.links (line.dir.0, line.name) ≡ Some (file_with (2 + i))
     kept i line here k =
         let place : ℕ × List ℕ = (line.dir.0, line.name) in
-        sym (untouched t c has place (not_so (touched t c has place) k)) ∙ link_of_line t.manifest.lines 2 i line (apart t.manifest.lines is.lines) here
+        sym (untouched t c has place (not-true (touched t c has place) k)) ∙ link_of_line t.manifest.lines 2 i line (apart t.manifest.lines is.lines) here
 
     Gives : LinkChange → Type 0
     Gives x = (file : FileId) → x.target ≡ Some file → Stands t (place_of x, file)
@@ -122,7 +114,7 @@ module _ (m : Manifest) (c : Changes) (is : IsManifest m) (none : first_bad (is_
   module _ (by_cut : bad_by_cut m c ≡ None) where
     not_cut : (x : LinkChange) → Contains c.links x → (is_cut_off links x.dir ≡ false) × (file_does (is_cut_off links) (manifest_target m x) ≡ false)
     not_cut x h =
-        neither (is_cut_off links x.dir) (file_does (is_cut_off links) (manifest_target m x))
+        or_parts (is_cut_off links x.dir) (file_does (is_cut_off links) (manifest_target m x))
         (holds_of_none (λ change. is_cut_off links change.dir || file_does (is_cut_off links) (manifest_target m change)) c by_cut x h)
 
     -- a directory with a link in it is the root or stands in another

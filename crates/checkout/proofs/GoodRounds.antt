@@ -1,5 +1,6 @@
 -- What tells a tree from its manifest's has nothing bad in it: the first two rounds, and so all four.
 use Rattle.std.proofs.Common.{◌≡◌, ◌==◌, ◌&&◌, ◌||◌, ℕ, zero, suc, Bool, true, false, not, if◌then◌else◌, List, [], ◌∷◌, Option, Some, None, is_some, refl, sym, ap, ◌∙◌, inr, arith}
+use Rattle.std.proofs.lemmas.Bool.{and_parts}
 use Rattle.std.proofs.lemmas.Bool.Decides.{nat_tests}
 use Rattle.std.specs.Cmp.{tied_itself}
 use Rattle.std.specs.List.{Contains, list_any, slice_get}
@@ -15,7 +16,7 @@ use Rattle.checkout.specs.Changes.{AreChanges, IsLinkChange, place_of}
 use Rattle.manifest.specs.Manifest.{File, IsManifest, Manifest}
 use Rattle.manifest.specs.Tree.{IsTree, Tree, child_of, file_of, is_dir, kind_of, tree_of}
 use Rattle.checkout.proofs.ChangeLists.{all_of}
-use Rattle.checkout.proofs.ChangedAround.{both_true, dir_stays}
+use Rattle.checkout.proofs.ChangedAround.{dir_stays}
 use Rattle.checkout.proofs.ChangedLinks.{lines_links-get}
 use Rattle.checkout.proofs.ChangedUpward.{Stands, each_link, passing_one}
 use Rattle.checkout.proofs.FirstBadLaws.{IsGoodLink}
@@ -96,7 +97,7 @@ module _ (t : Tree) (c : Changes) (is : IsTree t) (man : IsManifest t.manifest) 
         | false ↦ λ _. refl
         | true ↦ λ g.
             let w = passing_one (Stands t) other (changed_links m c) (each_link t c man has.links) g in
-            let both = both_true (w.0.1.0 == f.0) (not (is_at (place_of x) w.0.0)) w.2 in
+            let both = and_parts (w.0.1.0 == f.0) (not (is_at (place_of x) w.0.0)) w.2 in
             let passes = both.0 in
             let file = same_id w.0.1 f (grind (arith, nat_tests)) in
             let one = is.links_are_apart x.dir (file_with w.0.0.0) x.name w.0.0.1 f (sym told.target ∙ e) (w.1 ∙ ap (λ y. Some y) file) in

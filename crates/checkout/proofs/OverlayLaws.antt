@@ -1,5 +1,6 @@
 -- What stands in a tree that is laid over a manifest's.
 use Rattle.std.proofs.Common.{◌≡◌, ℕ, ◌+◌, ◌-◌, ◌<◌, ◌≤◌, ◌==◌, ◌&&◌, ◌||◌, Bool, true, false, not, nat_lt, nat_le, if◌then◌else◌, List, length, Option, Some, None, refl, sym, ap, ◌∙◌, ◌⊎◌, inl, inr, arith, eq-eqb}
+use Rattle.std.proofs.lemmas.Bool.{and_parts}
 use Rattle.std.proofs.lemmas.Bool.Decides.{nat_tests}
 use Rattle.std.proofs.lemmas.Option.{slice_get_within}
 use Rattle.std.specs.List.{list_any}
@@ -38,14 +39,10 @@ pub or-cases : {X : Type 0} (a b : Option X) (x : X) → option_or a b ≡ Some 
 or-cases None b x h = inr (refl, h)
 or-cases (Some y) b x h = inl h
 
-both : (a b : Bool) → (a && b) ≡ true → (a ≡ true) × (b ≡ true)
-both true b h = (refl, h)
-both false b h = absurd (cc)
-
 -- where the ids of a manifest's files are
 pub within_lines : (m : Manifest) (file : FileId) → is_line m file ≡ true → (2 ≤ file.0) × (file.0 < length m.lines + 2)
 within_lines m file h =
-    let w = both (nat_le 2 file.0) (nat_lt file.0 (length m.lines + 2)) h in
+    let w = and_parts (nat_le 2 file.0) (nat_lt file.0 (length m.lines + 2)) h in
     let a = w.0 in
     let b = w.1 in
     (grind (arith, nat_tests), grind (arith, nat_tests))

@@ -1,5 +1,6 @@
 -- A tree from which a link was taken.
-use Rattle.std.proofs.Common.{Bool, not, ◌≡◌, ℕ, ◌&&◌, true, false, List, Some, None, refl, sym, ap, ◌∙◌}
+use Rattle.std.proofs.Common.{not, ◌≡◌, ℕ, ◌&&◌, true, false, List, Some, None, refl, sym, ap, ◌∙◌}
+use Rattle.std.proofs.lemmas.Bool.{and_parts, and_right, not-true}
 use Rattle.eden_base.specs.declared.attr.Kind.TheVariants.{File as RegularFile}
 use Rattle.eden_base.specs.declared.number.FileId.{FileId}
 use Rattle.manifest.specs.Tree.{kind_of, Tree, root, child_of, is_dir, IsTree}
@@ -93,14 +94,11 @@ module _ (tree : Tree) (dir : FileId) (name : List ℕ) (file : FileId) (is : Is
         ] refl
       ] refl
 
-no_both : (a b : Bool) → (a && not b) ≡ true → (a && b) ≡ false
-no_both true true h = absurd (cc)
-no_both true false h = refl
-no_both false b h = refl
-
 -- an empty directory, and what is no directory, is no directory with links
 pub not_full-from_empty : (tree : Tree) (file : FileId) → is_empty_dir tree file ≡ true → is_full_dir tree file ≡ false
-not_full-from_empty tree file h = no_both (is_dir (kind_of tree file)) (has_links tree file) h
+not_full-from_empty tree file h =
+    let empty = and_parts (is_dir (kind_of tree file)) (not (has_links tree file)) h in
+    and_right (is_dir (kind_of tree file)) (has_links tree file) (not-true (has_links tree file) empty.1)
 
 pub not_full-from_file : (tree : Tree) (file : FileId) → kind_of tree file ≡ Some RegularFile → is_full_dir tree file ≡ false
 not_full-from_file tree file h = ap (λ k. is_dir k && has_links tree file) h

@@ -1,6 +1,7 @@
 -- The second round, by marks and by what is gone.
 use Rattle.std.proofs.Common.{◌≡◌, ℕ, ◌==◌, ◌+◌, ◌-◌, ◌&&◌, ◌||◌, Bool, true, false, not, List, Option, Some, None, refl, sym, ap, ◌∙◌, inl, inr, arith, eq-eqb}
 use Rattle.std.proofs.Math.Bool.{or-true}
+use Rattle.std.proofs.lemmas.Bool.{and_parts, not-true, or_cases}
 use Rattle.std.proofs.lemmas.Bool.Decides.{nat_tests}
 use Rattle.std.specs.Cmp.{tied_itself}
 use Rattle.std.specs.FinMap.{FinMap, get}
@@ -18,7 +19,7 @@ use Rattle.manifest.specs.Manifest.{Manifest, IsManifest}
 use Rattle.checkout.specs.Overlay.{is_line}
 use Rattle.checkout.specs.Rounds.{first_of, is_given_twice, is_marked, marked}
 use Rattle.manifest.specs.Tree.{link_cmp, links_from}
-use Rattle.checkout.proofs.AmongLinks.{IsAmong, all_among, both_hold, either_holds, first_of-same, first_where-is, holds_among, links_any, links_found, same_bool, stands}
+use Rattle.checkout.proofs.AmongLinks.{IsAmong, all_among, first_of-same, first_where-is, holds_among, links_any, links_found, same_bool, stands}
 use Rattle.checkout.proofs.ChangeLists.{all_weaker}
 use Rattle.checkout.proofs.ChangedLinks.{lines_links-get}
 use Rattle.checkout.proofs.ChangedMaps.{links_with-put, target_else}
@@ -85,7 +86,7 @@ module _ (m : Manifest) (c : Changes) (is : IsManifest m) (itself : bad_itself m
     found_if_other : list_any test (changed_links m c) ≡ true → found ≡ true
     found_if_other k =
         let r = links_found m c is itself test k in
-        let w = both_hold (r.file.0 == file.0) (not (is_at (place_of x) r.place)) r.passes in
+        let w = and_parts (r.file.0 == file.0) (not (is_at (place_of x) r.place)) r.passes in
         let first = w.0 in
         let id : r.file.0 ≡ file.0 = grind (arith, nat_tests) in
         let is_file = same_id r.file file id in
@@ -106,14 +107,10 @@ module _ (m : Manifest) (c : Changes) (is : IsManifest m) (itself : bad_itself m
 
     other_if_found : found ≡ true → list_any test (changed_links m c) ≡ true
     other_if_found k =
-        elim (either_holds (is_line m file && not (gone file.0)) (is_marked (marked file.0 None c.links)) k) [
-          | inl l ↦ let w = both_hold (is_line m file) (not (gone file.0)) l in other_if_left w.0 (turned (gone file.0) w.1)
+        elim (or_cases (is_line m file && not (gone file.0)) (is_marked (marked file.0 None c.links)) k) [
+          | inl l ↦ let w = and_parts (is_line m file) (not (gone file.0)) l in other_if_left w.0 (not-true (gone file.0) w.1)
           | inr k ↦ other_if_marked (marked-is (marked file.0 None c.links) k)
         ]
-      where
-        turned : (b : Bool) → not b ≡ true → b ≡ false
-        turned true h = absurd (cc)
-        turned false h = refl
 
     one_test : found ≡ list_any test (changed_links m c)
     one_test = same_bool found (list_any test (changed_links m c)) other_if_found found_if_other

@@ -1,6 +1,7 @@
 -- What is left once the link of one change went.
 use Rattle.std.proofs.Common.{◌≡◌, ℕ, ◌==◌, ◌||◌, ◌++◌, true, false, List, [], ◌∷◌, map, Option, Some, None, IfSome, refl, sym, ap, ◌∙◌, arith}
 use Rattle.std.proofs.lemmas.Bool.Decides.{nat_tests}
+use Rattle.std.proofs.lemmas.List.{append-nil}
 use Rattle.std.proofs.lemmas.List.Elements.{filter_map-append}
 use Rattle.std.proofs.lemmas.Map.Keys.{IsDistinct-head, IsDistinct-tail}
 use Rattle.std.specs.Cmp.{tied_itself}
@@ -16,7 +17,7 @@ use Rattle.manifest.specs.Manifest.{Manifest, IsManifest}
 use Rattle.manifest.specs.Tree.{link_cmp}
 use Rattle.manifest.proofs.FlatLemmas.{link_cmp_total}
 use Rattle.checkout.proofs.UnlinkedLemmas.{is_gone-added}
-use Rattle.manifest.proofs.ListLemmas.{listed_more, nothing_left}
+use Rattle.manifest.proofs.ListLemmas.{listed_more}
 use Rattle.checkout.proofs.TakenLaws.{one_place}
 
 -- two places that are told apart
@@ -30,7 +31,7 @@ module _ (m : Manifest) (is : IsManifest m) (gone gone' : UnlinkedFiles) (change
       elim (base_target m d) as (λ o. base_target m d ≡ o → IfSome o (λ file. is_gone gone file.0 ≡ false) → IfSome o (λ file. is_gone gone' file.0 ≡ false)) [
         | None ↦ λ e k. tt
         | Some g ↦ λ e k. elim (base_target m change) as (λ o. base_target m change ≡ o → is_gone gone' g.0 ≡ false) [
-          | None ↦ λ b. ap (λ fs. list_any (λ f. g.0 == f) fs) (went ∙ ap (λ (o : Option FileId). gone.files ++ cons_option (option_map (λ (file : FileId). file.0) o) []) b ∙ nothing_left gone.files) ∙ k
+          | None ↦ λ b. ap (λ fs. list_any (λ f. g.0 == f) fs) (went ∙ ap (λ (o : Option FileId). gone.files ++ cons_option (option_map (λ (file : FileId). file.0) o) []) b ∙ append-nil gone.files) ∙ k
           | Some f ↦ λ b.
               let one = is_gone-added gone gone' f.0 (went ∙ ap (λ (o : Option FileId). gone.files ++ cons_option (option_map (λ (file : FileId). file.0) o) []) b) g.0 in
               one ∙ ap (λ b. (g.0 == f.0) || b) k ∙ (elim (g.0 == f.0) as (λ b. (g.0 == f.0) ≡ b → (b || false) ≡ false) [

@@ -1,9 +1,9 @@
 -- A body that was read is spelled as it stood: a number, nothing, and versions.
-use Rattle.std.proofs.Common.{◌≡◌, ℕ, zero, suc, ◌*◌, ◌<◌, ◌≤◌, Bool, true, false, leb, eqb, List, [], ◌∷◌, ◌++◌, length, take, drop, refl, ap, ◌∙◌, length-take, arith}
+use Rattle.std.proofs.Common.{◌≡◌, ℕ, zero, suc, ◌*◌, ◌<◌, ◌≤◌, leb, eqb, List, [], ◌∷◌, ◌++◌, length, take, drop, refl, ap, ◌∙◌, length-take, arith}
 use Rattle.std.specs.Int.{Width, w16, byte_len}
 use Rattle.std.specs.Prelude.{◌&&◌}
 use Rattle.std.specs.List.{All, flat_map}
-use Rattle.std.proofs.lemmas.Bool.{eqb-true, leb-true}
+use Rattle.std.proofs.lemmas.Bool.{and_parts, eqb-true, leb-true}
 use Rattle.std.proofs.lemmas.List.{take-append-drop, length-drop}
 use Rattle.std.proofs.lemmas.List.Concat.{flat_map-cons}
 use Rattle.byte_codec.specs.Field.{AreBytes, number_bytes, number_in}
@@ -34,10 +34,6 @@ nothing_yields [] = Value refl
 nothing_yields (byte ∷ body) = Fault refl
 
 -- ---- versions
-
-both_true : (a b : Bool) → (a && b) ≡ true → (a ≡ true) × (b ≡ true)
-both_true true b e = (refl, e)
-both_true false b e = absurd cc
 
 pub record AreVersions (rest versions : List ℕ) (count : ℕ) : Type 0 where
   pub len : length versions ≡ count
@@ -73,7 +69,7 @@ unfolding versions_of
 versions_yield [] are = Fault refl
 versions_yield (count ∷ rest) are =
     if_yields (leb count 8 && eqb (length rest) (2 * count)) BadBody _ refl (λ b.
-    let tests = both_true (leb count 8) (eqb (length rest) (2 * count)) b in
+    let tests = and_parts (leb count 8) (eqb (length rest) (2 * count)) b in
     let found = numbers_found count rest (eqb-true (length rest) (2 * count) tests.1) (λ i. are (suc i)) in
     Value (record {
       text = ap (λ (n : ℕ). n ∷ flat_map version_text (numbers_at count rest)) found.len ∙ ap (λ (t : List ℕ). count ∷ t) found.text;

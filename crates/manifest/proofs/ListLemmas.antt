@@ -1,5 +1,6 @@
 -- The entries of an index, as its own lists have them.
-use Rattle.std.proofs.Common.{◌≡◌, ℕ, Bool, true, false, ◌&&◌, T, List, [], ◌∷◌, ◌++◌, refl, sym, ap, subst, ◌∙◌}
+use Rattle.std.proofs.Common.{◌≡◌, ℕ, T, List, [], ◌∷◌, ◌++◌, sym, ap, subst, ◌∙◌}
+use Rattle.std.proofs.Math.Facts.{yes_and}
 use Rattle.std.proofs.lemmas.List.{append_assoc}
 use Rattle.std.proofs.lemmas.Map.Keys.{sorted_head, sorted_tail}
 use Rattle.std.specs.Ordering.{nat_cmp, is_lt}
@@ -27,22 +28,6 @@ listed_one_more old new rest all x so_far pushed = ap (λ xs. xs ++ rest) pushed
 pub listed_more : {X : Type 0} (old new these rest all : List X) → old ++ (these ++ rest) ≡ all → new ≡ old ++ these → new ++ rest ≡ all
 listed_more old new these rest all so_far written = ap (λ xs. xs ++ rest) written ∙ append_assoc old these rest ∙ so_far
 
-pub nothing_left : {X : Type 0} (xs : List X) → xs ++ [] ≡ xs
-nothing_left [] = refl
-nothing_left (x ∷ xs) = ap (λ ys. x ∷ ys) (nothing_left xs)
-
-both : (a b : Bool) → T a → T b → T (a && b)
-both true b p q = q
-both false b p q = p
-
-first : (a b : Bool) → T (a && b) → T a
-first true b p = tt
-first false b p = p
-
-second : (a b : Bool) → T (a && b) → T b
-second true b p = p
-second false b p = absurd p
-
 -- a list that rises is the entries of its map
 pub entries-rising : {K X : Type 0} {R : K → K → Ordering} (o : IsTotalOrder R) → IsAntisymmetric R → (es : List (K × X)) → T (is_sorted R es) → entries (from_entries {R = R} es) ≡ es
 entries-rising {R = R} o same es h =
@@ -54,22 +39,22 @@ is_less o e = subst (λ r. T (is_lt r)) (sym e) tt
 
 names_above : (k : Vec ℕ Global) (es : List (Vec ℕ Global × FileId)) → AllByRecursion (λ y. vec_cmp k y ≡ Less) (keys_of es) → T (below_all name_cmp k.items (by_bytes es))
 names_above k [] h = tt
-names_above k (e ∷ es) h = both _ _ (is_less _ h.0) (names_above k es h.1)
+names_above k (e ∷ es) h = yes_and _ _ (is_less _ h.0) (names_above k es h.1)
 
 names_rise : (es : List (Vec ℕ Global × FileId)) → IsStrictlySortedBy vec_cmp (keys_of es) → T (is_sorted name_cmp (by_bytes es))
 names_rise [] h = tt
-names_rise (e ∷ es) h = both _ _ (names_above e.0 es (sorted_head vec_cmp e.0 (keys_of es) h)) (names_rise es (sorted_tail vec_cmp e.0 (keys_of es) h))
+names_rise (e ∷ es) h = yes_and _ _ (names_above e.0 es (sorted_head vec_cmp e.0 (keys_of es) h)) (names_rise es (sorted_tail vec_cmp e.0 (keys_of es) h))
 
 pub entries-by_bytes : (es : List (Vec ℕ Global × FileId)) → IsStrictlySortedBy vec_cmp (keys_of es) → entries (from_entries {R = name_cmp} (by_bytes es)) ≡ by_bytes es
 entries-by_bytes es h = entries-rising nat_list_cmp_total name_cmp-same (by_bytes es) (names_rise es h)
 
 numbers_above : {X : Type 0} (k : ℕ) (es : List (ℕ × X)) → AllByRecursion (λ y. nat_cmp k y ≡ Less) (keys_of es) → T (below_all nat_cmp k es)
 numbers_above k [] h = tt
-numbers_above k (e ∷ es) h = both _ _ (is_less _ h.0) (numbers_above k es h.1)
+numbers_above k (e ∷ es) h = yes_and _ _ (is_less _ h.0) (numbers_above k es h.1)
 
 numbers_rise : {X : Type 0} (es : List (ℕ × X)) → IsStrictlySortedBy nat_cmp (keys_of es) → T (is_sorted nat_cmp es)
 numbers_rise [] h = tt
-numbers_rise (e ∷ es) h = both _ _ (numbers_above e.0 es (sorted_head nat_cmp e.0 (keys_of es) h)) (numbers_rise es (sorted_tail nat_cmp e.0 (keys_of es) h))
+numbers_rise (e ∷ es) h = yes_and _ _ (numbers_above e.0 es (sorted_head nat_cmp e.0 (keys_of es) h)) (numbers_rise es (sorted_tail nat_cmp e.0 (keys_of es) h))
 
 pub entries-by_number : {X : Type 0} (es : List (ℕ × X)) → IsStrictlySortedBy nat_cmp (keys_of es) → entries (from_entries {R = nat_cmp} es) ≡ es
 entries-by_number es h = entries-rising nat_cmp_total nat_cmp-IsAntisymmetric es (numbers_rise es h)

@@ -1,5 +1,6 @@
 -- The names of all directories, in whatever order the directories are listed.
 use Rattle.std.proofs.Common.{◌≡◌, ℕ, nat_eq, T, cond, List, [], ◌∷◌, ◌++◌, Some, None, refl, sym, ap, subst, ◌∙◌}
+use Rattle.std.proofs.Math.Facts.{and_yes}
 use Rattle.std.proofs.lemmas.List.Elements.{All-from_recursion, recursion_from_All}
 use Rattle.std.proofs.lemmas.List.Sorted.{All-permutation, IsPermutation-append_comm, IsPermutation-append_left, IsPermutation-cons, IsPermutation-refl, IsPermutation-trans}
 use Rattle.std.proofs.lemmas.Map.Keys.{IsDistinct-head, IsDistinct-tail}
@@ -19,7 +20,6 @@ use Rattle.manifest.specs.Flat.{in_directory, in_directories}
 use Rattle.manifest.specs.Tree.{link_cmp}
 use Rattle.manifest.proofs.FlatLemmas.{find-append, find-in_directory, link_cmp-same, link_cmp_total, name_cmp, none_elsewhere}
 use Rattle.manifest.proofs.ListLemmas.{entries-rising}
-use Rattle.manifest.proofs.MapLemmas.{both_hold}
 
 -- two entries change places
 turned : {X : Type 0} (x y : X) (xs : List X) → IsPermutation (x ∷ y ∷ xs) (y ∷ x ∷ xs)
@@ -35,7 +35,7 @@ module _ {K X : Type 0} (R : K → K → Ordering) where
   none-below : (k : K) (es : List (K × X)) → T (below_all R k es) → find R k es ≡ None
   none-below k [] h = refl
   none-below k (e ∷ es) h =
-      let w = both_hold (is_lt (R k e.0)) (below_all R k es) h in
+      let w = and_yes (is_lt (R k e.0)) (below_all R k es) h in
       elim (R k e.0) as (λ r. T (is_lt r) → cond (is_eq r) (Some e.1) (find R k es) ≡ None) [
         | Less ↦ λ _. none-below k es w.1
         | Equal ↦ λ t. absurd t
@@ -66,7 +66,7 @@ names-apart : (dir : ℕ) (es : List (List ℕ × FileId)) (fs : List ((ℕ × L
     Apart link_cmp fs → Apart link_cmp (in_directory dir es ++ fs)
 names-apart dir [] fs rise none h = h
 names-apart dir (e ∷ es) fs rise none h =
-    let w = both_hold (below_all name_cmp e.0 es) (is_sorted name_cmp es) rise in
+    let w = and_yes (below_all name_cmp e.0 es) (is_sorted name_cmp es) rise in
     let here = find-in_directory dir dir e.0 es ∙ ap (λ r. cond (is_eq r) (find name_cmp e.0 es) None) (tied_itself nat_cmp_total dir) ∙ none-below name_cmp e.0 es w.0 in (
       find-append link_cmp (dir, e.0) (in_directory dir es) fs ∙ ap (λ o. option_or o (find link_cmp (dir, e.0) fs)) here ∙ none e.0,
       names-apart dir es fs w.1 none h,

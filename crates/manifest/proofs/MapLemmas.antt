@@ -1,6 +1,7 @@
 -- Lookups in a finite map after an insertion, and its entries.
-use Rattle.std.proofs.Common.{◌≡◌, Bool, true, false, cond, ◌&&◌, ◌||◌, T, List, [], ◌∷◌, length, Some, None, refl, sym, ap, ◌∙◌, ◌⊎◌, inl, inr}
+use Rattle.std.proofs.Common.{◌≡◌, Bool, true, false, cond, ◌||◌, T, List, [], ◌∷◌, length, Some, None, refl, sym, ap, ◌∙◌, ◌⊎◌, inl, inr}
 use Rattle.std.proofs.Math.Bool.{or-true}
+use Rattle.std.proofs.Math.Facts.{and_yes}
 use Rattle.std.specs.List.{list_any}
 use Rattle.std.specs.Ordering.{is_eq, is_lt, eq_by_cmp, ordering_reverse}
 use Rattle.std.specs.declared.cmp.Ordering.{Ordering}
@@ -119,10 +120,6 @@ found_key {K} {X} {R} o p (e ∷ es) h =
 pub key_from_any : {K X : Type 0} {R : K → K → Ordering} (o : IsTotalOrder R) (p : K → Bool) (m : FinMap R X) → list_any (λ (e : K × X). p e.0) (entries m) ≡ true → (k : K) × (v : X) × (get m k ≡ Some v) × (p k ≡ true)
 key_from_any o p m h = let r = found_key o p (entries m) h in (r.key, r.value, get-entries m r.key ∙ r.found, r.passes)
 
-pub both_hold : (a b : Bool) → T (a && b) → T a × T b
-both_hold true b h = (tt, h)
-both_hold false b h = absurd h
-
 no_tie_below : (o : Ordering) → T (is_lt o) → is_eq (ordering_reverse o) ≡ false
 no_tie_below Less h = refl
 no_tie_below Equal h = absurd h
@@ -132,7 +129,7 @@ no_tie_below Greater h = absurd h
 pub no_tie_behind : {K X : Type 0} {R : K → K → Ordering} (o : IsTotalOrder R) (x q : K) (es : List (K × X)) (v : X) → T (below_all R x es) → find R q es ≡ Some v → eq_by_cmp R q x ≡ false
 no_tie_behind o x q [] v below h = absurd (cc)
 no_tie_behind {K} {X} {R} o x q (e ∷ es) v below h =
-    let w = both_hold (is_lt (R x e.0)) (below_all R x es) below in
+    let w = and_yes (is_lt (R x e.0)) (below_all R x es) below in
     elim (eq_by_cmp R q e.0) as (λ b. eq_by_cmp R q e.0 ≡ b → cond b (Some e.1) (find R q es) ≡ Some v → eq_by_cmp R q x ≡ false) [
       | true ↦ λ t _. ap is_eq (o.congr q e.0 x (tie (R q e.0) t) ∙ o.antisymm e.0 x) ∙ no_tie_below (R x e.0) w.0
       | false ↦ λ _ g. no_tie_behind o x q es v w.1 g
@@ -148,7 +145,7 @@ pub record IsFoundValue {K X : Type 0} (R : K → K → Ordering) (p : X → Boo
 found_value : {K X : Type 0} {R : K → K → Ordering} (o : IsTotalOrder R) (p : X → Bool) (es : List (K × X)) → T (is_sorted R es) → list_any (λ (e : K × X). p e.1) es ≡ true → IsFoundValue R p es
 found_value o p [] rise h = absurd (cc)
 found_value {K} {X} {R} o p (e ∷ es) rise h =
-    let w = both_hold (below_all R e.0 es) (is_sorted R es) rise in
+    let w = and_yes (below_all R e.0 es) (is_sorted R es) rise in
     elim (p e.1) as (λ b. p e.1 ≡ b → (b || list_any (λ (x : K × X). p x.1) es) ≡ true → IsFoundValue R p (e ∷ es)) [
       | true ↦ λ t g. record { key = e.0; value = e.1; found = ap (λ r. cond (is_eq r) (Some e.1) (find R e.0 es)) (tied_itself o e.0); passes = t }
       | false ↦ λ t g.

@@ -3,7 +3,7 @@ use Rattle.std.proofs.Common.{◌≡◌, ℕ, ◌^◌, ◌<◌, Bool, true, fals
 use Rattle.std.specs.Int.{w16, w64}
 use Rattle.std.specs.List.{AllByRecursion}
 use Rattle.std.specs.Cmp.Lexicographic.{pointwise}
-use Rattle.std.proofs.lemmas.Bool.{ltb-false, eqb-true}
+use Rattle.std.proofs.lemmas.Bool.{and_parts, ltb-false, eqb-true}
 use Rattle.std.proofs.lemmas.List.{append-nil, nil_from_length}
 use Rattle.std.proofs.lemmas.List.Elements.{recursion_from_All, All-from_recursion}
 use Rattle.byte_codec.specs.Field.{AreBytes, number_bytes}
@@ -36,16 +36,12 @@ use Rattle.map_image.proofs.MemberLaws.{GoodEntry, GoodLink, of_entry, of_link, 
 
 -- ---- magic and version
 
-and_true : (a b : Bool) → (a && b) ≡ true → (a ≡ true) × (b ≡ true)
-and_true true b e = (refl, e)
-and_true false b e = absurd cc
-
 same_bytes : (xs ys : List ℕ) → pointwise nat_eq xs ys ≡ true → xs ≡ ys
 same_bytes [] [] e = refl
 same_bytes [] (y ∷ ys) e = absurd cc
 same_bytes (x ∷ xs) [] e = absurd cc
 same_bytes (x ∷ xs) (y ∷ ys) e =
-    let t = and_true (nat_eq x y) (pointwise nat_eq xs ys) e in
+    let t = and_parts (nat_eq x y) (pointwise nat_eq xs ys) e in
     let first : x ≡ y = eqb-true x y t.0 in
     let rest : xs ≡ ys = same_bytes xs ys t.1 in
     rw (first, rest) refl

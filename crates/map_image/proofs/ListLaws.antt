@@ -1,6 +1,7 @@
 -- Lists of members: what is read is spelled so, and what is spelled so is read.
 use Rattle.std.proofs.Common.{◌≡◌, ℕ, zero, suc, ◌<◌, Bool, true, false, ◌&&◌, List, [], ◌∷◌, ◌++◌, length, Option, Some, None, Ok, refl, sym, ap, subst, ◌∙◌, append_assoc}
 use Rattle.std.specs.List.{flat_map, AllByRecursion}
+use Rattle.std.proofs.lemmas.Bool.{and_from, and_parts}
 use Rattle.std.proofs.lemmas.List.Concat.{flat_map-cons}
 use Rattle.byte_codec.specs.Field.{AreBytes}
 use Rattle.byte_codec.specs.Reading.{◌>>=◌}
@@ -26,14 +27,6 @@ pub record AreMembers {X : Type 0} (Good : X → Type 0) (follows : Option X →
   pub good : AllByRecursion Good xs
   pub rise : rises follows last xs ≡ true
 
-true_and : (a b : Bool) → a ≡ true → b ≡ true → (a && b) ≡ true
-true_and true b p q = q
-true_and false b p q = absurd cc
-
-and_true : (a b : Bool) → (a && b) ≡ true → (a ≡ true) × (b ≡ true)
-and_true true b e = (refl, e)
-and_true false b e = absurd cc
-
 members_found : {X : Type 0} (member : Member X) (text : X → List ℕ) (Good : X → Type 0) (follows : Option X → X → Bool) → AreCodecs member text Good follows → (n : ℕ) (last : Option X) (bytes : List ℕ) (x : List X × List ℕ) → AreBytes bytes → members_at member last n bytes ≡ Ok x
     → Found (flat_map text) (AreMembers Good follows last n) bytes x
 unfolding members_at
@@ -52,7 +45,7 @@ members_found {X = X} member text Good follows codecs (suc n) last bytes x are e
       good = record {
         len = ap suc others.good.len;
         good = (first.good.good, others.good.good);
-        rise = true_and (follows last a.0.0) (rises follows (Some a.0.0) b.0.0) first.good.rises others.good.rise;
+        rise = and_from (follows last a.0.0) (rises follows (Some a.0.0) b.0.0) first.good.rises others.good.rise;
       };
       rest = others.rest;
     })
@@ -62,7 +55,7 @@ members_again : {X : Type 0} (member : Member X) (text : X → List ℕ) (Good :
 unfolding members_at
 members_again member text Good follows codecs [] last rest good rise = refl
 members_again member text Good follows codecs (x ∷ xs) last rest good rise =
-    let rises_on = and_true (follows last x) (rises follows (Some x) xs) rise in
+    let rises_on = and_parts (follows last x) (rises follows (Some x) xs) rise in
     let first = (codecs last).again x (flat_map text xs ++ rest) (record { good = good.0; rises = rises_on.0 }) in
     let regrouped : flat_map text (x ∷ xs) ++ rest ≡ text x ++ (flat_map text xs ++ rest) = ap (λ (t : List ℕ). t ++ rest) (flat_map-cons text x xs) ∙ append_assoc (text x) (flat_map text xs) rest in
     ap (members_at member last (suc (length xs))) regrouped ∙ rw (first, members_again member text Good follows codecs xs (Some x) rest good.1 rises_on.1) refl

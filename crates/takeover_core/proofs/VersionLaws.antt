@@ -1,5 +1,6 @@
 -- The version that is chosen is the greatest that both daemons have.
 use Rattle.std.proofs.Common.{◌≡◌, ◌⊎◌, ℕ, ◌==◌, ◌≤◌, max, Bool, true, false, List, [], ◌∷◌, fold, filter, Some, if◌then◌else◌, refl, sym, subst, ◌∙◌, inl, inr, arith, rules}
+use Rattle.std.proofs.lemmas.Bool.{or_right}
 use Rattle.std.specs.List.{reduce}
 use Rattle.takeover_core.specs.declared.heard.Heard.TheVariants.{Say}
 use Rattle.takeover_core.specs.declared.message.Message.TheVariants.{Offer, Choice}
@@ -8,7 +9,7 @@ use Rattle.takeover_core.specs.declared.phase.Phase.TheVariants.{Serving, Draini
 use Rattle.takeover_core.specs.Laws.{ChoosesGreatestCommon}
 use Rattle.takeover_core.specs.Phases.{Hear, heard}
 use Rattle.takeover_core.specs.Versions.{is_among, greatest_common}
-use Rattle.takeover_core.proofs.Rows.{node_of, any_rest}
+use Rattle.takeover_core.proofs.Rows.{node_of}
 
 -- an answer that begins a session has the greatest common version
 chosen : (versions : List ℕ) (n : ℕ) (phase : Phase) (offered : List ℕ) (s v : ℕ) → heard (node_of versions n phase) (Hear (Offer offered)) ≡ Say (Choice s v) → greatest_common versions offered ≡ Some v
@@ -40,7 +41,7 @@ pub among_first : (xs : List ℕ) (x : ℕ) → is_among (x ∷ xs) x ≡ true
 among_first xs x = grind (arith, rules)
 
 among_rest : (x : ℕ) (xs : List ℕ) (w : ℕ) → is_among xs w ≡ true → is_among (x ∷ xs) w ≡ true
-among_rest x xs w e = any_rest (x == w) (is_among xs w) e
+among_rest x xs w e = or_right (x == w) (is_among xs w) e
 
 among_either : (x : ℕ) (xs : List ℕ) (w : ℕ) → is_among (x ∷ xs) w ≡ true → (x ≡ w) ⊎ (is_among xs w ≡ true)
 among_either x xs w e = grind (arith, rules)

@@ -1,8 +1,9 @@
 -- The map's entries are the files by rising id.
 use Rattle.std.proofs.Common.{◌≡◌, ◌++◌, map, ap, sym, ◌∙◌}
+use Rattle.std.proofs.lemmas.List.{append-nil}
 use Rattle.std.specs.FinMap.{entries}
 use Rattle.checkout.specs.Listing.{listed_file}
-use Rattle.manifest.proofs.ListLemmas.{entries-by_number, listed_one_more, nothing_left}
+use Rattle.manifest.proofs.ListLemmas.{entries-by_number, listed_one_more}
 use Rattle.checkout.proofs.made.MadeFiles.list.Goals as goal
 
 pub loop-file-init : goal.loop-file-init
@@ -18,4 +19,4 @@ loop-file-preserved c =
 
 pub returns : goal.returns
 returns c =
-    sym (nothing_left c.loop-file.list.items) ∙ ap (λ it. c.loop-file.list.items ++ map listed_file it) (sym c.in-None.ensures.steps.0) ∙ c.loop-file.invariant
+    sym (append-nil c.loop-file.list.items) ∙ ap (λ it. c.loop-file.list.items ++ map listed_file it) (sym c.in-None.ensures.steps.0) ∙ c.loop-file.invariant

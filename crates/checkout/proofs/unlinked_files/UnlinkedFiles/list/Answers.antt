@@ -1,11 +1,11 @@
 -- Each file's line, one after another.
 use Rattle.std.proofs.Common.{◌≡◌, ◌++◌, ◌+◌, ◌-◌, ◌<◌, [], ◌∷◌, None, drop, length, get_or, not, ap, sym, subst, ◌∙◌, refl}
 use Rattle.std.proofs.Math.ListN.{drop_of_length-le}
+use Rattle.std.proofs.lemmas.List.{append-nil}
 use Rattle.std.specs.Option.{is_some}
 use Rattle.std.specs.FinMap.{get}
 use Rattle.checkout.specs.Listing.{gone_changes}
 use Rattle.checkout.proofs.UnlinkedListing.{without_link, gone_first, have_later, listed_place, left_out}
-use Rattle.manifest.proofs.ListLemmas.{nothing_left}
 use Rattle.checkout.proofs.unlinked_files.UnlinkedFiles.list.Goals.{then-is_none+in_ok-copy+in_ok-push, else-is_none}
 use Rattle.checkout.proofs.unlinked_files.UnlinkedFiles.list.Goals as goal
 
@@ -44,4 +44,4 @@ returns-clause-listed c =
     let items = c.deref-file-items.ensures.value ∙ ap (λ g. g.files) c.self.view_is in
     let past = c.loop-file-test.false in
     let none = ap (drop c.loop-file.file-index) (sym items) ∙ drop_of_length-le c.deref-file-items.result.now past in
-    sym (nothing_left c.loop-file.links.items) ∙ ap (λ fs. c.loop-file.links.items ++ gone_changes c.args.added.now c.args.lines.now fs) (sym none) ∙ c.loop-file.invariant.listed
+    sym (append-nil c.loop-file.links.items) ∙ ap (λ fs. c.loop-file.links.items ++ gone_changes c.args.added.now c.args.lines.now fs) (sym none) ∙ c.loop-file.invariant.listed

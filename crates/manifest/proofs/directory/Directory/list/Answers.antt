@@ -1,11 +1,12 @@
 -- The map's entries are the names in their order.
 use Rattle.std.proofs.Common.{◌≡◌, ◌++◌, map, [], ◌∷◌, Some, ap, sym, subst, ◌∙◌}
+use Rattle.std.proofs.lemmas.List.{append-nil}
 use Rattle.std.specs.FinMap.{entries}
 use Rattle.std.specs.List.{AllByRecursion}
 use Rattle.eden_base.specs.Name.{IsNameText}
 use Rattle.manifest.specs.Flat.{by_bytes, in_directory}
 use Rattle.manifest.specs.Links.{added_change}
-use Rattle.manifest.proofs.ListLemmas.{entries-by_bytes, listed_one_more, nothing_left}
+use Rattle.manifest.proofs.ListLemmas.{entries-by_bytes, listed_one_more}
 use Rattle.manifest.proofs.directory.Directory.list.Goals as goal
 
 pub loop-name-init : goal.loop-name-init
@@ -34,4 +35,4 @@ loop-name-preserved c =
 
 pub returns : goal.returns
 returns c =
-    sym (nothing_left c.loop-name.links.items) ∙ ap (λ it. c.loop-name.links.items ++ map added_change (in_directory c.args.dir.0 (by_bytes it))) (sym c.in-None.ensures.steps.0) ∙ c.loop-name.invariant.listed
+    sym (append-nil c.loop-name.links.items) ∙ ap (λ it. c.loop-name.links.items ++ map added_change (in_directory c.args.dir.0 (by_bytes it))) (sym c.in-None.ensures.steps.0) ∙ c.loop-name.invariant.listed

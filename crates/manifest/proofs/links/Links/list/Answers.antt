@@ -1,6 +1,6 @@
 -- The directories' names, one directory after another.
 use Rattle.std.proofs.Common.{◌≡◌, ◌++◌, map, ap, sym, subst, ◌∙◌}
-use Rattle.std.proofs.lemmas.List.{map-append}
+use Rattle.std.proofs.lemmas.List.{append-nil, map-append}
 use Rattle.std.proofs.lemmas.List.Sorted.{IsPermutation-append_right, IsPermutation-map, IsPermutation-sym}
 use Rattle.std.specs.FinMap.{entries}
 use Rattle.std.specs.List.{AllByRecursion}
@@ -8,7 +8,7 @@ use Rattle.std.specs.List.Sorted.{IsPermutation}
 use Rattle.eden_base.specs.Name.{IsNameText}
 use Rattle.manifest.specs.Flat.{in_directory, in_directories}
 use Rattle.manifest.specs.Links.{added_change}
-use Rattle.manifest.proofs.ListLemmas.{listed_more, nothing_left, names_here, names_later}
+use Rattle.manifest.proofs.ListLemmas.{listed_more, names_here, names_later}
 use Rattle.manifest.proofs.ListedLinks.{all_names, all-moved}
 use Rattle.manifest.proofs.links.Links.list.Goals as goal
 
@@ -45,5 +45,5 @@ loop-dir-preserved c =
 pub returns : goal.returns
 returns c =
     let so_far = c.loop-dir.links.items in
-    let none = ap (λ it. so_far ++ map added_change (in_directories it)) c.in-None.ensures.steps.0 ∙ nothing_left so_far in
+    let none = ap (λ it. so_far ++ map added_change (in_directories it)) c.in-None.ensures.steps.0 ∙ append-nil so_far in
     subst (IsPermutation (c.args.links.now.items ++ map added_change (entries c.args.self.now))) none c.loop-dir.invariant.listed
