@@ -1,5 +1,5 @@
 -- A field that is put is read again, and a field that was read is spelled as it stood.
-use Rattle.std.proofs.Common.{◌≡◌, ℕ, suc, ◌^◌, ◌<◌, ◌≤◌, ltb, List, [], ◌∷◌, ◌++◌, length, take, drop, Ok, refl, sym, ap, subst, ◌∙◌, length-append, length-take, arith}
+use Rattle.std.proofs.Common.{◌≡◌, ℕ, suc, ◌^◌, ◌<◌, ◌≤◌, ltb, List, [], ◌∷◌, ◌++◌, length, Ok, refl, sym, ap, ◌∙◌, length-append, length-take, arith}
 use Rattle.std.specs.Int.{Width, w16, w32, w64, byte_len}
 use Rattle.std.proofs.lemmas.Bool.{ltb-false, le-ltb}
 use Rattle.std.proofs.lemmas.List.{take_at, drop_at, take-append-drop}
@@ -7,7 +7,7 @@ use Rattle.std.proofs.lemmas.Nat.{be_bytes_2, be_bytes_4, be_bytes_8, from_be_by
 use Rattle.byte_codec.specs.Field.{AreBytes, byte_text, number_bytes, number_in}
 use Rattle.byte_codec.specs.Reading.{byte_at, bytes_at, number_at}
 use Rattle.byte_codec.proofs.ByteLemmas.{AreBytes-drop, AreBytes-take}
-use Rattle.byte_codec.proofs.StepLemmas.{bind_ok, guard_is, ok_is}
+use Rattle.byte_codec.proofs.YieldLemmas.{Yields, Value, Fault, then_yields, unless_yields}
 
 -- ---- widths
 
@@ -72,16 +72,16 @@ IsBelow limit n = n < limit
 
 -- ---- a count of bytes
 
-pub bytes_found : {F : Type 0} (short : F) (n : ℕ) (bytes : List ℕ) (x : List ℕ × List ℕ) → AreBytes bytes → bytes_at short n bytes ≡ Ok x → Found itself (HasLength n) bytes x
+pub bytes_found : {F : Type 0} {Bad : F → Type 0} (short : F) (n : ℕ) (bytes : List ℕ) → Bad short → AreBytes bytes → Yields Bad (Found itself (HasLength n) bytes) (bytes_at short n bytes)
 unfolding bytes_at
-bytes_found short n bytes x are e =
-    let g = guard_is (ltb (length bytes) n) short (take n bytes, drop n bytes) x e in
-    let long : n ≤ length bytes = ltb-false _ _ g.0 in
-    subst (Found itself (HasLength n) bytes) g.1 (record {
+bytes_found short n bytes bad are =
+    unless_yields (ltb (length bytes) n) short _ bad (λ enough.
+    let long : n ≤ length bytes = ltb-false _ _ enough in
+    Value (record {
       parts = sym (take-append-drop n bytes);
       good = record { len = omega (arith, length-take n bytes); are = AreBytes-take n bytes are };
       rest = AreBytes-drop n bytes are;
-    })
+    }))
 
 pub bytes_again : {F : Type 0} (short : F) (n : ℕ) (field rest : List ℕ) → length field ≡ n → bytes_at short n (field ++ rest) ≡ Ok (field, rest)
 unfolding bytes_at
@@ -91,11 +91,10 @@ bytes_again short n field rest len =
 
 -- ---- one byte
 
-pub byte_found : {F : Type 0} (short : F) (bytes : List ℕ) (x : ℕ × List ℕ) → AreBytes bytes → byte_at short bytes ≡ Ok x → Found byte_text (IsBelow 256) bytes x
+pub byte_found : {F : Type 0} {Bad : F → Type 0} (short : F) (bytes : List ℕ) → Bad short → AreBytes bytes → Yields Bad (Found byte_text (IsBelow 256) bytes) (byte_at short bytes)
 unfolding byte_at byte_text
-byte_found short [] x are e = absurd cc
-byte_found short (b ∷ rest) x are e =
-    subst (Found byte_text (IsBelow 256) (b ∷ rest)) (ok_is (b, rest) x e) (record { parts = refl; good = are 0; rest = λ i. are (suc i) })
+byte_found short [] bad are = Fault bad
+byte_found short (b ∷ rest) bad are = Value (record { parts = refl; good = are 0; rest = λ i. are (suc i) })
 
 pub byte_again : {F : Type 0} (short : F) (b : ℕ) (rest : List ℕ) → byte_at short (byte_text b ++ rest) ≡ Ok (b, rest)
 unfolding byte_at byte_text
@@ -103,18 +102,17 @@ byte_again short b rest = refl
 
 -- ---- numbers
 
-pub number_found : {F : Type 0} (short : F) (width : Width) (limit : ℕ) (bytes : List ℕ) (x : ℕ × List ℕ) → IsSpelled width limit → AreBytes bytes → number_at short width bytes ≡ Ok x
-    → Found (number_bytes width) (IsBelow limit) bytes x
+pub number_found : {F : Type 0} {Bad : F → Type 0} {width : Width} {limit : ℕ} (short : F) (bytes : List ℕ) → Bad short → IsSpelled width limit → AreBytes bytes
+    → Yields Bad (Found (number_bytes width) (IsBelow limit) bytes) (number_at short width bytes)
 unfolding number_at
-number_found short width limit bytes x is are e =
-    let b = bind_ok (bytes_at short (byte_len width) bytes) (λ field. Ok (number_in width field.0, field.1)) x e in
-    let field = bytes_found short (byte_len width) bytes b.0 are b.1 in
-    let same : number_bytes width (number_in width b.0.0) ≡ b.0.0 = is.back b.0.0 field.good.len field.good.are in
-    subst (Found (number_bytes width) (IsBelow limit) bytes) (ok_is (number_in width b.0.0, b.0.1) x b.2) (record {
-      parts = field.parts ∙ ap (λ (t : List ℕ). t ++ b.0.1) (sym same);
-      good = is.below b.0.0 field.good.are;
-      rest = field.rest;
-    })
+number_found {width = width} short bytes bad is are =
+    then_yields _ _ (bytes_found short (byte_len width) bytes bad are) (λ field found.
+    let same : number_bytes width (number_in width field.0) ≡ field.0 = is.back field.0 found.good.len found.good.are in
+    Value (record {
+      parts = found.parts ∙ ap (λ (t : List ℕ). t ++ field.1) (sym same);
+      good = is.below field.0 found.good.are;
+      rest = found.rest;
+    }))
 
 pub number_again : {F : Type 0} (short : F) (width : Width) (limit n : ℕ) (rest : List ℕ) → IsWidth width limit → n < limit → number_at short width (number_bytes width n ++ rest) ≡ Ok (n, rest)
 unfolding number_at

@@ -29,6 +29,3 @@ ok_is x y e = cc
 
 pub guard_is : {F A : Type 0} (b : Bool) (fault : F) (x y : A) → cond b (Err fault) (done x) ≡ Ok y → (b ≡ false) × (x ≡ y)
 guard_is b fault x y e = let g = guard_ok b fault (done x) y e in (g.0, ok_is x y g.1)
-
-pub test_is : {F A : Type 0} (b : Bool) (fault : F) (x y : A) → cond b (done x) (Err fault) ≡ Ok y → (b ≡ true) × (x ≡ y)
-test_is b fault x y e = let t = test_ok b fault (done x) y e in (t.0, ok_is x y t.1)

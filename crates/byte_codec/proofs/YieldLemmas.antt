@@ -1,18 +1,19 @@
 -- What a reading yields: a good value, or a fault that may be. Readings one behind the other are one.
-use Rattle.std.proofs.Common.{◌≡◌, ℕ, Bool, true, false, cond, ltb, List, length, take, drop, Result, Ok, Err, refl, subst}
-use Rattle.std.specs.Int.{Width, byte_len}
-use Rattle.byte_codec.specs.Field.{AreBytes, number_bytes, number_in}
-use Rattle.byte_codec.specs.Reading.{◌>>=◌, bytes_at, number_at}
-use Rattle.byte_codec.proofs.FieldLaws.{Found, IsBelow, IsSpelled, number_found}
+use Rattle.std.proofs.Common.{◌≡◌, Bool, true, false, cond, Result, Ok, Err, refl, subst}
+use Rattle.byte_codec.specs.Reading.{◌>>=◌}
 use Rattle.byte_codec.proofs.StepLemmas.{ok_is}
 
 pub data Yields {F Y : Type 0} (Bad : F → Type 0) (Good : Y → Type 0) : Result Y F → Type 0 where
   Value : {y : Y} → Good y → Yields Bad Good (Ok y)
   Fault : {fault : F} → Bad fault → Yields Bad Good (Err fault)
 
-yields_of : {F Y : Type 0} {Bad : F → Type 0} {Good : Y → Type 0} (r : Result Y F) → ((y : Y) → r ≡ Ok y → Good y) → ((fault : F) → r ≡ Err fault → Bad fault) → Yields Bad Good r
-yields_of (Ok y) good bad = Value (good y refl)
-yields_of (Err fault) good bad = Fault (bad fault refl)
+-- it is the fault that was named
+abbrev pub Only : {F : Type 0} → F → F → Type 0
+Only named fault = fault ≡ named
+
+-- it may be any
+abbrev pub Any : {X : Type 0} → X → Type 0
+Any x = Unit {0}
 
 -- a value that a reading gave is a good one
 pub yielded : {F Y : Type 0} {Bad : F → Type 0} {Good : Y → Type 0} (r : Result Y F) (y : Y) → Yields Bad Good r → r ≡ Ok y → Good y
@@ -30,6 +31,16 @@ pub faulted : {F Y : Type 0} {Bad : F → Type 0} {Good : Y → Type 0} (r : Res
 faulted (Ok x) fault good e = absurd cc
 faulted {Bad = Bad} (Err its) fault (Fault bad) e = subst Bad (same_fault its fault e) bad
 
+-- a reading gives the value that it gives
+pub its_value : {F Y : Type 0} (r : Result Y F) → Yields Any (λ y. r ≡ Ok y) r
+its_value (Ok y) = Value refl
+its_value (Err fault) = Fault tt
+
+-- a good value is good in another sense
+pub yields_as : {F Y : Type 0} {Bad : F → Type 0} {Good New : Y → Type 0} (r : Result Y F) → Yields Bad Good r → ((y : Y) → Good y → New y) → Yields Bad New r
+yields_as (Ok y) (Value good) new = Value (new y good)
+yields_as (Err fault) (Fault bad) new = Fault bad
+
 -- a reading behind another
 pub then_yields : {F A Y : Type 0} {Bad : F → Type 0} {Mid : A → Type 0} {Good : Y → Type 0} (r : Result A F) (f : A → Result Y F) → Yields Bad Mid r → ((x : A) → Mid x → Yields Bad Good (f x)) → Yields Bad Good (r >>= f)
 then_yields (Ok x) f (Value good) second = second x good
@@ -40,19 +51,7 @@ pub if_yields : {F Y : Type 0} {Bad : F → Type 0} {Good : Y → Type 0} (b : B
 if_yields true fault r bad good = good refl
 if_yields false fault r bad good = Fault bad
 
--- it is the fault that was named
-abbrev pub Only : {F : Type 0} → F → F → Type 0
-Only named fault = fault ≡ named
-
-abbrev field_of : Width → List ℕ × List ℕ → ℕ × List ℕ
-field_of width parts = (number_in width parts.0, parts.1)
-
-only_short : {F : Type 0} (width : Width) (b : Bool) (short fault : F) (parts : List ℕ × List ℕ) → (cond b (Err short) (Ok parts) >>= λ x. Ok (field_of width x)) ≡ Err fault → fault ≡ short
-only_short width true short fault parts e = cc
-only_short width false short fault parts e = absurd cc
-
-pub number_yields : {F : Type 0} {width : Width} {limit : ℕ} (short : F) → IsSpelled width limit → (bytes : List ℕ) → AreBytes bytes → Yields (Only short) (Found (number_bytes width) (IsBelow limit) bytes) (number_at short width bytes)
-unfolding number_at bytes_at
-number_yields {width = width} {limit = limit} short is bytes are = yields_of (number_at short width bytes)
-    (λ x e. number_found short width limit bytes x is are e)
-    (λ fault e. only_short width (ltb (length bytes) (byte_len width)) short fault (take (byte_len width) bytes, drop (byte_len width) bytes) e)
+-- a reading where a test fails
+pub unless_yields : {F Y : Type 0} {Bad : F → Type 0} {Good : Y → Type 0} (b : Bool) (fault : F) (r : Result Y F) → Bad fault → (b ≡ false → Yields Bad Good r) → Yields Bad Good (cond b (Err fault) r)
+unless_yields true fault r bad good = Fault bad
+unless_yields false fault r bad good = good refl

@@ -3,8 +3,8 @@ use Rattle.std.proofs.Common.{◌≡◌, ℕ, Bool, true, false, cond, eqb, List
 use Rattle.std.specs.Int.{w32, w64}
 use Rattle.std.proofs.lemmas.Bool.{eqb-true}
 use Rattle.byte_codec.specs.Field.{AreBytes, number_bytes}
-use Rattle.byte_codec.proofs.FieldLaws.{two_back, four_back, eight_back}
-use Rattle.byte_codec.proofs.YieldLemmas.{Only, Yields, Value, number_yields, then_yields}
+use Rattle.byte_codec.proofs.FieldLaws.{number_found, two_back, four_back, eight_back}
+use Rattle.byte_codec.proofs.YieldLemmas.{Only, Yields, Value, then_yields}
 use Rattle.takeover_core.specs.declared.message.Message.{Message}
 use Rattle.frames.specs.declared.fault.FrameFault.TheVariants.{BadBody}
 use Rattle.frames.specs.declared.frame.Frame.{Frame}
@@ -27,25 +27,25 @@ message_yields : (kind : MessageKind) (body : List ℕ) → AreBytes body → Yi
 unfolding message_of
 message_yields messages.Offer body are = then_yields _ _ (versions_yield body are) (λ versions is. Value (record { kind_is = refl; body_is = is.text; fits = (is.few, is.fit) }))
 message_yields messages.Choice body are =
-    then_yields _ _ (number_yields BadBody four_back body are) (λ session first.
+    then_yields _ _ (number_found BadBody body refl four_back are) (λ session first.
     then_yields _ _ (alone_yields two_back session.1 first.rest) (λ version last.
     Value (record { kind_is = refl; body_is = ap (λ (t : List ℕ). number_bytes w32 session.0 ++ t) last.text ∙ sym first.parts; fits = (first.good, last.fits) })))
 message_yields messages.NoCommon body are = then_yields _ _ (nothing_yields body) (λ _ is. Value (record { kind_is = refl; body_is = is; fits = tt }))
 message_yields messages.Busy body are = then_yields _ _ (nothing_yields body) (λ _ is. Value (record { kind_is = refl; body_is = is; fits = tt }))
 message_yields messages.Ready body are =
-    then_yields _ _ (number_yields BadBody four_back body are) (λ session first.
+    then_yields _ _ (number_found BadBody body refl four_back are) (λ session first.
     then_yields _ _ (alone_yields eight_back session.1 first.rest) (λ generation last.
     Value (record { kind_is = refl; body_is = ap (λ (t : List ℕ). number_bytes w32 session.0 ++ t) last.text ∙ sym first.parts; fits = (first.good, last.fits) })))
 message_yields messages.Pong body are = then_yields _ _ (alone_yields four_back body are) (λ session is. Value (record { kind_is = refl; body_is = is.text; fits = is.fits }))
 message_yields messages.Data body are =
-    then_yields _ _ (number_yields BadBody four_back body are) (λ session first.
-    then_yields _ _ (number_yields BadBody eight_back session.1 first.rest) (λ generation second.
+    then_yields _ _ (number_found BadBody body refl four_back are) (λ session first.
+    then_yields _ _ (number_found BadBody session.1 refl eight_back first.rest) (λ generation second.
     Value (record { kind_is = refl; body_is = ap (λ (t : List ℕ). number_bytes w32 session.0 ++ t) (sym second.parts) ∙ sym first.parts; fits = (first.good, second.good) })))
 message_yields messages.Part body are =
-    then_yields _ _ (number_yields BadBody four_back body are) (λ session first.
-    then_yields _ _ (number_yields BadBody eight_back session.1 first.rest) (λ generation second.
-    then_yields _ _ (number_yields BadBody four_back generation.1 second.rest) (λ position third.
-    then_yields _ _ (number_yields BadBody four_back position.1 third.rest) (λ count last.
+    then_yields _ _ (number_found BadBody body refl four_back are) (λ session first.
+    then_yields _ _ (number_found BadBody session.1 refl eight_back first.rest) (λ generation second.
+    then_yields _ _ (number_found BadBody generation.1 refl four_back second.rest) (λ position third.
+    then_yields _ _ (number_found BadBody position.1 refl four_back third.rest) (λ count last.
     Value (record {
       kind_is = refl;
       body_is =
@@ -68,7 +68,7 @@ unfolding frame_of
 frame_yields kinds.Take body are = then_yields _ _ (alone_yields eight_back body are) (λ n is. Value (record { kind_is = refl; body_is = is.text; fits = is.fits }))
 frame_yields kinds.Ask body are = Value (record { kind_is = refl; body_is = refl; fits = tt })
 frame_yields kinds.Empty body are = then_yields _ _ (nothing_yields body) (λ _ is. Value (record { kind_is = refl; body_is = is; fits = tt }))
-frame_yields kinds.Post body are = then_yields _ _ (number_yields BadBody eight_back body are) (λ generation is. Value (record { kind_is = refl; body_is = sym is.parts; fits = is.good }))
+frame_yields kinds.Post body are = then_yields _ _ (number_found BadBody body refl eight_back are) (λ generation is. Value (record { kind_is = refl; body_is = sym is.parts; fits = is.good }))
 frame_yields kinds.Posted body are = then_yields _ _ (nothing_yields body) (λ _ is. Value (record { kind_is = refl; body_is = is; fits = tt }))
 frame_yields kinds.Ended body are = then_yields _ _ (nothing_yields body) (λ _ is. Value (record { kind_is = refl; body_is = is; fits = tt }))
 frame_yields kinds.Stale body are = then_yields _ _ (alone_yields eight_back body are) (λ n is. Value (record { kind_is = refl; body_is = is.text; fits = is.fits }))

@@ -1,5 +1,5 @@
 -- Marks and names: what is read is spelled so, and what is spelled so is read.
-use Rattle.std.proofs.Common.{◌≡◌, ℕ, ◌^◌, ◌<◌, ◌≤◌, Bool, true, false, cond, ltb, eqb, nat_le, List, length, Option, Some, None, Result, Ok, Err, refl, subst, arith}
+use Rattle.std.proofs.Common.{◌≡◌, ℕ, ◌^◌, ◌<◌, ◌≤◌, Bool, true, false, cond, ltb, eqb, nat_le, List, length, Option, Some, None, Result, Ok, Err, refl, arith}
 use Rattle.std.specs.Prelude.{is_some}
 use Rattle.std.specs.Int.{w16, w32, w64}
 use Rattle.std.proofs.lemmas.Bool.{ltb-false}
@@ -8,7 +8,7 @@ use Rattle.byte_codec.specs.Field.{AreBytes, byte_text, number_bytes}
 use Rattle.byte_codec.specs.Reading.{◌>>=◌, bytes_at, number_at}
 use Rattle.byte_codec.proofs.FieldLaws.{IsBelow, two, four, eight, two_back, four_back, eight_back}
 use Rattle.byte_codec.proofs.PairLaws.{HasLen, IsCodec, codec_as, of_byte, of_bytes, of_number, pair, seen, tested}
-use Rattle.byte_codec.proofs.StepLemmas.{guard_is}
+use Rattle.byte_codec.proofs.YieldLemmas.{Any, Yields, Value, unless_yields, yielded}
 use Rattle.eden_base.specs.declared.name.NameFault.{NameFault}
 use Rattle.eden_base.specs.Name.{IsNameText, name_fault}
 use Rattle.map_image.specs.declared.fault.ImageFault.{ImageFault}
@@ -61,7 +61,7 @@ unfolding count_at
 first_count bytes are = in_ (number_at Short (width_of Four) bytes) refl where
   in_ : (read : Result (ℕ × List ℕ) ImageFault) → number_at Short (width_of Four) bytes ≡ read → (read >>= λ count. cond (nat_le count.0 first_form.greatest_count) (Ok count) (Err BadMark)) ≡ read
   in_ (Ok count) is =
-      let below = (of_four.found bytes count are is).good in
+      let below = (yielded (number_at Short (width_of Four) bytes) count (of_four.found bytes are) is).good in
       rw (is_at_most count.0 first_form.greatest_count (omega (arith, below))) refl
   in_ (Err fault) is = refl
 
@@ -74,9 +74,6 @@ bit false = 0
 
 abbrev pub bit_text : Bool → List ℕ
 bit_text b = byte_text (bit b)
-
-abbrev pub Any : {X : Type 0} → X → Type 0
-Any x = Unit {0}
 
 bit_of : (n : ℕ) → n ≤ 1 → bit (eqb n 1) ≡ n
 bit_of n le = grind (arith, nat_tests)
@@ -91,9 +88,7 @@ mark_back false rest = (omega arith, refl)
 pub of_mark : IsCodec bit_text Any mark_at
 unfolding mark_at
 of_mark = seen Any bit see_mark (of_byte Short)
-    (λ mark b low e.
-    let g = guard_is (ltb 1 mark.0) BadMark (eqb mark.0 1, mark.1) b e in
-    subst (λ (b : Bool × List ℕ). (bit b.0 ≡ mark.0) × (b.1 ≡ mark.1) × Any b.0) g.1 (bit_of mark.0 (ltb-false _ _ g.0), refl, tt))
+    (λ mark low. unless_yields (ltb 1 mark.0) BadMark _ tt (λ few. Value (bit_of mark.0 (ltb-false _ _ few), refl, tt)))
     (λ b rest any. mark_back b rest)
 
 -- ---- names
@@ -110,10 +105,9 @@ none_is : (fault : Option NameFault) → is_some fault ≡ false → fault ≡ N
 none_is None e = refl
 none_is (Some fault) e = absurd cc
 
-pub named_ok : (field x : List ℕ × List ℕ) → named field ≡ Ok x → IsNameText field.0 × (field ≡ x)
-named_ok field x e =
-    let g = guard_is (is_some (name_fault field.0)) BadName field x e in
-    (none_is (name_fault field.0) g.0, g.1)
+-- a field that is a name is read as it stands
+pub named_yields : (Good : List ℕ → Type 0) (field : List ℕ × List ℕ) → (IsNameText field.0 → Good field.0) → Yields Any (λ name. (name.0 ≡ field.0) × (name.1 ≡ field.1) × Good name.0) (named field)
+named_yields Good field good = unless_yields (is_some (name_fault field.0)) BadName _ tt (λ none. Value (refl, refl, good (none_is (name_fault field.0) none)))
 
 pub named_again : (field rest : List ℕ) → IsNameText field → named (field, rest) ≡ Ok (field, rest)
 named_again field rest is = rw is refl
@@ -124,7 +118,5 @@ short_name name is = omega (arith, name_is_short name is)
 pub of_name : IsCodec name_text IsNameText name_at
 unfolding name_at
 of_name = seen IsNameText (λ name. name) named of_counted
-    (λ field name short e.
-    let is = named_ok field name e in
-    subst (λ (y : List ℕ × List ℕ). (y.0 ≡ field.0) × (y.1 ≡ field.1) × IsNameText y.0) is.1 (refl, refl, is.0))
+    (λ field short. named_yields IsNameText field (λ is. is))
     (λ name rest is. (short_name name is, named_again name rest is))

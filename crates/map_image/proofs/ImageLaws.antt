@@ -1,5 +1,5 @@
 -- Whole images: what is read is a text of it, and what is a text is read.
-use Rattle.std.proofs.Common.{◌≡◌, ℕ, ◌^◌, ◌<◌, Bool, true, false, cond, ◌&&◌, ltb, nat_eq, List, [], ◌∷◌, ◌++◌, length, Option, Some, None, Result, Ok, Err, refl, sym, ap, subst, ◌∙◌, append_assoc, arith}
+use Rattle.std.proofs.Common.{◌≡◌, ℕ, ◌^◌, ◌<◌, true, ltb, nat_eq, List, [], ◌∷◌, ◌++◌, length, Option, Some, None, Result, Ok, refl, sym, ap, subst, ◌∙◌, append_assoc, arith}
 use Rattle.std.specs.Int.{w16, w64}
 use Rattle.std.specs.List.{AllByRecursion}
 use Rattle.std.specs.Cmp.Lexicographic.{pointwise}
@@ -7,11 +7,11 @@ use Rattle.std.proofs.lemmas.Bool.{and_parts, ltb-false, eqb-true}
 use Rattle.std.proofs.lemmas.List.{append-nil, nil_from_length}
 use Rattle.std.proofs.lemmas.List.Elements.{recursion_from_All, All-from_recursion}
 use Rattle.byte_codec.specs.Field.{AreBytes, number_bytes}
-use Rattle.byte_codec.specs.Reading.{◌>>=◌, bytes_at, number_at}
+use Rattle.byte_codec.specs.Reading.{◌>>=◌}
 use Rattle.byte_codec.proofs.ByteLemmas.{both}
 use Rattle.byte_codec.proofs.FieldLaws.{Found, bytes_found, bytes_again}
 use Rattle.byte_codec.proofs.PairLaws.{IsCodec, codec_as, made, of_bytes, pair}
-use Rattle.byte_codec.proofs.StepLemmas.{bind_ok, guard_ok, test_ok, ok_is}
+use Rattle.byte_codec.proofs.YieldLemmas.{Any, Yields, Value, Fault, if_yields, then_yields, unless_yields, yielded, yields_as}
 use Rattle.eden_base.specs.Name.{IsNameText}
 use Rattle.checkout.specs.declared.changes.Made.{Made}
 use Rattle.manifest.specs.declared.links.LinkChange.{LinkChange}
@@ -24,7 +24,7 @@ use Rattle.map_image.specs.declared.image.Image.{Image}
 use Rattle.entry_table.specs.EntryPlaces.{HasName}
 use Rattle.map_image.specs.Fit.{entry_follows, made_follows, link_follows, IsFit}
 use Rattle.map_image.specs.ImageText.{magic, entry_text, made_text, link_text, list_text, image_text, FitsEntry, FitsMade, FitsLink, FitsNumbers, FitsMembers, IsImageText}
-use Rattle.map_image.specs.ImageReading.{entry_at, made_at, link_at, list_at, magic_at, known, form_at, header_at, changes_at, image_with, fields_at, are_of_use, seen_whole, image_of_bytes}
+use Rattle.map_image.specs.ImageReading.{entry_at, made_at, link_at, list_at, magic_at, known, form_at, header_at, changes_at, image_with, fields_at, are_of_use, image_of_bytes}
 use Rattle.map_image.specs.Versions.{IsForm, form_of}
 use Rattle.map_image.specs.declared.version.CountWidth.{CountWidth}
 use Rattle.map_image.specs.declared.version.VersionForm.{VersionForm}
@@ -54,36 +54,36 @@ pub record Front (text bytes rest : List ℕ) : Type 0 where
   pub parts : bytes ≡ text ++ rest
   pub rest_are : AreBytes rest
 
-magic_found : (bytes rest : List ℕ) → AreBytes bytes → magic_at bytes ≡ Ok rest → Front magic bytes rest
+magic_found : (bytes : List ℕ) → AreBytes bytes → Yields Any (Front magic bytes) (magic_at bytes)
 unfolding magic_at
-magic_found bytes rest are e =
-    let b = bind_ok (bytes_at Short 4 bytes) (λ field. cond (pointwise nat_eq field.0 magic) (Ok field.1) (Err BadMagic)) rest e in
-    let field = bytes_found Short 4 bytes b.0 are b.1 in
-    let t = test_ok (pointwise nat_eq b.0.0 magic) BadMagic (Ok b.0.1) rest b.2 in
-    let same : b.0.0 ≡ magic = same_bytes b.0.0 magic t.0 in
-    subst (Front magic bytes) (ok_is b.0.1 rest t.1) (record { parts = field.parts ∙ ap (λ (t : List ℕ). t ++ b.0.1) same; rest_are = field.rest })
+magic_found bytes are =
+    then_yields _ _ (bytes_found Short 4 bytes tt are) (λ field found.
+    if_yields (pointwise nat_eq field.0 magic) BadMagic _ tt (λ alike.
+    let same : field.0 ≡ magic = same_bytes field.0 magic alike in
+    Value (record { parts = found.parts ∙ ap (λ (t : List ℕ). t ++ field.1) same; rest_are = found.rest })))
 
 magic_again : (rest : List ℕ) → magic_at (magic ++ rest) ≡ Ok rest
 unfolding magic_at
 magic_again rest = rw (bytes_again Short 4 magic rest length-magic, magic_same) refl
-
-known_ok : (form : Option VersionForm) (rest : List ℕ) (x : VersionForm × List ℕ) → known form rest ≡ Ok x → (form ≡ Some x.0) × (rest ≡ x.1)
-known_ok (Some form) rest x e =
-    subst (λ (y : VersionForm × List ℕ). (Some form ≡ Some y.0) × (rest ≡ y.1)) (ok_is (form, rest) x e) (refl, refl)
-known_ok None rest x e = absurd cc
 
 -- a version was read
 pub record IsVersion (version : ℕ) (bytes : List ℕ) (x : VersionForm × List ℕ) : Type 0 where
   pub known : form_of version ≡ Some x.0
   pub front : Front (number_bytes w16 version) bytes x.1
 
-form_found : (bytes : List ℕ) (x : VersionForm × List ℕ) → AreBytes bytes → form_at bytes ≡ Ok x → (version : ℕ) × IsVersion version bytes x
+-- some version was read
+abbrev SomeVersion : List ℕ → VersionForm × List ℕ → Type 0
+SomeVersion bytes x = (version : ℕ) × IsVersion version bytes x
+
+known_found : (version : ℕ) (bytes rest : List ℕ) (form : Option VersionForm) → form_of version ≡ form → Front (number_bytes w16 version) bytes rest → Yields Any (SomeVersion bytes) (known form rest)
+known_found version bytes rest None e front = Fault tt
+known_found version bytes rest (Some form) e front = Value (version, record { known = e; front = front })
+
+form_found : (bytes : List ℕ) → AreBytes bytes → Yields Any (SomeVersion bytes) (form_at bytes)
 unfolding form_at
-form_found bytes x are e =
-    let b = bind_ok (number_at Short w16 bytes) (λ version. known (form_of version.0) version.1) x e in
-    let n = of_two.found bytes b.0 are b.1 in
-    let k = known_ok (form_of b.0.0) b.0.1 x b.2 in
-    (b.0.0, record { known = k.0; front = subst (Front (number_bytes w16 b.0.0) bytes) k.1 (record { parts = n.parts; rest_are = n.rest }) })
+form_found bytes are =
+    then_yields _ _ (of_two.found bytes are) (λ version found.
+    known_found version.0 bytes version.1 (form_of version.0) refl (record { parts = found.parts; rest_are = found.rest }))
 
 form_again : (version : ℕ) (form : VersionForm) (rest : List ℕ) → form_of version ≡ Some form → form_at (number_bytes w16 version ++ rest) ≡ Ok (form, rest)
 unfolding form_at
@@ -225,29 +225,25 @@ record FoundFields (bytes : List ℕ) (x : Image × List ℕ) : Type 0 where
   known : form_of version ≡ Some form
   found : Found (image_text form.count_width version) (GoodImage form.greatest_count) bytes x
 
-fields_found : (bytes : List ℕ) (x : Image × List ℕ) → AreBytes bytes → fields_at bytes ≡ Ok x → FoundFields bytes x
+fields_found : (bytes : List ℕ) → AreBytes bytes → Yields Any (FoundFields bytes) (fields_at bytes)
 unfolding fields_at
-fields_found bytes x are e =
-    let a = bind_ok (magic_at bytes) (λ fields. form_at fields >>= λ form. behind_form form.0 form.1) x e in
-    let b = bind_ok (form_at a.0) (λ form. behind_form form.0 form.1) x a.2 in
-    let first = magic_found bytes a.0 are a.1 in
-    let read = form_found a.0 b.0 first.rest_are b.1 in
-    let version = read.0 in
-    let form = b.0.0 in
-    let body = (of_body form (row version form read.1.known).keeps).found b.0.1 x read.1.front.rest_are b.2 in
-    let v = number_bytes w16 version in
-    let text = body_text form.count_width x.0 in
-    let behind = both a.0 v b.0.1 text x.1 read.1.front.parts body.parts in
+fields_found bytes are =
+    then_yields _ _ (magic_found bytes are) (λ behind_magic first.
+    then_yields _ _ (form_found behind_magic first.rest_are) (λ form read.
+    yields_as _ ((of_body form.0 (row read.0 form.0 read.1.known).keeps).found form.1 read.1.front.rest_are) (λ image body.
+    let v = number_bytes w16 read.0 in
+    let text = body_text form.0.count_width image.0 in
+    let behind = both behind_magic v form.1 text image.1 read.1.front.parts body.parts in
     record {
-      version = version;
-      form = form;
+      version = read.0;
+      form = form.0;
       known = read.1.known;
       found = record {
-        parts = both bytes magic a.0 (v ++ text) x.1 first.parts behind ∙ ap (λ (t : List ℕ). t ++ x.1) (sym (parts_of form.count_width version x.0));
+        parts = both bytes magic behind_magic (v ++ text) image.1 first.parts behind ∙ ap (λ (t : List ℕ). t ++ image.1) (sym (parts_of form.0.count_width read.0 image.0));
         good = body.good;
         rest = body.rest;
       };
-    }
+    })))
 
 fields_again : (version : ℕ) (form : VersionForm) (image : Image) → form_of version ≡ Some form → GoodImage form.greatest_count image → fields_at (image_text form.count_width version image) ≡ Ok (image, [])
 unfolding fields_at
@@ -319,20 +315,19 @@ pub record HasVersion (image : Image) (bytes : List ℕ) : Type 0 where
   pub version : ℕ
   pub text : IsImageText image version bytes
 
-pub image_found : (bytes : List ℕ) (image : Image) → AreBytes bytes → image_of_bytes bytes ≡ Ok image → HasVersion image bytes
+image_yields : (bytes : List ℕ) → AreBytes bytes → Yields Any (λ image. HasVersion image bytes) (image_of_bytes bytes)
 unfolding image_of_bytes
-image_found bytes image are e =
-    let b = bind_ok (fields_at bytes) seen_whole image e in
-    let fields = fields_found bytes b.0 are b.1 in
-    let g = guard_ok (ltb 0 (length b.0.1)) Rest (cond (are_of_use b.0.0.entries) (Ok b.0.0) (Err ZeroUse)) image b.2 in
-    let t = test_ok (are_of_use b.0.0.entries) ZeroUse (Ok b.0.0) image g.1 in
-    let nothing : b.0.1 ≡ [] = nil_from_length b.0.1 (let le = ltb-false _ _ g.0 in omega (arith, le)) in
-    let text = image_text fields.form.count_width fields.version b.0.0 in
+image_yields bytes are =
+    then_yields _ _ (fields_found bytes are) (λ x fields.
+    unless_yields (ltb 0 (length x.1)) Rest _ tt (λ over.
+    if_yields (are_of_use x.0.entries) ZeroUse _ tt (λ of_use.
+    let nothing : x.1 ≡ [] = nil_from_length x.1 (let le = ltb-false _ _ over in omega (arith, le)) in
+    let text = image_text fields.form.count_width fields.version x.0 in
     let whole : bytes ≡ text = fields.found.parts ∙ ap (λ (r : List ℕ). text ++ r) nothing ∙ append-nil text in
-    record {
-      version = fields.version;
-      text = subst (λ (i : Image). IsImageText i fields.version bytes) (ok_is b.0.0 image t.1) (is_text b.0.0 fields.version fields.form bytes fields.known fields.found.good t.0 whole);
-    }
+    Value (record { version = fields.version; text = is_text x.0 fields.version fields.form bytes fields.known fields.found.good of_use whole }))))
+
+pub image_found : (bytes : List ℕ) (image : Image) → AreBytes bytes → image_of_bytes bytes ≡ Ok image → HasVersion image bytes
+image_found bytes image are e = yielded (image_of_bytes bytes) image (image_yields bytes are) e
 
 text_again : (version : ℕ) (form : VersionForm) (image : Image) → form_of version ≡ Some form → IsFit image → GoodImage form.greatest_count image → image_of_bytes (image_text form.count_width version image) ≡ Ok image
 unfolding image_of_bytes

@@ -1,14 +1,13 @@
 -- Lists of members: what is read is spelled so, and what is spelled so is read.
-use Rattle.std.proofs.Common.{◌≡◌, ℕ, zero, suc, ◌<◌, Bool, true, false, ◌&&◌, List, [], ◌∷◌, ◌++◌, length, Option, Some, None, Ok, refl, sym, ap, subst, ◌∙◌, append_assoc}
+use Rattle.std.proofs.Common.{◌≡◌, ℕ, zero, suc, ◌<◌, Bool, true, List, [], ◌∷◌, ◌++◌, length, Option, Some, None, Ok, refl, sym, ap, ◌∙◌, append_assoc}
 use Rattle.std.specs.List.{flat_map, AllByRecursion}
 use Rattle.std.proofs.lemmas.Bool.{and_from, and_parts}
 use Rattle.std.proofs.lemmas.List.Concat.{flat_map-cons}
 use Rattle.byte_codec.specs.Field.{AreBytes}
-use Rattle.byte_codec.specs.Reading.{◌>>=◌}
 use Rattle.byte_codec.proofs.ByteLemmas.{both}
 use Rattle.byte_codec.proofs.FieldLaws.{Found}
 use Rattle.byte_codec.proofs.PairLaws.{IsCodec, codec_as, pair}
-use Rattle.byte_codec.proofs.StepLemmas.{bind_ok, ok_is}
+use Rattle.byte_codec.proofs.YieldLemmas.{Any, Yields, Value, then_yields}
 use Rattle.map_image.specs.Fit.{rises}
 use Rattle.map_image.specs.ImageText.{list_text}
 use Rattle.map_image.specs.ImageReading.{members_at, list_at}
@@ -27,28 +26,23 @@ pub record AreMembers {X : Type 0} (Good : X → Type 0) (follows : Option X →
   pub good : AllByRecursion Good xs
   pub rise : rises follows last xs ≡ true
 
-members_found : {X : Type 0} (member : Member X) (text : X → List ℕ) (Good : X → Type 0) (follows : Option X → X → Bool) → AreCodecs member text Good follows → (n : ℕ) (last : Option X) (bytes : List ℕ) (x : List X × List ℕ) → AreBytes bytes → members_at member last n bytes ≡ Ok x
-    → Found (flat_map text) (AreMembers Good follows last n) bytes x
+members_found : {X : Type 0} (member : Member X) (text : X → List ℕ) (Good : X → Type 0) (follows : Option X → X → Bool) → AreCodecs member text Good follows → (n : ℕ) (last : Option X) (bytes : List ℕ) → AreBytes bytes
+    → Yields Any (Found (flat_map text) (AreMembers Good follows last n) bytes) (members_at member last n bytes)
 unfolding members_at
-members_found {X = X} member text Good follows codecs zero last bytes x are e =
-    let made : List X × List ℕ = ([], bytes) in
-    subst (Found (flat_map text) (AreMembers Good follows last 0) bytes) (ok_is made x e) (record { parts = refl; good = record { len = refl; good = tt; rise = refl }; rest = are })
-members_found {X = X} member text Good follows codecs (suc n) last bytes x are e =
-    let a = bind_ok (member last bytes) (λ first. members_at member (Some first.0) n first.1 >>= λ others. Ok (first.0 ∷ others.0, others.1)) x e in
-    let b = bind_ok (members_at member (Some a.0.0) n a.0.1) (λ others. Ok (a.0.0 ∷ others.0, others.1)) x a.2 in
-    let first = (codecs last).found bytes a.0 are a.1 in
-    let others = members_found member text Good follows codecs n (Some a.0.0) a.0.1 b.0 first.rest b.1 in
-    let made : List X × List ℕ = (a.0.0 ∷ b.0.0, b.0.1) in
-    let parts : bytes ≡ (text a.0.0 ++ flat_map text b.0.0) ++ b.0.1 = both bytes (text a.0.0) a.0.1 (flat_map text b.0.0) b.0.1 first.parts others.parts in
-    subst (Found (flat_map text) (AreMembers Good follows last (suc n)) bytes) (ok_is made x b.2) (record {
-      parts = parts ∙ ap (λ (t : List ℕ). t ++ b.0.1) (sym (flat_map-cons text a.0.0 b.0.0));
+members_found member text Good follows codecs zero last bytes are = Value (record { parts = refl; good = record { len = refl; good = tt; rise = refl }; rest = are })
+members_found member text Good follows codecs (suc n) last bytes are =
+    then_yields _ _ ((codecs last).found bytes are) (λ x first.
+    then_yields _ _ (members_found member text Good follows codecs n (Some x.0) x.1 first.rest) (λ xs others.
+    let parts : bytes ≡ (text x.0 ++ flat_map text xs.0) ++ xs.1 = both bytes (text x.0) x.1 (flat_map text xs.0) xs.1 first.parts others.parts in
+    Value (record {
+      parts = parts ∙ ap (λ (t : List ℕ). t ++ xs.1) (sym (flat_map-cons text x.0 xs.0));
       good = record {
         len = ap suc others.good.len;
         good = (first.good.good, others.good.good);
-        rise = and_from (follows last a.0.0) (rises follows (Some a.0.0) b.0.0) first.good.rises others.good.rise;
+        rise = and_from (follows last x.0) (rises follows (Some x.0) xs.0) first.good.rises others.good.rise;
       };
       rest = others.rest;
-    })
+    })))
 
 members_again : {X : Type 0} (member : Member X) (text : X → List ℕ) (Good : X → Type 0) (follows : Option X → X → Bool) → AreCodecs member text Good follows → (xs : List X) (last : Option X) (rest : List ℕ) → AllByRecursion Good xs → rises follows last xs ≡ true
     → members_at member last (length xs) (flat_map text xs ++ rest) ≡ Ok (xs, rest)
@@ -64,7 +58,7 @@ of_members : {X : Type 0} (member : Member X) (text : X → List ℕ) (Good : X 
 of_members member text Good follows codecs n = record {
   again = λ xs rest are.
       ap (λ (k : ℕ). members_at member None k (flat_map text xs ++ rest)) (sym are.len) ∙ members_again member text Good follows codecs xs None rest are.good are.rise;
-  found = λ bytes xs are e. members_found member text Good follows codecs n None bytes xs are e;
+  found = members_found member text Good follows codecs n None;
 }
 
 -- a list that can be counted, of good members that rise

@@ -1,13 +1,13 @@
 -- Entries, made files and changed names: what is read is spelled so, and what is spelled so is read.
-use Rattle.std.proofs.Common.{◌≡◌, ℕ, ◌%◌, ◌^◌, ◌<◌, ◌≤◌, Bool, true, false, ltb, List, [], ◌++◌, Option, Some, None, Ok, refl, sym, ap, subst, arith}
+use Rattle.std.proofs.Common.{◌≡◌, ℕ, ◌%◌, ◌^◌, ◌<◌, ◌≤◌, Bool, true, false, ltb, List, [], ◌++◌, Option, Some, None, Ok, refl, sym, ap, arith}
 use Rattle.std.specs.Int.{w16, w64}
 use Rattle.std.proofs.lemmas.Bool.{ltb-false}
 use Rattle.std.proofs.lemmas.List.{append-nil}
 use Rattle.byte_codec.specs.Field.{byte_text, number_bytes}
 use Rattle.byte_codec.specs.Reading.{◌>>=◌}
-use Rattle.byte_codec.proofs.FieldLaws.{Found}
 use Rattle.byte_codec.proofs.PairLaws.{IsCodec, codec_as, made, pair, read_as, seen, tested}
-use Rattle.byte_codec.proofs.StepLemmas.{bind_assoc, guard_is, ok_is, test_ok}
+use Rattle.byte_codec.proofs.StepLemmas.{bind_assoc}
+use Rattle.byte_codec.proofs.YieldLemmas.{Any, Value, if_yields, unless_yields}
 use Rattle.eden_base.specs.Name.{IsNameText}
 use Rattle.eden_base.specs.declared.attr.Kind.{Kind}
 use Rattle.eden_base.specs.declared.attr.Kind.TheVariants.{Dir, File as RegularFile}
@@ -22,8 +22,8 @@ use Rattle.entry_table.specs.EntryPlaces.{HasName}
 use Rattle.map_image.specs.declared.fault.ImageFault.TheVariants.{NotRising, BadMark}
 use Rattle.map_image.specs.Fit.{is_next_number, is_next_file, is_next_place, entry_follows, made_follows, link_follows}
 use Rattle.map_image.specs.ImageText.{name_text, place_mark, place_text, entry_text, kind_mark, made_text, target_text, link_text, FitsPlace, FitsEntry, FitsMade, FitsTarget, FitsLink}
-use Rattle.map_image.specs.ImageReading.{counted_at, named, place_at, rising_at, entry_at, file_at, kind_of_mark, perm_of, perm_at, made_at, rising_place, target_at, link_at}
-use Rattle.map_image.proofs.FieldLaws.{Any, bit, bit_text, named_again, named_ok, of_count, of_counted, of_eight, of_mark, of_name, of_two, short_name}
+use Rattle.map_image.specs.ImageReading.{counted_at, named, place_at, rising_at, entry_at, file_at, kind_of_mark, perm_at, made_at, rising_place, target_at, link_at}
+use Rattle.map_image.proofs.FieldLaws.{bit, bit_text, named_again, named_yields, of_count, of_counted, of_eight, of_mark, of_name, of_two, short_name}
 use Rattle.map_image.specs.Versions.{IsForm, width_of}
 use Rattle.map_image.specs.declared.version.VersionForm.{VersionForm}
 use Rattle.map_image.proofs.Perms.{perm_seen, see_perm}
@@ -148,11 +148,10 @@ perm_text perm = number_bytes w16 perm.bits
 of_perm : IsCodec perm_text Any perm_at
 unfolding perm_at
 of_perm = seen Any (λ (perm : Perm). perm.bits) see_perm of_two
-    (λ bits perm low e.
-    let g = guard_is (ltb 4095 bits.0) BadMark (perm_of bits.0, bits.1) perm e in
-    let few : bits.0 ≤ 4095 = ltb-false _ _ g.0 in
-    let same : bits.0 % 4096 ≡ bits.0 = omega (arith, few) in
-    subst (λ (p : Perm × List ℕ). (p.0.bits ≡ bits.0) × (p.1 ≡ bits.1) × Any p.0) g.1 (same, refl, tt))
+    (λ bits low. unless_yields (ltb 4095 bits.0) BadMark _ tt (λ few.
+    let at_most : bits.0 ≤ 4095 = ltb-false _ _ few in
+    let same : bits.0 % 4096 ≡ bits.0 = omega (arith, at_most) in
+    Value (same, refl, tt)))
     (λ perm rest any. (omega (arith, perm.in_range), perm_seen perm.bits rest perm refl))
 
 abbrev is_dir : Kind → Bool
@@ -231,9 +230,7 @@ of_target true =
     codec_as behind_mark (IsTarget true) (made (IsTarget true) file_of some_file of_eight (λ n low. (refl, record { marked = refl; fits = low })) there_again) there_text (λ target is. is) (λ target is. is)
 of_target false = record {
   again = none_again;
-  found = λ bytes x are e.
-      let none : Option FileId × List ℕ = (None, bytes) in
-      subst (Found behind_mark (IsTarget false) bytes) (ok_is none x e) (record { parts = refl; good = record { marked = refl; fits = tt }; rest = are });
+  found = λ bytes are. Value (record { parts = refl; good = record { marked = refl; fits = tt }; rest = are });
 }
 
 -- a name that rises above the last one
@@ -244,10 +241,7 @@ record IsPlaced (last : Option LinkChange) (dir : ℕ) (name : List ℕ) : Type 
 of_placed : (last : Option LinkChange) (dir : ℕ) → IsCodec name_text (IsPlaced last dir) (λ bytes. counted_at bytes >>= rising_place last dir)
 unfolding rising_place
 of_placed last dir = seen (IsPlaced last dir) (λ name. name) (rising_place last dir) of_counted
-    (λ field name short e.
-    let t = test_ok (is_next_place last dir field.0) NotRising (named field) name e in
-    let is = named_ok field name t.1 in
-    subst (λ (y : List ℕ × List ℕ). (y.0 ≡ field.0) × (y.1 ≡ field.1) × IsPlaced last dir y.0) is.1 (refl, refl, record { rises = t.0; named = is.0 }))
+    (λ field short. if_yields (is_next_place last dir field.0) NotRising _ tt (λ rises. named_yields (IsPlaced last dir) field (λ is. record { rises = rises; named = is })))
     (λ name rest is. (short_name name is.named, rw is.rises (named_again name rest is.named)))
 
 pub record GoodLink (link : LinkChange) : Type 0 where
