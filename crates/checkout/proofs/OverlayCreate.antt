@@ -20,7 +20,7 @@ use Rattle.checkout.proofs.CreateLaws.{created-IsTree, next_is_later}
 use Rattle.manifest.proofs.FlatLemmas.{link_cmp_total, link_cmp-same}
 use Rattle.manifest.proofs.ManifestTree.{file_with}
 use Rattle.manifest.proofs.MapLemmas.{get-insert_cases}
-use Rattle.checkout.proofs.OverlayLaws.{child-over, child_added, line_of_base, within_lines}
+use Rattle.checkout.proofs.OverlayLaws.{child-over, line_of_base, none_added, within_lines}
 use Rattle.checkout.proofs.UnionLaws.{get-files_over, get-links_over}
 
 -- the file as it is kept
@@ -69,11 +69,7 @@ module _ (m : Manifest) (made : FinMap nat_cmp MadeFile) (added : FinMap link_cm
 
     -- nothing was added at the place, nor is there a link of the manifest
     no_link_added : get added (dir.0, name) ≡ None
-    no_link_added =
-        elim (get added (dir.0, name)) as (λ o. get added (dir.0, name) ≡ o → o ≡ None) [
-          | None ↦ λ e. refl
-          | Some f ↦ λ e. let there = child_added m made added gone lost next is.parts dir name f e in absurd (cc (there, free))
-        ] refl
+    no_link_added = none_added m made added gone lost next is.parts dir name free
 
     no_link_left : still gone (get (links_from 2 m.lines) (dir.0, name)) ≡ None
     no_link_left = sym (child-over m made added gone lost next is.parts dir name ∙ ap (λ o. option_or o (still gone (get (links_from 2 m.lines) (dir.0, name)))) no_link_added) ∙ free

@@ -69,6 +69,14 @@ module _ (m : Manifest) (made : FinMap nat_cmp MadeFile) (added : FinMap link_cm
   pub child_added : (dir : FileId) (name : List ℕ) (file : FileId) → get added (dir.0, name) ≡ Some file → child_of tree dir name ≡ Some file
   child_added dir name file here = child-over dir name ∙ ap (λ o. option_or o (still gone (get base (dir.0, name)))) here
 
+  -- where a name gives nothing, none was added
+  pub none_added : (dir : FileId) (name : List ℕ) → child_of tree dir name ≡ None → get added (dir.0, name) ≡ None
+  none_added dir name free =
+      elim (get added (dir.0, name)) as (λ o. get added (dir.0, name) ≡ o → o ≡ None) [
+        | None ↦ λ _. refl
+        | Some file ↦ λ here. let there = child_added dir name file here in absurd (cc (there, free))
+      ] refl
+
   pub child_cases : (dir : FileId) (name : List ℕ) (file : FileId) → child_of tree dir name ≡ Some file → (get added (dir.0, name) ≡ Some file) ⊎ ((get base (dir.0, name) ≡ Some file) × (gone file.0 ≡ false))
   child_cases dir name file h =
       elim (or-cases (get added (dir.0, name)) (still gone (get base (dir.0, name))) file (sym (child-over dir name) ∙ h)) [

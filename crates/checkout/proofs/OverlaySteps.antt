@@ -25,7 +25,7 @@ use Rattle.manifest.proofs.ManifestIsTree.{tree_of-IsTree}
 use Rattle.manifest.proofs.ManifestTree.{file_with, line_of_link}
 use Rattle.manifest.proofs.MapLemmas.{removed_nothing, removed_again}
 use Rattle.checkout.proofs.OverlayCreate.{kept_file, tree_over-created, create-IsOverlay}
-use Rattle.checkout.proofs.OverlayLaws.{child_added, child_cases}
+use Rattle.checkout.proofs.OverlayLaws.{child_added, child_cases, none_added}
 use Rattle.checkout.proofs.OverlayRemove.{tree_over-removed_added, remove_added-IsOverlay, tree_over-removed, remove-IsOverlay}
 use Rattle.checkout.proofs.UnionLaws.{files_over-nothing, links_over-nothing}
 
@@ -68,21 +68,14 @@ module _ (m : Manifest) (made : FinMap nat_cmp MadeFile) (added : FinMap link_cm
     free_here : child_of tree dir name ≡ None
     free_here = ap (λ (t : Tree). child_of t dir name) view ∙ free
 
-    none_added : get added (dir.0, name) ≡ None
-    none_added =
-        elim (get added (dir.0, name)) as (λ o. get added (dir.0, name) ≡ o → o ≡ None) [
-          | None ↦ λ e. refl
-          | Some f ↦ λ e. let there = child_added m made added gone lost next is.parts dir name f e in absurd (cc (there, free_here))
-        ] refl
-
     pub none_there : (bytes : List ℕ) → bytes ≡ name → get added (dir.0, bytes) ≡ None
-    none_there bytes e = ap (λ (n : List ℕ). get added (dir.0, n)) e ∙ none_added
+    none_there bytes e = ap (λ (n : List ℕ). get added (dir.0, n)) e ∙ none_added m made added gone lost next is.parts dir name free_here
 
     -- a link that was added, and taken out again
     pub undone : (bytes bytes' : List ℕ) (file : FileId) (added' added'' : FinMap link_cmp FileId) → bytes ≡ name → bytes' ≡ name → added' ≡ insert added (dir.0, bytes) file → added'' ≡ remove added' (dir.0, bytes') → added'' ≡ added
     undone bytes bytes' file added' added'' e e' a a' =
         a' ∙ ap (λ (n : List ℕ). remove added' (dir.0, n)) e' ∙ ap (λ x. remove x (dir.0, name)) (a ∙ ap (λ (n : List ℕ). insert added (dir.0, n) file) e)
-        ∙ removed_again link_cmp_total link_cmp-same added (dir.0, name) file none_added
+        ∙ removed_again link_cmp_total link_cmp-same added (dir.0, name) file (none_added m made added gone lost next is.parts dir name free_here)
 
     pub create-step : (kind : Kind) (perm : Perm) (made' : FinMap nat_cmp MadeFile) (added' : FinMap link_cmp FileId) (bytes : List ℕ) → kind_of self dir ≡ Some Dir → is_unlinked self dir ≡ false → IsNameText bytes → next < end_of_files →
         bytes ≡ name → made' ≡ insert made next (kept_file kind perm) → added' ≡ insert added (dir.0, bytes) (file_with next) →

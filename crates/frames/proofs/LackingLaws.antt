@@ -11,7 +11,7 @@ use Rattle.frames.specs.declared.kind.Kind.{Kind}
 use Rattle.frames.specs.FrameText.{longest_body}
 use Rattle.frames.specs.Kind.{kind_with}
 use Rattle.frames.specs.Lacking.{IsHeadFault, lacking, lacking_by}
-use Rattle.frames.specs.Reading.{First, Faulty, NotYet, frame_of, said, said_frame}
+use Rattle.frames.specs.Reading.{First, Faulty, NotYet, Said, frame_of, said, said_frame}
 use Rattle.frames.specs.Says.{IsFirst}
 use Rattle.frames.proofs.SaysLaws.{first_says}
 use Rattle.frames.proofs.StreamLaws.{of_four, said_behind, is_long}
@@ -46,12 +46,16 @@ lacks_long a b c d n bytes =
 
 -- ---- what is said where a count of bytes is lacking
 
-fault_behind : (kind : Option Kind) (len : ℕ) (bytes : List ℕ) (fault : FrameFault) → lacking_behind kind len (length bytes) ≡ Err fault → said_behind kind len bytes ≡ Faulty fault
-fault_behind None len bytes fault e = let same : BadKind ≡ fault = cc in ap Faulty same
+-- a fault that a head can have is said
+abbrev pub Shows : Said → FrameFault → Type 0
+Shows what fault = (what ≡ Faulty fault) × IsHeadFault fault
+
+fault_behind : (kind : Option Kind) (len : ℕ) (bytes : List ℕ) (fault : FrameFault) → lacking_behind kind len (length bytes) ≡ Err fault → Shows (said_behind kind len bytes) fault
+fault_behind None len bytes fault e = let same : BadKind ≡ fault = cc in (ap Faulty same, subst IsHeadFault same tt)
 fault_behind (Some kind) len bytes fault e = absurd cc
 
-fault_long : (over : Bool) (kind : Option Kind) (len : ℕ) (bytes : List ℕ) (fault : FrameFault) → cond over (Err TooLong) (lacking_behind kind len (length bytes)) ≡ Err fault → cond over (Faulty TooLong) (said_behind kind len bytes) ≡ Faulty fault
-fault_long true kind len bytes fault e = let same : TooLong ≡ fault = cc in ap Faulty same
+fault_long : (over : Bool) (kind : Option Kind) (len : ℕ) (bytes : List ℕ) (fault : FrameFault) → cond over (Err TooLong) (lacking_behind kind len (length bytes)) ≡ Err fault → Shows (cond over (Faulty TooLong) (said_behind kind len bytes)) fault
+fault_long true kind len bytes fault e = let same : TooLong ≡ fault = cc in (ap Faulty same, subst IsHeadFault same tt)
 fault_long false kind len bytes fault e = fault_behind kind len bytes fault e
 
 some_behind : (kind : Option Kind) (len n : ℕ) (bytes : List ℕ) → lacking_behind kind len (length bytes) ≡ Ok n → 0 < n → said_behind kind len bytes ≡ NotYet
@@ -68,16 +72,16 @@ some_long false kind len n bytes e some = some_behind kind len n bytes e some
 abbrev four_lack : Bool → Result ℕ FrameFault
 four_lack over = cond over (Err TooLong) (Ok 1)
 
-four_faulty : (over : Bool) (fault : FrameFault) → four_lack over ≡ Err fault → cond over (Faulty TooLong) NotYet ≡ Faulty fault
-four_faulty true fault e = let same : TooLong ≡ fault = cc in ap Faulty same
+four_faulty : (over : Bool) (fault : FrameFault) → four_lack over ≡ Err fault → Shows (cond over (Faulty TooLong) NotYet) fault
+four_faulty true fault e = let same : TooLong ≡ fault = cc in (ap Faulty same, subst IsHeadFault same tt)
 four_faulty false fault e = absurd cc
 
 four_lacking : (over : Bool) (n : ℕ) → four_lack over ≡ Ok n → cond over (Faulty TooLong) NotYet ≡ NotYet
 four_lacking true n e = absurd cc
 four_lacking false n e = refl
 
--- a fault that shows before the body is whole is that of the stream
-pub lacking_fault : (bytes : List ℕ) (fault : FrameFault) → lacking bytes ≡ Err fault → said bytes ≡ Faulty fault
+-- a fault that shows before the body is whole is that of the stream, and one that a head can have
+pub lacking_fault : (bytes : List ℕ) (fault : FrameFault) → lacking bytes ≡ Err fault → Shows (said bytes) fault
 unfolding said lacking
 lacking_fault [] fault e = absurd cc
 lacking_fault (a ∷ []) fault e = absurd cc
@@ -85,31 +89,8 @@ lacking_fault (a ∷ b ∷ []) fault e = absurd cc
 lacking_fault (a ∷ b ∷ c ∷ []) fault e = absurd cc
 lacking_fault (a ∷ b ∷ c ∷ d ∷ []) fault e = four_faulty (ltb longest_body (of_four a b c d)) fault e
 lacking_fault (a ∷ b ∷ c ∷ d ∷ n ∷ bytes) fault e =
-    is_long a b c d n bytes
-    ∙ fault_long (ltb longest_body (of_four a b c d)) (kind_with n) (of_four a b c d) bytes fault (sym (lacks_long a b c d n bytes) ∙ e)
-
-faults_behind : (kind : Option Kind) (len count : ℕ) (fault : FrameFault) → lacking_behind kind len count ≡ Err fault → IsHeadFault fault
-faults_behind None len count fault e = let same : BadKind ≡ fault = cc in subst IsHeadFault same tt
-faults_behind (Some kind) len count fault e = absurd cc
-
-faults_long : (over : Bool) (kind : Option Kind) (len count : ℕ) (fault : FrameFault) → cond over (Err TooLong) (lacking_behind kind len count) ≡ Err fault → IsHeadFault fault
-faults_long true kind len count fault e = let same : TooLong ≡ fault = cc in subst IsHeadFault same tt
-faults_long false kind len count fault e = faults_behind kind len count fault e
-
-four_faults : (over : Bool) (fault : FrameFault) → four_lack over ≡ Err fault → IsHeadFault fault
-four_faults true fault e = let same : TooLong ≡ fault = cc in subst IsHeadFault same tt
-four_faults false fault e = absurd cc
-
--- and it is one that a head can have
-pub lacking_faults : (bytes : List ℕ) (fault : FrameFault) → lacking bytes ≡ Err fault → IsHeadFault fault
-unfolding lacking
-lacking_faults [] fault e = absurd cc
-lacking_faults (a ∷ []) fault e = absurd cc
-lacking_faults (a ∷ b ∷ []) fault e = absurd cc
-lacking_faults (a ∷ b ∷ c ∷ []) fault e = absurd cc
-lacking_faults (a ∷ b ∷ c ∷ d ∷ []) fault e = four_faults (ltb longest_body (of_four a b c d)) fault e
-lacking_faults (a ∷ b ∷ c ∷ d ∷ n ∷ bytes) fault e =
-    faults_long (ltb longest_body (of_four a b c d)) (kind_with n) (of_four a b c d) (length bytes) fault (sym (lacks_long a b c d n bytes) ∙ e)
+    let is = fault_long (ltb longest_body (of_four a b c d)) (kind_with n) (of_four a b c d) bytes fault (sym (lacks_long a b c d n bytes) ∙ e) in
+    (is_long a b c d n bytes ∙ is.0, is.1)
 
 -- where bytes are lacking, nothing is said yet
 pub lacking_some : (bytes : List ℕ) (n : ℕ) → lacking bytes ≡ Ok n → 0 < n → said bytes ≡ NotYet

@@ -16,6 +16,7 @@ use Rattle.eden_base.specs.Name.{IsNameText}
 use Rattle.checkout.specs.declared.changes.Made.{Made}
 use Rattle.manifest.specs.declared.links.LinkChange.{LinkChange}
 use Rattle.checkout.specs.declared.changes.Changes.{Changes}
+use Rattle.checkout.proofs.ChangeLists.{all_weaker}
 use Rattle.entry_table.specs.declared.kept.Kept.{Kept}
 use Rattle.map_image.specs.declared.fault.ImageFault.{ImageFault}
 use Rattle.map_image.specs.declared.fault.ImageFault.TheVariants.{Short, BadMagic, Rest, ZeroUse}
@@ -254,10 +255,6 @@ fields_again version form image is good =
 
 -- ---- the relation
 
-each_of : {X : Type 0} (P Q : X → Type 0) → ((x : X) → P x → Q x) → (xs : List X) → AllByRecursion P xs → AllByRecursion Q xs
-each_of P Q f [] all = tt
-each_of P Q f (x ∷ xs) all = (f x all.0, each_of P Q f xs all.1)
-
 each_two : {X : Type 0} (P Q R : X → Type 0) → ((x : X) → P x → Q x → R x) → (xs : List X) → AllByRecursion P xs → AllByRecursion Q xs → AllByRecursion R xs
 each_two P Q R f [] ps qs = tt
 each_two P Q R f (x ∷ xs) ps qs = (f x ps.0 qs.0, each_two P Q R f xs ps.1 qs.1)
@@ -274,21 +271,21 @@ is_text image version form bytes known good of_use is = record {
   known = known;
   is_fit = record {
     entries_rise = good.entries.rise;
-    entries_have_names = each_of (GoodEntry form.greatest_count) Named (λ kept g. g.named) image.entries good.entries.good;
+    entries_have_names = all_weaker (GoodEntry form.greatest_count) Named (λ kept g. g.named) image.entries good.entries.good;
     each_of_use = of_use;
     made_rise = good.made.rise;
     links_rise = good.links.rise;
-    links_have_names = each_of GoodLink NamedLink (λ link g. g.named) image.changes.links good.links.good;
+    links_have_names = all_weaker GoodLink NamedLink (λ link g. g.named) image.changes.links good.links.good;
   };
   commit = good.commit;
   numbers = good.numbers;
   members = record {
     entries_few = good.entries.few;
-    entries = All-from_recursion (FitsEntry form.greatest_count) image.entries (each_of (GoodEntry form.greatest_count) (FitsEntry form.greatest_count) (λ kept g. g.fits) image.entries good.entries.good);
+    entries = All-from_recursion (FitsEntry form.greatest_count) image.entries (all_weaker (GoodEntry form.greatest_count) (FitsEntry form.greatest_count) (λ kept g. g.fits) image.entries good.entries.good);
     made_few = good.made.few;
     made = All-from_recursion FitsMade image.changes.made good.made.good;
     links_few = good.links.few;
-    links = All-from_recursion FitsLink image.changes.links (each_of GoodLink FitsLink (λ link g. g.fits) image.changes.links good.links.good);
+    links = All-from_recursion FitsLink image.changes.links (all_weaker GoodLink FitsLink (λ link g. g.fits) image.changes.links good.links.good);
   };
   is = is;
 }

@@ -1,5 +1,5 @@
 use Rattle.std.proofs.Common.{sym}
-use Rattle.frames.proofs.LackingLaws.{lacking_fault, lacking_faults, lacking_few, lacking_some}
+use Rattle.frames.proofs.LackingLaws.{lacking_fault, lacking_few, lacking_some}
 use Rattle.frames.proofs.parts.missing.Goals as goal
 
 pub returns-in-Ok : goal.returns-in-Ok
@@ -14,4 +14,5 @@ returns-in-Err c =
     let bytes = c.args.bytes.now in
     let fault = c.in-Err.fault in
     let is = sym c.in-Err.ensures.lacks in
-    record { missing = c.in-Err.ensures.lacks; not_yet = tt; faulty = lacking_fault bytes fault is; faults = lacking_faults bytes fault is; at_most = tt }
+    let shows = lacking_fault bytes fault is in
+    record { missing = c.in-Err.ensures.lacks; not_yet = tt; faulty = shows.0; faults = shows.1; at_most = tt }
