@@ -1,8 +1,8 @@
 -- The bodies of requests: what is read of one is spelled so, and what is spelled so is read.
-use Rattle.std.proofs.Common.{All, ◌≡◌, ℕ, zero, suc, ◌+◌, ◌-◌, ◌*◌, ◌%◌, ◌^◌, ◌<◌, ◌≤◌, Bool, true, false, cond, not, ◌&&◌, ◌||◌, eqb, ltb, List, [], ◌∷◌, ◌++◌, length, take, drop, get_or, Option, Some, None, Result, Ok, Err, refl, sym, ap, subst, ◌∙◌, append_assoc, length-append, length-take, length-drop, drop-cons, arith}
+use Rattle.std.proofs.Common.{All, ◌≡◌, ℕ, zero, suc, ◌+◌, ◌-◌, ◌*◌, ◌%◌, ◌^◌, ◌<◌, ◌≤◌, true, false, cond, not, ◌&&◌, ◌||◌, eqb, ltb, List, [], ◌∷◌, ◌++◌, length, take, drop, get_or, Option, Some, None, Result, Ok, Err, refl, sym, ap, subst, ◌∙◌, append_assoc, length-append, length-take, length-drop, drop-cons, arith}
 use Rattle.std.specs.Prelude.{slice_index}
 use Rattle.std.specs.List.{flat_map, AllByRecursion}
-use Rattle.std.proofs.lemmas.Bool.{ltb-false, le-ltb, lt-ltb, eqb-true}
+use Rattle.std.proofs.lemmas.Bool.{and_parts, not-false, or_parts, ltb-false, le-ltb, lt-ltb, eqb-true}
 use Rattle.std.proofs.lemmas.Bool.Decides.{nat_tests}
 use Rattle.std.proofs.lemmas.List.{append-nil, take-append-drop, drop-drop, nil_from_length, take_at, drop_all, get_or-append_right}
 use Rattle.std.proofs.lemmas.List.Elements.{recursion_from_All}
@@ -27,18 +27,6 @@ use Rattle.eden_base.proofs.PermLemmas.{same_perm}
 
 -- ---- tests
 
-and_true : (a b : Bool) → (a && b) ≡ true → (a ≡ true) × (b ≡ true)
-and_true true b e = (refl, e)
-and_true false b e = absurd cc
-
-or_false : (a b : Bool) → (a || b) ≡ false → (a ≡ false) × (b ≡ false)
-or_false true b e = absurd cc
-or_false false b e = (refl, e)
-
-not_false : (b : Bool) → not b ≡ false → b ≡ true
-not_false true e = refl
-not_false false e = absurd cc
-
 pub yes_eq : (a b : ℕ) → a ≡ b → eqb a b ≡ true
 yes_eq a b e = grind (arith, nat_tests)
 
@@ -60,7 +48,7 @@ unfolding name_of
 name_found body name e =
     let n = length body - 1 in
     let t = test_ok (ltb 0 (length body) && eqb (slice_index body n) 0) BadBody (checked (take n body) (name_fault (take n body))) name e in
-    let tests = and_true (ltb 0 (length body)) (eqb (slice_index body n) 0) t.0 in
+    let tests = and_parts (ltb 0 (length body)) (eqb (slice_index body n) 0) t.0 in
     let some : 0 < length body = grind (arith, nat_tests) in
     let nul : slice_index body n ≡ 0 = eqb-true _ _ tests.1 in
     let is = checked_ok (take n body) name (name_fault (take n body)) t.1 in
@@ -201,9 +189,9 @@ batch_found body items are e =
     let count = u32_at body in
     let g = guard_ok (ltb (length body) 8) BadBody (cond (ltb 256 count || not (eqb (length body) (8 + 16 * count))) (Err BadCount) (Ok (items_at count (drop 8 body)))) items e in
     let h = guard_ok (ltb 256 count || not (eqb (length body) (8 + 16 * count))) BadCount (Ok (items_at count (drop 8 body))) items g.1 in
-    let tests = or_false (ltb 256 count) (not (eqb (length body) (8 + 16 * count))) h.0 in
+    let tests = or_parts (ltb 256 count) (not (eqb (length body) (8 + 16 * count))) h.0 in
     let at_most : count ≤ 256 = ltb-false _ _ tests.0 in
-    let len : length body ≡ 8 + 16 * count = eqb-true _ _ (not_false (eqb (length body) (8 + 16 * count)) tests.1) in
+    let len : length body ≡ 8 + 16 * count = eqb-true _ _ (not-false (eqb (length body) (8 + 16 * count)) tests.1) in
     let same : items_at count (drop 8 body) ≡ items = ok_is (items_at count (drop 8 body)) items h.1 in
     let lines = items_found count (drop 8 body) (AreBytes-drop 8 body are) (omega (arith, length-drop 8 body)) in
     let many : count ≡ length items = sym lines.1 ∙ ap length same in
