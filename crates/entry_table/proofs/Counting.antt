@@ -1,5 +1,6 @@
 -- Counts that are raised and lowered: in the entries, and in the slot of one.
-use Rattle.std.proofs.Common.{◌≡◌, ℕ, ◌-◌, ◌<◌, ◌≤◌, Bool, true, false, ◌||◌, List, Option, Some, None, refl, sym, ap, ◌∙◌, inl, inr, ◌⊎◌, arith}
+use Rattle.std.proofs.Common.{◌≡◌, ℕ, ◌-◌, ◌<◌, ◌≤◌, true, false, List, Option, Some, None, refl, sym, ap, ◌∙◌, inl, inr, ◌⊎◌, arith}
+use Rattle.std.proofs.Math.Bool.{or-true}
 use Rattle.std.specs.Prelude.{◌==◌, nat_lt}
 use Rattle.std.specs.Option.{option_map, option_map_or}
 use Rattle.std.proofs.lemmas.Bool.Decides.{nat_tests}
@@ -53,10 +54,7 @@ count-held t now n view is =
 
 -- more than what stands there is a bad item
 pub bad-more : (es : List Kept) (n k : ℕ) → count_of es n < k → is_bad_item es n k ≡ true
-bad-more es n k few = let l : nat_lt (count_of es n) k ≡ true = grind (arith, nat_tests) in rw l (or_true (k == 0)) where
-  or_true : (b : Bool) → (b || true) ≡ true
-  or_true true = refl
-  or_true false = refl
+bad-more es n k few = let l : nat_lt (count_of es n) k ≡ true = grind (arith, nat_tests) in rw l (or-true (k == 0))
 
 pub bad-in : (t : Inside) (now : TableState) (n k : ℕ) (s : Option (Option Entry)) → view_of t ≡ now → IsTable t → slot_at t.slots.items n ≡ s → count_in (slot_held s) < k → is_bad_item now.entries n k ≡ true
 bad-in t now n k s view is found few =

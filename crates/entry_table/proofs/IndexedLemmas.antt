@@ -1,5 +1,6 @@
 -- The index of the linked entries, and what it has after a change of them.
-use Rattle.std.proofs.Common.{◌≡◌, ℕ, Bool, true, false, ◌&&◌, ◌||◌, List, [], ◌∷◌, ◌++◌, Option, Some, None, refl, sym, ap, ◌∙◌, subst, inl, inr, ◌⊎◌}
+use Rattle.std.proofs.Common.{◌≡◌, ℕ, Bool, true, false, ◌||◌, List, [], ◌∷◌, ◌++◌, Option, Some, None, refl, sym, ap, ◌∙◌, subst, inl, inr, ◌⊎◌}
+use Rattle.std.proofs.lemmas.Bool.{and_parts}
 use Rattle.std.specs.Prelude.{◌==◌, nat_eq, if◌then◌else◌}
 use Rattle.std.specs.Option.{option_map}
 use Rattle.std.specs.List.{list_any}
@@ -30,11 +31,9 @@ number_of n = record { 0 = n }
 
 -- the same directory and name
 pub link-same : (dir parent : ℕ) (q name : List ℕ) → is_link dir q parent name ≡ true → (dir ≡ parent) × (q ≡ name)
-link-same dir parent q name h = both (dir == parent) (pointwise nat_eq q name) refl refl h where
-  both : (a b : Bool) → (dir == parent) ≡ a → pointwise nat_eq q name ≡ b → (a && b) ≡ true → (dir ≡ parent) × (q ≡ name)
-  both true true e f t = (true-eq dir parent e, same_text q name (sym f))
-  both true false e f t = absurd (let none : ⊥ = cc in none)
-  both false b e f t = absurd (let none : ⊥ = cc in none)
+link-same dir parent q name h =
+    let tests = and_parts (dir == parent) (pointwise nat_eq q name) h in
+    (true-eq dir parent tests.0, same_text q name (sym tests.1))
 
 pub link-alike : (dir parent : ℕ) (q name : List ℕ) → dir ≡ parent → q ≡ name → is_link dir q parent name ≡ true
 link-alike dir parent q name e f =

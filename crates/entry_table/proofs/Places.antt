@@ -1,5 +1,6 @@
 -- The test whether an entry stands at a place, and what it says.
-use Rattle.std.proofs.Common.{◌≡◌, ℕ, Bool, true, false, ◌&&◌, List, [], ◌∷◌, refl, sym, ap, ◌∙◌}
+use Rattle.std.proofs.Common.{◌≡◌, ℕ, true, List, [], ◌∷◌, refl, sym, ap, ◌∙◌}
+use Rattle.std.proofs.lemmas.Bool.{and_parts}
 use Rattle.std.specs.Cmp.Lexicographic.{pointwise, same_text}
 use Rattle.std.specs.Prelude.{◌==◌, nat_eq}
 use Rattle.eden_base.proofs.NumberTests.{eq-true, true-eq}
@@ -19,15 +20,10 @@ place-stands parent name kept e = ap (is_place parent name) e ∙ (let t : (pare
 -- what passes it has the place
 pub stands-place : (parent : ℕ) (name : List ℕ) (kept : Kept) → stands_at parent name kept ≡ true → kept.place ≡ Linked (record { 0 = parent }) name
 stands-place parent name kept h = place_in kept.place refl h where
-  both : (b c : Bool) → (b && c) ≡ true → (b ≡ true) × (c ≡ true)
-  both true true e = (refl, refl)
-  both true false e = absurd (let none : ⊥ = cc in none)
-  both false c e = absurd (let none : ⊥ = cc in none)
-
   place_in : (place : Place) → kept.place ≡ place → is_place parent name place ≡ true → kept.place ≡ Linked (record { 0 = parent }) name
   place_in (Unlinked file) p e = absurd (let none : ⊥ = cc in none)
   place_in (Linked dir linked) p e =
-      let b = both (dir.0 == parent) (pointwise nat_eq linked name) e in
+      let b = and_parts (dir.0 == parent) (pointwise nat_eq linked name) e in
       let same : dir.0 ≡ parent = true-eq dir.0 parent b.0 in
       let alike : linked ≡ name = same_text linked name (sym b.1) in
       p ∙ (λ i. Linked (record { 0 = same i }) (alike i))
