@@ -1,5 +1,6 @@
 -- What becomes of a forget, by the count and by what stands in the directory.
 use Rattle.std.proofs.Common.{◌≡◌, ℕ, ◌-◌, ◌<◌, ◌≤◌, Bool, true, false, cond, length, not, ◌||◌, List, Option, Some, None, refl, sym, ap, ◌∙◌, arith}
+use Rattle.std.proofs.lemmas.Bool.{not-true, or_parts}
 use Rattle.std.specs.Prelude.{◌==◌, nat_lt, if◌then◌else◌}
 use Rattle.std.specs.List.{list_any}
 use Rattle.std.specs.Option.{option_map, option_map_or}
@@ -101,12 +102,8 @@ pub dropped-kids : (map : MapState) (n k : ℕ) → Dropped ≡ forgot map n k �
 dropped-kids map n k h =
     let told = told-dropped map n k h in
     let parts = good-parts map.entries n k told.good in
-    in_ (nat_lt 0 (count_of map.entries n - k)) (list_any (is_kid_of n) map.entries) (sym (lowered-useless map.entries n k parts.0 parts.1) ∙ told.useless)
-  where
-    in_ : (a b : Bool) → not (a || b) ≡ true → b ≡ false
-    in_ true b e = absurd (let none : ⊥ = cc in none)
-    in_ false true e = absurd (let none : ⊥ = cc in none)
-    in_ false false e = refl
+    let useless = not-true (nat_lt 0 (count_of map.entries n - k) || list_any (is_kid_of n) map.entries) (sym (lowered-useless map.entries n k parts.0 parts.1) ∙ told.useless) in
+    (or_parts (nat_lt 0 (count_of map.entries n - k)) (list_any (is_kid_of n) map.entries) useless).1
 
 -- where the number is of use still, none leaves
 pub forgotten-lowered : (map : MapState) (n k : ℕ) → AreKept map.next map.entries → AreOfKept loaded_number (lowered map.entries n k) map.loaded → AreOfKept file_number (lowered map.entries n k) map.remembered →

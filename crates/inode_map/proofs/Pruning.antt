@@ -1,6 +1,7 @@
 -- The table and what is loaded while entries of no use leave, one after another; and which one may be of no use after a
 -- name was taken away.
 use Rattle.std.proofs.Common.{◌≡◌, ℕ, suc, ◌<◌, Bool, true, false, ◌||◌, List, [], ◌∷◌, length, Some, None, cond, refl, sym, ap, ◌∙◌, subst, inl, inr, ◌⊎◌, arith}
+use Rattle.std.proofs.Math.Bool.{or-true}
 use Rattle.std.specs.Prelude.{nat_lt}
 use Rattle.std.specs.List.{filter, list_any}
 use Rattle.std.specs.Option.{option_map}
@@ -126,14 +127,10 @@ struck-left es next n are useful = let s = struck-keeps (λ xs. Unit {0}) 2 next
 any-changed_other : (es : List Kept) (p q : Kept → Bool) (change : Kept → Kept) → ((x : Kept) → first_where p es ≡ Some x → q x ≡ false) → list_any q es ≡ true → list_any q (changed_where p change es) ≡ true
 any-changed_other [] p q change fails h = h
 any-changed_other (y ∷ es) p q change fails h = in_ (p y) (q y) refl fails h (λ f t. any-changed_other es p q change f t) where
-  either : (d : Bool) → (d || true) ≡ true
-  either true = refl
-  either false = refl
-
   in_ : (b c : Bool) → q y ≡ c → ((x : Kept) → cond b (Some y) (first_where p es) ≡ Some x → q x ≡ false) → (c || list_any q es) ≡ true →
       (((x : Kept) → first_where p es ≡ Some x → q x ≡ false) → list_any q es ≡ true → list_any q (changed_where p change es) ≡ true) → list_any q (cond b (change y ∷ es) (y ∷ changed_where p change es)) ≡ true
   in_ true true e f t rest = let g : q y ≡ false = f y refl in absurd (let none : ⊥ = cc in none)
-  in_ true false e f t rest = ap (λ d. q (change y) || d) t ∙ either (q (change y))
+  in_ true false e f t rest = ap (λ d. q (change y) || d) t ∙ or-true (q (change y))
   in_ false true e f t rest = ap (λ d. d || list_any q (changed_where p change es)) e
   in_ false false e f t rest = ap (λ d. d || list_any q (changed_where p change es)) e ∙ rest f t
 
@@ -164,10 +161,7 @@ marked-others es n file kept dir name here place useful m now e = dir_in (eq-or 
       let is : x.number.0 ≡ m = entry_of-number es m x f in
       let kids : list_any (is_kid_of m) left ≡ true = any-changed_other es (has_number n) (is_kid_of m) (marked file) (fails other) (ap (λ (k : ℕ). list_any (is_kid_of k) es) (sym is) ∙ k) in
       let same : now.number.0 ≡ m = ap (λ (k : Number). k.0) number ∙ is in
-      ap (λ (k : ℕ). nat_lt 0 now.count || list_any (is_kid_of k) left) same ∙ ap (λ d. nat_lt 0 now.count || d) kids ∙ either (nat_lt 0 now.count) where
-        either : (d : Bool) → (d || true) ≡ true
-        either true = refl
-        either false = refl
+      ap (λ (k : ℕ). nat_lt 0 now.count || list_any (is_kid_of k) left) same ∙ ap (λ d. nat_lt 0 now.count || d) kids ∙ or-true (nat_lt 0 now.count)
 
   of_use_in : (x : Kept) → entry_of es m ≡ Some x → (is_of_use es x ≡ true) ⊎ (None ≡ Some m) → is_of_use es x ≡ true
   of_use_in x f (inl t) = t

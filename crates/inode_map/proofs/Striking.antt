@@ -1,5 +1,6 @@
 -- Striking what is of no use, a number after another: the walk upwards.
-use Rattle.std.proofs.Common.{◌≡◌, ℕ, zero, suc, ◌+◌, Bool, true, false, not, ◌||◌, List, [], ◌∷◌, Option, Some, None, refl, sym, ap, ◌∙◌, subst, inl, inr, ◌⊎◌, arith, length}
+use Rattle.std.proofs.Common.{◌≡◌, ℕ, zero, suc, ◌+◌, Bool, true, false, not, List, [], ◌∷◌, Option, Some, None, refl, sym, ap, ◌∙◌, subst, inl, inr, ◌⊎◌, arith, length}
+use Rattle.std.proofs.lemmas.Bool.{not-true, or_parts}
 use Rattle.std.specs.Prelude.{◌==◌, nat_lt}
 use Rattle.std.specs.Option.{option_map_or}
 use Rattle.std.specs.List.{filter, list_any}
@@ -21,15 +22,10 @@ pub record IsUseless (es : List Kept) (n : ℕ) (kept : Kept) : Type 0 where
 
 pub useless-entry : (es : List Kept) (n : ℕ) → is_useless es n ≡ true → (kept : Kept) × IsUseless es n kept
 useless-entry es n h = useless_in (entry_of es n) refl h where
-  or_parts : (b c : Bool) → not (b || c) ≡ true → (b ≡ false) × (c ≡ false)
-  or_parts true c h' = absurd (let none : ⊥ = cc in none)
-  or_parts false true h' = absurd (let none : ⊥ = cc in none)
-  or_parts false false h' = (refl, refl)
-
   useless_in : (o : Option Kept) → entry_of es n ≡ o → option_map_or (λ (kept : Kept). not (is_of_use es kept)) o false ≡ true → (kept : Kept) × IsUseless es n kept
   useless_in None e h' = absurd (let none : ⊥ = cc in none)
   useless_in (Some kept) e h' =
-      let p = or_parts (nat_lt 0 kept.count) (list_any (is_kid_of kept.number.0) es) h' in
+      let p = or_parts (nat_lt 0 kept.count) (list_any (is_kid_of kept.number.0) es) (not-true (is_of_use es kept) h') in
       let zero_count : nat_lt 0 kept.count ≡ false = p.0 in
       (kept, record { entry = e; no_count = grind (arith, nat_tests); no_kids = subst (λ (m : ℕ). list_any (is_kid_of m) es ≡ false) (entry_of-number es n kept e) p.1 })
 
@@ -86,10 +82,7 @@ left_of_use-one es low next n are useful h =
     let long : suc (length (without_where (has_number n) es)) ≡ length es = length-without_where es (has_number n) u.0 u.1.entry in
     sym (ap (λ (r : ℕ). struck r es) long) ∙ ap (λ (xs : List Kept). struck (length (without_where (has_number n) es)) xs) once where
       of_none : (kept : Kept) → entry_of es n ≡ Some kept → is_of_use es kept ≡ false
-      of_none kept e = not_in (is_of_use es kept) (sym (ap (λ (o : Option Kept). option_map_or (λ (k : Kept). not (is_of_use es k)) o false) e) ∙ h) where
-        not_in : (b : Bool) → not b ≡ true → b ≡ false
-        not_in true k = absurd (let none : ⊥ = cc in none)
-        not_in false k = refl
+      of_none kept e = not-true (is_of_use es kept) (sym (ap (λ (o : Option Kept). option_map_or (λ (k : Kept). not (is_of_use es k)) o false) e) ∙ h)
 
       tells : (m : ℕ) (kept : Kept) → entry_of es m ≡ Some kept → (m ≡ n) ⊎ (m ≡ n → ⊥) → ((m ≡ n) × (is_of_use es kept ≡ false)) ⊎ ((m ≡ n → ⊥) × (is_of_use es kept ≡ true))
       tells m kept e (inl same) = inl (same, of_none kept (subst (λ (j : ℕ). entry_of es j ≡ Some kept) same e))

@@ -1,5 +1,6 @@
 -- The walk upwards that strikes what is of no use: what each step keeps, the end keeps.
 use Rattle.std.proofs.Common.{◌≡◌, ℕ, zero, suc, ◌≤◌, Bool, true, false, not, ◌||◌, List, [], ◌∷◌, Option, Some, None, refl, sym, ap, ◌∙◌, subst, inl, inr, ◌⊎◌, arith, length}
+use Rattle.std.proofs.lemmas.Bool.{not-false, or_cases, or_right}
 use Rattle.std.specs.Prelude.{nat_lt}
 use Rattle.std.specs.Option.{option_map_or}
 use Rattle.std.specs.List.{list_any}
@@ -44,15 +45,8 @@ left-of_use es low next n gone are u useful m now e = use_in (useful m now l.1) 
   kids_in true t k = inr (dir_is gone.place m t)
   kids_in false t k = inl (any-without es (has_number n) (is_kid_of m) (λ x f. let same : x ≡ gone = some-same (entry_of es n) x gone f u.entry in subst (λ (y : Kept). is_kid_of m y ≡ false) (sym same) t) k)
 
-  or_in : (b c : Bool) → (b || c) ≡ true → ((b ≡ true) ⊎ (c ≡ true))
-  or_in true c k = inl refl
-  or_in false c k = inr k
-
   done : (list_any (is_kid_of m) new ≡ true) ⊎ (dir_of gone.place ≡ Some m) → (is_of_use new now ≡ true) ⊎ (dir_of gone.place ≡ Some m)
-  done (inl k) = inl (or_right (nat_lt 0 now.count) (list_any (is_kid_of now.number.0) new) (subst (λ (j : ℕ). list_any (is_kid_of j) new ≡ true) (sym number) k)) where
-    or_right : (b c : Bool) → c ≡ true → (b || c) ≡ true
-    or_right true c t = refl
-    or_right false c t = t
+  done (inl k) = inl (or_right (nat_lt 0 now.count) (list_any (is_kid_of now.number.0) new) (subst (λ (j : ℕ). list_any (is_kid_of j) new ≡ true) (sym number) k))
   done (inr d) = inr d
 
   parts : (nat_lt 0 now.count ≡ true) ⊎ (list_any (is_kid_of now.number.0) es ≡ true) → (is_of_use new now ≡ true) ⊎ (dir_of gone.place ≡ Some m)
@@ -60,21 +54,17 @@ left-of_use es low next n gone are u useful m now e = use_in (useful m now l.1) 
   parts (inr t) = done (kids_in (is_kid_of m gone) refl (subst (λ (j : ℕ). list_any (is_kid_of j) es ≡ true) number t))
 
   use_in : (is_of_use es now ≡ true) ⊎ (Some n ≡ Some m) → (is_of_use new now ≡ true) ⊎ (dir_of gone.place ≡ Some m)
-  use_in (inl t) = parts (or_in (nat_lt 0 now.count) (list_any (is_kid_of now.number.0) es) t)
+  use_in (inl t) = parts (or_cases (nat_lt 0 now.count) (list_any (is_kid_of now.number.0) es) t)
   use_in (inr same) = absurd (l.0 (let e' : n ≡ m = cc in sym e'))
 
 -- nothing is of no use where the one that may be isn't
 pub all-of_use : (es : List Kept) (n : ℕ) → is_useless es n ≡ false → AreOfUseBut (Some n) es → AreOfUseBut None es
 all-of_use es n h useful m now e = in_ (useful m now e) where
-  not_not : (b : Bool) → not b ≡ false → b ≡ true
-  not_not true k = refl
-  not_not false k = absurd (let none : ⊥ = cc in none)
-
   in_ : (is_of_use es now ≡ true) ⊎ (Some n ≡ Some m) → (is_of_use es now ≡ true) ⊎ (None ≡ Some m)
   in_ (inl t) = inl t
   in_ (inr s) = let same : n ≡ m = cc in
       let there : entry_of es n ≡ Some now = subst (λ (j : ℕ). entry_of es j ≡ Some now) (sym same) e in
-      inl (not_not (is_of_use es now) (sym (ap (λ (o : Option Kept). option_map_or (λ (k : Kept). not (is_of_use es k)) o false) there) ∙ h))
+      inl (not-false (is_of_use es now) (sym (ap (λ (o : Option Kept). option_map_or (λ (k : Kept). not (is_of_use es k)) o false) there) ∙ h))
 
 -- what striking leaves, for a fact that each step keeps
 pub record IsStruck (P : List Kept → Type 0) (low next : ℕ) (new : List Kept) : Type 0 where

@@ -2,6 +2,7 @@
 use Rattle.std.proofs.Common.{◌≡◌, ◌<◌, ◌≤◌, ◌+◌, ◌⊎◌, ◌&&◌, ◌↔◌, ℕ, zero, suc, Bool, true, false, cond, List, [], ◌∷◌, slice_get, Option, Some, None, IsSome, IsTrue, refl, sym, ap, subst, ◌∙◌, inl, inr, arith}
 use Rattle.std.specs.Option.{option_map}
 use Rattle.std.specs.Prelude.{nat_lt, nat_le, ◌==◌, is_some, not}
+use Rattle.std.proofs.lemmas.Bool.{and_parts}
 use Rattle.std.proofs.lemmas.Bool.Decides.{nat_tests}
 use Rattle.std.specs.List.{AllByRecursion, list_all}
 use Rattle.eden_base.proofs.MemberLemmas.{some-is, some-same, some-IsSome}
@@ -23,18 +24,13 @@ use Rattle.fuse_ops.specs.Soundness.{IsSound, IsUnlinkedPlace}
 use Rattle.map_image.specs.Fit.{CountsFit, entry_follows, rises}
 use Rattle.map_codec.specs.Raising.{AreRaisable, HasFile, is_next, is_right_mark}
 
-pub both : (b c : Bool) → (b && c) ≡ true → (b ≡ true) × (c ≡ true)
-both true true h = (refl, refl)
-both true false h = absurd (cc)
-both false c h = absurd (cc)
-
 -- ---- numbers
 
 numbers_behind : (next : ℕ) (last : Kept) (es : List Kept) → last.number.0 < next → rises entry_follows (Some last) es ≡ true → list_all (λ (kept : Kept). nat_lt kept.number.0 next) es ≡ true → AreNumbers (last.number.0 + 1) next es
 numbers_behind next last [] below r b = omega (arith, below)
 numbers_behind next last (x ∷ es) below r b =
-    let p = both (nat_lt last.number.0 x.number.0) (rises entry_follows (Some x) es) r in
-    let q = both (nat_lt x.number.0 next) (list_all (λ (kept : Kept). nat_lt kept.number.0 next) es) b in
+    let p = and_parts (nat_lt last.number.0 x.number.0) (rises entry_follows (Some x) es) r in
+    let q = and_parts (nat_lt x.number.0 next) (list_all (λ (kept : Kept). nat_lt kept.number.0 next) es) b in
     let follows : nat_lt last.number.0 x.number.0 ≡ true = p.0 in
     let above : last.number.0 < x.number.0 = grind (arith, nat_tests) in
     let under : nat_lt x.number.0 next ≡ true = q.0 in
@@ -45,8 +41,8 @@ numbers_behind next last (x ∷ es) below r b =
 pub next_above : (next : ℕ) (es : List Kept) → 2 ≤ next → rises entry_follows None es ≡ true → list_all (λ (kept : Kept). nat_lt kept.number.0 next) es ≡ true → AreNumbers 2 next es
 next_above next [] low r b = low
 next_above next (x ∷ es) low r b =
-    let p = both (nat_lt 1 x.number.0) (rises entry_follows (Some x) es) r in
-    let q = both (nat_lt x.number.0 next) (list_all (λ (kept : Kept). nat_lt kept.number.0 next) es) b in
+    let p = and_parts (nat_lt 1 x.number.0) (rises entry_follows (Some x) es) r in
+    let q = and_parts (nat_lt x.number.0 next) (list_all (λ (kept : Kept). nat_lt kept.number.0 next) es) b in
     let first : nat_lt 1 x.number.0 ≡ true = p.0 in
     let above : 1 < x.number.0 = grind (arith, nat_tests) in
     let under : nat_lt x.number.0 next ≡ true = q.0 in
@@ -61,8 +57,8 @@ pub record IsNext (next : ℕ) (es : List Kept) : Type 0 where
 pub next_parts : (next : ℕ) (es : List Kept) → is_next next es ≡ true → IsNext next es
 next_parts next es h =
     let above : Bool = list_all (λ (kept : Kept). nat_lt kept.number.0 next) es in
-    let p = both (nat_le 2 next && nat_le next end_of_numbers) above h in
-    let q = both (nat_le 2 next) (nat_le next end_of_numbers) p.0 in
+    let p = and_parts (nat_le 2 next && nat_le next end_of_numbers) above h in
+    let q = and_parts (nat_le 2 next) (nat_le next end_of_numbers) p.0 in
     let low : nat_le 2 next ≡ true = q.0 in
     let high : nat_le next end_of_numbers ≡ true = q.1 in
     record { low = (grind (arith, nat_tests)); fits = (grind (arith, nat_tests)); above = p.1 }
@@ -107,7 +103,7 @@ module _ (tree : Tree) (es : List Kept) (next limit : ℕ) (rise : rises entry_f
   -- the file in a mark is one of the tree, and no link gives it
   right : (n : ℕ) (kept : Kept) (mark : FileId) → entry_of es n ≡ Some kept → kept.place ≡ Unlinked mark → IsSome (file_of tree mark) × IsTrue (is_unlinked tree mark)
   right n kept mark e k =
-      let p = both (is_some (kind_of tree mark)) (is_unlinked tree mark) (ap (is_right_mark tree) (sym k) ∙ (has_file n kept e).1) in
+      let p = and_parts (is_some (kind_of tree mark)) (is_unlinked tree mark) (ap (is_right_mark tree) (sym k) ∙ (has_file n kept e).1) in
       (there (file_of tree mark) p.0, p.1)
     where
       there : (o : Option File) → is_some (option_map (λ (f : File). f.kind) o) ≡ true → IsSome o
@@ -191,4 +187,4 @@ module _ (tree : Tree) (es : List Kept) (next limit : ℕ) (rise : rises entry_f
   } where
     all_true : (xs : List Kept) (p : Kept → Bool) → list_all p xs ≡ true → AllByRecursion (λ (k : Kept). IsTrue (p k)) xs
     all_true [] p h = tt
-    all_true (x ∷ xs) p h = let r = both (p x) (list_all p xs) h in (r.0, all_true xs p r.1)
+    all_true (x ∷ xs) p h = let r = and_parts (p x) (list_all p xs) h in (r.0, all_true xs p r.1)

@@ -1,5 +1,6 @@
 -- What was found of entries, one rule after the other, is what stands against them.
 use Rattle.std.proofs.Common.{◌≡◌, ◌&&◌, ℕ, suc, zero, Bool, true, false, List, [], ◌∷◌, length, slice_get, Some, refl, sym, ap, ◌∙◌, arith}
+use Rattle.std.proofs.lemmas.Bool.{and_parts}
 use Rattle.std.specs.List.{AllByRecursion, list_all}
 use Rattle.eden_base.specs.declared.number.FileId.{FileId}
 use Rattle.manifest.specs.Tree.{Tree}
@@ -8,13 +9,12 @@ use Rattle.entry_table.specs.Entries.{IsFileOf}
 use Rattle.entry_table.specs.declared.kept.Kept.{Kept}
 use Rattle.map_codec.specs.Named.{AreFilesOf, EachNames}
 use Rattle.map_codec.specs.Raising.{AreOfOneFile, HasFile, HaveFiles, IsTwice, are_right_marks, is_right_mark}
-use Rattle.map_codec.proofs.RaisedLaws.{both}
 
 -- what holds of each entry, and a mark that is right
 both_of_each : (tree : Tree) (all es : List Kept) → AllByRecursion (λ (kept : Kept). (file : FileId) × IsFileOf tree all kept.number.0 file) es → list_all (λ (kept : Kept). is_right_mark tree kept.place) es ≡ true → AllByRecursion (HasFile tree all) es
 both_of_each tree all [] names marks = tt
 both_of_each tree all (x ∷ es) names marks =
-    let p = both (is_right_mark tree x.place) (list_all (λ (kept : Kept). is_right_mark tree kept.place) es) marks in
+    let p = and_parts (is_right_mark tree x.place) (list_all (λ (kept : Kept). is_right_mark tree kept.place) es) marks in
     ((names.0, p.0), both_of_each tree all es names.1 p.1)
 
 pub each_has_file : (tree : Tree) (es : List Kept) → EachNames tree es → are_right_marks tree es ≡ true → HaveFiles tree es
