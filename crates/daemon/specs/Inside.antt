@@ -1,6 +1,7 @@
 -- What a daemon keeps of its fields, whatever it is asked.
-use Rattle.std.specs.Prelude.{◌≡◌, ◌+◌, ◌≤◌, true, vec_len, vec_capacity}
+use Rattle.std.specs.Prelude.{◌≡◌, ◌+◌, ◌≤◌, true}
 use Rattle.std.specs.List.{AllByRecursion}
+use Rattle.std.specs.VecDeque.{deque_len, deque_capacity}
 use Rattle.daemon.specs.Server.{is_single}
 use Rattle.daemon.specs.declared.server.Server.TheInside.{Inside}
 
@@ -8,4 +9,4 @@ use Rattle.daemon.specs.declared.server.Server.TheInside.{Inside}
 pub record IsConsistent (server : Inside) : Type 0 where
   pub of_manifest : server.served.tree.manifest ≡ server.manifest
   pub single : AllByRecursion (λ task. is_single task ≡ true) server.hand.items
-  pub room : vec_len server.unposted + vec_len server.hand ≤ vec_capacity server.unposted
+  pub room : deque_len server.unposted + deque_len server.hand ≤ deque_capacity server.unposted

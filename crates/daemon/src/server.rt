@@ -1,5 +1,6 @@
 //! A daemon that mounted.
-ghost use Rattle.std.specs.Prelude.{◌≡◌, ◌++◌, ◌+◌, ◌≤◌, map, length, vec_len, vec_capacity, IfOk, OnOk};
+ghost use Rattle.std.specs.Prelude.{◌≡◌, ◌++◌, ◌+◌, ◌≤◌, map, length, IfOk, OnOk};
+ghost use Rattle.std.specs.VecDeque.{deque_len, deque_capacity};
 ghost use Rattle.broker_core.specs.Broker.{take_fault};
 ghost use Rattle.fuse_ops.specs.Served.{new_served};
 ghost use Rattle.daemon.specs.Server.{at_position, handed, single, told_taken, told_item};
@@ -17,6 +18,7 @@ use fuse_ops::Served;
 use fuse_wire::{Ask, Item, Items, Reply, Request};
 use manifest::Manifest;
 use std::alloc::Global;
+use std::collections::VecDeque;
 use std::marker::Model;
 
 /// What a daemon serves, what it took and did not work yet, and what it answered and did not post yet. Clauses see it
@@ -28,8 +30,8 @@ pub struct Server {
     manifest: Manifest,
     served: Served,
     /// Asks, and forgets of one item each.
-    hand: Vec<Ask>,
-    unposted: Vec<Reply>,
+    hand: VecDeque<Ask>,
+    unposted: VecDeque<Reply>,
 }
 
 impl Model for Server {
@@ -63,8 +65,8 @@ impl Server {
             generation,
             manifest,
             served,
-            hand: Vec::new(alloc),
-            unposted: Vec::new(alloc),
+            hand: VecDeque::new(alloc),
+            unposted: VecDeque::new(alloc),
         }
     }
 
@@ -101,17 +103,17 @@ impl Server {
     }
 
     /// Returns the asks and single items that the daemon took and did not work yet.
-    pub fn hand(&self) -> &[Ask]
-        ensures hand { result.now ≡ self.now.hand }
+    pub fn hand(&self) -> &VecDeque<Ask>
+        ensures hand { result.now.items ≡ self.now.hand }
     {
-        self.hand.as_slice()
+        &self.hand
     }
 
     /// Returns the replies that the daemon did not post yet.
-    pub fn unposted(&self) -> &[Reply]
-        ensures unposted { result.now ≡ self.now.unposted }
+    pub fn unposted(&self) -> &VecDeque<Reply>
+        ensures unposted { result.now.items ≡ self.now.unposted }
     {
-        self.unposted.as_slice()
+        &self.unposted
     }
 
     /// Takes what waits first at the broker. It looks for the broker's refusals, then makes room for the ask and its
@@ -160,7 +162,9 @@ impl Server {
         let Some(index) = index_of(position, self.hand.len()) else {
             return Happened::Refused(Refusal::NoSuch);
         };
-        let task = self.hand.remove(index);
+        let Some(task) = self.hand.remove(index) else {
+            unreachable!()
+        };
         let told = told_of_item(&self.served, task.what.item());
         let answer = apply(
             &mut self.served,
@@ -175,7 +179,7 @@ impl Server {
             return told;
         };
         let reply = Reply { unique, answer };
-        self.unposted.push_reserved(reply);
+        self.unposted.push_back_reserved(reply);
         Happened::Made(reply)
     }
 
@@ -224,13 +228,13 @@ fn told_of_item(served: &Served, item: Option<Item>) -> Happened
 }
 
 /// Makes room for what a take may bring: a whole batch in the hand, and a reply to each member of the hand.
-fn make_room(hand: &mut Vec<Ask>, unposted: &mut Vec<Reply>) -> Result<(), NoMemory>
+fn make_room(hand: &mut VecDeque<Ask>, unposted: &mut VecDeque<Reply>) -> Result<(), NoMemory>
     ensures same_hand { hand.new.items ≡ hand.old.items }
     ensures same_replies { unposted.new.items ≡ unposted.old.items }
-    ensures lens { (vec_len hand.new ≡ vec_len hand.old) × (vec_len unposted.new ≡ vec_len unposted.old) }
-    ensures hand_room { OnOk result (vec_len hand.new + 256 ≤ vec_capacity hand.new) }
-    ensures reply_room { OnOk result (vec_len unposted.new + vec_len hand.new + 256 ≤ vec_capacity unposted.new) }
-    ensures never_less { vec_capacity unposted.old ≤ vec_capacity unposted.new }
+    ensures lens { (deque_len hand.new ≡ deque_len hand.old) × (deque_len unposted.new ≡ deque_len unposted.old) }
+    ensures hand_room { OnOk result (deque_len hand.new + 256 ≤ deque_capacity hand.new) }
+    ensures reply_room { OnOk result (deque_len unposted.new + deque_len hand.new + 256 ≤ deque_capacity unposted.new) }
+    ensures never_less { deque_capacity unposted.old ≤ deque_capacity unposted.new }
 {
     hand.reserve(Items::MAX_LEN)?;
     unposted.reserve(hand.len() + Items::MAX_LEN)?;
@@ -239,15 +243,15 @@ fn make_room(hand: &mut Vec<Ask>, unposted: &mut Vec<Reply>) -> Result<(), NoMem
 
 /// Takes what waits first at the broker into a hand that has room for it.
 fn take_into(
-    hand: &mut Vec<Ask>,
+    hand: &mut VecDeque<Ask>,
     broker: &mut Broker,
     daemon: DaemonId,
     generation: u64,
 ) -> Happened
-    requires room { vec_len hand.old + 256 ≤ vec_capacity hand.old }
+    requires room { deque_len hand.old + 256 ≤ deque_capacity hand.old }
     ensures takes { PutsBy (take_fault broker.old daemon generation)
         hand.old.items broker.old result hand.new.items broker.new }
-    ensures at_most { vec_len hand.new ≤ vec_len hand.old + 256 }
+    ensures at_most { deque_len hand.new ≤ deque_len hand.old + 256 }
 {
     match broker.take(daemon, generation) {
         Ok(ask) => put_in_hand(hand, ask),
@@ -256,10 +260,10 @@ fn take_into(
 }
 
 /// Puts what was taken into the hand: an ask as it is, each item of a forget by itself.
-fn put_in_hand(hand: &mut Vec<Ask>, taken: Ask) -> Happened
-    requires room { vec_len hand.old + 256 ≤ vec_capacity hand.old }
+fn put_in_hand(hand: &mut VecDeque<Ask>, taken: Ask) -> Happened
+    requires room { deque_len hand.old + 256 ≤ deque_capacity hand.old }
     ensures hand { hand.new.items ≡ hand.old.items ++ handed taken }
-    ensures at_most { vec_len hand.new ≤ vec_len hand.old + 256 }
+    ensures at_most { deque_len hand.new ≤ deque_len hand.old + 256 }
     ensures told { result ≡ told_taken taken }
 {
     if !taken.what.is_ask() {
@@ -268,19 +272,19 @@ fn put_in_hand(hand: &mut Vec<Ask>, taken: Ask) -> Happened
         return Happened::TookForgets(count);
     }
     let unique = taken.unique;
-    hand.push_reserved(taken);
+    hand.push_back_reserved(taken);
     Happened::Took(unique)
 }
 
 /// Puts each item into the hand by itself, and returns how many there are.
-fn put_each(hand: &mut Vec<Ask>, items: &[Item]) -> usize
-    requires room { vec_len hand.old + length items.now ≤ vec_capacity hand.old }
+fn put_each(hand: &mut VecDeque<Ask>, items: &[Item]) -> usize
+    requires room { deque_len hand.old + length items.now ≤ deque_capacity hand.old }
     ensures hand { hand.new.items ≡ hand.old.items ++ map single items.now }
-    ensures len { vec_len hand.new ≡ vec_len hand.old + length items.now }
+    ensures len { deque_len hand.new ≡ deque_len hand.old + length items.now }
     ensures count { result ≡ length items.now }
 {
     for item in items {
-        hand.push_reserved(by_itself(*item));
+        hand.push_back_reserved(by_itself(*item));
     }
     items.len()
 }

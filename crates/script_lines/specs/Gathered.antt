@@ -1,5 +1,5 @@
 -- How often a hand takes each number back, of 256 numbers from one on. (This project's own.)
-use Rattle.std.specs.Prelude.{◌≡◌, ℕ, ◌+◌, ◌<◌, ◌^◌, List, sum_by, slice_index_or}
+use Rattle.std.specs.Prelude.{◌≡◌, ℕ, ◌+◌, ◌*◌, ◌<◌, ◌≤◌, ◌^◌, List, length, sum_by, slice_index_or}
 use Rattle.fuse_wire.specs.declared.request.Ask.{Ask}
 use Rattle.script_lines.specs.Printed.{taken_back_by}
 use Rattle.script_lines.specs.declared.taken_back.TakenBack.{TakenBack}
@@ -14,6 +14,13 @@ pub record IsAdded (old : TakenBack) (task : Ask) (new : TakenBack) : Type 0 whe
   pub sums : (i : ℕ) → i < 256 →
       slice_index_or new.sums i 0 ≡ slice_index_or old.sums i 0 + taken_back_by (old.low + i) task
   pub more : (i : ℕ) → i < 256 → slice_index_or new.sums i 0 < slice_index_or old.sums i 0 + 2 ^ 64
+
+-- what each of some takes back is added
+pub record AreAdded (old : TakenBack) (tasks : List Ask) (new : TakenBack) : Type 0 where
+  pub low : new.low ≡ old.low
+  pub sums : (i : ℕ) → i < 256 →
+      slice_index_or new.sums i 0 ≡ slice_index_or old.sums i 0 + sum_by (taken_back_by (old.low + i)) tasks
+  pub more : (i : ℕ) → i < 256 → slice_index_or new.sums i 0 ≤ slice_index_or old.sums i 0 + length tasks * 2 ^ 64
 
 -- each number's sum over a hand
 pub record IsGathered (hand : List Ask) (gathered : TakenBack) : Type 0 where

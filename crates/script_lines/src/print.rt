@@ -2,7 +2,8 @@
 ghost use Rattle.std.specs.Prelude.{◌≡◌, ◌≤◌, ◌<◌, ◌^◌, ◌∷◌, [], length, sum_by, count_by, IfSome, OnOk};
 ghost use Rattle.std.specs.Fmt.{decimal};
 ghost use Rattle.std.specs.Io.KnownBytes.{Appends};
-ghost use Rattle.std.specs.Option.{option_copied};
+ghost use Rattle.std.specs.Option.{option_copied, option_map_or};
+ghost use Rattle.std.specs.VecDeque.{deque_items};
 ghost use Rattle.broker_core.specs.Traffic.{gives};
 ghost use Rattle.entry_table.specs.declared.kept.Kept.{Kept};
 ghost use Rattle.daemon.specs.Server.{at_position};
@@ -16,6 +17,7 @@ use fuse_ops::Served;
 use fuse_wire::{Answer, Reply};
 use inode_map::InodeMap;
 use map_image::PART_LEN;
+use std::collections::VecDeque;
 use std::io::{self, Write};
 use takeover_core::Message;
 use world::{Event, Happened, Outcome, Refusal, World};
@@ -347,8 +349,20 @@ fn taken_back_under_way(world: &World, daemon: DaemonId, number: Number, in_hand
 fn given_under_way(world: &World, daemon: DaemonId, number: Number) -> u128
     ensures { result ≡ given_under_way world.now daemon number.0 }
 {
-    let unposted = entries_of(world.unposted(daemon), number);
-    u128::from(unposted) + u128::from(world.broker().entries_posted(number))
+    let unposted = entries_unposted(world.unposted(daemon), number);
+    unposted + u128::from(world.broker().entries_posted(number))
+}
+
+/// Returns how many replies that a daemon did not post give a number out: none where it serves nothing.
+fn entries_unposted(replies: Option<&VecDeque<Reply>>, number: Number) -> u128
+    ensures count { result ≡ count_by (gives number.0) (option_map_or deque_items (option_copied replies.entry) []) }
+    ensures below { result < 2 ^ 127 }
+{
+    let Some(replies) = replies else {
+        return 0;
+    };
+    let (front, back) = replies.as_slices();
+    u128::from(entries_of(front, number)) + u128::from(entries_of(back, number))
 }
 
 /// Returns how many replies give a number out.

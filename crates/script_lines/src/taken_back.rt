@@ -1,10 +1,13 @@
 //! How often what a daemon took takes numbers back.
-ghost use Rattle.std.specs.Prelude.{ℕ, ◌≡◌, ◌≢◌, ◌<◌, ◌≤◌, ◌+◌, ◌^◌, ◌⊎◌, MatchOption, slice_index_or, sum_by};
-ghost use Rattle.script_lines.specs.Gathered.{AreBelow, IsAdded, IsGathered};
+ghost use Rattle.std.specs.Prelude.{ℕ, ◌≡◌, ◌≢◌, ◌<◌, ◌≤◌, ◌+◌, ◌-◌, ◌*◌, ◌^◌, ◌⊎◌, [], length, MatchOption, slice_index_or, sum_by};
+ghost use Rattle.std.specs.Option.{option_copied, option_map_or};
+ghost use Rattle.std.specs.VecDeque.{deque_items};
+ghost use Rattle.script_lines.specs.Gathered.{AreAdded, AreBelow, IsAdded, IsGathered};
 ghost use Rattle.script_lines.specs.Printed.{taken_back_by};
 
 use eden_base::Number;
 use fuse_wire::Ask;
+use std::collections::VecDeque;
 
 /// How many numbers one pass over a hand is for.
 const WIDTH: usize = 256;
@@ -17,34 +20,47 @@ pub(crate) struct TakenBack {
 }
 
 impl TakenBack {
-    /// Goes over a hand once, for the numbers from `low` on.
-    pub(crate) fn gather(hand: &[Ask], low: u64) -> TakenBack
-        ensures gathered { IsGathered hand.now result }
+    /// Goes over a hand once, where there is one, for the numbers from `low` on.
+    pub(crate) fn gather(hand: Option<&VecDeque<Ask>>, low: u64) -> TakenBack
+        ensures gathered { IsGathered (option_map_or deque_items (option_copied hand.entry) []) result }
         ensures low { result.low ≡ low }
     {
         let mut gathered = TakenBack {
             low,
             sums: [0; WIDTH],
         };
-        for task in hand {
-            gathered.add(task);
-        }
+        let Some(hand) = hand else {
+            return gathered;
+        };
+        let (front, back) = hand.as_slices();
+        gathered.add_each(front);
+        gathered.add_each(back);
         gathered
     }
 
     /// Returns how often the hand takes a number back. It goes over the hand again for a number that is none of these,
     /// and for those behind it.
-    pub(crate) fn of(&mut self, hand: &[Ask], number: Number) -> u128
-        requires gathered { IsGathered hand.now self.old }
-        ensures sum { result ≡ sum_by (taken_back_by number.0) hand.now }
+    pub(crate) fn of(&mut self, hand: Option<&VecDeque<Ask>>, number: Number) -> u128
+        requires gathered { IsGathered (option_map_or deque_items (option_copied hand) []) self.old }
+        ensures sum { result ≡ sum_by (taken_back_by number.0) (option_map_or deque_items (option_copied hand.entry) []) }
         ensures below { result < 2 ^ 127 }
-        ensures gathered { IsGathered hand.now self.new }
+        ensures gathered { IsGathered (option_map_or deque_items (option_copied hand.entry) []) self.new }
     {
         if let Some(at) = self.index_of(number) {
             return self.sums[at];
         }
         *self = TakenBack::gather(hand, number.0);
         self.sums[0]
+    }
+
+    /// Adds what each of a part of a hand takes back.
+    fn add_each(&mut self, tasks: &[Ask])
+        requires small { AreBelow (2 ^ 127 - length tasks.now * 2 ^ 64) self.old }
+        ensures added { AreAdded self.old tasks.now self.new }
+    {
+        for task in tasks {
+            self.add(task);
+        }
     }
 
     /// Adds what one of a hand takes back.

@@ -1,6 +1,7 @@
 //! All daemons and the kernel's side of their mount.
-ghost use Rattle.std.specs.Prelude.{◌≡◌, [], IfOk};
-ghost use Rattle.std.specs.Option.{option_copied};
+ghost use Rattle.std.specs.Prelude.{◌≡◌, [], IfOk, is_some};
+ghost use Rattle.std.specs.Option.{option_copied, option_map_or};
+ghost use Rattle.std.specs.VecDeque.{deque_items};
 ghost use Rattle.world.specs.State.{started, server_of, served_of, hand_of, unposted_of, handed_of};
 ghost use Rattle.world.specs.Step.{Once, Step};
 ghost use Rattle.world.specs.Beginning.{Begins};
@@ -17,6 +18,7 @@ use fuse_ops::Served;
 use fuse_wire::{Ask, Reply, Request};
 use manifest::Manifest;
 use std::alloc::Global;
+use std::collections::VecDeque;
 use std::marker::Model;
 use takeover_core::{Message, Versions};
 
@@ -86,24 +88,20 @@ impl World {
         Some(self.server(daemon)?.served())
     }
 
-    /// Returns the asks and single items that a daemon took and did not work yet: none where there is no such daemon.
-    pub fn hand(&self, daemon: DaemonId) -> &[Ask]
-        ensures hand { result.now ≡ hand_of self.now daemon }
+    /// Returns the asks and single items that a daemon took and did not work yet, where it serves.
+    pub fn hand(&self, daemon: DaemonId) -> Option<&VecDeque<Ask>>
+        ensures hand { option_map_or deque_items (option_copied result) [] ≡ hand_of self.now daemon }
+        ensures serves { is_some result ≡ is_some (served_of self.now daemon) }
     {
-        match self.server(daemon) {
-            Some(server) => server.hand(),
-            None => &[],
-        }
+        Some(self.server(daemon)?.hand())
     }
 
-    /// Returns the replies that a daemon did not post yet: none where there is no such daemon.
-    pub fn unposted(&self, daemon: DaemonId) -> &[Reply]
-        ensures unposted { result.now ≡ unposted_of self.now daemon }
+    /// Returns the replies that a daemon did not post yet, where it serves.
+    pub fn unposted(&self, daemon: DaemonId) -> Option<&VecDeque<Reply>>
+        ensures unposted { option_map_or deque_items (option_copied result) [] ≡ unposted_of self.now daemon }
+        ensures serves { is_some result ≡ is_some (served_of self.now daemon) }
     {
-        match self.server(daemon) {
-            Some(server) => server.unposted(),
-            None => &[],
-        }
+        Some(self.server(daemon)?.unposted())
     }
 
     /// Returns every message that a daemon said, in their order.

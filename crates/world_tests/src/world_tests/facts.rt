@@ -188,6 +188,27 @@ fn is_choice(message: Option<&Message>, begun: u32, chosen: u16) -> bool {
     }
 }
 
+/// Returns how many asks and items a daemon has in hand.
+pub(crate) fn in_hand(world: &World, daemon: DaemonId) -> usize {
+    match world.hand(daemon) {
+        Some(hand) => hand.len(),
+        None => 0,
+    }
+}
+
+/// Returns how many replies a daemon did not post.
+pub(crate) fn count_unposted(world: &World, daemon: DaemonId) -> usize {
+    match world.unposted(daemon) {
+        Some(unposted) => unposted.len(),
+        None => 0,
+    }
+}
+
+/// Returns whether a daemon has nothing in hand, and all posted.
+pub(crate) fn is_idle(world: &World, daemon: DaemonId) -> bool {
+    in_hand(world, daemon) == 0 && count_unposted(world, daemon) == 0
+}
+
 /// Returns whether a fact holds of a world.
 fn is_found(world: &World, found: Found) -> bool {
     match found {
@@ -199,7 +220,7 @@ fn is_found(world: &World, found: Found) -> bool {
         Found::NotServed(daemon) => world.served(DaemonId(daemon)).is_none(),
         Found::UnderWay(daemon, hand, unposted) => {
             let daemon = DaemonId(daemon);
-            world.hand(daemon).len() == hand && world.unposted(daemon).len() == unposted
+            in_hand(world, daemon) == hand && count_unposted(world, daemon) == unposted
         }
         Found::Handed(position) => world.handed() == position,
         Found::EachOnce(daemon, numbers) => counts_each_once(world, DaemonId(daemon), numbers),

@@ -1,6 +1,7 @@
 //! Every order in which two asks and one forget on one number can go their ways.
 use super::deeds::{Deed, LOOK_UP_SRC, Wish};
 use super::events::{event, is_put, manifest, room};
+use super::facts::{count_unposted, in_hand, is_idle};
 use eden_base::{DaemonId, NoMemory, Number};
 use manifest::Manifest;
 use std::alloc::Global;
@@ -60,8 +61,8 @@ fn is_open(world: &World, order: &Order, at: usize, choice: usize) -> bool {
         0 => times(order, at, 0) < 2,
         1 => times(order, at, 1) < 1,
         2 => times(order, at, 2) < times(order, at, 0).saturating_add(times(order, at, 1)),
-        3 | 4 | 5 => world.hand(daemon).len() > choice - 3,
-        6 | 7 => world.unposted(daemon).len() > choice - 6,
+        3 | 4 | 5 => in_hand(world, daemon) > choice - 3,
+        6 | 7 => count_unposted(world, daemon) > choice - 6,
         _ => times(order, at, 8) < times(order, at, 6).saturating_add(times(order, at, 7)),
     }
 }
@@ -122,7 +123,7 @@ fn is_even(world: &World) -> bool {
         }
         held = broker.held(number).saturating_add(held);
     }
-    held == 2 && world.hand(daemon).is_empty() && world.unposted(daemon).is_empty()
+    held == 2 && is_idle(world, daemon)
 }
 
 /// Goes by an order where daemon 1 serves, and the kernel holds number 2 once, and returns whether it ends evenly.

@@ -1,7 +1,7 @@
 //! How a world goes on where an event's allocation was refused.
 use super::deeds::{Deed, Fact, LOOK_UP_SRC, Wish};
 use super::events::event;
-use super::facts::{counts, happened};
+use super::facts::{counts, happened, is_idle};
 use super::runs::new_world;
 use eden_base::DaemonId;
 use std::alloc::Global;
@@ -154,8 +154,8 @@ fn finishes(world: &mut World, ask: &Event) -> bool {
     let mounted = last_told(world, &Event::Mount(DaemonId(1)));
     let told = finished(world, ask);
     let is_answered = matches!(told, Some(Happened::Answered(_)));
-    let is_idle = world.hand(DaemonId(1)).is_empty() && world.unposted(DaemonId(1)).is_empty();
-    mounted == Some(Happened::Mounted(1)) && is_answered && is_idle && is_even(world)
+    let is_idle_again = is_idle(world, DaemonId(1));
+    mounted == Some(Happened::Mounted(1)) && is_answered && is_idle_again && is_even(world)
 }
 
 /// Calls `finishes` on a new world.

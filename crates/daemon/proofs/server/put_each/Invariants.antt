@@ -1,4 +1,4 @@
-use Rattle.std.proofs.Common.{◌≡◌, ◌+◌, ◌≤◌, ◌++◌, take, length, vec_len, vec_capacity}
+use Rattle.std.proofs.Common.{◌≡◌, ◌+◌, ◌≤◌, ◌++◌, take, length, deque_len, deque_capacity}
 use Rattle.std.specs.Prelude.{map}
 use Rattle.daemon.specs.Server.{single}
 use Rattle.daemon.proofs.server.put_each.Given as goal
@@ -7,5 +7,5 @@ use Rattle.daemon.proofs.server.put_each.Given as goal
 abbrev pub invariant-loop-item : goal.invariant-loop-item
 invariant-loop-item l = record {
   put : l.hand.items ≡ l.fn.hand.items ++ map single (take l.item-index l.items);
-  room : vec_len l.hand + length l.items ≤ vec_capacity l.hand + l.item-index;
+  room : deque_len l.hand + length l.items ≤ deque_capacity l.hand + l.item-index;
 }

@@ -1,15 +1,16 @@
 -- What is taken are asks and single items, and each has room for its reply; and the take had room.
-use Rattle.std.proofs.Common.{rules, ◌≡◌, ◌+◌, ◌≤◌, vec_len, vec_capacity, subst, arith}
+use Rattle.std.proofs.Common.{rules, ◌≡◌, ◌+◌, ◌≤◌, deque_len, deque_capacity, ◌∙◌, subst, arith}
 use Rattle.broker_core.specs.Broker.{BrokerState, take_fault, issued}
 use Rattle.daemon.specs.Server.{ServerState}
 use Rattle.daemon.specs.Serving.{TakesBy}
 use Rattle.daemon.specs.Beginning.{PutsBy, IsIssued}
 use Rattle.daemon.proofs.BeginningLemmas.{put-has-room, put-single, fields-taken}
 use Rattle.daemon.proofs.server.Server.begin.Goals as goal
+use Rattle.daemon.proofs.server.Server.begin.Goals.{in-Some, in-None}
 
 pub invariant_of-self-in-Ok : goal.invariant_of-self-in-Ok
 invariant_of-self-in-Ok c =
-    let room : vec_len c.make_room.new.unposted + vec_len c.make_room.new.hand + 256 ≤ vec_capacity c.make_room.new.unposted = search rules in
+    let room : deque_len c.make_room.new.unposted + deque_len c.make_room.new.hand + 256 ≤ deque_capacity c.make_room.new.unposted = search rules in
     record {
       of_manifest = c.self.invariant.of_manifest;
       single = put-single (take_fault c.issue.new.self c.args.daemon c.self.inside.generation) c.self.inside.hand.items c.make_room.new.hand.items c.issue.new.self c.take_into.new.broker c.take_into.result c.take_into.new.hand.items
@@ -35,3 +36,10 @@ returns-in-Ok c =
             has_room = put-has-room (take_fault is c.args.daemon c.self.inside.generation) c.make_room.new.hand.items is c.take_into.new.broker c.take_into.result c.take_into.new.hand.items puts;
           });
     }
+
+pub returns-then-is_err : goal.returns-then-is_err
+returns-then-is_err c =
+    let old : ServerState = record { generation = c.self.inside.generation; served = c.self.inside.served; hand = c.self.inside.hand.items; unposted = c.self.inside.unposted.items } in
+    let same : record old { hand = c.make_room.new.hand.items; unposted = c.make_room.new.unposted.items } ≡ c.args.self.now =
+    (λ i. record old { hand = c.make_room.ensures.same_hand i; unposted = c.make_room.ensures.same_replies i }) ∙ c.self.view_is in
+    record { begins = elim c.match-refusal.branch [ in-Some w ↦ search rules | in-None w ↦ search rules ] }

@@ -1,5 +1,5 @@
 -- What is taken are asks and single items, and each has room for its reply.
-use Rattle.std.proofs.Common.{rules, ◌+◌, ◌≤◌, vec_len, vec_capacity, subst, arith}
+use Rattle.std.proofs.Common.{rules, ◌+◌, ◌≤◌, deque_len, deque_capacity, subst, arith}
 use Rattle.broker_core.specs.Broker.{take_fault}
 use Rattle.daemon.specs.Server.{ServerState}
 use Rattle.daemon.specs.Serving.{TakesBy}
@@ -8,7 +8,7 @@ use Rattle.daemon.proofs.server.Server.take.Goals as goal
 
 pub invariant_of-self-2 : goal.invariant_of-self-2
 invariant_of-self-2 c =
-    let room : vec_len c.make_room.new.unposted + vec_len c.make_room.new.hand + 256 ≤ vec_capacity c.make_room.new.unposted = search rules in
+    let room : deque_len c.make_room.new.unposted + deque_len c.make_room.new.hand + 256 ≤ deque_capacity c.make_room.new.unposted = search rules in
     record {
       of_manifest = c.self.invariant.of_manifest;
       single = put-single (take_fault c.args.broker.now c.args.daemon c.self.inside.generation) c.self.inside.hand.items c.make_room.new.hand.items c.args.broker.now c.take_into.new.broker c.take_into.result c.take_into.new.hand.items
