@@ -1,8 +1,9 @@
 -- What a desk keeps where its daemon hears a message, or gives up.
-use Rattle.std.proofs.Common.{◌≡◌, ◌+◌, ℕ, Bool, true, false, List, ◌++◌, Option, Some, IsSome, inl, inr, refl, sym, ap, subst, ◌∙◌}
+use Rattle.std.proofs.Common.{◌≡◌, ◌+◌, ℕ, Bool, true, false, List, ◌++◌, Option, Some, None, IsSome, inl, inr, refl, sym, ap, subst, ◌∙◌}
 use Rattle.std.specs.Prelude.{nat_lt, if◌then◌else◌}
 use Rattle.std.specs.Option.{IfSome}
 use Rattle.manifest.specs.Manifest.{Manifest}
+use Rattle.takeover_core.specs.Histories.{seat_of, is_given}
 use Rattle.takeover_core.specs.Node.{NodeState}
 use Rattle.takeover_core.specs.Phases as table
 use Rattle.takeover_core.specs.declared.heard.Heard.{Heard as Answer}
@@ -15,9 +16,10 @@ use Rattle.daemon.specs.Server.{ServerState, IsIdle}
 use Rattle.daemon.specs.Talking.{HearsSo, ReactsBy, ReadsBy, TakesData, TurnsBy, GivesUpSo, brings_data, bytes_of, read_before}
 use Rattle.daemon.specs.declared.turn.Reaction.{Reaction}
 use Rattle.daemon.proofs.PhaseLemmas.{phase_for}
-use Rattle.daemon_desk.specs.Inside.{IsOrderly, IsLentBy, knows}
+use Rattle.daemon_desk.specs.Inside.{IsAtSeat, IsOrderly, IsLentBy, IsServedAt, knows}
 use Rattle.daemon_desk.proofs.Knowing.{knew, knew_at_end, knew_making}
 use Rattle.daemon_desk.proofs.Quiet.{IsQuiet, quiet, quiet_end}
+use Rattle.daemon_desk.proofs.Seating.{seat_knows, seat_stays}
 
 pub not_both : (b : Bool) → b ≡ true → b ≡ false → ⊥
 not_both b is none = cc
@@ -57,6 +59,31 @@ there_unknown is_lent old new node keeps none = λ later own.
 there_held : (is_lent : Bool) (new : DaemonState) (server : ServerState) → new.server ≡ Some server → IsThere is_lent new
 there_held is_lent new server held = λ later own. subst IsSome (sym held) refl
 
+-- what is served is at the seat's generation, where the seat stays
+pub seat_still : (old new : DaemonState) (node : NodeState) → Keeps old node new → ((g : ℕ) → seat_of node.phase ≡ Some g → seat_of old.node.phase ≡ Some g) → IsAtSeat old → IsAtSeat new
+seat_still old new node keeps stays at = λ g seat.
+    subst (IsServedAt g) (sym keeps.server_is) (at g (stays g (ap (λ (n : NodeState). seat_of n.phase) (sym keeps.node_is) ∙ seat)))
+
+seat_unknown : (old new : DaemonState) (node : NodeState) → Keeps old node new → knows node.phase ≡ false → IsAtSeat new
+seat_unknown old new node keeps none = λ g seat.
+    absurd (not_both _ (seat_knows node.phase g (ap (λ (n : NodeState). seat_of n.phase) (sym keeps.node_is) ∙ seat)) none)
+
+-- the seat stays over a message
+seat_heard : (old : NodeState) (said : Message) (g : ℕ) → seat_of (table.phase_after old (table.Hear said)) ≡ Some g → seat_of old.phase ≡ Some g
+seat_heard old said g seat = seat_stays old.versions old.sessions old.phase (table.Hear said) g refl seat
+
+-- and over a call behind it
+seat_behind : (old : NodeState) (said : Message) (call : table.Event) → ((g : ℕ) → is_given g call ≡ false) → (g : ℕ) → seat_of (table.phase_after (table.after old (table.Hear said)) call) ≡ Some g → seat_of old.phase ≡ Some g
+seat_behind old said call none g seat =
+    let node : NodeState = table.after old (table.Hear said) in
+    seat_heard old said g (seat_stays node.versions node.sessions node.phase call g (none g) seat)
+
+-- who raised the data has no seat yet
+raised_unseated : (node : NodeState) (s g h : ℕ) → node.phase ≡ Raising s g → seat_of (table.phase_after node (table.Raised true)) ≡ Some h → ⊥
+raised_unseated node s g h is seat =
+    let was : seat_of node.phase ≡ Some h = seat_stays node.versions node.sessions node.phase (table.Raised true) h refl seat in
+    let none : seat_of node.phase ≡ None = ap seat_of is in cc
+
 stays_lent : (old new : DaemonState) (event : table.Event) → IsQuiet old.node event → Keeps old (table.after old.node event) new → IsLentBy old → IsLentBy new
 stays_lent old new event calm keeps lent = record {
   may_take = ap (λ (n : NodeState). table.may_take n.phase) keeps.node_is ∙ calm.may_take;
@@ -85,20 +112,25 @@ reacts_quietly manifest limit bytes old new node (answer.GotPart session generat
 pub record Serves (is_lent : Bool) (old new : DaemonState) : Type 0 where
   pub idle : IsAllIdle old → IsAllIdle new
   pub there : IsThere is_lent old → IsThere is_lent new
+  pub at : IsAtSeat old → IsAtSeat new
 
-still : (is_lent : Bool) (old new : DaemonState) (node : NodeState) → Keeps old node new → (knows node.phase ≡ true → knows old.node.phase ≡ true) → Serves is_lent old new
-still is_lent old new node keeps knew =
-    record { idle = idle_still old new node keeps; there = there_still is_lent old new node keeps knew }
+still : (is_lent : Bool) (old new : DaemonState) (node : NodeState) → Keeps old node new → (knows node.phase ≡ true → knows old.node.phase ≡ true) → ((g : ℕ) → seat_of node.phase ≡ Some g → seat_of old.node.phase ≡ Some g) → Serves is_lent old new
+still is_lent old new node keeps knew stays = record {
+  idle = idle_still old new node keeps;
+  there = there_still is_lent old new node keeps knew;
+  at = seat_still old new node keeps stays;
+}
 
 unknown : (is_lent : Bool) (old new : DaemonState) (node : NodeState) → Keeps old node new → knows node.phase ≡ false → Serves is_lent old new
 unknown is_lent old new node keeps none =
-    record { idle = idle_still old new node keeps; there = λ there. there_unknown is_lent old new node keeps none }
+    record { idle = idle_still old new node keeps; there = λ there. there_unknown is_lent old new node keeps none; at = λ at. seat_unknown old new node keeps none }
 
 -- who got all of it
 takes_serve : (is_lent : Bool) (manifest : Manifest) (limit : ℕ) (bytes : List ℕ) (old new : DaemonState) (node : NodeState) (s g : ℕ) (reaction : Reaction) → node.phase ≡ Raising s g → TakesData manifest limit old bytes node g reaction new → Serves is_lent old new
 takes_serve is_lent manifest limit bytes old new node s g reaction at (inl h) = record {
   idle = λ idle. subst IsAllIdle (sym h.becomes) (record { hand = refl; unposted = refl });
   there = λ there. subst (IsThere is_lent) (sym h.becomes) (λ later own. refl);
+  at = λ was. subst IsAtSeat (sym h.becomes) (λ h seat. absurd (raised_unseated node s g h at seat));
 }
 takes_serve is_lent manifest limit bytes old new node s g reaction at (inr h) =
     unknown is_lent old new (table.after node (table.Raised false)) (kept old (turned_to old (table.after node (table.Raised false))) new h.loses.becomes refl)
@@ -116,13 +148,13 @@ part_serves is_lent manifest limit read old new node s g v i n reaction false fo
 heard_serves : (is_lent : Bool) (manifest : Manifest) (limit : ℕ) (bytes : List ℕ) (old new : DaemonState) (said : Message) (a : Answer) (reaction : Reaction) → table.heard old.node (table.Hear said) ≡ a → ReactsBy manifest limit bytes old (table.after old.node (table.Hear said)) a reaction new → Serves is_lent old new
 heard_serves is_lent manifest limit bytes old new said (answer.MakeData s g v) reaction is (inl h) =
     let node : NodeState = table.after (table.after old.node (table.Hear said)) (table.DataMade h.bytes) in
-    still is_lent old new node (kept old (turned_to old node) new h.becomes refl) (λ later. knew_making old.node.versions old.node.sessions old.node.phase said s g v is)
+    still is_lent old new node (kept old (turned_to old node) new h.becomes refl) (λ later. knew_making old.node.versions old.node.sessions old.node.phase said s g v is) (seat_behind old.node said (table.DataMade h.bytes) (λ h. refl))
 heard_serves is_lent manifest limit bytes old new said (answer.MakeData s g v) reaction is (inr (inl h)) =
     let node : NodeState = table.after (table.after old.node (table.Hear said)) table.PartsMade in
-    still is_lent old new node (kept old (turned_to old node) new h.becomes refl) (λ later. knew_making old.node.versions old.node.sessions old.node.phase said s g v is)
+    still is_lent old new node (kept old (turned_to old node) new h.becomes refl) (λ later. knew_making old.node.versions old.node.sessions old.node.phase said s g v is) (seat_behind old.node said table.PartsMade (λ h. refl))
 heard_serves is_lent manifest limit bytes old new said (answer.MakeData s g v) reaction is (inr (inr h)) =
     let node : NodeState = table.after (table.after old.node (table.Hear said)) table.DataFailed in
-    still is_lent old new node (kept old (turned_to old node) new h.becomes refl) (λ later. knew_making old.node.versions old.node.sessions old.node.phase said s g v is)
+    still is_lent old new node (kept old (turned_to old node) new h.becomes refl) (λ later. knew_making old.node.versions old.node.sessions old.node.phase said s g v is) (seat_behind old.node said table.DataFailed (λ h. refl))
 heard_serves is_lent manifest limit bytes old new said (answer.GotData s g v) reaction is h =
     takes_serve is_lent manifest limit bytes old new (table.after old.node (table.Hear said)) s g reaction (phase_for old.node said (answer.GotData s g v) is) h
 heard_serves is_lent manifest limit bytes old new said (answer.GotPart s g v i n) reaction is (inl h) =
@@ -133,11 +165,11 @@ heard_serves is_lent manifest limit bytes old new said (answer.GotPart s g v i n
     unknown is_lent old new node (kept old (turned_to old node) new h.becomes refl)
     (ap (λ (p : Phase). knows (table.after_row taking (table.row taking p (table.Fed false))).phase) (phase_for old.node said (answer.GotPart s g v i n) is))
 heard_serves is_lent manifest limit bytes old new said answer.Ignored reaction is h =
-    still is_lent old new (table.after old.node (table.Hear said)) (turns old new (table.after old.node (table.Hear said)) answer.Ignored reaction h) (knew old.node.versions old.node.sessions old.node.phase said (ap brings_data is))
+    still is_lent old new (table.after old.node (table.Hear said)) (turns old new (table.after old.node (table.Hear said)) answer.Ignored reaction h) (knew old.node.versions old.node.sessions old.node.phase said (ap brings_data is)) (seat_heard old.node said)
 heard_serves is_lent manifest limit bytes old new said answer.Heard reaction is h =
-    still is_lent old new (table.after old.node (table.Hear said)) (turns old new (table.after old.node (table.Hear said)) answer.Heard reaction h) (knew old.node.versions old.node.sessions old.node.phase said (ap brings_data is))
+    still is_lent old new (table.after old.node (table.Hear said)) (turns old new (table.after old.node (table.Hear said)) answer.Heard reaction h) (knew old.node.versions old.node.sessions old.node.phase said (ap brings_data is)) (seat_heard old.node said)
 heard_serves is_lent manifest limit bytes old new said (answer.Say what) reaction is h =
-    still is_lent old new (table.after old.node (table.Hear said)) (turns old new (table.after old.node (table.Hear said)) (answer.Say what) reaction h) (knew old.node.versions old.node.sessions old.node.phase said (ap brings_data is))
+    still is_lent old new (table.after old.node (table.Hear said)) (turns old new (table.after old.node (table.Hear said)) (answer.Say what) reaction h) (knew old.node.versions old.node.sessions old.node.phase said (ap brings_data is)) (seat_heard old.node said)
 
 -- ---- over both calls
 
@@ -153,6 +185,7 @@ hears_keeps is_lent manifest limit old new said reaction orderly h =
           stays_lent old new (table.Hear said) calm (reacts_quietly manifest limit (bytes_of said) old new node a reaction calm.no_data h) lent;
       idle = serves.idle orderly.idle;
       known = serves.there orderly.known;
+      at = serves.at orderly.at;
     }
 
 pub gives_up_keeps : (is_lent : Bool) (old new : DaemonState) (reaction : Reaction) → IsOrderly is_lent old → GivesUpSo old reaction new → IsOrderly is_lent new
@@ -166,4 +199,5 @@ gives_up_keeps is_lent old new reaction orderly h =
           stays_lent old new table.GiveUp calm keeps lent;
       idle = idle_still old new node keeps orderly.idle;
       known = there_still is_lent old new node keeps (knew_at_end old.node.versions old.node.sessions old.node.phase) orderly.known;
+      at = seat_still old new node keeps (λ g seat. seat_stays old.node.versions old.node.sessions old.node.phase table.GiveUp g refl seat) orderly.at;
     }

@@ -1,6 +1,8 @@
 -- What may be lent: all that is served, since nothing is in hand.
-use Rattle.std.proofs.Common.{◌≡◌, ℕ, Bool, true, false, List, [], Option, Some, None, IsSome, refl, sym, subst, rules}
+use Rattle.std.proofs.Common.{◌≡◌, ℕ, Bool, true, false, List, [], Option, Some, None, IsSome, refl, sym, ap, subst, ◌∙◌, arith, rules}
+use Rattle.std.specs.Prelude.{◌≢◌, ◌&&◌, is_none}
 use Rattle.std.specs.Option.{IfSome, option_map}
+use Rattle.takeover_core.specs.Histories.{seat_of}
 use Rattle.takeover_core.specs.Phases.{may_take}
 use Rattle.takeover_core.specs.declared.phase.Phase.{Phase}
 use Rattle.fuse_wire.specs.declared.request.Ask.{Ask}
@@ -8,8 +10,8 @@ use Rattle.fuse_wire.specs.declared.reply.Reply.{Reply}
 use Rattle.daemon.specs.Daemon.{DaemonState, lendable, lendable_with, lent_server}
 use Rattle.daemon.specs.declared.lease.Lease.{Lease}
 use Rattle.daemon.specs.Server.{ServerState, IsIdle}
-use Rattle.daemon_desk.specs.Desk.{lendable_at, taking_at}
-use Rattle.daemon_desk.specs.Inside.{IsOrderly, knows}
+use Rattle.daemon_desk.specs.Desk.{is_generation, lendable_at, taking_at}
+use Rattle.daemon_desk.specs.Inside.{IsOrderly, IsServedAt, knows}
 
 pub all_lendable : (server : Option ServerState) → IfSome server IsIdle → lendable server ≡ server
 all_lendable None idle = refl
@@ -36,3 +38,23 @@ some_lent (Some generation) (Some server) (Some lease) at there is = refl
 pub lends_it : (is_lent : Bool) (daemon : DaemonState) (lease : Option Lease) → IsOrderly is_lent daemon → may_take daemon.node.phase ≡ true → is_lent ≡ false → option_map lent_server lease ≡ lendable_at (taking_at daemon.node.phase) daemon.server → IsSome lease
 lends_it is_lent daemon lease orderly may own is =
     some_lent (taking_at daemon.node.phase) daemon.server lease (taking daemon.node.phase may) (orderly.known (may_take_knows daemon.node.phase may) own) is
+
+-- ---- the generation
+
+-- what may be lent of a server at this generation is a lease at it
+lent_at : (generation : ℕ) (server : Option ServerState) (lease : Lease) → IsServedAt generation server → Some (lent_server lease) ≡ server → generation ≡ lease.generation
+lent_at generation None lease at is = absurd (let no : ⊥ = cc in no)
+lent_at generation (Some server) lease at is =
+    let same : lent_server lease ≡ server = cc in
+    sym (ap (λ (s : ServerState). s.generation) same ∙ at)
+
+-- where the daemon serves, what is lent is at the seat's generation
+pub lends_at : (phase : Phase) (is_lent : Bool) (daemon : DaemonState) (taking : Option ℕ) (lease : Lease) → daemon.node.phase ≡ phase → IsOrderly is_lent daemon → IfSome taking (λ (g : ℕ). seat_of phase ≡ Some g) → is_none taking ≡ false → Some (lent_server lease) ≡ lendable daemon.server → seat_of phase ≡ Some lease.generation
+lends_at phase is_lent daemon None lease same orderly seat serves is = absurd (let no : ⊥ = cc in no)
+lends_at phase is_lent daemon (Some g) lease same orderly seat serves is =
+    let at : IsServedAt g daemon.server = orderly.at g (ap seat_of same ∙ seat) in
+    seat ∙ ap (λ (n : ℕ). Some n) (lent_at g daemon.server lease at (is ∙ all_lendable daemon.server orderly.idle))
+
+-- nothing is lent at another generation
+pub not_lent_at : (is_lent : Bool) (phase : Phase) (generation : ℕ) → seat_of phase ≢ Some generation → (is_lent && is_generation (taking_at phase) generation) ≡ false
+not_lent_at is_lent phase generation other = grind (arith, rules)

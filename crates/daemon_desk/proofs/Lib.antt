@@ -1,5 +1,6 @@
 pub mod Quiet
 pub mod Knowing
+pub mod Seating
 pub mod HearingKeeps
 pub mod Keeping
 pub mod Telling

@@ -1,7 +1,7 @@
 -- A daemon behind its connections: what it makes of each frame that it is sent, and of each call of its program. What
 -- it says and becomes is the daemon's own table; what is added here are the frames, and what is lent to workers. (This
 -- project's own.)
-use Rattle.std.specs.Prelude.{◌≡◌, ◌⊎◌, ℕ, Bool, true, false, List, [], ◌∷◌, map, Option, Some, None, Result, Ok, Err, if◌then◌else◌}
+use Rattle.std.specs.Prelude.{◌≡◌, ◌⊎◌, ℕ, Bool, true, false, ◌&&◌, ◌==◌, List, [], ◌∷◌, map, Option, Some, None, Result, Ok, Err, if◌then◌else◌}
 use Rattle.std.specs.Option.{option_map}
 use Rattle.eden_base.specs.declared.claim.ClaimFault.{ClaimFault}
 use Rattle.eden_base.specs.declared.claim.ClaimFault.TheVariants as claim
@@ -93,6 +93,11 @@ mounting_of frame.LastGeneration = mounting.LastGeneration
 mounting_of frame.Ended = mounting.Ended
 mounting_of other = mounting.Broken
 
+-- the generation that is told, where the daemon serves
+abbrev pub mounted_at : Mounting → Option ℕ
+mounted_at (mounting.Serves generation) = Some generation
+mounted_at other = None
+
 -- the daemon serves what was prepared
 pub record MountsAt (generation : ℕ) (served : ServedState) (old : DeskState) (what : Mounting)
     (new : DeskState) : Type 0 where
@@ -144,13 +149,22 @@ lent_by desk None = desk
 abbrev pub lent : DeskState → DeskState
 lent desk = lent_by desk (lendable desk)
 
--- what was lent is served on; what was not lent is dropped
+-- this is the generation at which workers may take
+abbrev pub is_generation : Option ℕ → ℕ → Bool
+is_generation (Some taking) generation = generation == taking
+is_generation None generation = false
+
+-- what is served is lent, at this generation
+abbrev pub is_lent_at : DeskState → ℕ → Bool
+is_lent_at desk generation = desk.is_lent && is_generation (taking_at desk.daemon.node.phase) generation
+
+-- what was lent is served on; what was not lent, or at another generation, is dropped
 abbrev pub returned_to : Bool → DeskState → ServerState → DeskState
 returned_to true desk server = record desk { daemon = with_server desk.daemon server; is_lent = false }
 returned_to false desk server = desk
 
 abbrev pub returned : DeskState → ServerState → DeskState
-returned desk server = returned_to desk.is_lent desk server
+returned desk server = returned_to (is_lent_at desk server.generation) desk server
 
 -- ---- a drain
 
@@ -226,6 +240,11 @@ claiming_of (Err (claim.Unanswered asks)) = claiming.Waits
 claiming_of (Err (claim.Stale now)) = claiming.Stale
 claiming_of (Err claim.Ended) = claiming.Ended
 claiming_of (Err claim.LastGeneration) = claiming.LastGeneration
+
+-- the generation that is told, where the daemon serves
+abbrev pub claimed_at : Claiming → Option ℕ
+claimed_at (claiming.Serves generation) = Some generation
+claimed_at other = None
 
 -- the daemon takes the answer in
 pub record ClaimsBy (answer : Result ℕ ClaimFault) (old : DeskState) (what : Claiming) (new : DeskState) : Type 0 where

@@ -1,11 +1,12 @@
 -- What a desk keeps, whatever its daemon is sent and asked.
-use Rattle.std.specs.Prelude.{◌≡◌, Bool, true, false, None, IsSome}
+use Rattle.std.specs.Prelude.{◌≡◌, ℕ, Bool, true, false, Option, Some, None, IsSome}
 use Rattle.std.specs.Option.{IfSome}
+use Rattle.takeover_core.specs.Histories.{seat_of}
 use Rattle.takeover_core.specs.Phases.{may_take}
 use Rattle.takeover_core.specs.declared.phase.Phase.{Phase}
 use Rattle.takeover_core.specs.declared.phase.Phase.TheVariants.{Waiting, Chosen, Taking, Reading, Raising, Gone}
 use Rattle.daemon.specs.Daemon.{DaemonState}
-use Rattle.daemon.specs.Server.{IsIdle}
+use Rattle.daemon.specs.Server.{ServerState, IsIdle}
 
 -- what a daemon serves is lent only where workers may take: so nothing is handed over in its place
 pub record IsLentBy (daemon : DaemonState) : Type 0 where
@@ -22,9 +23,18 @@ knows (Raising session generation) = false
 knows Gone = false
 knows phase = true
 
--- what is served has nothing in hand, since workers have settled when they give it back; and it is there in each phase
--- in which the daemon knows it, unless it is lent
+-- what is served, if something is, is at this generation
+abbrev pub IsServedAt : ℕ → Option ServerState → Type 0
+IsServedAt generation server = IfSome server (λ (s : ServerState). s.generation ≡ generation)
+
+-- what is served is at the generation at which the daemon has the seat
+abbrev pub IsAtSeat : DaemonState → Type 0
+IsAtSeat daemon = (generation : ℕ) → seat_of daemon.node.phase ≡ Some generation → IsServedAt generation daemon.server
+
+-- what is served has nothing in hand, since workers have settled when they give it back; it is there in each phase in
+-- which the daemon knows it, unless it is lent; and it is at the seat's generation
 pub record IsOrderly (is_lent : Bool) (daemon : DaemonState) : Type 0 where
   pub lent : is_lent ≡ true → IsLentBy daemon
   pub idle : IfSome daemon.server IsIdle
   pub known : knows daemon.node.phase ≡ true → is_lent ≡ false → IsSome daemon.server
+  pub at : IsAtSeat daemon

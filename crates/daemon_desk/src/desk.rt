@@ -1,13 +1,15 @@
 //! A daemon behind its connections.
 ghost use Rattle.std.specs.Option.{option_map, IfSome};
-ghost use Rattle.std.specs.Prelude.{◌≡◌, ◌≤◌, ◌⊎◌, Some, None, true, false, length, is_some, IsSome, IsTrue, OnOk, OnErr};
+ghost use Rattle.std.specs.Prelude.{◌≡◌, ◌≢◌, ◌≤◌, ◌⊎◌, Some, None, true, false, length, is_some, IsSome, IsTrue, OnOk, OnErr};
 ghost use Rattle.fuse_ops.specs.Served.{new_served};
+ghost use Rattle.takeover_core.specs.Histories.{seat_of};
 ghost use Rattle.takeover_core.specs.Phases.{heard, may_take, claim_wanted, Hear};
+ghost use Rattle.takeover_core.specs.declared.phase.Phase.TheVariants.{Serving};
 ghost use Rattle.frames.specs.declared.frame.Frame.TheVariants.{Takeover};
 ghost use Rattle.daemon.specs.Daemon.{is_waiting, lent_server};
 ghost use Rattle.daemon.specs.Saying.{what_is_said};
 ghost use Rattle.daemon.specs.Talking.{brings_part};
-ghost use Rattle.daemon_desk.specs.Desk.{new_desk, taking_at, is_draining, lendable, lent, returned, ready_in, ready_of, claim_of, claim_answer, Hears, HearsMessage, LacksMemory, IsTold, IsSaid, MountsAt, Mounts, Drains, DrainsNow, GivesUp, ClaimsBy, Claims};
+ghost use Rattle.daemon_desk.specs.Desk.{new_desk, taking_at, is_draining, is_lent_at, lendable, lent, mounted_at, claimed_at, returned, ready_in, ready_of, claim_of, claim_answer, Hears, HearsMessage, LacksMemory, IsTold, IsSaid, MountsAt, Mounts, Drains, DrainsNow, GivesUp, ClaimsBy, Claims};
 
 use crate::answers::{Claiming, Hearing, Mounting};
 use crate::frame_list::FrameList;
@@ -94,6 +96,8 @@ impl DaemonDesk {
     /// Takes in the broker's answer to a Mount. It takes no memory.
     pub fn take_mount(&mut self, answer: &Frame) -> Mounting
         ensures mounts { Mounts self.old answer.now result self.new }
+        ensures serves { IfSome (mounted_at result) (λ generation.
+            self.new.daemon.node.phase ≡ Serving generation) }
     {
         if !self.daemon.is_waiting() {
             return Mounting::Broken;
@@ -115,6 +119,8 @@ impl DaemonDesk {
         requires waiting { IsTrue (is_waiting self.old.daemon) }
         requires prepared { IsTrue (is_some self.old.prepared) }
         ensures mounts { IfSome self.old.prepared (λ served. MountsAt generation served self.old result self.new) }
+        ensures serves { IfSome (mounted_at result) (λ generation.
+            self.new.daemon.node.phase ≡ Serving generation) }
     {
         let Some(prepared) = self.prepared.take() else {
             unreachable!();
@@ -185,6 +191,7 @@ impl DaemonDesk {
     /// Returns the generation at which workers may take, if they may: while the daemon serves, and while it drains.
     pub fn serving(&self) -> Option<u64>
         ensures serving { result ≡ taking_at self.now.daemon.node.phase }
+        ensures seat { IfSome result (λ generation. seat_of self.now.daemon.node.phase ≡ Some generation) }
     {
         match self.daemon.phase() {
             Phase::Serving { generation } | Phase::Draining { generation, .. } => Some(generation),
@@ -205,6 +212,7 @@ impl DaemonDesk {
         ensures lent { option_map lent_server result ≡ lendable self.old }
         ensures becomes { self.new ≡ lent self.old }
         ensures there { IsTrue (may_take self.old.daemon.node.phase) → self.old.is_lent ≡ false → IsSome result }
+        ensures generation { IfSome result (λ lease. seat_of self.old.daemon.node.phase ≡ Some lease.generation) }
     {
         if self.serving().is_none() {
             return None;
@@ -214,16 +222,28 @@ impl DaemonDesk {
         Some(lease)
     }
 
-    /// Takes back what was lent, after a round that is settled. What was not lent is dropped.
+    /// Takes back what was lent, after a round that is settled. What was not lent, or at another generation, is dropped.
+    #[tactic(auto, using(crate::proofs::Lending::not_lent_at, crate::proofs::Keeping::returned_keeps))]
     pub fn take_back(&mut self, lease: Lease)
         ensures returned { self.new ≡ returned self.old (lent_server lease) }
+        ensures generation { seat_of self.old.daemon.node.phase ≢ Some lease.generation → self.new ≡ self.old }
     {
-        if !self.is_lent {
+        if !self.has_lent_at(lease.generation) {
             drop(lease);
             return;
         }
         self.is_lent = false;
         self.daemon.take_back(self.alloc, lease);
+    }
+
+    /// Returns whether what the daemon serves is lent, at this generation.
+    fn has_lent_at(&self, generation: u64) -> bool
+        ensures lent { result ≡ is_lent_at self.now generation }
+    {
+        match self.serving() {
+            Some(taking) => self.is_lent && generation == taking,
+            None => false,
+        }
     }
 
     /// Says that the daemon is ready to hand over, where it drains and has no lease out.
@@ -270,6 +290,8 @@ impl DaemonDesk {
     /// Takes in the broker's answer to a Claim.
     pub fn take_claim(&mut self, answer: &Frame) -> Claiming
         ensures claims { Claims self.old answer.now result self.new }
+        ensures serves { IfSome (claimed_at result) (λ generation.
+            self.new.daemon.node.phase ≡ Serving generation) }
     {
         if self.daemon.claim_wanted().is_none() {
             return Claiming::Broken;
@@ -284,6 +306,8 @@ impl DaemonDesk {
     fn take_answer(&mut self, answer: Result<u64, ClaimFault>) -> Claiming
         requires wanted { IsTrue (is_some (claim_wanted self.old.daemon.node.phase)) }
         ensures claims { ClaimsBy answer self.old result self.new }
+        ensures serves { IfSome (claimed_at result) (λ generation.
+            self.new.daemon.node.phase ≡ Serving generation) }
     {
         self.daemon.take_answer(answer);
         match answer {
