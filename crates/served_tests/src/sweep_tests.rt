@@ -2,11 +2,13 @@
 //! from some size on is found here alone.
 mod cutting;
 mod handing;
+mod longest;
 mod making;
 
 use crate::again::manifest_of;
 use crate::listed::LISTED;
 use crate::sweep_tests::cutting::{Lengths, first_uncut_in};
+use crate::sweep_tests::longest::{is_longer_refused, is_longest_written};
 use crate::sweep_tests::making::{Making, goes_so_in_new};
 use manifest::Manifest;
 use std::alloc::Global;
@@ -55,4 +57,14 @@ static LENGTHS: [Lengths; 2] = [(1, 8_200, 1), (8_200, 410_000, 4_093)];
 #[test]
 fn cuts_at_all_lengths(rt: HostRuntime) {
     assert!(rt; first_uncut_in(rt.alloc(), &LENGTHS).is_none());
+}
+
+#[test]
+fn writes_the_longest_text_of_version_2(rt: HostRuntime) {
+    assert!(rt; is_longest_written(rt.alloc()));
+}
+
+#[test]
+fn refuses_a_text_of_a_byte_more(rt: HostRuntime) {
+    assert!(rt; is_longer_refused(rt.alloc()));
 }

@@ -9,7 +9,7 @@ use std::alloc::{AllocError, Global};
 pub type Lengths = (usize, usize, usize);
 
 /// Returns whether a text is cut into as many parts as hold it.
-fn is_cut(alloc: Global, text: &[u8]) -> bool {
+pub(crate) fn is_cut(alloc: Global, text: &[u8]) -> bool {
     if text.is_empty() {
         return false;
     }
