@@ -70,7 +70,7 @@ unwritten-finished before between after failure first new is (inl (same, kept)) 
 unwritten-finished before between after failure first new is (inr (error, same)) = subst (λ (e : ProgramEnd). EndsAfter (Ok tt) before after e) (sym same) is
 
 -- how the program ends after an errand stays so once all is written
-ends_after-finished : (result : Result (Unit {0}) Failure) (before between after : Option (List ℕ)) (ending new : ProgramEnd) → EndsAfter result before between ending → Finishes ending between after new → EndsAfter result before after new
+pub ends_after-finished : (result : Result (Unit {0}) Failure) (before between after : Option (List ℕ)) (ending new : ProgramEnd) → EndsAfter result before between ending → Finishes ending between after new → EndsAfter result before after new
 ends_after-finished (Err failure) before between after ending new ends finishes = tells-finished failure before between after ending new ends finishes
 ends_after-finished (Ok done) before between after Ran new ends finishes = ran-finished before between after new ends finishes
 ends_after-finished (Ok done) before between after (Untold failure first) new ends finishes = unwritten-finished before between after failure first new ends finishes

@@ -8,7 +8,8 @@ use Rattle.std.specs.declared.io.buffered.BufWriter.{BufWriter}
 use Rattle.std.proofs.KnownBytes.{Keeps-trans}
 use Rattle.std.specs.declared.io.Error.{Error as IoError}
 use Rattle.clap.specs.Words.{Kinds, Text}
-use Rattle.world_script.specs.ProgramEnd.{Complains, Ends, Says, complaint, name_of, words_had}
+use Rattle.world_script.specs.ProgramEnd.{Complains, Ends, Says, complaint, name_of, status_of, words_had}
+use Rattle.world_script.specs.Process.{EndsWith}
 use Rattle.world_script.specs.FaultText.{fault_line}
 use Rattle.world_script.specs.Script.{Runs}
 use Rattle.world_script.specs.declared.program_end.ProgramEnd.{ProgramEnd}
@@ -51,9 +52,24 @@ says-from (Shown text) a b c kept stays = Keeps-trans a b c kept stays
 says-from (Refused text) a b c kept line = Appends-from a b c (string_bytes text) kept line
 
 -- what was said, where no write failed
-pub said-from : (said : Result (Unit {0}) IoError) (ending : ProgramEnd) (a b c : Option (List ℕ)) → Keeps a b → OnOk said (Says ending b c) → OnOk said (Says ending a c)
+said-from : (said : Result (Unit {0}) IoError) (ending : ProgramEnd) (a b c : Option (List ℕ)) → Keeps a b → OnOk said (Says ending b c) → OnOk said (Says ending a c)
 said-from (Ok done) ending a b c kept says = says-from ending a b c kept says
 said-from (Err error) ending a b c kept says = tt
+
+-- a process that leaves an output behind ends with what is known of that, and what it says goes behind what was kept at first
+pub ends_with : {W : Type 0} (contents : W → Option (List ℕ)) (known : Option (List ℕ) → ProgramEnd → Type 0) (output left : W) (ending : ProgramEnd) (a b c : Option (List ℕ)) (status : ℕ) (said : Result (Unit {0}) IoError) →
+    known (contents output) ending → left ≡ output → Keeps a b → status ≡ status_of ending → OnOk said (Says ending b c) → EndsWith (known (contents left)) a c status said
+ends_with contents known output left ending a b c status said is same kept status_is says = record {
+  ending = ending;
+  is = subst (λ w. known (contents w) ending) (sym same) is;
+  status_is = status_is;
+  says = said-from said ending a b c kept says;
+}
+
+-- and so is one of which less is known
+pub ends_with-map : {known less : ProgramEnd → Type 0} {errors errors_after : Option (List ℕ)} {status : ℕ} {said : Result (Unit {0}) IoError} →
+    ((ending : ProgramEnd) → known ending → less ending) → EndsWith known errors errors_after status said → EndsWith less errors errors_after status said
+ends_with-map so ends = record { ending = ends.ending; is = so ends.ending ends.is; status_is = ends.status_is; says = ends.says }
 
 nothing_gathered : (a b : Option (List ℕ)) → Keeps a b → Keeps a (append_known b [])
 nothing_gathered None b kept = tt

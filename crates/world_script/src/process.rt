@@ -1,11 +1,12 @@
 //! The program in a process: its words, its streams and its status.
-ghost use Rattle.std.specs.Prelude.{None, IfOk, IfSome, List, Option, ℕ, map, string_bytes, ◌≡◌};
+ghost use Rattle.std.specs.Prelude.{Err, None, IfErr, IfOk, IfSome, List, OnOk, Option, ℕ, map, string_bytes, ◌≡◌};
+ghost use Rattle.std.specs.Io.Buffered.{writer_contents};
 ghost use Rattle.std.specs.Io.KnownBytes.{Keeps};
 ghost use Rattle.world_script.specs.declared.fault.Fault.TheVariants.{NoMemory};
-ghost use Rattle.world_script.specs.ProgramEnd.{EndsBy, Tells, plain, words_had};
-ghost use Rattle.world_script.specs.Process.{RunsIn};
+ghost use Rattle.world_script.specs.ProgramEnd.{Says, Tells, plain, status_of};
+ghost use Rattle.world_script.specs.Process.{EndsErrand, RunsIn};
 
-use crate::program::tell;
+use crate::program::{end_after, finish, tell};
 use crate::{Errands, Failure, Fault, ProgramEnd, Sources, System, run_program};
 use std::alloc::Global;
 use std::env;
@@ -94,8 +95,68 @@ pub fn run_process<P: Process, D: Errands>(
         result.status result.said }
 {
     let words = process.words(alloc);
-    let (output, ending) = run_gathered(alloc, &words, process, errands);
-    let mut errors = process.errors();
+    let lines = match gather_lines(alloc, process) {
+        Ok(lines) => lines,
+        Err(ended) => return ended,
+    };
+    let (output, ending) = run_program(alloc, &words, process, errands, lines);
+    leave(output, process.errors(), ending)
+}
+
+/// Gathers what a process prints on standard output. Where there is no memory for that, the process has ended, and
+/// what it leaves behind is returned.
+pub fn gather_lines<P: Process>(
+    alloc: Global,
+    process: &P,
+) -> Result<BufWriter<P::Output>, RunIn<P::Output, P::Errors>>
+    ensures gathers { IfOk result (λ lines.
+        Keeps (P.output_bytes process.now) (writer_contents P.Output.contents lines)) }
+    ensures no_memory { IfErr result (λ ended. EndsErrand (Err (plain NoMemory))
+        (P.output_bytes process.now) (P.Output.contents ended.output)
+        (P.errors_bytes process.now) (P.Errors.contents ended.errors)
+        ended.status ended.said) }
+{
+    match BufWriter::with_capacity(alloc, process.capacity(), process.output()) {
+        Ok(lines) => Ok(lines),
+        Err(_) => {
+            let (output, ending) = tell_no_memory(process.output());
+            Err(leave(output, process.errors(), ending))
+        }
+    }
+}
+
+/// Ends the process of an errand that ran to the result `ran`. What is gathered in `lines` is written, and on `errors`
+/// goes what the system's error was with.
+pub fn end_errand<W: Write + Drop, E: Write>(
+    ran: Result<(), Failure<'_>>,
+    mut lines: BufWriter<W>,
+    errors: E,
+) -> RunIn<W, E>
+    ensures ends { EndsErrand ran.entry
+        (writer_contents W.contents lines) (W.contents result.output)
+        (E.contents errors) (E.contents result.errors)
+        result.status result.said }
+{
+    let ending = end_after(ran, &mut lines);
+    let (output, ending) = finish(lines, ending);
+    leave(output, errors, ending)
+}
+
+/// Tells that there is no memory to gather lines in.
+fn tell_no_memory<W: Write>(mut output: W) -> (W, ProgramEnd<'static>)
+    ensures { Tells (plain NoMemory) (W.contents output) (W.contents result.0) result.1 }
+{
+    let ending = tell(Failure::plain(Fault::NoMemory), &mut output);
+    (output, ending)
+}
+
+/// Says an ending on standard error, and leaves its status behind.
+fn leave<W, E: Write>(output: W, mut errors: E, ending: ProgramEnd<'_>) -> RunIn<W, E>
+    ensures output { result.output ≡ output }
+    ensures status { result.status ≡ status_of ending.entry }
+    ensures says { OnOk result.said
+        (Says ending.entry (E.contents errors) (E.contents result.errors)) }
+{
     let said = ending.say(&mut errors);
     let status = ending.status();
     drop(ending);
@@ -105,29 +166,4 @@ pub fn run_process<P: Process, D: Errands>(
         errors,
         said,
     }
-}
-
-/// Runs the program, with what it prints gathered. Where there is no memory for that, it tells so at once.
-fn run_gathered<'a, P: Process, D: Errands>(
-    alloc: Global,
-    words: &'a io::Result<Vec<String>>,
-    process: &P,
-    errands: &D,
-) -> (P::Output, ProgramEnd<'a>)
-    ensures { EndsBy (words_had words.now)
-        (P.input_bytes process.now) (P.file_bytes process.now) (D.ends errands.now)
-        (P.output_bytes process.now) (P.Output.contents result.0) result.1 }
-{
-    match BufWriter::with_capacity(alloc, process.capacity(), process.output()) {
-        Ok(lines) => run_program(alloc, words, process, errands, lines),
-        Err(_) => tell_no_memory(process.output()),
-    }
-}
-
-/// Tells that there is no memory to gather lines in.
-fn tell_no_memory<W: Write>(mut output: W) -> (W, ProgramEnd<'static>)
-    ensures { Tells (plain NoMemory) (W.contents output) (W.contents result.0) result.1 }
-{
-    let ending = tell(Failure::plain(Fault::NoMemory), &mut output);
-    (output, ending)
 }

@@ -3,7 +3,7 @@ ghost use Rattle.std.specs.Prelude.{Err, Ok, [], map, string_bytes};
 ghost use Rattle.std.specs.Io.Buffered.{writer_contents};
 ghost use Rattle.std.specs.IoError.{error_kind};
 ghost use Rattle.clap.specs.Words.{kind_of};
-ghost use Rattle.world_script.specs.ProgramEnd.{Answers, Ends, EndsAsked, EndsBy, Finishes, RunsErrand, Shows, Tells, words_had, wrong_had};
+ghost use Rattle.world_script.specs.ProgramEnd.{Answers, Ends, EndsAfter, EndsAsked, EndsBy, Finishes, RunsErrand, Shows, Tells, words_had, wrong_had};
 ghost use Rattle.world_script.specs.Source.{script_at};
 
 use crate::{Errands, Failure, Fault, ProgramEnd, Sources, run_path, write_fault};
@@ -103,7 +103,7 @@ fn run_named<'a, S: Sources, W: Write>(
     }
 }
 
-/// Runs an errand. A fault is told.
+/// Runs an errand, and ends as it did.
 fn run_errand<'a, S: Sources, D: Errands, W: Write>(
     alloc: Global,
     sources: &S,
@@ -113,7 +113,15 @@ fn run_errand<'a, S: Sources, D: Errands, W: Write>(
 ) -> ProgramEnd<'a>
     ensures { RunsErrand errand.now (D.ends errands.now) (W.contents out.old) (W.contents out.new) result }
 {
-    match errands.run(alloc, sources, errand, out) {
+    let ran = errands.run(alloc, sources, errand, out);
+    end_after(ran, out)
+}
+
+/// Returns how the program ends after an errand. A fault is told.
+pub fn end_after<'a, W: Write>(ran: Result<(), Failure<'a>>, out: &mut W) -> ProgramEnd<'a>
+    ensures ends { EndsAfter ran.entry (W.contents out.old) (W.contents out.new) result }
+{
+    match ran {
         Ok(()) => ProgramEnd::Ran,
         Err(failure) => tell(failure, out),
     }
@@ -170,8 +178,12 @@ fn refuse_words<'a, W: Write>(alloc: Global, error: &io::Error, out: &mut W) -> 
 }
 
 /// Writes out what is still gathered, and hands the writer below back.
-fn finish<'a, W: Write + Drop>(lines: BufWriter<W>, ending: ProgramEnd<'a>) -> (W, ProgramEnd<'a>)
-    ensures { Finishes ending.entry (writer_contents W.contents lines) (W.contents result.0) result.1 }
+pub fn finish<'a, W: Write + Drop>(
+    lines: BufWriter<W>,
+    ending: ProgramEnd<'a>,
+) -> (W, ProgramEnd<'a>)
+    ensures finishes { Finishes ending.entry
+        (writer_contents W.contents lines) (W.contents result.0) result.1 }
 {
     match lines.into_inner() {
         Ok(out) => (out, ending),

@@ -1,16 +1,30 @@
 -- The words that were had, and the ending by which all else goes.
-use Rattle.world_script.specs.ProgramEnd.{words_had}
-use Rattle.world_script.proofs.ProcessLemmas.{said-from, words_are}
+use Rattle.world_script.specs.ProgramEnd.{EndsBy, words_had}
+use Rattle.world_script.proofs.ErrandLemmas.{ends_by-from, ends_by-no_memory}
+use Rattle.world_script.proofs.ProcessLemmas.{ends_with, ends_with-map, words_are}
 use Rattle.world_script.proofs.process.run_process.Goals as goal
 
 pub returns : goal.returns
-returns g c = record {
+returns g c =
+    let had = words_had c.words-words.result in
+    let input = g.P.Sources.input_bytes c.args.process.now in
+    let file = g.P.Sources.file_bytes c.args.process.now in
+    let before = g.P.Process.output_bytes c.args.process.now in
+    record {
+      runs = record {
+        had = had;
+        are = words_are c.words-words.result _ c.words-words.ensures.words;
+        ends = ends_with g.P.Output.Write.contents (λ after ending. EndsBy had input file (g.D.Errands.ends c.args.errands.now) before after ending) _ _ c.run_program-output.result.1 _ _ _ _ _
+            (ends_by-from had input file _ before _ _ _ c.in-Ok.ensures.gathers c.run_program-output.ensures.ends)
+            c.leave.ensures.output c.errors.ensures.bytes c.leave.ensures.status c.leave.ensures.says;
+      };
+    }
+
+pub returns-in-Err : goal.returns-in-Err
+returns-in-Err g c = record {
   runs = record {
     had = words_had c.words-words.result;
     are = words_are c.words-words.result _ c.words-words.ensures.words;
-    ending = c.run_gathered-output.result.1;
-    ends = c.run_gathered-output.ensures;
-    status_is = c.status-status.ensures;
-    says = said-from _ _ _ _ _ c.errors-errors.ensures.bytes c.say-said.ensures.says;
+    ends = ends_with-map (λ ending told. ends_by-no_memory (words_had c.words-words.result) _ _ _ _ _ ending told) c.in-Err.ensures.no_memory;
   };
 }
