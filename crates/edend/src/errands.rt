@@ -1,82 +1,89 @@
-//! The processes that serve over sockets, run by the system.
-ghost use Rattle.std.specs.Prelude.{◌≡◌};
+//! The program in a process, and the errands that it runs over sockets.
+ghost use Rattle.std.specs.Prelude.{◌≡◌, IfErr, Some};
+ghost use Rattle.command_line.specs.declared.errand.Errand.TheVariants.{Broker as BrokerErrand, Daemon as DaemonErrand};
+ghost use Rattle.world_script.specs.Process.{RunsIn};
+ghost use Rattle.world_script.specs.ProgramEnd.{name_of};
+ghost use Rattle.edend.specs.Errands.{Names, RunsOver, over_sockets};
+ghost use Rattle.edend.specs.Note.{IsNoted};
 
-use crate::note::Noted;
+use crate::note::{Note, Noted};
 use broker_process::{BrokerFault, run_broker};
 use broker_script::{BrokerScriptFault, read_broker_script};
 use daemon_process::{DaemonFault, Orders, Start, run_daemon};
 use std::alloc::Global;
-use std::io::{self, BufWriter, Write};
+use std::io::{self, Write};
 use std::net::Net;
 use std::rt::{Clock, Files};
 use std::sync::Wait;
 use std::thread::Threads;
 use std::time::Duration;
 use world_script::{
-    BrokerWords, Cause, DaemonWords, Failure, Fault, ProgramEnd, Sources, read_manifest, read_path,
-    write_fault,
+    BrokerWords, Cause, DaemonWords, Errand, Failure, Fault, Process, RunIn, STANDARD_OUTPUT,
+    Sources, end_errand, gather_lines, read_manifest, read_path, run_process,
 };
 
-/// The name that standard output has on standard error.
-const STANDARD_OUTPUT: &str = "standard output";
+/// Runs the program in a process: a script of a whole mount, or an errand over sockets.
+pub fn run_edend<R: Threads + Wait + Clock + Files + Net + Sync, P: Process>(
+    host: &R,
+    alloc: Global,
+    process: &P,
+) -> RunIn<P::Output, P::Errors>
+    ensures runs { RunsIn (P.known_words process.now)
+        (P.input_bytes process.now) (P.file_bytes process.now) over_sockets
+        (P.output_bytes process.now) (P.Output.contents result.output)
+        (P.errors_bytes process.now) (P.Errors.contents result.errors)
+        result.status result.said }
+{
+    let mut note = Note { errand: None };
+    let ran = run_process(alloc, process, &mut note);
+    match &note.errand {
+        Some(noted) => run_noted(host, alloc, process, noted),
+        None => ran,
+    }
+}
 
-/// How many bytes of printed lines are gathered for one write.
-const CAPACITY: usize = 65_536;
-
-/// Runs a noted errand to its end, and returns the exit status. Lines go to `output`, and the system's errors to
-/// `errors`.
-pub fn run_noted<
-    R: Threads + Wait + Clock + Files + Net + Sync,
-    S: Sources,
-    W: Write + Drop + Copy,
-    E: Write,
->(host: &R, alloc: Global, sources: &S, errand: &Noted, output: W, errors: &mut E) -> u8 {
-    let Ok(mut lines) = BufWriter::with_capacity(alloc, CAPACITY, output) else {
-        let mut output = output;
-        return said(told(&mut output, Failure::plain(Fault::NoMemory)), errors);
+/// Runs a noted errand to its end in a process.
+fn run_noted<R: Threads + Wait + Clock + Files + Net + Sync, P: Process>(
+    host: &R,
+    alloc: Global,
+    process: &P,
+    noted: &Noted,
+) -> RunIn<P::Output, P::Errors>
+    ensures { (errand : _) → IsNoted noted.now errand → RunsOver errand
+        (P.output_bytes process.now) (P.Output.contents result.output)
+        (P.errors_bytes process.now) (P.Errors.contents result.errors)
+        result.status result.said }
+{
+    let mut lines = match gather_lines(alloc, process) {
+        Ok(lines) => lines,
+        Err(ended) => return ended,
     };
+    let errand = noted.errand();
+    let ran = run(host, alloc, process, &errand, &mut lines);
+    end_errand(ran, lines, process.errors())
+}
+
+/// Runs an errand over sockets.
+fn run<'a, R: Threads + Wait + Clock + Files + Net + Sync, S: Sources, W: Write>(
+    host: &R,
+    alloc: Global,
+    sources: &S,
+    errand: &Errand<'a>,
+    out: &mut W,
+) -> Result<(), Failure<'a>>
+    ensures { IfErr result (λ failure. Names errand.now failure) }
+{
     match errand {
-        Noted::Broker(noted) => {
-            let words = noted.words();
-            let ran = broker(host, alloc, sources, &words, &mut lines);
-            said(ending_of(&mut lines, ran), errors)
-        }
-        Noted::Daemon(noted) => {
-            let words = noted.words();
-            let ran = daemon(host, alloc, sources, &words, &mut lines);
-            said(ending_of(&mut lines, ran), errors)
-        }
+        Errand::Broker(words) => broker(host, alloc, sources, words, out),
+        Errand::Daemon(words) => daemon(host, alloc, sources, words, out),
     }
-}
-
-/// Returns the end of a process. The line of a fault is written, and `out` is flushed.
-fn ending_of<'a, W: Write>(out: &mut W, ran: Result<(), Failure<'a>>) -> ProgramEnd<'a> {
-    let ending = match ran {
-        Ok(()) => ProgramEnd::Ran,
-        Err(failure) => told(out, failure),
-    };
-    match out.flush() {
-        Ok(()) => ending,
-        Err(error) => ending.unwritten(error),
-    }
-}
-
-/// Writes the line of a fault.
-fn told<'a, W: Write>(out: &mut W, failure: Failure<'a>) -> ProgramEnd<'a> {
-    match write_fault(out, failure.fault) {
-        Ok(()) => ProgramEnd::Told(failure),
-        Err(error) => failure.untold(error),
-    }
-}
-
-/// Writes the lines of an end to standard error, and returns the exit status.
-fn said<E: Write>(ending: ProgramEnd<'_>, errors: &mut E) -> u8 {
-    let _said = ending.say(errors);
-    ending.status()
 }
 
 /// Joins a fault with the system's error, which is with the file or stream of this name.
-fn caused<'a>(fault: Fault, name: &'a str, error: io::Error) -> Failure<'a> {
+fn caused<'a>(fault: Fault, name: &'a str, error: io::Error) -> Failure<'a>
+    ensures fault { result.fault ≡ fault }
+    ensures name { name_of result ≡ Some name.now }
+{
     Failure {
         fault,
         cause: Some(Cause { name, error }),
@@ -90,14 +97,16 @@ fn broker<'a, R: Threads + Wait + Clock + Files + Net + Sync, S: Sources, W: Wri
     sources: &S,
     words: &BrokerWords<'a>,
     out: &mut W,
-) -> Result<(), Failure<'a>> {
+) -> Result<(), Failure<'a>>
+    ensures { IfErr result (λ failure. Names (BrokerErrand words.now) failure) }
+{
     let text = match read_path(alloc, sources, words.script) {
         Ok(text) => text,
         Err(error) => return Err(Failure::of_run(&error, words.script)),
     };
     let script = match read_broker_script(alloc, text.as_slice()) {
         Ok(script) => script,
-        Err(fault) => return Err(Failure::plain(fault_of_script(fault))),
+        Err(fault) => return Err(failure_of_script(fault, words)),
     };
     match run_broker(host, alloc, words.socket, script.as_slice(), out) {
         Ok(()) => Ok(()),
@@ -105,16 +114,20 @@ fn broker<'a, R: Threads + Wait + Clock + Files + Net + Sync, S: Sources, W: Wri
     }
 }
 
-/// Returns the fault of a script that can't be read.
-fn fault_of_script(fault: BrokerScriptFault) -> Fault {
+/// Returns the failure of a script that is refused.
+fn failure_of_script<'a>(fault: BrokerScriptFault, _words: &BrokerWords<'a>) -> Failure<'a>
+    ensures { Names (BrokerErrand _words.now) result }
+{
     match fault {
-        BrokerScriptFault::BadLine(line) => Fault::BadLine(line),
-        BrokerScriptFault::NoMemory => Fault::NoMemory,
+        BrokerScriptFault::BadLine(line) => Failure::plain(Fault::BadLine(line)),
+        BrokerScriptFault::NoMemory => Failure::plain(Fault::NoMemory),
     }
 }
 
 /// Returns the failure of a broker that these words ask for.
-fn failure_of_broker<'a>(fault: BrokerFault, words: &BrokerWords<'a>) -> Failure<'a> {
+fn failure_of_broker<'a>(fault: BrokerFault, words: &BrokerWords<'a>) -> Failure<'a>
+    ensures { Names (BrokerErrand words.now) result }
+{
     match fault {
         BrokerFault::CannotListen(error) => caused(Fault::CannotListen, words.socket, error),
         BrokerFault::NoMemory => Failure::plain(Fault::NoMemory),
@@ -130,7 +143,9 @@ fn daemon<'a, R: Threads + Wait + Clock + Files + Net + Sync, S: Sources, W: Wri
     sources: &S,
     words: &DaemonWords<'a>,
     out: &mut W,
-) -> Result<(), Failure<'a>> {
+) -> Result<(), Failure<'a>>
+    ensures { IfErr result (λ failure. Names (DaemonErrand words.now) failure) }
+{
     let text = match read_path(alloc, sources, words.manifest) {
         Ok(text) => text,
         Err(error) => return Err(Failure::of_run(&error, words.manifest)),
@@ -172,7 +187,9 @@ fn start_of(start: world_script::Start) -> Start {
 }
 
 /// Returns the failure of a daemon that these words ask for.
-fn failure_of_daemon<'a>(fault: DaemonFault, words: &DaemonWords<'a>) -> Failure<'a> {
+fn failure_of_daemon<'a>(fault: DaemonFault, words: &DaemonWords<'a>) -> Failure<'a>
+    ensures { Names (DaemonErrand words.now) result }
+{
     match fault {
         DaemonFault::NoBroker(error) => caused(Fault::NoBroker, words.broker, error),
         DaemonFault::Seated => Failure::plain(Fault::Seated),

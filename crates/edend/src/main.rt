@@ -4,11 +4,10 @@
 mod errands;
 mod note;
 
-use crate::errands::run_noted;
-use crate::note::Note;
+use crate::errands::run_edend;
 use std::process::ExitCode;
+use world_script::System;
 pub use world_script::{DEFAULT_LIMIT, Fault, run_world};
-use world_script::{System, run_process};
 
 fn main(rt: HostRuntime) -> ExitCode {
     let system = System {
@@ -16,18 +15,6 @@ fn main(rt: HostRuntime) -> ExitCode {
         output: rt.stdout(),
         errors: rt.stderr(),
     };
-    let note = Note::new();
-    let ran = run_process(rt.alloc(), &system, &note);
-    let status = match note.into_errand() {
-        Some(errand) => run_noted(
-            &rt,
-            rt.alloc(),
-            &system,
-            &errand,
-            rt.stdout(),
-            &mut rt.stderr(),
-        ),
-        None => ran.status,
-    };
-    ExitCode::from(status)
+    let ran = run_edend(&rt, rt.alloc(), &system);
+    ExitCode::from(ran.status)
 }

@@ -1,9 +1,9 @@
 //! The errand that words ask for, noted until it is run.
 ghost use Rattle.std.specs.Prelude.{◌≡◌, IfSome, string_bytes};
+ghost use Rattle.edend.specs.Note.{IsBroker, IsDaemon, IsNoted, Notes};
 
 use std::alloc::Global;
 use std::io::Write;
-use std::sync::OnceLock;
 use world_script::{BrokerWords, DaemonWords, Errand, Errands, Failure, Fault, Sources, Start};
 
 /// The words of a broker, as text of their own.
@@ -32,11 +32,11 @@ pub enum Noted {
     Daemon(NotedDaemon),
 }
 
-/// Takes an errand down in place of running it. A trait's method can't start threads that share the runtime, so `main`
-/// runs the errand when the words were answered.
+/// Takes errands down in place of running them, and keeps the last. A trait's method can't start threads that share
+/// the runtime, so a noted errand is run when the words were answered.
 #[derive(Drop)]
 pub struct Note {
-    errand: OnceLock<Noted>,
+    pub errand: Option<Noted>,
 }
 
 /// Copies a text; there is none where memory is refused.
@@ -49,8 +49,7 @@ fn copied(alloc: Global, text: &str) -> Option<String>
 impl NotedBroker {
     /// Copies the words of a broker.
     fn of(alloc: Global, words: &BrokerWords<'_>) -> Option<NotedBroker>
-        ensures socket { IfSome result (λ noted. string_bytes noted.socket ≡ words.now.socket.now) }
-        ensures script { IfSome result (λ noted. string_bytes noted.script ≡ words.now.script.now) }
+        ensures same { IfSome result (λ noted. IsBroker noted words.now) }
     {
         let socket = copied(alloc, words.socket)?;
         let script = copied(alloc, words.script)?;
@@ -59,8 +58,7 @@ impl NotedBroker {
 
     /// Returns the words.
     pub fn words(&self) -> BrokerWords<'_>
-        ensures socket { result.socket.now ≡ string_bytes self.now.socket }
-        ensures script { result.script.now ≡ string_bytes self.now.script }
+        ensures same { IsBroker self.now result }
     {
         BrokerWords {
             socket: self.socket.as_str(),
@@ -72,13 +70,7 @@ impl NotedBroker {
 impl NotedDaemon {
     /// Copies the words of a daemon.
     fn of(alloc: Global, words: &DaemonWords<'_>) -> Option<NotedDaemon>
-        ensures start { IfSome result (λ noted. noted.start ≡ words.now.start) }
-        ensures broker { IfSome result (λ noted. string_bytes noted.broker ≡ words.now.broker.now) }
-        ensures takeover { IfSome result (λ noted. string_bytes noted.takeover ≡ words.now.takeover.now) }
-        ensures manifest { IfSome result (λ noted. string_bytes noted.manifest ≡ words.now.manifest.now) }
-        ensures workers { IfSome result (λ noted. noted.workers ≡ words.now.workers) }
-        ensures limit { IfSome result (λ noted. noted.limit ≡ words.now.limit) }
-        ensures patience { IfSome result (λ noted. noted.patience ≡ words.now.patience) }
+        ensures same { IfSome result (λ noted. IsDaemon noted words.now) }
     {
         let broker = copied(alloc, words.broker)?;
         let takeover = copied(alloc, words.takeover)?;
@@ -96,13 +88,7 @@ impl NotedDaemon {
 
     /// Returns the words.
     pub fn words(&self) -> DaemonWords<'_>
-        ensures start { result.start ≡ self.now.start }
-        ensures broker { result.broker.now ≡ string_bytes self.now.broker }
-        ensures takeover { result.takeover.now ≡ string_bytes self.now.takeover }
-        ensures manifest { result.manifest.now ≡ string_bytes self.now.manifest }
-        ensures workers { result.workers ≡ self.now.workers }
-        ensures limit { result.limit ≡ self.now.limit }
-        ensures patience { result.patience ≡ self.now.patience }
+        ensures same { IsDaemon self.now result }
     {
         DaemonWords {
             start: self.start,
@@ -116,46 +102,42 @@ impl NotedDaemon {
     }
 }
 
-impl Note {
-    /// Makes an empty note.
-    pub fn new() -> Note {
-        Note {
-            errand: OnceLock::new(),
-        }
-    }
-
-    /// Returns the errand that was noted, if one was.
-    pub fn into_errand(self) -> Option<Noted> {
-        let Note { errand } = self;
-        errand.into_inner()
-    }
-
+impl Noted {
     /// Copies an errand; there is none where memory is refused.
-    fn copy(alloc: Global, errand: &Errand<'_>) -> Option<Noted> {
+    fn of(alloc: Global, errand: &Errand<'_>) -> Option<Noted>
+        ensures same { IfSome result (λ noted. IsNoted noted errand.now) }
+    {
         match errand {
             Errand::Broker(words) => Some(Noted::Broker(NotedBroker::of(alloc, words)?)),
             Errand::Daemon(words) => Some(Noted::Daemon(NotedDaemon::of(alloc, words)?)),
         }
     }
+
+    /// Returns the errand.
+    pub fn errand(&self) -> Errand<'_>
+        ensures same { IsNoted self.now result }
+    {
+        match self {
+            Noted::Broker(noted) => Errand::Broker(noted.words()),
+            Noted::Daemon(noted) => Errand::Daemon(noted.words()),
+        }
+    }
 }
 
 impl Errands for Note {
+    ghost ends = { Notes };
+
     fn run<'a, S: Sources, W: Write>(
-        &self,
+        &mut self,
         alloc: Global,
         _sources: &S,
         errand: &Errand<'a>,
         _out: &mut W,
     ) -> Result<(), Failure<'a>> {
-        let Some(noted) = Note::copy(alloc, errand) else {
+        let Some(noted) = Noted::of(alloc, errand) else {
             return Err(Failure::plain(Fault::NoMemory));
         };
-        match self.errand.try_set(noted) {
-            Ok(_token) => Ok(()),
-            Err(second) => {
-                drop(second);
-                Err(Failure::plain(Fault::Broken))
-            }
-        }
+        self.errand = Some(noted);
+        Ok(())
     }
 }

@@ -78,7 +78,7 @@ ends_after-finished (Ok done) before between after ending new ends finishes = ab
 
 -- an errand that was run, and how the program ends after it
 pub runs_errand : (errand : Errand) (errands : ErrandsKnown) (result : Result (Unit {0}) Failure) (before between after : Option (List ℕ)) (ending : ProgramEnd) →
-    errands errand result before between → EndsAfter result between after ending → RunsErrand errand errands before after ending
+    errands.ends errand result before between → EndsAfter result between after ending → RunsErrand errand errands before after ending
 runs_errand errand errands result before between after ending ran ends =
     record { result = result; begun = before; ended = between; first = Keeps-refl before; ran = ran; ends = ends }
 
@@ -117,9 +117,10 @@ pub ends_by-finished : (had : Had) (input : Option (List ℕ)) (file : List ℕ 
     EndsBy had input file errands before between ending → Finishes ending between after new → EndsBy had input file errands before after new
 ends_by-finished had input file errands before between after ending new ends finishes = record {
   script = λ none. ends-finished (wrong_had had) (path_had had) (script_at input file (path_had had)) (limit_had had) before between after ending new (ends.script none) finishes;
+  idle = ends.idle;
   errand = λ asks. elim (ends.errand asks) [
     | inl named ↦ inl (runs_named-finished (command_had had) errands before between after ending new named finishes)
-    | inr told ↦ inr (tells-finished (plain NoMemory) before between after ending new told finishes)
+    | inr told ↦ inr (tells-finished (plain NoMemory) before between after ending new told.0 finishes, told.1)
   ];
 }
 
@@ -128,24 +129,26 @@ pub ends_by-from : (had : Had) (input : Option (List ℕ)) (file : List ℕ → 
     Keeps a b → EndsBy had input file errands b c ending → EndsBy had input file errands a c ending
 ends_by-from had input file errands a b c ending kept ends = record {
   script = λ none. ends-from (wrong_had had) (path_had had) (script_at input file (path_had had)) (limit_had had) a b c ending kept (ends.script none);
+  idle = ends.idle;
   errand = λ asks. elim (ends.errand asks) [
     | inl named ↦ inl (runs_named-from (command_had had) errands a b c ending kept named)
-    | inr told ↦ inr (tells-from (plain NoMemory) a b c ending kept told)
+    | inr told ↦ inr (tells-from (plain NoMemory) a b c ending kept told.0, told.1)
   ];
 }
 
 -- memory may run out whatever the words ask for
 pub ends_by-no_memory : (had : Had) (input : Option (List ℕ)) (file : List ℕ → Option (List ℕ)) (errands : ErrandsKnown) (before after : Option (List ℕ)) (ending : ProgramEnd) →
-    Tells (plain NoMemory) before after ending → EndsBy had input file errands before after ending
-ends_by-no_memory had input file errands before after ending told = record {
+    Tells (plain NoMemory) before after ending → errands.idle → EndsBy had input file errands before after ending
+ends_by-no_memory had input file errands before after ending told idle = record {
   script = λ none. ends-no_memory (wrong_had had) (path_had had) (script_at input file (path_had had)) (limit_had had) before after ending told;
-  errand = λ asks. inr told;
+  idle = λ none. idle;
+  errand = λ asks. inr (told, idle);
 }
 
 -- words that could not be had ask for no errand
 pub ends_by-unread : (k : IoErrorKind) (input : Option (List ℕ)) (file : List ℕ → Option (List ℕ)) (errands : ErrandsKnown) (before after : Option (List ℕ)) (ending : ProgramEnd) →
-    Ends (wrong_had (Err k)) standard_input (script_at input file standard_input) 1024 before after ending → EndsBy (Err k) input file errands before after ending
-ends_by-unread k input file errands before after ending ends = record { script = λ none. ends; errand = λ asks. cc }
+    Ends (wrong_had (Err k)) standard_input (script_at input file standard_input) 1024 before after ending → errands.idle → EndsBy (Err k) input file errands before after ending
+ends_by-unread k input file errands before after ending ends idle = record { script = λ none. ends; idle = λ none. idle; errand = λ asks. cc }
 
 right_is : (wrong : Kinds) (asks : Bool) → (is_right wrong && asks) ≡ true → wrong ≡ []
 right_is [] asks is = refl
@@ -165,12 +168,13 @@ memory_is k wrong none (inr among) = absurd (subst (IsAmong k) none among)
 
 -- what is wrong with the words is answered
 pub ends_by-answered : (words : List Text) (input : Option (List ℕ)) (file : List ℕ → Option (List ℕ)) (errands : ErrandsKnown) (before after : Option (List ℕ)) (k : ErrorKind) (ending : ProgramEnd) →
-    (k ≡ kind.OutOfMemory) ⊎ IsAmong k (wrong_of words) → Answers k before after ending → EndsBy (Ok words) input file errands before after ending
-ends_by-answered words input file errands before after k ending has answers = record {
+    (k ≡ kind.OutOfMemory) ⊎ IsAmong k (wrong_of words) → Answers k before after ending → errands.idle → EndsBy (Ok words) input file errands before after ending
+ends_by-answered words input file errands before after k ending has answers idle = record {
   script = λ none. ends-answered (wrong_of words) (script_named words) (script_at input file (script_named words)) (limit_named words) before after k ending has answers;
+  idle = λ none. idle;
   errand = λ asks.
       let memory = memory_is k (wrong_of words) (right_is (wrong_of words) (is_errand (command_of words)) asks) has in
-      inr (tells-answered before after ending (subst (λ (k : ErrorKind). Answers k before after ending) memory answers));
+      inr (tells-answered before after ending (subst (λ (k : ErrorKind). Answers k before after ending) memory answers), idle);
 }
 
 errand_is : (command : Option (Text × List Row)) (errand : Errand) → IsErrand command errand → is_errand command ≡ true
@@ -192,10 +196,12 @@ script-read words input file path limit before after ending none path_is limit_i
 pub ends_by-asked : (words : List Text) (input : Option (List ℕ)) (file : List ℕ → Option (List ℕ)) (errands : ErrandsKnown) (before after : Option (List ℕ)) (asked : Asked) (ending : ProgramEnd) →
     wrong_of words ≡ [] → IsAsked (command_of words) asked → EndsAsked asked input file errands before after ending → EndsBy (Ok words) input file errands before after ending
 ends_by-asked words input file errands before after (World world) ending none is ends = record {
-  script = λ apart. script-read words input file world.script.now world.limit before after ending none is.1 is.2 ends;
+  script = λ apart. script-read words input file world.script.now world.limit before after ending none is.1 is.2 ends.0;
+  idle = λ apart. ends.1;
   errand = λ asks. let bad : false ≡ true = sym (asks_is words false none is.0) ∙ asks in cc;
 }
 ends_by-asked words input file errands before after (Serve errand) ending none is ends = record {
   script = λ apart. let bad : true ≡ false = sym (asks_is words true none (errand_is (command_of words) errand is)) ∙ apart in cc;
+  idle = λ apart. let bad : true ≡ false = sym (asks_is words true none (errand_is (command_of words) errand is)) ∙ apart in cc;
   errand = λ asks. inl (record { errand = errand; named = is; runs = ends });
 }

@@ -152,9 +152,19 @@ abbrev pub limit_had : Had → ℕ
 limit_had (Ok words) = limit_named words
 limit_had (Err _) = 1024
 
--- what is known of errands: how each may end, and what the writer holds before and after it
-abbrev pub ErrandsKnown : Type 1
-ErrandsKnown = Errand → Result (Unit {0}) Failure → Option (List ℕ) → Option (List ℕ) → Type 0
+-- how an errand may end, and what the writer holds before and after it
+abbrev pub ErrandEnds : Type 1
+ErrandEnds = Errand → Result (Unit {0}) Failure → Option (List ℕ) → Option (List ℕ) → Type 0
+
+-- What is known of errands.
+pub record ErrandsKnown : Type 1 where
+  pub ends : ErrandEnds
+  -- what is so where none is run
+  pub idle : Type 0
+
+-- what is known of errands by who runs them, as that was before and is now
+abbrev pub known_of : {D : Type 0} → (D → D → ErrandEnds) → D → D → ErrandsKnown
+known_of ends old new = record { ends = ends old new; idle = new ≡ old }
 
 -- how the program ends after an errand: a fault is told, and a last write may fail where there was none
 abbrev pub EndsAfter : Result (Unit {0}) Failure → Option (List ℕ) → Option (List ℕ) → ProgramEnd → Type 0
@@ -171,7 +181,7 @@ pub record RunsErrand (errand : Errand) (errands : ErrandsKnown) (before after :
   pub ended : Option (List ℕ)
   -- nothing was written before it
   pub first : Keeps before begun
-  pub ran : errands errand result begun ended
+  pub ran : errands.ends errand result begun ended
   pub ends : EndsAfter result ended after ending
 
 -- how it ends where this is asked for: the script is run, or the errand
@@ -179,7 +189,7 @@ abbrev pub EndsAsked :
     Asked → Option (List ℕ) → (List ℕ → Option (List ℕ)) → ErrandsKnown →
     Option (List ℕ) → Option (List ℕ) → ProgramEnd → Type 0
 EndsAsked (World world) input file errands before after ending =
-    Ends [] world.script.now (script_at input file world.script.now) world.limit before after ending
+    Ends [] world.script.now (script_at input file world.script.now) world.limit before after ending × errands.idle
 EndsAsked (Serve errand) input file errands before after ending = RunsErrand errand errands before after ending
 
 -- the errand that the command asks for was run
@@ -209,9 +219,12 @@ pub record EndsBy (had : Had) (input : Option (List ℕ)) (file : List ℕ → O
     (before after : Option (List ℕ)) (ending : ProgramEnd) : Type 0 where
   pub script : asks_errand had ≡ false →
       Ends (wrong_had had) (path_had had) (script_at input file (path_had had)) (limit_had had) before after ending
+  -- no errand is run where none is asked for
+  pub idle : asks_errand had ≡ false → errands.idle
   -- the errand that they ask for is run, or there is no memory to read them
   pub errand : asks_errand had ≡ true →
-      RunsNamed (command_had had) errands before after ending ⊎ Tells (plain NoMemory) before after ending
+      RunsNamed (command_had had) errands before after ending
+      ⊎ (Tells (plain NoMemory) before after ending × errands.idle)
 
 -- what was gathered is written, or the ending says that it could not be
 abbrev pub Finishes : ProgramEnd → Option (List ℕ) → Option (List ℕ) → ProgramEnd → Type 0

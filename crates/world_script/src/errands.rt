@@ -10,17 +10,19 @@ use std::io::Write;
 
 /// Runs errands: the program's by sockets and threads, a test's as it likes.
 pub trait Errands {
-    /// How an errand may end, and what `out` held before it and holds after it, where that is known.
-    ghost ends: { Self → ErrandValue → Result (Unit {0}) FailureValue
-        → Option (List ℕ) → Option (List ℕ) → Type 0 } = { λ _ _ _ _ _. ⊤ };
+    /// How an errand may end, by what runs it as that was before and is behind it. Also what `out` held before it and
+    /// holds after it, where that is known.
+    ghost ends: { Self → Self → ErrandValue → Result (Unit {0}) FailureValue
+        → Option (List ℕ) → Option (List ℕ) → Type 0 } = { λ _ _ _ _ _ _. ⊤ };
 
     /// Runs an errand to its end. It reads scripts and manifests from `sources`, and flushes `out` after each line.
     fn run<'a, S: Sources, W: Write>(
-        &self,
+        &mut self,
         alloc: Global,
         sources: &S,
         errand: &Errand<'a>,
         out: &mut W,
     ) -> Result<(), Failure<'a>>
-        ensures ends { ends self.now errand.now result (W.contents out.old) (W.contents out.new) };
+        ensures ends { ends self.old self.new errand.now result
+            (W.contents out.old) (W.contents out.new) };
 }

@@ -17,7 +17,7 @@ mod sources;
 
 pub use command_line::{BrokerWords, DEFAULT_LIMIT, DaemonWords, Errand, Start};
 pub use errands::Errands;
-pub use failure::{Cause, Failure};
+pub use failure::{Cause, Failure, STANDARD_OUTPUT};
 pub use fault::{Fault, write_fault};
 pub use input::read_manifest;
 pub use process::{Process, RunIn, end_errand, gather_lines, run_process};

@@ -3,7 +3,7 @@ ghost use Rattle.std.specs.Prelude.{Err, None, IfErr, IfOk, IfSome, List, OnOk, 
 ghost use Rattle.std.specs.Io.Buffered.{writer_contents};
 ghost use Rattle.std.specs.Io.KnownBytes.{Keeps};
 ghost use Rattle.world_script.specs.declared.fault.Fault.TheVariants.{NoMemory};
-ghost use Rattle.world_script.specs.ProgramEnd.{Says, Tells, plain, status_of};
+ghost use Rattle.world_script.specs.ProgramEnd.{Says, Tells, known_of, plain, status_of};
 ghost use Rattle.world_script.specs.Process.{EndsErrand, RunsIn};
 
 use crate::program::{end_after, finish, tell};
@@ -86,10 +86,11 @@ pub struct RunIn<W, E> {
 pub fn run_process<P: Process, D: Errands>(
     alloc: Global,
     process: &P,
-    errands: &D,
+    errands: &mut D,
 ) -> RunIn<P::Output, P::Errors>
     ensures runs { RunsIn (P.known_words process.now)
-        (P.input_bytes process.now) (P.file_bytes process.now) (D.ends errands.now)
+        (P.input_bytes process.now) (P.file_bytes process.now)
+        (known_of D.ends errands.old errands.new)
         (P.output_bytes process.now) (P.Output.contents result.output)
         (P.errors_bytes process.now) (P.Errors.contents result.errors)
         result.status result.said }

@@ -3,7 +3,7 @@ ghost use Rattle.std.specs.Prelude.{Err, Ok, [], map, string_bytes};
 ghost use Rattle.std.specs.Io.Buffered.{writer_contents};
 ghost use Rattle.std.specs.IoError.{error_kind};
 ghost use Rattle.clap.specs.Words.{kind_of};
-ghost use Rattle.world_script.specs.ProgramEnd.{Answers, Ends, EndsAfter, EndsAsked, EndsBy, Finishes, RunsErrand, Shows, Tells, words_had, wrong_had};
+ghost use Rattle.world_script.specs.ProgramEnd.{Answers, Ends, EndsAfter, EndsAsked, EndsBy, Finishes, RunsErrand, Shows, Tells, known_of, words_had, wrong_had};
 ghost use Rattle.world_script.specs.Source.{script_at};
 
 use crate::{Errands, Failure, Fault, ProgramEnd, Sources, run_path, write_fault};
@@ -19,11 +19,12 @@ pub fn run_program<'a, S: Sources, D: Errands, W: Write + Drop>(
     alloc: Global,
     words: &'a io::Result<Vec<String>>,
     sources: &S,
-    errands: &D,
+    errands: &mut D,
     mut lines: BufWriter<W>,
 ) -> (W, ProgramEnd<'a>)
     ensures ends { EndsBy (words_had words.now)
-        (S.input_bytes sources.now) (S.file_bytes sources.now) (D.ends errands.now)
+        (S.input_bytes sources.now) (S.file_bytes sources.now)
+        (known_of D.ends errands.old errands.new)
         (writer_contents W.contents lines) (W.contents result.0) result.1 }
 {
     let ending = run_had(alloc, words, sources, errands, &mut lines);
@@ -35,11 +36,12 @@ fn run_had<'a, S: Sources, D: Errands, W: Write>(
     alloc: Global,
     words: &'a io::Result<Vec<String>>,
     sources: &S,
-    errands: &D,
+    errands: &mut D,
     out: &mut W,
 ) -> ProgramEnd<'a>
     ensures { EndsBy (words_had words.now)
-        (S.input_bytes sources.now) (S.file_bytes sources.now) (D.ends errands.now)
+        (S.input_bytes sources.now) (S.file_bytes sources.now)
+        (known_of D.ends errands.old errands.new)
         (W.contents out.old) (W.contents out.new) result }
 {
     match words {
@@ -54,11 +56,12 @@ pub fn run_words<'a, S: Sources, D: Errands, W: Write>(
     alloc: Global,
     words: &'a [String],
     sources: &S,
-    errands: &D,
+    errands: &mut D,
     out: &mut W,
 ) -> ProgramEnd<'a>
     ensures ends { EndsBy (Ok (map string_bytes words.now))
-        (S.input_bytes sources.now) (S.file_bytes sources.now) (D.ends errands.now)
+        (S.input_bytes sources.now) (S.file_bytes sources.now)
+        (known_of D.ends errands.old errands.new)
         (W.contents out.old) (W.contents out.new) result }
 {
     match asked_of(alloc, words) {
@@ -71,12 +74,13 @@ pub fn run_words<'a, S: Sources, D: Errands, W: Write>(
 fn run_asked<'a, S: Sources, D: Errands, W: Write>(
     alloc: Global,
     sources: &S,
-    errands: &D,
+    errands: &mut D,
     asked: &Asked<'a>,
     out: &mut W,
 ) -> ProgramEnd<'a>
     ensures { EndsAsked asked.now
-        (S.input_bytes sources.now) (S.file_bytes sources.now) (D.ends errands.now)
+        (S.input_bytes sources.now) (S.file_bytes sources.now)
+        (known_of D.ends errands.old errands.new)
         (W.contents out.old) (W.contents out.new) result }
 {
     match asked {
@@ -107,11 +111,12 @@ fn run_named<'a, S: Sources, W: Write>(
 fn run_errand<'a, S: Sources, D: Errands, W: Write>(
     alloc: Global,
     sources: &S,
-    errands: &D,
+    errands: &mut D,
     errand: &Errand<'a>,
     out: &mut W,
 ) -> ProgramEnd<'a>
-    ensures { RunsErrand errand.now (D.ends errands.now) (W.contents out.old) (W.contents out.new) result }
+    ensures { RunsErrand errand.now (known_of D.ends errands.old errands.new)
+        (W.contents out.old) (W.contents out.new) result }
 {
     let ran = errands.run(alloc, sources, errand, out);
     end_after(ran, out)

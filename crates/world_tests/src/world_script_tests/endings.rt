@@ -65,11 +65,12 @@ impl Process for InMemory {
 }
 
 /// Errands that print their words. A broker can't listen at `taken`.
+#[derive(Drop)]
 struct Printed;
 
 impl Errands for Printed {
     fn run<'a, S: Sources, W: Write>(
-        &self,
+        &mut self,
         _alloc: Global,
         _sources: &S,
         errand: &Errand<'a>,
@@ -193,7 +194,7 @@ fn ends_so(alloc: Global, row: &Row) -> bool {
         words: row.0,
         rooms: row.1,
     };
-    let ran = run_process(alloc, &process, &Printed);
+    let ran = run_process(alloc, &process, &mut Printed);
     let is_so = ran.status == row.2
         && is_text(ran.output.text.as_slice(), row.3)
         && is_text(ran.errors.text.as_slice(), row.4)

@@ -1,11 +1,11 @@
 -- What the words ask for is done, and what is wrong with them is answered.
-use Rattle.std.proofs.Common.{map, string_bytes}
+use Rattle.std.proofs.Common.{map, refl, string_bytes}
 use Rattle.world_script.proofs.ErrandLemmas.{ends_by-answered, ends_by-asked}
 use Rattle.world_script.proofs.program.run_words.Goals as goal
 
 pub returns-in-Err : goal.returns-in-Err
 returns-in-Err g c =
-    record { ends = ends_by-answered (map string_bytes c.args.words.now) _ _ _ _ _ _ _ c.in-Err.ensures.refused c.answer.ensures }
+    record { ends = ends_by-answered (map string_bytes c.args.words.now) _ _ _ _ _ _ _ c.in-Err.ensures.refused c.answer.ensures refl }
 
 pub returns-in-Ok : goal.returns-in-Ok
 returns-in-Ok g c =

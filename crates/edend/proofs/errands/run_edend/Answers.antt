@@ -1,0 +1,12 @@
+-- A script was run, or the errand that was noted.
+use Rattle.std.proofs.Common.{refl}
+use Rattle.edend.proofs.ErrandLemmas.{runs_in-less, runs_in-noted}
+use Rattle.edend.proofs.errands.run_edend.Goals as goal
+
+pub returns : goal.returns
+returns g c = record { runs = runs_in-less _ _ _ _ _ _ _ _ _ _ _ c.run_process-ran.ensures.runs }
+
+pub returns-in-Some : goal.returns-in-Some
+returns-in-Some g c = record {
+  runs = runs_in-noted _ c.run_process-ran.new.errands c.in-Some.noted _ _ _ _ _ _ _ _ _ _ _ _ _ c.run_process-ran.ensures.runs refl c.in-Some.is c.run_noted.ensures;
+}

@@ -1,0 +1,44 @@
+-- An errand that was noted, in words of its own. (This project's own.)
+use Rattle.std.specs.Prelude.{◌≡◌, ℕ, List, Option, Some, Result, Ok, Err, string_bytes}
+use Rattle.std.specs.Io.KnownBytes.{Keeps}
+use Rattle.command_line.specs.declared.errand.BrokerWords.{BrokerWords}
+use Rattle.command_line.specs.declared.errand.DaemonWords.{DaemonWords}
+use Rattle.command_line.specs.declared.errand.Errand.{Errand}
+use Rattle.command_line.specs.declared.errand.Errand.TheVariants as errand
+use Rattle.world_script.specs.ProgramEnd.{ErrandEnds, plain}
+use Rattle.world_script.specs.declared.failure.Failure.{Failure}
+use Rattle.world_script.specs.declared.fault.Fault.TheVariants.{NoMemory}
+use Rattle.edend.specs.declared.note.Note.{Note}
+use Rattle.edend.specs.declared.note.Noted.{Noted}
+use Rattle.edend.specs.declared.note.Noted.TheVariants.{Broker, Daemon}
+use Rattle.edend.specs.declared.note.NotedBroker.{NotedBroker}
+use Rattle.edend.specs.declared.note.NotedDaemon.{NotedDaemon}
+
+-- each word of a broker
+abbrev pub IsBroker : NotedBroker → BrokerWords → Type 0
+IsBroker noted words =
+    (string_bytes noted.socket ≡ words.socket.now) × (string_bytes noted.script ≡ words.script.now)
+
+-- each word of a daemon
+abbrev pub IsDaemon : NotedDaemon → DaemonWords → Type 0
+IsDaemon noted words =
+    (noted.start ≡ words.start)
+    × (string_bytes noted.broker ≡ words.broker.now)
+    × (string_bytes noted.takeover ≡ words.takeover.now)
+    × (string_bytes noted.manifest ≡ words.manifest.now)
+    × (noted.workers ≡ words.workers)
+    × (noted.limit ≡ words.limit)
+    × (noted.patience ≡ words.patience)
+
+-- the noted errand is this one
+abbrev pub IsNoted : Noted → Errand → Type 0
+IsNoted (Broker noted) (errand.Broker words) = IsBroker noted words
+IsNoted (Daemon noted) (errand.Daemon words) = IsDaemon noted words
+IsNoted _ _ = ⊥
+
+-- A run of an errand notes it, or there is no memory to.
+abbrev pub Notes : Note → Note → ErrandEnds
+Notes old new errand (Ok done) before after =
+    ((noted : Noted) × (new.errand ≡ Some noted) × IsNoted noted errand) × Keeps before after
+Notes old new errand (Err failure) before after =
+    (failure ≡ plain NoMemory) × (new ≡ old) × Keeps before after
