@@ -1,5 +1,5 @@
 //! A daemon that mounted.
-ghost use Rattle.std.specs.Prelude.{◌≡◌, ◌++◌, ◌+◌, ◌≤◌, map, length, IfOk, OnOk};
+ghost use Rattle.std.specs.Prelude.{◌≡◌, ◌++◌, ◌+◌, ◌≤◌, ◌<◌, ◌↔◌, map, length, remove, slice_index_or, IfOk, IfSome, IsSome, OnOk, OnSome};
 ghost use Rattle.std.specs.VecDeque.{deque_len, deque_capacity};
 ghost use Rattle.broker_core.specs.Broker.{take_fault};
 ghost use Rattle.fuse_ops.specs.Served.{new_served};
@@ -162,7 +162,7 @@ impl Server {
         let Some(index) = index_of(position, self.hand.len()) else {
             return Happened::Refused(Refusal::NoSuch);
         };
-        let Some(task) = self.hand.remove(index) else {
+        let Some(task) = take_out(&mut self.hand, index) else {
             unreachable!()
         };
         let told = told_of_item(&self.served, task.what.item());
@@ -195,7 +195,7 @@ impl Server {
         if let Err(fault) = broker.post(daemon, self.generation, reply) {
             return Happened::Refused(Refusal::from(fault));
         }
-        let _posted = self.unposted.remove(index);
+        let _posted = take_out(&mut self.unposted, index);
         Happened::Posted(reply.unique)
     }
 }
@@ -225,6 +225,20 @@ fn told_of_item(served: &Served, item: Option<Item>) -> Happened
         },
         None => Happened::Refused(Refusal::NoSuch),
     }
+}
+
+/// Takes what stands at an index out of a queue, if anything does. For the most part that is the first.
+fn take_out<T>(queue: &mut VecDeque<T>, index: usize) -> Option<T>
+    ensures value { IfSome result (λ taken. taken ≡ slice_index_or queue.old.items index taken) }
+    ensures items { OnSome result (queue.new.items ≡ remove queue.old.items index) }
+    ensures len { OnSome result (deque_len queue.new + 1 ≡ deque_len queue.old) }
+    ensures capacity { deque_capacity queue.new ≡ deque_capacity queue.old }
+    ensures within { IsSome result ↔ (index < deque_len queue.old) }
+{
+    if index == 0 {
+        return queue.pop_front();
+    }
+    queue.remove(index)
 }
 
 /// Makes room for what a take may bring: a whole batch in the hand, and a reply to each member of the hand.

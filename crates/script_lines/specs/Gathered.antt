@@ -1,8 +1,15 @@
 -- How often a hand takes each number back, of 256 numbers from one on. (This project's own.)
-use Rattle.std.specs.Prelude.{◌≡◌, ℕ, ◌+◌, ◌*◌, ◌<◌, ◌≤◌, ◌^◌, List, length, sum_by, slice_index_or}
+use Rattle.std.specs.Prelude.{◌≡◌, ℕ, ◌+◌, ◌*◌, ◌<◌, ◌≤◌, ◌^◌, List, [], length, sum_by, slice_index_or, Option, Some, None}
+use Rattle.std.specs.Borrow.{Bor}
+use Rattle.std.specs.declared.collections.VecDeque.{VecDeque}
 use Rattle.fuse_wire.specs.declared.request.Ask.{Ask}
 use Rattle.script_lines.specs.Printed.{taken_back_by}
 use Rattle.script_lines.specs.declared.taken_back.TakenBack.{TakenBack}
+
+-- the members of a ring, if there is one
+abbrev pub members : {X Z : Type 0} → Option (Bor (VecDeque X Z)) → List X
+members (Some ring) = ring.now.items
+members None = []
 
 -- no sum reaches a bound
 abbrev pub AreBelow : ℕ → TakenBack → Type 0

@@ -2,12 +2,12 @@
 ghost use Rattle.std.specs.Prelude.{◌≡◌, ◌≤◌, ◌<◌, ◌^◌, ◌∷◌, [], length, sum_by, count_by, IfSome, OnOk};
 ghost use Rattle.std.specs.Fmt.{decimal};
 ghost use Rattle.std.specs.Io.KnownBytes.{Appends};
-ghost use Rattle.std.specs.Option.{option_copied, option_map_or};
-ghost use Rattle.std.specs.VecDeque.{deque_items};
+ghost use Rattle.std.specs.Option.{option_copied};
 ghost use Rattle.broker_core.specs.Traffic.{gives};
 ghost use Rattle.entry_table.specs.declared.kept.Kept.{Kept};
 ghost use Rattle.daemon.specs.Server.{at_position};
 ghost use Rattle.world.specs.State.{hand_of};
+ghost use Rattle.script_lines.specs.Gathered.{members};
 ghost use Rattle.script_lines.specs.Printed.{printed, line, line_of, said_line, message_words, total_length, length_at, refusal_line, asked_words, spaced, reply_line, answer_words, file_words, octal, world_lines, served_lines, kept_lines, kept_line, count_words, taken_back_by, taken_back_under_way, given_under_way, place_line};
 
 use crate::taken_back::TakenBack;
@@ -355,7 +355,7 @@ fn given_under_way(world: &World, daemon: DaemonId, number: Number) -> u128
 
 /// Returns how many replies that a daemon did not post give a number out: none where it serves nothing.
 fn entries_unposted(replies: Option<&VecDeque<Reply>>, number: Number) -> u128
-    ensures count { result ≡ count_by (gives number.0) (option_map_or deque_items (option_copied replies.entry) []) }
+    ensures count { result ≡ count_by (gives number.0) (members replies.entry) }
     ensures below { result < 2 ^ 127 }
 {
     let Some(replies) = replies else {

@@ -1,8 +1,6 @@
 //! How often what a daemon took takes numbers back.
-ghost use Rattle.std.specs.Prelude.{ℕ, ◌≡◌, ◌≢◌, ◌<◌, ◌≤◌, ◌+◌, ◌-◌, ◌*◌, ◌^◌, ◌⊎◌, [], length, MatchOption, slice_index_or, sum_by};
-ghost use Rattle.std.specs.Option.{option_copied, option_map_or};
-ghost use Rattle.std.specs.VecDeque.{deque_items};
-ghost use Rattle.script_lines.specs.Gathered.{AreAdded, AreBelow, IsAdded, IsGathered};
+ghost use Rattle.std.specs.Prelude.{ℕ, ◌≡◌, ◌≢◌, ◌<◌, ◌≤◌, ◌+◌, ◌-◌, ◌*◌, ◌^◌, ◌⊎◌, length, MatchOption, slice_index_or, sum_by};
+ghost use Rattle.script_lines.specs.Gathered.{AreAdded, AreBelow, IsAdded, IsGathered, members};
 ghost use Rattle.script_lines.specs.Printed.{taken_back_by};
 
 use eden_base::Number;
@@ -22,7 +20,7 @@ pub(crate) struct TakenBack {
 impl TakenBack {
     /// Goes over a hand once, where there is one, for the numbers from `low` on.
     pub(crate) fn gather(hand: Option<&VecDeque<Ask>>, low: u64) -> TakenBack
-        ensures gathered { IsGathered (option_map_or deque_items (option_copied hand.entry) []) result }
+        ensures gathered { IsGathered (members hand.entry) result }
         ensures low { result.low ≡ low }
     {
         let mut gathered = TakenBack {
@@ -41,10 +39,10 @@ impl TakenBack {
     /// Returns how often the hand takes a number back. It goes over the hand again for a number that is none of these,
     /// and for those behind it.
     pub(crate) fn of(&mut self, hand: Option<&VecDeque<Ask>>, number: Number) -> u128
-        requires gathered { IsGathered (option_map_or deque_items (option_copied hand) []) self.old }
-        ensures sum { result ≡ sum_by (taken_back_by number.0) (option_map_or deque_items (option_copied hand.entry) []) }
+        requires gathered { IsGathered (members hand) self.old }
+        ensures sum { result ≡ sum_by (taken_back_by number.0) (members hand.entry) }
         ensures below { result < 2 ^ 127 }
-        ensures gathered { IsGathered (option_map_or deque_items (option_copied hand.entry) []) self.new }
+        ensures gathered { IsGathered (members hand.entry) self.new }
     {
         if let Some(at) = self.index_of(number) {
             return self.sums[at];

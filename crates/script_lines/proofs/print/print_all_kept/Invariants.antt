@@ -1,8 +1,7 @@
-use Rattle.std.proofs.Common.{ℕ, ◌-◌, List, [], Option, option_copied, deque_items}
-use Rattle.std.specs.Option.{option_map_or}
+use Rattle.std.proofs.Common.{ℕ, ◌-◌, List, Option}
 use Rattle.std.specs.Io.KnownBytes.{Appends}
 use Rattle.entry_table.specs.Entries.{AreNumbers}
-use Rattle.script_lines.specs.Gathered.{IsGathered}
+use Rattle.script_lines.specs.Gathered.{IsGathered, members}
 use Rattle.script_lines.specs.Printed.{kept_lines}
 use Rattle.script_lines.proofs.NumberLemmas.{above}
 use Rattle.script_lines.proofs.print.print_all_kept.Given as goal
@@ -12,7 +11,7 @@ abbrev pub invariant-loop-number : goal.invariant-loop-number
 invariant-loop-number g l = record {
   lines : AreNumbers 2 l.map.next l.map.entries → (end : Option (List ℕ)) → Appends (g.W.Write.contents l.out) end (kept_lines l.world l.daemon (above l.last.0 l.map.entries)) →
       Appends (g.W.Write.contents l.initial.out) end (kept_lines l.world l.daemon l.map.entries);
-  gathered : IsGathered (option_map_or deque_items (option_copied l.hand) []) l.taken_back;
+  gathered : IsGathered (members l.hand) l.taken_back;
 }
 
 abbrev pub decreases-loop-number : goal.decreases-loop-number
