@@ -1,2 +1,4 @@
 pub mod Patience
+pub mod Serving
 pub mod Takeovers
+pub mod Telling

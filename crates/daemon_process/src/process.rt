@@ -1,4 +1,6 @@
 //! A daemon, from its start to its end.
+ghost use Rattle.std.specs.Prelude.{◌≡◌, [], ◌∷◌};
+
 use crate::arrival::Arrival;
 use crate::beginning::{Seated, begin};
 use crate::exit::Exit;
@@ -34,8 +36,7 @@ pub fn run_daemon<R: Threads + Wait + Clock + Files + Net + Sync, W: Write>(
     manifest: Manifest,
     out: &mut W,
 ) -> Result<(), DaemonFault> {
-    let versions = Versions::of(&VERSIONS);
-    let shared = Shared::new(DaemonDesk::new(alloc, manifest, orders.limit, versions));
+    let shared = Shared::new(DaemonDesk::new(alloc, manifest, orders.limit, versions()));
     let exit = match begin(rt, alloc, &shared, orders) {
         Ok(seated) => run(rt, alloc, &shared, orders, seated, out),
         Err(exit) => exit,
@@ -44,6 +45,13 @@ pub fn run_daemon<R: Threads + Wait + Clock + Files + Net + Sync, W: Write>(
         Ok(told) => told,
         Err(error) => Err(DaemonFault::CannotWrite(error)),
     }
+}
+
+/// Returns the versions that a daemon offers and takes.
+fn versions() -> Versions
+    ensures versions { result ≡ 1 ∷ 2 ∷ [] }
+{
+    Versions::of(&VERSIONS)
 }
 
 /// Prints how a daemon ends, unless it ends by a fault.

@@ -1,4 +1,8 @@
 //! A daemon while it serves.
+ghost use Rattle.std.specs.Prelude.{◌≡◌, ◌==◌, not, IfOk, OnOk, OnErr};
+ghost use Rattle.std.specs.Io.KnownBytes.{Appends};
+ghost use Rattle.daemon_process.specs.Serving.{PrintsRound, printed_of, serving_line};
+
 use crate::arrival::{Worker, channels};
 use crate::exit::Exit;
 use crate::fault::DaemonFault;
@@ -68,16 +72,17 @@ fn serve_lease<'a, R: Threads + Wait + Clock + Sync, W: Write>(
     lease: Lease,
     stop: &Arc<Stop>,
     out: &mut W,
-) -> Option<Exit> {
+) -> Option<Exit>
+    ensures prints { PrintsRound crew.old.generation lease.generation crew.new.generation
+        (W.contents out.old) (W.contents out.new) result }
+{
     let Ok(is_new) = man(rt, alloc, workers, crew, lease.generation, stop) else {
         shared.take_back(rt, lease);
         thread::sleep(rt, Duration::from_millis(PAUSE));
         return None;
     };
-    if is_new {
-        if let Err(error) = print_serving(out, lease.generation) {
-            return Some(Exit::Faulty(DaemonFault::CannotWrite(error)));
-        }
+    if let Err(error) = print_round(out, is_new, lease.generation) {
+        return Some(Exit::Faulty(DaemonFault::CannotWrite(error)));
     }
     let channels = mem::replace(&mut crew.channels, Vec::new(alloc));
     let rooms = mem::replace(&mut crew.rooms, Rooms::new(alloc));
@@ -101,7 +106,11 @@ fn man<'a, R: Clock>(
     crew: &mut Crew<'a, R>,
     generation: u64,
     stop: &Arc<Stop>,
-) -> io::Result<bool> {
+) -> io::Result<bool>
+    ensures new { IfOk result (λ is_new. is_new ≡ not (crew.old.generation == generation)) }
+    ensures at { OnOk result (crew.new.generation ≡ generation) }
+    ensures same { OnErr result (crew.new.generation ≡ crew.old.generation) }
+{
     if crew.generation == generation {
         for channel in crew.channels.iter_mut() {
             channel.heed(Arc::try_clone(stop)?);
@@ -113,8 +122,22 @@ fn man<'a, R: Clock>(
     Ok(true)
 }
 
+/// Prints that the daemon serves at a generation, where its channels there are new.
+fn print_round<W: Write>(out: &mut W, is_new: bool, generation: u64) -> io::Result<()>
+    ensures line { OnOk result (Appends (W.contents out.old) (W.contents out.new)
+        (printed_of is_new generation)) }
+{
+    if is_new {
+        return print_serving(out, generation);
+    }
+    Ok(())
+}
+
 /// Prints that the daemon serves at a generation.
-fn print_serving<W: Write>(out: &mut W, generation: u64) -> io::Result<()> {
+fn print_serving<W: Write>(out: &mut W, generation: u64) -> io::Result<()>
+    ensures line { OnOk result (Appends (W.contents out.old) (W.contents out.new)
+        (serving_line generation)) }
+{
     writeln!(out, "serving {generation}")?;
     out.flush()
 }

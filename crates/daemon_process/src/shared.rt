@@ -1,4 +1,9 @@
 //! What the threads of a daemon share.
+ghost use Rattle.std.specs.Prelude.{◌≡◌};
+ghost use Rattle.std.specs.Option.{IfSome};
+ghost use Rattle.takeover_core.specs.declared.phase.Phase.TheVariants.{Serving};
+ghost use Rattle.daemon_process.specs.Serving.{ComesNext, served_next};
+
 use crate::exit::Exit;
 use daemon::Lease;
 use daemon_desk::{Claiming, DaemonDesk, Hearing, Mounting};
@@ -43,7 +48,12 @@ pub(crate) struct Shared {
 
 impl State {
     /// Returns what the main thread does next.
-    fn next(&mut self, alloc: Global) -> Next {
+    #[tactic(auto, using(crate::proofs::NextRound::serves_at))]
+    fn next(&mut self, alloc: Global) -> Next
+        ensures next { ComesNext self.old.exit self.old.desk result }
+        ensures serves { IfSome (served_next result) (λ lease.
+            self.old.desk.daemon.node.phase ≡ Serving lease.generation) }
+    {
         if let Some(exit) = self.exit {
             return Next::Exit(exit);
         }
@@ -60,7 +70,10 @@ impl State {
     }
 
     /// Returns the stop of the next round: that of the last one, unless it was asked.
-    fn stop_of_round(&mut self, alloc: Global) -> Result<Arc<Stop>, NoMemory> {
+    fn stop_of_round(&mut self, alloc: Global) -> Result<Arc<Stop>, NoMemory>
+        ensures desk { self.new.desk ≡ self.old.desk }
+        ensures exit { self.new.exit ≡ self.old.exit }
+    {
         if let Some(stop) = &self.stop {
             return Ok(Arc::try_clone(stop)?);
         }

@@ -1,18 +1,32 @@
 //! The frames that the other daemon of a takeover is sent.
+ghost use Rattle.std.specs.Prelude.{None};
+ghost use Rattle.daemon_process.specs.Telling.{TellsBy};
+
 use daemon_desk::FrameList;
+use links::write_frame;
 use sockets::Connection;
+use std::alloc::Global;
+use std::io::Write;
 use std::rt::Clock;
 use std::sync::Wait;
 
 /// Writes frames to another daemon in their order, up to the first that can't be written. Returns whether all were.
-pub(crate) fn tell_all<R: Wait + Clock>(
-    connection: &mut Connection<'_, R>,
-    told: FrameList,
-) -> bool {
-    let mut told = told;
-    while let Some(frame) = told.next() {
-        if connection.write(&frame).is_err() {
-            return false;
+pub(crate) fn tell_all<R: Wait + Clock>(connection: &mut Connection<'_, R>, told: FrameList) -> bool
+    ensures tells { TellsBy result told None None }
+{
+    let alloc = connection.alloc();
+    write_all(alloc, connection.writer(), told)
+}
+
+/// Writes frames in their order, up to the first that can't be written. Returns whether all were.
+fn write_all<W: Write>(alloc: Global, writer: &mut W, frames: FrameList) -> bool
+    ensures tells { TellsBy result frames (W.contents writer.old) (W.contents writer.new) }
+{
+    let mut left = frames;
+    while let Some(frame) = left.next() {
+        match write_frame(alloc, writer, &frame) {
+            Ok(()) => {}
+            Err(_fault) => return false,
         }
     }
     true

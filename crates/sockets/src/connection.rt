@@ -66,6 +66,16 @@ impl<'a, R: Clock> Connection<'a, R> {
         }
     }
 
+    /// Returns who gives the memory for frames.
+    pub fn alloc(&self) -> Global {
+        self.alloc
+    }
+
+    /// Returns the end that frames are written to.
+    pub fn writer(&mut self) -> &mut UnixStream {
+        &mut self.writer
+    }
+
     /// Returns another handle of the connection.
     pub fn handle(&self) -> io::Result<UnixStream> {
         self.writer.try_clone()

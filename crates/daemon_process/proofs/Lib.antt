@@ -1,0 +1,2 @@
+mod FramesTold
+mod NextRound

@@ -1,0 +1,66 @@
+-- What a daemon's main thread does next, and what it prints while it serves. (This project's own.)
+use Rattle.std.specs.Prelude.{◌≡◌, ◌⊎◌, ℕ, ◌==◌, Bool, true, false, not, List, [], ◌∷◌, ◌++◌, codes, Option, Some, None}
+use Rattle.std.specs.Fmt.{decimal}
+use Rattle.std.specs.Io.KnownBytes.{Appends}
+use Rattle.daemon.specs.Daemon.{lent_server}
+use Rattle.daemon.specs.Server.{ServerState}
+use Rattle.daemon.specs.declared.lease.Lease.{Lease}
+use Rattle.daemon_desk.specs.Desk.{DeskState, is_draining, lendable}
+use Rattle.daemon_process.specs.declared.exit.Exit.{Exit}
+use Rattle.daemon_process.specs.declared.exit.Exit.TheVariants.{Faulty}
+use Rattle.daemon_process.specs.declared.fault.DaemonFault.TheVariants.{CannotWrite}
+use Rattle.daemon_process.specs.declared.shared.Next.{Next}
+use Rattle.daemon_process.specs.declared.shared.Next.TheVariants as next
+
+-- ---- what comes next
+
+-- the lease of the round that comes next, if one does
+abbrev pub served_next : Next → Option Lease
+served_next (next.Serve lease stop) = Some lease
+served_next other = None
+
+-- a round over what may be lent; or a pause, where memory was refused for the round's stop
+abbrev pub IsRound : Option ServerState → Next → Type 0
+IsRound server next.Pause = Unit {0}
+IsRound (Some server) (next.Serve lease stop) = lent_server lease ≡ server
+IsRound None next.Wait = Unit {0}
+IsRound server other = ⊥
+
+-- no round while the daemon drains
+abbrev pub ComesWhile : Bool → Option ServerState → Next → Type 0
+ComesWhile true server what = what ≡ next.Wait
+ComesWhile false server what = IsRound server what
+
+-- the daemon ends where its exit is noted; else a round comes, where something may be lent
+abbrev pub ComesNext : Option Exit → DeskState → Next → Type 0
+ComesNext (Some exit) desk what = what ≡ next.Exit exit
+ComesNext None desk what = ComesWhile (is_draining desk.daemon.node.phase) (lendable desk) what
+
+-- ---- what is printed
+
+-- the line of a generation
+abbrev pub serving_line : ℕ → List ℕ
+serving_line generation = codes "serving " ++ decimal generation ++ 10 ∷ []
+
+-- a round's line: none, where the channels were at its generation before
+abbrev pub printed_of : Bool → ℕ → List ℕ
+printed_of true generation = serving_line generation
+printed_of false generation = []
+
+-- no channels could be made for the round, and nothing was printed
+pub record IsUnmanned (was now : ℕ) (old new : Option (List ℕ)) : Type 0 where
+  pub same : now ≡ was
+  pub nothing : Appends old new []
+
+-- the channels are at the round's generation, and its line was printed
+pub record IsManned (was generation now : ℕ) (old new : Option (List ℕ)) : Type 0 where
+  pub at : now ≡ generation
+  pub line : Appends old new (printed_of (not (was == generation)) generation)
+
+-- of the channels' generation before the round, the round's own, and the channels' behind it: what was printed; or the
+-- daemon ends since it could not be
+abbrev pub PrintsRound : (was generation now : ℕ) → (old new : Option (List ℕ)) → Option Exit → Type 0
+PrintsRound was generation now old new exit =
+    IsUnmanned was now old new
+    ⊎ (IsManned was generation now old new
+    ⊎ ((error : _) × (exit ≡ Some (Faulty (CannotWrite error)))))

@@ -1,0 +1,30 @@
+-- What another daemon is told, as the bytes that are written. (This project's own.)
+use Rattle.std.specs.Prelude.{◌≡◌, ℕ, Bool, true, false, List, ◌∷◌, ◌++◌, map, Option, Some, Err}
+use Rattle.std.specs.Io.KnownBytes.{Appends}
+use Rattle.std.specs.List.{concat}
+use Rattle.frames.specs.FrameText.{frame_text}
+use Rattle.frames.specs.declared.fault.FrameFault.{FrameFault}
+use Rattle.frames.specs.declared.frame.Frame.{Frame}
+use Rattle.links.specs.Writing.{Writes}
+
+-- each frame has a text, and these texts were written in their order
+pub record TellsAll (frames : List Frame) (old new : Option (List ℕ)) : Type 0 where
+  pub texts : List (List ℕ)
+  pub are_texts : map frame_text frames ≡ map Some texts
+  pub written : Appends old new (concat texts)
+
+-- one of them was not written, or not all of it: the texts of those before it were, and none behind it
+pub record TellsSome (frames : List Frame) (old new : Option (List ℕ)) : Type 0 where
+  pub before : List Frame
+  pub failed : Frame
+  pub behind : List Frame
+  pub parted : frames ≡ before ++ failed ∷ behind
+  pub mid : Option (List ℕ)
+  pub told : TellsAll before old mid
+  pub fault : FrameFault
+  pub fails : Writes mid new failed (Err fault)
+
+-- by whether all were written
+abbrev pub TellsBy : Bool → List Frame → Option (List ℕ) → Option (List ℕ) → Type 0
+TellsBy true frames old new = TellsAll frames old new
+TellsBy false frames old new = TellsSome frames old new
