@@ -1,5 +1,6 @@
-//! An arena: an index slab, whose list in the order of use is linked by `u32` indexes.
-const NONE: u32 = u32::MAX;
+//! An arena: an index slab, whose nodes stand in a ring of `u32` indexes in the order of their last use. The ring begins
+//! and ends with node 0, which has no value.
+const RING: u32 = 0;
 const ROUNDS: u32 = 1_000_000;
 
 struct Node {
@@ -11,44 +12,37 @@ struct Node {
 struct Arena {
     nodes: Vec<Node>,
     free: u32,
-    newest: u32,
-    oldest: u32,
 }
 
 impl Arena {
     fn new(capacity: usize) -> Arena {
-        let next = |slot: usize| if slot + 1 < capacity { slot as u32 + 1 } else { NONE };
-        let nodes = (0..capacity).map(|slot| Node { value: None, newer: NONE, older: next(slot) }).collect();
-        Arena { nodes, free: 0, newest: NONE, oldest: NONE }
+        let next = |slot: usize| if slot < capacity { slot as u32 + 1 } else { RING };
+        let mut nodes: Vec<Node> =
+            (0..=capacity).map(|slot| Node { value: None, newer: RING, older: next(slot) }).collect();
+        nodes[RING as usize].older = RING;
+        Arena { nodes, free: 1 }
     }
 
     fn detach(&mut self, slot: u32) {
         let (newer, older) = (self.nodes[slot as usize].newer, self.nodes[slot as usize].older);
-        match newer {
-            NONE => self.newest = older,
-            _ => self.nodes[newer as usize].older = older,
-        }
-        match older {
-            NONE => self.oldest = newer,
-            _ => self.nodes[older as usize].newer = newer,
-        }
+        self.nodes[newer as usize].older = older;
+        self.nodes[older as usize].newer = newer;
     }
 
     fn attach(&mut self, slot: u32) {
-        let older = self.newest;
+        let older = std::mem::replace(&mut self.nodes[RING as usize].older, slot);
+        self.nodes[older as usize].newer = slot;
         let node = &mut self.nodes[slot as usize];
-        node.newer = NONE;
+        node.newer = RING;
         node.older = older;
-        match older {
-            NONE => self.oldest = slot,
-            _ => self.nodes[older as usize].newer = slot,
-        }
-        self.newest = slot;
     }
 
     fn add(&mut self, value: u64) -> Option<u32> {
         let slot = self.free;
-        let node = self.nodes.get_mut(slot as usize)?;
+        if slot == RING {
+            return None;
+        }
+        let node = &mut self.nodes[slot as usize];
         self.free = node.older;
         node.value = Some(value);
         self.attach(slot);
@@ -64,14 +58,12 @@ impl Arena {
     }
 
     fn touch(&mut self, slot: u32) {
-        if self.newest != slot {
-            self.detach(slot);
-            self.attach(slot);
-        }
+        self.detach(slot);
+        self.attach(slot);
     }
 
     fn oldest(&self) -> Option<u32> {
-        Some(self.oldest).filter(|oldest| *oldest != NONE)
+        Some(self.nodes[RING as usize].newer).filter(|oldest| *oldest != RING)
     }
 
     fn is_held(&self, slot: u32) -> bool {
