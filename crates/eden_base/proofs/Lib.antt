@@ -1,4 +1,5 @@
 pub mod FirstLemmas
 pub mod MemberLemmas
 pub mod NumberTests
+mod OrderLemmas
 pub mod PermLemmas

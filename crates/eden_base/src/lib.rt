@@ -9,6 +9,7 @@ mod memory;
 mod name;
 mod name_room;
 mod number;
+mod order;
 mod place;
 mod text;
 

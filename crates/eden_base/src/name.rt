@@ -7,6 +7,7 @@ ghost use Rattle.std.specs.Cmp.{partial_equiv_from_equiv};
 ghost use Rattle.std.proofs.Common.{refl};
 ghost use Rattle.eden_base.specs.Name.{is_separator, is_dots, name_fault, IsNameText, IsNameRefusal};
 
+use crate::order::compare_bytes;
 use crate::{NameRoom, NoMemory};
 use smallvec::SmallVec;
 use std::alloc::Global;
@@ -209,6 +210,6 @@ impl Ord for Name {
     ghost matches_eq = { λ x y. texts_ties x y };
 
     fn cmp(&self, other: &Name) -> Ordering {
-        self.bytes().cmp(other.bytes())
+        compare_bytes(self.bytes(), other.bytes())
     }
 }
