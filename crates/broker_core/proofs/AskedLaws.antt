@@ -1,4 +1,4 @@
--- The asks without a reply, in a list that rises by unique: the taken ones, and behind them the untaken ones.
+-- The asks without a reply, in a list that rises by unique: the taken ones, and after them the untaken ones.
 use Rattle.std.proofs.Common.{◌≡◌, ℕ, ◌-◌, ◌<◌, Bool, true, false, cond, List, [], ◌∷◌, ◌++◌, length, take, map, Option, Some, None, is_some, if◌then◌else◌, refl, ap, ◌∙◌, arith}
 use Rattle.std.specs.Prelude.{◌==◌, ◌||◌, All}
 use Rattle.std.specs.List.{AllByRecursion, list_any}
@@ -74,7 +74,7 @@ below-later [] us u rising = All-nil (Below u.0)
 below-later (t ∷ ts) us u rising =
     All-cons (Below u.0) t ts (All-head (Above t.0) u us (behind (Above t.0) ts (u ∷ us) (above-first t (ts ++ u ∷ us) rising))) (below-later ts us u (sorted_tail nat_cmp t.0 (keys_of (ts ++ u ∷ us)) rising))
 
--- a unique that is found before is not found behind
+-- a unique that is found in the first part is not found in the second
 pub found-once : (k : ℕ) (ts us : List Asked) → IsRising (ts ++ us) → is_some (first_where (is_of k) ts) ≡ true → first_where (is_of k) us ≡ None
 found-once k [] us rising found = absurd (let none : ⊥ = cc in none)
 found-once k (t ∷ ts) us rising found = here (k == t.0) refl (found-once k ts us (sorted_tail nat_cmp t.0 (keys_of (ts ++ us)) rising)) found where
@@ -83,7 +83,7 @@ found-once k (t ∷ ts) us rising found = here (k == t.0) refl (found-once k ts 
   here true is rest f = none-above k us (All-weaker (Above t.0) (Above k) (λ e l. let same : k ≡ t.0 = grind (arith, nat_tests) in omega arith) us (behind (Above t.0) ts us (above-first t (ts ++ us) rising)))
   here false is rest f = rest f
 
--- what is not found behind is looked for before
+-- a unique that is not found in the second part is looked for in the first
 pub found-before : (k : ℕ) (ts us : List Asked) → first_where (is_of k) us ≡ None → first_where (is_of k) (ts ++ us) ≡ first_where (is_of k) ts
 found-before k ts us none = first_where-append (is_of k) ts us ∙ rw none (here (first_where (is_of k) ts)) where
   here : (o : Option Asked) → (if is_some o then o else None) ≡ o

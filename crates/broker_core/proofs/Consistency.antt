@@ -70,7 +70,7 @@ consistent-post b reply asked kept = record {
   asked_for = λ n. omega (arith, kept.asked_for n, under_way-post b.traffic reply asked);
 }
 
--- a reply that is asked for goes behind the others, and any other changes nothing
+-- a reply that was asked for is appended to the posted ones, and any other changes nothing
 pub consistent-posted : {A F : Type 0} (b : Inside) (reply : Reply) (result : Result A F) (t : TrafficState) → OnOk result (t ≡ reply_posted b.traffic reply) → is_ok result ≡ is_asked b.traffic reply → OnErr result (t ≡ b.traffic) →
     IsConsistent b → IsConsistent (record b { traffic = t })
 consistent-posted b reply (Ok done) t posted asked unchanged kept = rw posted (consistent-post b reply (sym asked) kept)

@@ -1,4 +1,4 @@
--- What each call makes of the asks without a reply: the taken ones, and behind them the untaken ones.
+-- What each call makes of the asks without a reply: the taken ones, and after them the untaken ones.
 use Rattle.std.proofs.Common.{◌≡◌, ℕ, ◌+◌, ◌<◌, ◌≤◌, Bool, true, false, List, [], ◌∷◌, ◌++◌, length, take, drop, map, Option, Some, None, is_some, refl, sym, ap, ◌∙◌, subst, arith}
 use Rattle.std.specs.Prelude.{All}
 use Rattle.std.specs.Option.{option_map, option_map_or}
@@ -36,7 +36,7 @@ looked-up-before es ts asks k is rising before =
     let rise : IsRising (ts ++ map asked_of asks) = subst (λ xs. IsRising xs) is rising in
     ap (λ xs. option_map (λ (e : Asked). e.1) (first_where (is_of k) xs)) is ∙ ap (option_map (λ (e : Asked). e.1)) (found-before k ts (map asked_of asks) (none-untaken ts asks k rise before))
 
--- after a reply to a taken ask
+-- the asks without a reply after a reply to a taken ask
 pub record IsAnswered (es later ts : List Asked) (asks : List Ask) (k : ℕ) : Type 0 where
   pub parts : later ≡ without_where (is_of k) ts ++ map asked_of asks
   pub fewer : length later + 1 ≡ length es
@@ -56,7 +56,7 @@ answered es later ts asks k is rising found out = record { parts = parts; fewer 
 pub all-below : (es ts : List Asked) (asks : List Ask) (k : ℕ) → es ≡ ts ++ map asked_of asks → All (Below k) ts → All (λ a. a.unique < k) asks → All (Below k) es
 all-below es ts asks k is low low-asks = subst (λ xs. All (Below k) xs) (sym is) (All-append (Below k) ts (map asked_of asks) low (All-map (Below k) asked_of asks low-asks))
 
--- after an ask
+-- the asks without a reply after an ask was issued
 pub record IsAsked (es later ts : List Asked) (asks : List Ask) : Type 0 where
   pub parts : later ≡ ts ++ map asked_of asks
   pub more : length later ≡ length es + 1
@@ -68,7 +68,7 @@ asked-last es later ts asks later-asks a is pushed put = record {
   more = ap length put ∙ length_push es (asked_of a);
 }
 
--- after a take
+-- the asks without a reply after a take
 pub taken-first : (es ts : List Asked) (asks : List Ask) → es ≡ ts ++ map asked_of asks → es ≡ ts ++ map asked_of (take 1 asks) ++ map asked_of (drop 1 asks)
 taken-first es ts [] is = is ∙ sym (append_assoc ts [] [])
 taken-first es ts (a ∷ asks) is = is ∙ sym (append_assoc ts (asked_of a ∷ []) (map asked_of asks))

@@ -1,4 +1,4 @@
--- The front of a list, and what is left behind it.
+-- The front of a list, and what is left after it.
 use Rattle.std.proofs.Common.{◌≡◌, ℕ, ◌≤◌, List, length, take, drop, sym, ◌∙◌, arith}
 use Rattle.std.proofs.lemmas.List.{take_all, drop_all, length-drop}
 

@@ -1,4 +1,4 @@
--- The map of the asks without a reply, and the last ask behind it, as one list that rises.
+-- The map of the asks without a reply, and the last ask after it, as one list that rises.
 use Rattle.std.proofs.Common.{◌≡◌, ℕ, ◌<◌, Bool, true, false, cond, List, [], ◌∷◌, ◌++◌, Option, Some, None, is_some, append-nil, refl, sym, ap, ◌∙◌, subst, arith}
 use Rattle.std.specs.Prelude.{◌==◌, All, option_to_list}
 use Rattle.std.specs.List.{AllByRecursion}
@@ -39,7 +39,7 @@ looked-up k (e ∷ es) = here (is_at (nat_cmp k) e.0) (k == e.0) (one_test k e.0
   here false true same rest = absurd (let none : ⊥ = cc in none)
   here false false same rest = rest
 
--- a removal takes it out
+-- a removal takes the ask with the unique out
 pub taken-out : (k : ℕ) (es : List Asked) → remove_entry (is_at (nat_cmp k)) es ≡ without_where (is_of k) es
 taken-out k [] = refl
 taken-out k (e ∷ es) = here (is_at (nat_cmp k) e.0) (k == e.0) (one_test k e.0) (taken-out k es) where
@@ -74,7 +74,7 @@ still-above n p (e ∷ es) above = here (p e) (still-above n p es above.1) where
   here true rest = above.1
   here false rest = (above.0, rest)
 
--- and without one
+-- a list without one ask still rises
 pub rising-without : (p : Asked → Bool) (es : List Asked) → IsRising es → IsRising (without_where p es)
 unfolding IsStrictlySortedBy
 rising-without p [] rising = tt
@@ -102,7 +102,7 @@ last-put es later last a is rising put =
     put ∙ stands-last es a.0 a.1 (below-later es [] a (subst (λ o. IsRising (es ++ option_to_list o)) is rising))
     ∙ ap (λ o. es ++ option_to_list o) (sym is)
 
--- and an ask above all others is the last then
+-- the list rises with an ask above all others as its last one
 pub rising-put : (es later : List Asked) (k : ℕ) (f : Form) → later ≡ es → IsRising es → All (Below k) es →
     IsRising (later ++ (k, f) ∷ [])
 rising-put es later k f is rising all = rw is (rising-push es k f rising all)
@@ -122,7 +122,7 @@ pub found-earlier : (k : ℕ) (es : List Asked) (last : Option Asked) →
 found-earlier k es last absent = looked-up k es
     ∙ sym (ap (option_map (λ (e : Asked). e.1)) (found-before k es (option_to_list last) (none-in (first_where (is_of k) (option_to_list last)) absent)))
 
--- and taken out of it
+-- an ask that is not the last is taken out of the map
 pub out-earlier : (k : ℕ) (es later : List Asked) (last : Option Asked) →
     is_some (form_in k (option_to_list last)) ≡ false → later ≡ remove_entry (is_at (nat_cmp k)) es →
     later ++ option_to_list last ≡ without_where (is_of k) (es ++ option_to_list last)
@@ -144,7 +144,7 @@ found-last k es (Some e) rising there = here (k == e.0) refl there where
       let none : first_where (is_of k) es ≡ None = none-below k es (subst (λ n. All (Below n) es) same (below-later es [] e rising)) in
       sym (ap (option_map (λ (a : Asked). a.1)) (first_where-append (is_of k) es (e ∷ []) ∙ rw none refl))
 
--- and without it the map's are left
+-- without the last ask, those of the map are left
 pub out-last : (k : ℕ) (es : List Asked) (last : Option Asked) → IsRising (es ++ option_to_list last) →
     is_some (form_in k (option_to_list last)) ≡ true → es ++ [] ≡ without_where (is_of k) (es ++ option_to_list last)
 out-last k es None rising there = absurd (let none : ⊥ = cc in none)
@@ -177,7 +177,7 @@ pub left-last : (k : ℕ) (es : List Asked) (last : Option Asked) (form : Option
 left-last k es last form there rising is some found =
     is-left _ _ k rising (out-last k es last rising (ap is_some (sym is) ∙ sym some ∙ found))
 
--- one of the map's is
+-- one of the map's asks is taken out
 pub left-earlier : (k : ℕ) (es later : List Asked) (last : Option Asked) (form : Option Form) (there : Bool) →
     IsRising (es ++ option_to_list last) → form ≡ form_in k (option_to_list last) → there ≡ is_some form →
     there ≡ false → later ≡ remove_entry (is_at (nat_cmp k)) es →

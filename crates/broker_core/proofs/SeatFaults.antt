@@ -1,4 +1,4 @@
--- Who takes or posts has the seat, and nothing else stands against whoever has it.
+-- Who takes or posts has the seat, and whoever has the seat meets no fault of it.
 use Rattle.std.proofs.Common.{◌≡◌, ℕ, Bool, true, false, ◌&&◌, Option, Some, None, is_none, refl, ap, ◌∙◌, if◌then◌else◌}
 use Rattle.std.proofs.lemmas.Bool.{and_parts}
 use Rattle.std.specs.Prelude.{◌==◌}
@@ -13,7 +13,7 @@ use Rattle.broker_core.specs.declared.fault.NotSeated.{NotSeated}
 use Rattle.broker_core.specs.declared.fault.NotSeated.TheVariants as unseated
 use Rattle.broker_core.specs.declared.seat.Seat.{Seat}
 
--- where nothing stands against it, the seat is the daemon's at that generation
+-- if the seat gives no fault, it is the daemon's at that generation
 seated : (seat : Option Seat) (daemon : DaemonId) (generation : ℕ) → seat_fault seat daemon generation ≡ None → seat ≡ Some (record { generation = generation; daemon = daemon })
 seated None daemon generation h = absurd (let none : ⊥ = cc in none)
 seated (Some seat) daemon generation h = in_ (seat.daemon.0 == daemon.0 && seat.generation == generation) refl h where

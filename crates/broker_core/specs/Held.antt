@@ -6,11 +6,11 @@ use Rattle.std.specs.Coded.{Coded, coded_ℕ}
 use Rattle.std.specs.FinMap as map
 use Rattle.eden_base.specs.declared.number.Number.{Number}
 
--- from each number that is held to its lookup count
+-- a map from each held number to its lookup count
 abbrev pub HeldMap : Type 0
 HeldMap = map.FinMap nat_cmp ℕ
 
--- a map as a list, for a type that is seen as one
+-- the coding of a map as a list, for the type that contracts see as a map
 abbrev pub held_map_code : Coded HeldMap
 held_map_code = map.code coded_ℕ coded_ℕ
 
@@ -22,21 +22,21 @@ map_of = map.from_entries
 abbrev pub held_count : HeldMap → ℕ → ℕ
 held_count held n = unwrap_or (map.get held n) 0
 
--- no number is held
+-- the map in which no number is held
 abbrev pub none_held : HeldMap
 none_held = map.empty
 
--- a number is held once more
+-- the map after the count of a number rose by 1
 abbrev pub raised : HeldMap → ℕ → HeldMap
 raised held n = map.insert held n (held_count held n + 1)
 
--- a number is held k times less, and not at all where that is all
+-- the map after the count of a number fell by k; at 0 the number is no longer in the map
 abbrev pub lowered : HeldMap → ℕ → ℕ → HeldMap
 lowered held n k =
     if nat_le (held_count held n) k then map.remove held n
     else map.insert held n (held_count held n - k)
 
--- the least held number above another, if there is one
+-- this is the least held number above n, or None if no number above n is held
 abbrev pub IsLeastHeldAfter : HeldMap → ℕ → Option Number → Type 0
 IsLeastHeldAfter held n None = (m : ℕ) → n < m → held_count held m ≡ 0
 IsLeastHeldAfter held n (Some next) =

@@ -1,11 +1,12 @@
--- What the broker keeps of its fields, whatever is asked of it.
+-- What holds of the broker's fields, whatever is asked of the broker.
 use Rattle.std.specs.Prelude.{ℕ, ◌+◌, ◌<◌, ◌≤◌}
 use Rattle.broker_core.specs.Broker.{last_generation, last_unique}
 use Rattle.broker_core.specs.Held.{held_count}
 use Rattle.broker_core.specs.Traffic.{IsLater, asks_under_way, forgets_on}
 use Rattle.broker_core.specs.declared.broker.Broker.TheInside.{Inside}
 
--- each time that a number is held or taken back by a waiting item took a unique, and so did each ask under way
+-- the fields fit together; for each number, its count, the lookups of it that waiting items take back, and the asks
+-- under way are together below the next unique
 pub record IsConsistent (b : Inside) : Type 0 where
   pub generation : b.last ≤ last_generation
   pub uniques : b.next_unique ≤ last_unique + 1

@@ -6,10 +6,10 @@ use Rattle.std.specs.Map.{keys_of}
 use Rattle.fuse_wire.specs.declared.form.Form.{Form}
 use Rattle.broker_core.specs.declared.unanswered.Unanswered.TheInside.{Inside}
 
--- each unique is above those before it
+-- each unique in the list is above those before it
 abbrev pub IsRising : List (ℕ × Form) → Type 0
 IsRising asks = IsStrictlySortedBy nat_cmp (keys_of asks)
 
--- the last ask stands behind those of the map
+-- the uniques in the map rise, and that of the last ask is above them
 abbrev pub IsInOrder : Inside → Type 0
 IsInOrder unanswered = IsRising (unanswered.earlier.entries ++ option_to_list unanswered.last)

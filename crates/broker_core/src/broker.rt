@@ -16,7 +16,7 @@ use std::alloc::Global;
 use std::marker::Model;
 use thiserror::Error;
 
-/// Why a daemon cannot mount. The first that holds is told, in this order.
+/// Why a daemon cannot mount. If several variants apply, the first in this order is the fault.
 #[derive(Clone, Copy, Debug, PartialEq, Eq, Error)]
 pub enum MountFault {
     #[error("another daemon has the seat")]
@@ -25,25 +25,25 @@ pub enum MountFault {
     LastGeneration,
 }
 
-/// Why a request of the kernel is not taken. The first that holds is told, in this order.
+/// Why a request of the kernel is refused. If several variants apply, the first in this order is the fault.
 #[derive(Clone, Copy, Debug, PartialEq, Eq, Error)]
 pub enum IssueFault {
     #[error("no daemon serves the mount")]
     NotMounted,
-    /// Of an ask: one of its numbers is neither the root nor held.
+    /// An ask is for a number that is neither the root nor held.
     #[error("the kernel does not hold the number")]
     NotHeld,
-    /// Also each batch: only single items are taken.
+    /// Also the fault of every batch: single items alone are accepted.
     #[error("a forget of the root, of nothing, or of more than the kernel holds")]
     BadForget,
-    /// Of an ask: the last unique was given, or 1,024 asks are under way. Of a forget: 4,096 items wait.
+    /// For an ask: the last unique was given, or 1,024 asks are under way. For a forget: 4,096 items wait.
     #[error("no more can be under way")]
     Full,
     #[error("out of memory")]
     NoMemory,
 }
 
-/// What the kernel holds, who serves it, and what is under way between them. Clauses see it as a `BrokerState`.
+/// What the kernel holds, who serves the mount, and what is under way between them. Contracts see a `BrokerState`.
 #[derive(Drop)]
 pub struct Broker {
     seat: Option<Seat>,
@@ -80,7 +80,7 @@ impl Broker {
     /// The greatest unique.
     pub const LAST_UNIQUE: u64 = (1 << 63) - 1;
 
-    /// Returns a mount before any daemon serves it.
+    /// Makes the broker of a mount that no daemon serves yet.
     pub fn new(alloc: Global) -> Result<Broker, NoMemory>
         ensures new { IfOk result (λ broker. broker ≡ new_broker) }
     {
@@ -93,7 +93,7 @@ impl Broker {
         })
     }
 
-    /// Returns why no daemon can mount, if none can.
+    /// Returns why no daemon can mount, or none if one can.
     pub fn mount_refusal(&self) -> Option<MountFault>
         ensures fault { result ≡ mount_fault self.now }
     {
@@ -106,7 +106,7 @@ impl Broker {
         None
     }
 
-    /// Gives a daemon the seat, and returns the generation at which it serves: 1 for the first.
+    /// Gives `daemon` the seat, and returns the generation at which it serves: 1 for the first.
     pub fn mount(&mut self, daemon: DaemonId) -> u64
         requires accepted { mount_fault self.old ≡ None }
         ensures generation { result ≡ self.old.last + 1 }
@@ -117,7 +117,7 @@ impl Broker {
         generation
     }
 
-    /// Gives a daemon the seat as `mount` does, or returns why it cannot.
+    /// Gives `daemon` the seat as `mount` does, or returns why it cannot mount.
     pub fn try_mount(&mut self, daemon: DaemonId) -> Result<u64, MountFault>
         ensures generation { IfOk result (λ generation. generation ≡ self.old.last + 1) }
         ensures mounted { OnOk result (self.new ≡ mounted self.old daemon) }
@@ -131,7 +131,7 @@ impl Broker {
         Ok(self.mount(daemon))
     }
 
-    /// Returns why a request is refused, if it is. Out of memory is no such cause.
+    /// Returns why `request` is refused, if there is a cause other than memory.
     pub fn refusal(&self, request: &Request) -> Option<IssueFault>
         ensures fault { result ≡ issue_fault self.now request.now }
     {
@@ -182,8 +182,8 @@ impl Broker {
         }
     }
 
-    /// Takes a request of the kernel, with the memory that it needs until it is posted or taken. An ask gets the next
-    /// unique, from 1. A forget lowers at once what the kernel holds.
+    /// Accepts a request of the kernel, with the memory that the request needs until it is taken and its reply posted.
+    /// An ask gets the next unique, from 1, which is returned. A forget lowers at once what the kernel holds.
     pub fn issue(&mut self, request: &Request) -> Result<Option<u64>, IssueFault>
         ensures unique { IfOk result (λ unique. unique ≡ unique_of self.old request.now) }
         ensures issued { OnOk result (self.new ≡ issued self.old request.now) }
@@ -205,7 +205,7 @@ impl Broker {
         Ok(None)
     }
 
-    /// Queues an ask under the next unique.
+    /// Queues an ask under the next unique, and returns that unique.
     fn issue_ask(&mut self, request: &Request) -> Result<u64, NoMemory>
         requires accepted { issue_fault self.old request.now ≡ None }
         requires asks { is_ask request.now ≡ true }
@@ -219,7 +219,7 @@ impl Broker {
         Ok(unique)
     }
 
-    /// Queues an item, which is held less from now on.
+    /// Queues an item, and lowers at once how often its number is held.
     fn issue_item(&mut self, item: Item) -> Result<(), NoMemory>
         requires accepted { forget_fault self.old (Some item) ≡ None }
         ensures forgot { OnOk result (self.new ≡ forgot self.old item) }
@@ -230,7 +230,7 @@ impl Broker {
         Ok(())
     }
 
-    /// Returns why a daemon does not serve at a generation, if it doesn't.
+    /// Returns why `daemon` does not have the seat at `generation`, or none if it has.
     fn seat_refusal(&self, daemon: DaemonId, generation: u64) -> Option<NotSeated>
         ensures { result ≡ seat_fault self.now.seat daemon generation }
     {
@@ -245,7 +245,7 @@ impl Broker {
         }
     }
 
-    /// Hands what waits first to the daemon that serves at a generation. It takes no memory.
+    /// Hands what goes first to `daemon`, if `daemon` has the seat at `generation`. Takes no memory.
     pub fn take(&mut self, daemon: DaemonId, generation: u64) -> Result<Ask, TakeFault>
         ensures first { IfOk result (λ ask. next_taken self.old.traffic ≡ Some ask) }
         ensures left { OnOk result (self.new ≡ taken self.old) }
@@ -260,7 +260,7 @@ impl Broker {
         }
     }
 
-    /// Returns what stops a daemon at a generation from taking.
+    /// Returns why `daemon` can take nothing at `generation`, or none if it can.
     pub fn take_refusal(&self, daemon: DaemonId, generation: u64) -> Option<TakeFault>
         ensures fault { result ≡ take_fault self.now daemon generation }
     {
@@ -272,7 +272,8 @@ impl Broker {
         }
     }
 
-    /// Takes a reply of the daemon that serves at a generation, for the kernel. It takes no memory.
+    /// Queues a reply for the kernel, if `daemon` has the seat at `generation` and the reply was asked for. Takes no
+    /// memory.
     pub fn post(&mut self, daemon: DaemonId, generation: u64, reply: Reply) -> Result<(), PostFault>
         ensures posted { OnOk result (self.new ≡ posted self.old reply) }
         ensures accepted { OnOk result (post_fault self.old daemon generation reply ≡ None) }
@@ -286,8 +287,8 @@ impl Broker {
         }
     }
 
-    /// Hands the first posted reply to the kernel, which then holds the number of an entry once more. Only a number
-    /// that was not held takes memory, and where that is refused the reply stays.
+    /// Hands the first posted reply to the kernel, which then holds the number that the reply gives out once more. Only
+    /// a number that was not held takes memory. If that is refused, the reply stays posted.
     pub fn deliver(&mut self) -> Result<Reply, DeliverFault>
         ensures first { IfOk result (λ reply. front self.old.traffic.posted ≡ Some reply) }
         ensures delivered { OnOk result (self.new ≡ delivered self.old) }
@@ -304,7 +305,7 @@ impl Broker {
         Ok(reply)
     }
 
-    /// Returns why the seat cannot be claimed at a generation, if it cannot.
+    /// Returns why the seat cannot be claimed from `generation`, or none if it can.
     fn claim_refusal(&self, generation: u64) -> Option<ClaimFault>
         ensures { result ≡ claim_fault self.now generation }
     {
@@ -325,9 +326,9 @@ impl Broker {
         None
     }
 
-    /// Hands the seat to a daemon that claims it at the generation at which it stands, and returns the next one, at
-    /// which that daemon serves. What the kernel holds and what is under way stay, so each ask that was taken has to
-    /// have its reply. Takes no memory.
+    /// Gives the seat to `daemon`, which claims it from `generation`, and returns the next generation, at which
+    /// `daemon` serves. What the kernel holds and what is under way are unchanged, so each taken ask must have its
+    /// reply. Takes no memory.
     pub fn claim(&mut self, daemon: DaemonId, generation: u64) -> Result<u64, ClaimFault>
         ensures generation { IfOk result (λ next. next ≡ generation + 1) }
         ensures claimed { OnOk result (self.new ≡ claimed self.old daemon generation) }
@@ -343,7 +344,7 @@ impl Broker {
         Ok(next)
     }
 
-    /// Lets a daemon serve at a generation, which is the last one from now on.
+    /// Gives `daemon` the seat at `generation`, which becomes the last generation.
     fn give_seat(&mut self, daemon: DaemonId, generation: u64)
         requires { generation ≤ last_generation }
         ensures { self.new ≡ seated self.old daemon generation }
@@ -352,8 +353,8 @@ impl Broker {
         self.seat = Some(Seat { generation, daemon });
     }
 
-    /// Ends the mount where the daemon that is gone has the seat: the kernel then holds nothing, and no message is
-    /// under way. That another daemon is gone changes nothing. Takes no memory.
+    /// Ends the mount if `daemon`, which is gone, has the seat: the kernel then holds nothing, and no message is under
+    /// way. If `daemon` does not have the seat, nothing changes. Takes no memory.
     pub fn gone(&mut self, daemon: DaemonId)
         ensures gone { self.new ≡ without_daemon self.old daemon }
     {
@@ -362,7 +363,7 @@ impl Broker {
         }
     }
 
-    /// Ends the mount. A generation and a unique are given once, so those go on.
+    /// Ends the mount. The last generation and the next unique are kept, since each is given once only.
     fn end(&mut self)
         ensures { self.new ≡ ended self.old }
     {
@@ -371,7 +372,7 @@ impl Broker {
         self.traffic.clear();
     }
 
-    /// Returns whether a daemon has the seat.
+    /// Returns whether `daemon` has the seat, at any generation.
     fn has_seat(&self, daemon: DaemonId) -> bool
         ensures { result ≡ has_seat self.now daemon }
     {
@@ -381,57 +382,57 @@ impl Broker {
         }
     }
 
-    /// Returns how often the kernel holds a number: as often as entries gave it and no forget took
-    /// it back. The root, which no look-up gives, is held uncounted.
+    /// Returns how often the kernel holds a number: as often as entries gave it and no forget took it back. The root is
+    /// held without a count, since no lookup gives it.
     pub fn held(&self, number: Number) -> u64
         ensures count { result ≡ held_count self.now.held number.0 }
     {
         self.held.count(number)
     }
 
-    /// Returns the least number above this one that the kernel holds, the uncounted root apart.
+    /// Returns the least number above `number` that the kernel holds with a count. The root has no count.
     pub fn held_after(&self, number: Number) -> Option<Number>
         ensures least { IsLeastHeldAfter self.now.held number.0 result }
     {
         self.held.least_after(number)
     }
 
-    /// Returns how often the items that wait take a number back.
+    /// Returns how often the items that wait take `number` back.
     pub fn forgets_waiting(&self, number: Number) -> u64
         ensures sum { result ≡ forgets_on self.now.traffic number.0 }
     {
         self.traffic.forgets_waiting(number)
     }
 
-    /// Returns how many posted replies give a number out.
+    /// Returns how many posted replies give `number` out.
     pub fn entries_posted(&self, number: Number) -> u64
         ensures count { result ≡ entries_of self.now.traffic number.0 }
     {
         self.traffic.entries_posted(number)
     }
 
-    /// Returns whether the ask of a unique is under way, from issue to delivery. It looks through the posted replies.
+    /// Returns whether the ask with this unique is under way, from issue to delivery. Searches the posted replies.
     pub fn is_under_way(&self, unique: u64) -> bool
         ensures under_way { result ≡ is_under_way self.now.traffic unique }
     {
         self.traffic.is_under_way(unique)
     }
 
-    /// Returns how many forget items no daemon took.
+    /// Returns how many forget items wait for a daemon.
     pub fn items_waiting(&self) -> usize
         ensures len { result ≡ length self.now.traffic.items }
     {
         self.traffic.items_waiting()
     }
 
-    /// Returns the reply that is delivered next.
+    /// Returns the reply that is delivered next, if one is posted.
     pub fn next_reply(&self) -> Option<Reply>
         ensures first { result ≡ front self.now.traffic.posted }
     {
         self.traffic.next_reply()
     }
 
-    /// Returns who serves, if anyone.
+    /// Returns the seat, if a daemon has it.
     pub fn seat(&self) -> Option<Seat>
         ensures seat { result ≡ self.now.seat }
     {

@@ -8,7 +8,7 @@ use std::alloc::Global;
 use std::collections::VecDeque;
 use std::marker::Model;
 
-/// The items that wait, the first in first, with room for the batches in which they can be taken.
+/// The items that wait, the oldest first, and rooms for the batches in which they may be taken.
 #[derive(Drop)]
 pub(crate) struct Forgets {
     items: VecDeque<Item>,
@@ -48,7 +48,7 @@ impl Forgets {
         self.items.len()
     }
 
-    /// Adds an item behind the others, and makes room for the batch that it may be taken in.
+    /// Appends an item, with room for the batch in which it may be taken.
     pub(crate) fn push(&mut self, item: Item) -> Result<(), NoMemory>
         ensures pushed { OnOk result (self.new ≡ self.old ++ item ∷ []) }
         ensures unchanged { OnErr result (self.new ≡ self.old) }
@@ -61,8 +61,8 @@ impl Forgets {
         Ok(())
     }
 
-    /// Takes the first items as one request, as many as a batch has. It takes no memory: each item
-    /// came with its room.
+    /// Takes the first items as one request, as many as a batch may have. Takes no memory, since each item came with
+    /// its room.
     pub(crate) fn take(&mut self) -> Option<Request>
         ensures taken { result ≡ forget_of (take 256 self.old) }
         ensures left { self.new ≡ drop 256 self.old }
@@ -78,7 +78,7 @@ impl Forgets {
         }
     }
 
-    /// Returns how often the items take a number back.
+    /// Returns how often the items take `number` back.
     pub(crate) fn on(&self, number: Number) -> u64
         requires fits { sum_by (taken_back number.0) self.now ≤ u64.MAX }
         ensures sum { result ≡ sum_by (taken_back number.0) self.now }
@@ -88,7 +88,7 @@ impl Forgets {
     }
 }
 
-/// Takes the first items, as many as a batch has.
+/// Removes the first items, as many as a batch may have, and returns them.
 fn first_items(items: &mut VecDeque<Item>) -> Items
     ensures first { result ≡ take 256 items.old.items }
     ensures left { items.new.items ≡ drop 256 items.old.items }
@@ -103,7 +103,7 @@ fn first_items(items: &mut VecDeque<Item>) -> Items
     first
 }
 
-/// Returns how often items take a number back.
+/// Returns how often `items` take `number` back.
 fn taken_back(items: &[Item], number: Number) -> u64
     requires { sum_by (taken_back number.0) items.now ≤ u64.MAX }
     ensures { result ≡ sum_by (taken_back number.0) items.now }

@@ -8,7 +8,7 @@ use std::collections::BTreeMap;
 use std::marker::Model;
 use std::ops::Bound;
 
-/// The numbers that the kernel holds. Clauses see it as a `HeldMap`.
+/// The numbers that the kernel holds, with their counts. Contracts see a `HeldMap`.
 #[derive(Drop)]
 pub(crate) struct Held {
     /// Each count is at least 1.
@@ -39,7 +39,7 @@ impl Held {
         }
     }
 
-    /// Holds a number once more. Only a number that was not held takes memory.
+    /// Raises the count of `number` by 1. Takes memory only for a number that was not held.
     pub(crate) fn raise(&mut self, number: Number) -> Result<(), NoMemory>
         requires fits { held_count self.old number.0 < u64.MAX }
         ensures raised { OnOk result (self.new ≡ raised self.old number.0) }
@@ -54,7 +54,7 @@ impl Held {
         Ok(())
     }
 
-    /// Lowers a number's count by k. At 0 the number is held no more.
+    /// Lowers the count of `number` by `k`. At 0 the number is no longer held.
     pub(crate) fn lower(&mut self, number: Number, k: u64)
         ensures lowered { self.new ≡ lowered self.old number.0 k }
     {
@@ -75,7 +75,7 @@ impl Held {
         self.counts.clear();
     }
 
-    /// Returns how often a number is held.
+    /// Returns how often `number` is held.
     pub(crate) fn count(&self, number: Number) -> u64
         ensures count { result ≡ held_count self.now number.0 }
     {
@@ -85,7 +85,7 @@ impl Held {
         }
     }
 
-    /// Returns the least held number above another.
+    /// Returns the least held number above `number`, if there is one.
     pub(crate) fn least_after(&self, number: Number) -> Option<Number>
         ensures least { IsLeastHeldAfter self.now number.0 result }
     {

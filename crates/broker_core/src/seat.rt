@@ -1,11 +1,10 @@
-//! The one place from which a daemon may serve.
+//! The seat, from which a daemon serves.
 use eden_base::DaemonId;
 
-/// Who serves, and since which change of the seat. It stands in for the file descriptor of
-/// `/dev/fuse`.
+/// Which daemon serves, and at which generation. The seat stands in for the file descriptor of `/dev/fuse`.
 #[derive(Clone, Copy, PartialEq, Eq)]
 pub struct Seat {
-    /// From 1, and never the same twice.
+    /// At least 1, and never the same for two changes of the seat.
     pub generation: u64,
     pub daemon: DaemonId,
 }

@@ -19,13 +19,13 @@ use std::mem;
 pub(crate) struct NotAsked;
 
 /// Asks from issue to delivery, and forget items until they are taken. Callers give each ask a unique above those of
-/// all asks without a reply. Clauses see it as a `TrafficState`. Only an issue takes memory.
+/// all asks without a reply. Contracts see a `TrafficState`. Only an issue takes memory.
 #[derive(Drop)]
 pub(crate) struct Traffic {
     untaken: VecDeque<Ask>,
-    /// The untaken asks are the last.
+    /// The asks without a reply, of which the untaken ones are the last.
     unanswered: Unanswered,
-    /// It has room for a reply to each ask without one.
+    /// Has room for a reply to each ask without one.
     posted: VecDeque<Reply>,
     forgets: Forgets,
     alloc: Global,
@@ -50,10 +50,10 @@ impl Model for Traffic {
 }
 
 impl Traffic {
-    /// How many asks may be under way, from issue to delivery.
+    /// The greatest count of asks under way, from issue to delivery.
     pub(crate) const MOST_ASKS: usize = 1024;
 
-    /// How many forget items may wait.
+    /// The greatest count of forget items that wait.
     pub(crate) const MOST_ITEMS: usize = 4096;
 
     /// Makes empty queues.
@@ -84,7 +84,7 @@ impl Traffic {
         self.unanswered.len() - self.untaken.len()
     }
 
-    /// Returns why no further ask is taken.
+    /// Returns why no further ask is accepted, if there is a cause other than memory.
     pub(crate) fn ask_refusal(&self) -> Option<IssueFault>
         ensures fault { result ≡ ask_refusal self.now }
     {
@@ -94,7 +94,7 @@ impl Traffic {
         None
     }
 
-    /// Returns why no further forget item is taken.
+    /// Returns why no further forget item is accepted, if there is a cause other than memory.
     pub(crate) fn item_refusal(&self) -> Option<IssueFault>
         ensures fault { result ≡ item_refusal self.now }
     {
@@ -104,8 +104,8 @@ impl Traffic {
         None
     }
 
-    /// Queues an ask of the kernel, with all the memory that it needs until its reply is posted. Its unique is above
-    /// those of all asks without a reply.
+    /// Queues an ask of the kernel, with all the memory that the ask needs until its reply is posted. The caller gives
+    /// a `unique` above those of all asks without a reply.
     pub(crate) fn push_ask(&mut self, unique: u64, request: &Request) -> Result<(), NoMemory>
         requires later { IsLater self.old unique }
         ensures issued { OnOk result (self.new ≡ ask_issued self.old unique request.now) }
@@ -122,7 +122,7 @@ impl Traffic {
         Ok(())
     }
 
-    /// Queues a forget item of the kernel, with the memory that it needs until it is taken.
+    /// Queues a forget item of the kernel, with the memory that the item needs until it is taken.
     pub(crate) fn push_item(&mut self, item: Item) -> Result<(), NoMemory>
         ensures issued { OnOk result (self.new ≡ item_issued self.old item) }
         ensures unchanged { OnErr result (self.new ≡ self.old) }
@@ -130,15 +130,15 @@ impl Traffic {
         self.forgets.push(item)
     }
 
-    /// Returns whether neither an ask nor an item waits.
+    /// Returns whether no ask and no item waits.
     pub(crate) fn is_nothing_waiting(&self) -> bool
         ensures waiting { result ≡ is_none (next_taken self.now) }
     {
         self.untaken.is_empty() && self.forgets.len() == 0
     }
 
-    /// Hands out the first untaken ask, or the first items as one request if no ask waits or 256 items do. Returns none
-    /// exactly where neither waits. It takes no memory.
+    /// Removes and returns the first untaken ask, or the first items as one request if no ask waits or 256 items do.
+    /// Returns none exactly if no ask and no item waits. Takes no memory.
     pub(crate) fn take(&mut self) -> Option<Ask>
         ensures first { result ≡ next_taken self.old }
         ensures left { self.new ≡ left_by_take self.old }
@@ -150,7 +150,7 @@ impl Traffic {
         self.untaken.pop_front()
     }
 
-    /// Returns whether the reply answers a taken ask that has none.
+    /// Returns whether `reply` may answer a taken ask that has no reply.
     pub(crate) fn is_asked(&self, reply: &Reply) -> bool
         ensures asked { result ≡ is_asked self.now reply.now }
     {
@@ -160,7 +160,7 @@ impl Traffic {
         }
     }
 
-    /// Returns the form of the taken ask of this unique, if one has no reply.
+    /// Returns the form of the answer to the taken ask with this unique, if that ask has no reply.
     fn form_asked(&self, unique: u64) -> Option<Form>
         ensures { result ≡ form_asked self.now unique }
     {
@@ -170,7 +170,8 @@ impl Traffic {
         self.unanswered.form_of(unique)
     }
 
-    /// Queues a daemon's reply for the kernel. It takes no memory: its ask made the room.
+    /// Queues a daemon's reply for the kernel, or returns that nothing asked for it. Takes no memory: its ask made
+    /// room.
     pub(crate) fn post(&mut self, reply: Reply) -> Result<(), NotAsked>
         ensures posted { OnOk result (self.new ≡ reply_posted self.old reply) }
         ensures asked { is_ok result ≡ is_asked self.old reply }
@@ -184,14 +185,14 @@ impl Traffic {
         Ok(())
     }
 
-    /// Returns the reply that reaches the kernel next.
+    /// Returns the reply that is delivered next, if one is posted.
     pub(crate) fn next_reply(&self) -> Option<Reply>
         ensures first { result ≡ front self.now.posted }
     {
         self.posted.front().copied()
     }
 
-    /// Hands the first posted reply to the kernel.
+    /// Removes and returns the first posted reply, which the kernel gets.
     pub(crate) fn deliver(&mut self) -> Option<Reply>
         ensures first { result ≡ front self.old.posted }
         ensures left { self.new ≡ reply_delivered self.old }
@@ -199,21 +200,21 @@ impl Traffic {
         self.posted.pop_front()
     }
 
-    /// Returns how many items wait.
+    /// Returns how many forget items wait.
     pub(crate) fn items_waiting(&self) -> usize
         ensures { result ≡ length self.now.items }
     {
         self.forgets.len()
     }
 
-    /// Returns whether the ask of this unique is under way, from issue to delivery.
+    /// Returns whether the ask with this unique is under way, from issue to delivery.
     pub(crate) fn is_under_way(&self, unique: u64) -> bool
         ensures { result ≡ is_under_way self.now unique }
     {
         self.is_unanswered(unique) || self.is_posted(unique)
     }
 
-    /// Returns whether the ask of this unique has no reply.
+    /// Returns whether there is an ask with this unique that has no reply.
     fn is_unanswered(&self, unique: u64) -> bool
         ensures { result ≡ is_unanswered self.now unique }
     {
@@ -227,7 +228,7 @@ impl Traffic {
         self.posted.iter().any(|reply| reply.unique == unique)
     }
 
-    /// Returns how often the waiting items take a number back.
+    /// Returns how often the waiting items take `number` back.
     pub(crate) fn forgets_waiting(&self, number: Number) -> u64
         requires fits { forgets_on self.now number.0 ≤ u64.MAX }
         ensures sum { result ≡ forgets_on self.now number.0 }
@@ -235,7 +236,7 @@ impl Traffic {
         self.forgets.on(number)
     }
 
-    /// Returns how many posted replies give a number out.
+    /// Returns how many posted replies give `number` out.
     pub(crate) fn entries_posted(&self, number: Number) -> u64
         ensures count { result ≡ entries_of self.now number.0 }
     {
@@ -244,7 +245,7 @@ impl Traffic {
     }
 }
 
-/// Returns whether an answer gives out neither number 0 nor the root, if any.
+/// Returns whether `answer` gives out no number, or one other than 0 and the root.
 fn may_be_given(answer: &Answer) -> bool
     ensures { result ≡ may_be_given answer.now }
 {
@@ -254,7 +255,7 @@ fn may_be_given(answer: &Answer) -> bool
     }
 }
 
-/// Returns whether a unique is that of the first untaken ask or a later one.
+/// Returns whether there is an untaken ask, and `unique` is at least that of the first one.
 fn is_not_before(untaken: &VecDeque<Ask>, unique: u64) -> bool
     ensures { result ≡ is_not_before untaken.now.items unique }
 {
@@ -264,7 +265,7 @@ fn is_not_before(untaken: &VecDeque<Ask>, unique: u64) -> bool
     }
 }
 
-/// Returns how many replies give a number out.
+/// Returns how many of `replies` give `number` out.
 fn entries_of(replies: &[Reply], number: Number) -> u64
     ensures count { result ≡ count_by (gives number.0) replies.now }
     ensures at_most { result ≤ length replies.now }
@@ -278,7 +279,7 @@ fn entries_of(replies: &[Reply], number: Number) -> u64
     count
 }
 
-/// Returns whether a reply gives a number out.
+/// Returns whether `reply` gives `number` out.
 fn gives(reply: &Reply, number: Number) -> bool
     ensures { result ≡ gives number.0 reply.now }
 {

@@ -11,11 +11,12 @@ use std::alloc::Global;
 use std::collections::BTreeMap;
 use std::marker::Model;
 
-/// The form that answers each ask without a reply, by its unique. Clauses see a list of both, in which uniques rise.
+/// Each ask without a reply: its unique, and the form of its answer. Contracts see a list of both, in which uniques
+/// rise.
 #[derive(Drop)]
 pub(crate) struct Unanswered {
     earlier: BTreeMap<u64, Form>,
-    /// The last ask, for which the map makes no room.
+    /// The last ask, which stands outside the map and so takes no memory.
     last: Option<(u64, Form)>,
 }
 
@@ -54,7 +55,7 @@ impl Unanswered {
         }
     }
 
-    /// Adds an ask behind the others. It takes memory only if the last one still has no reply.
+    /// Appends an ask. Takes memory only if the ask before it still has no reply.
     pub(crate) fn push(&mut self, unique: u64, form: Form) -> Result<(), NoMemory>
         requires later { All (λ asked. asked.0 < unique) self.old }
         ensures pushed { OnOk result (self.new ≡ self.old ++ (unique, form) ∷ []) }
@@ -70,7 +71,7 @@ impl Unanswered {
         Ok(())
     }
 
-    /// Returns the form that answers the ask of a unique, if there is one.
+    /// Returns the form of the answer to the ask with this unique, if there is such an ask.
     pub(crate) fn form_of(&self, unique: u64) -> Option<Form>
         ensures form { result ≡ option_map (λ asked. asked.1) (first_where (is_of unique) self.now) }
     {
@@ -81,7 +82,7 @@ impl Unanswered {
         self.earlier.get(&unique).copied()
     }
 
-    /// Takes the ask of a unique out. It takes no memory.
+    /// Removes the ask with this unique, if there is such an ask. Takes no memory.
     pub(crate) fn remove(&mut self, unique: u64)
         ensures removed { self.new ≡ without_where (is_of unique) self.old }
         ensures rising { IsRising self.new }
@@ -94,7 +95,7 @@ impl Unanswered {
     }
 }
 
-/// Returns the form of an ask, if there is one and it has this unique.
+/// Returns the form of `asked`, if it is an ask with this unique.
 fn form_in(asked: Option<(u64, Form)>, unique: u64) -> Option<Form>
     ensures { result ≡ option_map (λ asked. asked.1) (first_where (is_of unique) (option_to_list asked)) }
 {

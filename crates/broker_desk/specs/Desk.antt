@@ -1,5 +1,5 @@
--- Who is attached to the broker, and what each frame of a daemon is answered: one row a kind of frame. Which calls of
--- the broker answer, and by which rules daemons get their numbers, is this project's own.
+-- Who is attached to the broker, and how each frame of a daemon is answered, with a row for each kind of frame. Which
+-- calls of the broker give the answers, and by which rules daemons get their numbers, is this project's own.
 use Rattle.std.specs.Prelude.{◌≡◌, ℕ, ◌+◌, ◌-◌, Bool, true, false, ◌||◌, ◌⊎◌, ◌==◌, not, nat_le, List, [], ◌∷◌, ◌++◌, length, slice_get, slice_set, Option, Some, None, Result, Ok, Err, if◌then◌else◌}
 use Rattle.std.specs.Option.{option_map_or}
 use Rattle.std.specs.List.{AllByRecursion}
@@ -40,35 +40,35 @@ pub record DeskState : Type 0 where
 abbrev pub most_daemons : ℕ
 most_daemons = 1024
 
--- nothing is mounted, and no daemon came
+-- a desk at which nothing is mounted, and to which no daemon came
 abbrev pub new_desk : DeskState
 new_desk = record { broker = new_broker; daemons = []; is_closed = false }
 
--- what a frame tells that hands an ask out
+-- the frame that hands out an ask, or Empty if there is none
 abbrev pub frame_taken : Option FuseAsk → Frame
 frame_taken (Some ask) = Ask (request_text ask)
 frame_taken None = Empty
 
 -- ---- daemons
 
--- the daemon still runs
+-- a daemon of this standing still runs
 abbrev pub is_running : Standing → Bool
 is_running Runs = true
 is_running Gone = false
 
--- how a daemon stands that got this number
+-- the standing of the daemon with this number, if a daemon got the number
 abbrev pub standing_of : DeskState → ℕ → Option Standing
 standing_of desk number = if number == 0 then None else slice_get desk.daemons (number - 1)
 
--- a daemon got the number, and still runs
+-- a daemon got this number, and still runs
 abbrev pub is_present : DeskState → DaemonId → Bool
 is_present desk daemon = option_map_or is_running (standing_of desk daemon.0) false
 
--- the mount is over for the daemon: for each one where the desk is closed
+-- the mount is over for this daemon: the desk is closed, or the daemon does not run
 abbrev pub is_over_for : DeskState → DaemonId → Bool
 is_over_for desk daemon = desk.is_closed || not (is_present desk daemon)
 
--- no more daemon gets a number
+-- no further daemon gets a number
 abbrev pub is_full : DeskState → Bool
 is_full desk = desk.is_closed || nat_le most_daemons (length desk.daemons)
 
@@ -78,43 +78,43 @@ next_daemon desk = record { 0 = length desk.daemons + 1 }
 
 -- ---- what a frame comes to
 
--- what the peer is told, or nothing where its connection is closed; and the desk after it
+-- what the peer is told, or none if its connection is closed; and the desk afterwards
 pub record Turn : Type 0 where
   pub told : Option Frame
   pub desk : DeskState
 
--- the peer is told something, and nothing changes
+-- the peer is told this frame, and the desk is unchanged
 abbrev pub tells : DeskState → Frame → Turn
 tells desk frame = record { told = Some frame; desk = desk }
 
--- the peer is told something, and the broker is another
+-- the peer is told this frame, and the desk has this broker
 abbrev pub tells_with : DeskState → Frame → BrokerState → Turn
 tells_with desk frame broker = record { told = Some frame; desk = record desk { broker = broker } }
 
--- the connection is closed
+-- the connection is closed, and the desk is unchanged
 abbrev pub closes : DeskState → Turn
 closes desk = record { told = None; desk = desk }
 
--- a Take, by what stands against it
+-- what a Take comes to, by the fault that refuses it, if any
 abbrev pub takes : DeskState → Option TakeFault → Turn
 takes desk (Some take.Ended) = tells desk Ended
 takes desk (Some (take.Stale now)) = tells desk (Stale now)
 takes desk (Some take.Empty) = tells desk Empty
 takes desk None = tells_with desk (frame_taken (next_taken desk.broker.traffic)) (taken desk.broker)
 
--- the Post of a reply, by what stands against it
+-- what the Post of a reply comes to, by the fault that refuses it, if any
 abbrev pub posts_reply : DeskState → Reply → Option PostFault → Turn
 posts_reply desk reply (Some post.Ended) = tells desk Ended
 posts_reply desk reply (Some (post.Stale now)) = tells desk (Stale now)
 posts_reply desk reply (Some post.NotAsked) = tells desk NotAsked
 posts_reply desk reply None = tells_with desk Posted (posted desk.broker reply)
 
--- the Post of bytes: those that are no reply answer nothing that was asked
+-- what the Post of bytes comes to, as they are read; bytes that are no reply are NotAsked
 abbrev pub posts : DeskState → DaemonId → ℕ → Result Reply WireFault → Turn
 posts desk daemon generation (Ok reply) = posts_reply desk reply (post_fault desk.broker daemon generation reply)
 posts desk daemon generation (Err fault) = tells desk NotAsked
 
--- a Claim, by what stands against it
+-- what a Claim comes to, by the fault that refuses it, if any
 abbrev pub claims : DeskState → DaemonId → ℕ → Option ClaimFault → Turn
 claims desk daemon generation (Some claim.Ended) = tells desk Ended
 claims desk daemon generation (Some (claim.Stale now)) = tells desk (Stale now)
@@ -123,13 +123,14 @@ claims desk daemon generation (Some claim.LastGeneration) = tells desk LastGener
 claims desk daemon generation None =
     tells_with desk (Claimed (generation + 1)) (claimed desk.broker daemon generation)
 
--- a Mount, by what stands against it
+-- what a Mount comes to, by the fault that refuses it, if any
 abbrev pub mounts : DeskState → DaemonId → Option MountFault → Turn
 mounts desk daemon (Some mount.Seated) = tells desk Seated
 mounts desk daemon (Some mount.LastGeneration) = tells desk LastGeneration
 mounts desk daemon None = tells_with desk (Mounted (desk.broker.last + 1)) (mounted desk.broker daemon)
 
--- what a daemon's frame comes to while the mount is not over for it: no daemon sends others than these
+-- What a daemon's frame comes to while the mount lasts for that daemon. A frame of any other kind, which no daemon
+-- sends, closes the connection.
 abbrev pub serves : DeskState → DaemonId → Frame → Turn
 serves desk daemon (Take generation) = takes desk (take_fault desk.broker daemon generation)
 serves desk daemon (Post generation reply) = posts desk daemon generation (reply_of reply)
@@ -137,7 +138,7 @@ serves desk daemon (Claim generation) = claims desk daemon generation (claim_fau
 serves desk daemon Mount = mounts desk daemon (mount_fault desk.broker)
 serves desk daemon frame = closes desk
 
--- an attached daemon sends such frames
+-- attached daemons send frames of this kind
 abbrev pub is_sent_by_daemons : Frame → Bool
 is_sent_by_daemons (Take generation) = true
 is_sent_by_daemons (Post generation reply) = true
@@ -152,7 +153,7 @@ hears desk daemon frame =
     else if is_over_for desk daemon then tells desk Ended
     else serves desk daemon frame
 
--- a new daemon gets the next number
+-- what an Attach of a new daemon comes to: the daemon gets the next number, or Ended if the desk is full
 abbrev pub enrolls : DeskState → Turn
 enrolls desk =
     if is_full desk then tells desk Ended
@@ -161,19 +162,19 @@ enrolls desk =
       desk = record desk { daemons = desk.daemons ++ Runs ∷ [] };
     }
 
--- a stranger's Attach: 0 is a new daemon's, any other is a daemon's that has its number
+-- what a stranger's Attach comes to; 0 is a new daemon's, any other number that of a daemon which got it before
 abbrev pub attaches : DeskState → DaemonId → Turn
 attaches desk daemon =
     if daemon.0 == 0 then enrolls desk
     else if is_over_for desk daemon then tells desk Ended
     else tells desk (Attached daemon)
 
--- what a stranger's frame comes to: an Attach has to be first
+-- what a stranger's frame comes to; any other than an Attach closes the connection
 abbrev pub meets : DeskState → Frame → Turn
 meets desk (Attach daemon) = attaches desk daemon
 meets desk frame = closes desk
 
--- what each frame comes to
+-- what a frame of a peer comes to
 abbrev pub turn : DeskState → Peer → Frame → Turn
 turn desk Stranger frame = meets desk frame
 turn desk (Daemon daemon) frame = hears desk daemon frame
@@ -187,7 +188,7 @@ daemon_at Stranger = None
 daemon_at (Daemon daemon) = Some daemon
 daemon_at (Worker daemon) = Some daemon
 
--- who a stranger is after an Attach: a new daemon, a worker of one that has its number, or a stranger still
+-- who a stranger is after an Attach: a new daemon, a worker of a daemon that got its number before, or still a stranger
 abbrev pub attached_as : DeskState → DaemonId → Peer
 attached_as desk daemon =
     if daemon.0 == 0 then (if is_full desk then Stranger else Daemon (next_daemon desk))
@@ -201,7 +202,7 @@ peer_after desk peer frame = peer
 
 -- ---- how a frame is answered
 
--- the frame that is told, if any
+-- the frame that the peer is told, if any
 abbrev pub told_by : Response → Option Frame
 told_by (Tells frame) = Some frame
 told_by Closes = None
@@ -211,7 +212,7 @@ pub record Makes (made : Turn) (response : Response) (new : DeskState) : Type 0 
   pub told : told_by response ≡ made.told
   pub desk : new ≡ made.desk
 
--- Memory for the text of what is to be taken was refused: the peer is told that nothing waits, and it waits on.
+-- Memory for the text of what is to be taken was refused: the peer is told Empty, and nothing is taken.
 pub record TakesLater (old : DeskState) (daemon : Option DaemonId) (frame : Frame) (response : Response)
     (new : DeskState) : Type 0 where
   pub taker : DaemonId
@@ -223,29 +224,29 @@ pub record TakesLater (old : DeskState) (daemon : Option DaemonId) (frame : Fram
   pub told : response ≡ Tells Empty
   pub unchanged : new ≡ old
 
--- a frame is answered by its row, or later
+-- a frame is answered as its row says, or is a Take that is put off for lack of memory
 abbrev pub Answers : DeskState → Peer → Frame → Response → DeskState → Type 0
 Answers old peer frame response new =
     Makes (turn old peer frame) response new ⊎ TakesLater old (daemon_at peer) frame response new
 
 -- ---- the end of a connection
 
--- the daemon of this number is gone
+-- the standings, with Gone for the daemon of this number
 abbrev pub struck : List Standing → ℕ → List Standing
 struck daemons number = if number == 0 then daemons else slice_set daemons (number - 1) Gone
 
--- the daemon is gone, and the mount is over where it had the seat
+-- the desk after this daemon is gone; the mount is over if the daemon had the seat
 abbrev pub without : DeskState → DaemonId → DeskState
 without desk daemon =
     record desk { broker = without_daemon desk.broker daemon; daemons = struck desk.daemons daemon.0 }
 
--- a connection ended: with its first one a daemon is gone
+-- the desk after a connection ended; if it was the first one of a daemon, that daemon is gone
 abbrev pub left_by : DeskState → Peer → DeskState
 left_by desk Stranger = desk
 left_by desk (Daemon daemon) = without desk daemon
 left_by desk (Worker daemon) = desk
 
--- the mount is over for all
+-- the desk after the mount ended for all
 abbrev pub closed : DeskState → DeskState
 closed desk = record {
   broker = option_map_or (λ seat. without_daemon desk.broker seat.daemon) desk.broker.seat desk.broker;
@@ -253,8 +254,8 @@ closed desk = record {
   is_closed = true;
 }
 
--- ---- what is kept
+-- ---- what always holds
 
--- each ask that waits has a text of its own
+-- each of these asks has a text that is read as the same ask
 abbrev pub AreSendable : List FuseAsk → Type 0
 AreSendable asks = AllByRecursion (λ (ask : FuseAsk). IsSendable ask.what) asks

@@ -1,9 +1,9 @@
--- What the desk keeps of its fields, whatever it is told.
+-- What holds of the desk's fields, whatever frames come.
 use Rattle.std.specs.Prelude.{◌≤◌, vec_capacity, vec_len}
 use Rattle.broker_desk.specs.Desk.{AreSendable, most_daemons}
 use Rattle.broker_desk.specs.declared.desk.Desk.TheInside.{Inside}
 
--- what waits has a text, and no more daemons than may be got a number, for all of which there is room
+-- each waiting ask has a text; at most `most_daemons` daemons got a number, and there is room for that many
 pub record IsOrderly (desk : Inside) : Type 0 where
   pub sendable : AreSendable desk.broker.traffic.untaken
   pub at_most : vec_len desk.daemons ≤ most_daemons

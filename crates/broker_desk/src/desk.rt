@@ -1,4 +1,4 @@
-//! The broker behind its desk.
+//! The broker's desk, which answers frames.
 ghost use Rattle.std.specs.Prelude.{◌≡◌, ◌+◌, ◌<◌, ◌⊎◌, Some, None, false, length, count_by, IfOk, IfErr, OnOk, OnErr, if◌then◌else◌};
 ghost use Rattle.std.specs.Option.{IfSome};
 ghost use Rattle.frames.specs.declared.frame.Frame.TheVariants.{Take as ATake};
@@ -18,10 +18,10 @@ use fuse_wire::{Reply, Request, RequestRoom, read_reply, write_request_to};
 use std::alloc::Global;
 use std::marker::Model;
 
-/// How many daemons get a number. One that is gone still counts.
+/// How many daemons get a number. A daemon that is gone still counts.
 pub const MAX_DAEMONS: usize = 1024;
 
-/// The broker, the daemons that attached to it, and whether it is closed to all. Contracts see it as a `DeskState`.
+/// The broker, the daemons that attached to it, and whether the desk is closed for all. Contracts see a `DeskState`.
 #[derive(Drop)]
 pub struct Desk {
     alloc: Global,
@@ -51,7 +51,7 @@ impl Model for Desk {
 }
 
 impl Desk {
-    /// Opens a desk to which no daemon came, with room for all of them.
+    /// Makes a desk to which no daemon came yet, with room for all of them.
     pub fn new(alloc: Global) -> Result<Desk, NoMemory>
         ensures new { IfOk result (λ desk. desk ≡ new_desk) }
     {
@@ -65,7 +65,7 @@ impl Desk {
         })
     }
 
-    /// Returns the kernel's side.
+    /// Returns the broker, the kernel's side of the mount.
     pub fn broker(&self) -> &Broker
         ensures broker { result.now ≡ self.now.broker }
     {
@@ -82,8 +82,8 @@ impl Desk {
             .count()
     }
 
-    /// Takes a request of the kernel, as `Broker::issue` does. An `Other` must have an opcode of its own, so that its
-    /// bytes are read again as this request.
+    /// Accepts a request of the kernel, as `Broker::issue` does. An `Other` must have an opcode that no other variant
+    /// has, so that its bytes are read as the same request.
     pub fn issue(&mut self, request: &Request) -> Result<Option<u64>, IssueFault>
         requires sendable { IsSendable request.now }
         ensures unique { IfOk result (λ unique. unique ≡ unique_of self.old.broker request.now) }
@@ -105,8 +105,8 @@ impl Desk {
         self.broker.deliver()
     }
 
-    /// Answers a frame of `peer`. After an Attach, `peer` is the daemon or worker that it names. Only a Take of an ask
-    /// takes memory: out of memory the answer is Empty, and the ask waits on.
+    /// Answers a frame of `peer`. An Attach that is granted makes `peer` a daemon or a worker. Only a Take takes
+    /// memory, for the text of what is taken: if that is refused, the answer is Empty, and nothing is taken.
     pub fn answer(&mut self, peer: &mut Peer, frame: &Frame) -> Response
         ensures answers { Answers self.old peer.old frame.now result self.new }
         ensures peer { peer.new ≡ peer_after self.old peer.old frame.now }
@@ -117,8 +117,8 @@ impl Desk {
         }
     }
 
-    /// Notes that the connection of `peer` ended. With its first connection a daemon is gone, and the mount is over
-    /// where it has the seat.
+    /// Notes that the connection of `peer` ended. If it was the first connection of a daemon, that daemon is gone, and
+    /// the mount ends if the daemon has the seat.
     pub fn leave(&mut self, peer: Peer)
         ensures left { self.new ≡ left_by self.old peer }
     {
@@ -128,7 +128,7 @@ impl Desk {
         }
     }
 
-    /// Ends the mount for all: whatever a daemon sends from then on is answered Ended.
+    /// Ends the mount for all: every frame that a daemon may send is answered Ended from then on.
     pub fn close(&mut self)
         ensures closed { self.new ≡ closed self.old }
     {
@@ -138,7 +138,7 @@ impl Desk {
         self.is_closed = true;
     }
 
-    /// Answers a frame of a stranger, which has to be an Attach.
+    /// Answers a frame of a stranger. Any other frame than an Attach closes the connection.
     fn meet(&mut self, peer: &mut Peer, frame: &Frame) -> Response
         requires stranger { peer.old ≡ Stranger }
         ensures meets { Makes (meets self.old frame.now) result self.new }
@@ -157,7 +157,7 @@ impl Desk {
         Response::Tells(Frame::Attached(*daemon))
     }
 
-    /// Gives a new daemon its number, unless the desk is closed or no number is left.
+    /// Gives a new daemon its number, or answers Ended if the desk is closed or no number is left.
     fn enroll(&mut self, peer: &mut Peer) -> Response
         requires stranger { peer.old ≡ Stranger }
         ensures enrolls { Makes (enrolls self.old) result self.new }
@@ -172,14 +172,14 @@ impl Desk {
         Response::Tells(Frame::Attached(daemon))
     }
 
-    /// Returns whether a daemon is to be answered Ended: the desk is closed, or the daemon is gone or never came.
+    /// Returns whether the mount is over for `daemon`: the desk is closed, or the daemon is gone or never got a number.
     fn is_over_for(&self, daemon: DaemonId) -> bool
         ensures { result ≡ is_over_for self.now daemon }
     {
         self.is_closed || !self.is_present(daemon)
     }
 
-    /// Returns whether a daemon got this number, and still runs.
+    /// Returns whether a daemon got this number and still runs.
     fn is_present(&self, daemon: DaemonId) -> bool
         ensures { result ≡ is_present self.now daemon }
     {
@@ -209,7 +209,7 @@ impl Desk {
         }
     }
 
-    /// Hands out what waits first. The room for its text comes before it is taken.
+    /// Answers a Take: hands out what goes first. Memory for its text is taken before that.
     fn take(&mut self, daemon: DaemonId, generation: u64) -> Response
         requires here { is_over_for self.old daemon ≡ false }
         ensures takes { Makes (takes self.old (take_fault self.old.broker daemon generation)) result self.new
@@ -227,7 +227,7 @@ impl Desk {
         self.hand_out(room, daemon, generation)
     }
 
-    /// Hands out what waits first, in room that was made for its text.
+    /// Hands out what goes first, with its text in the memory of `room`.
     fn hand_out(&mut self, room: RequestRoom, daemon: DaemonId, generation: u64) -> Response
         requires accepted { take_fault self.old.broker daemon generation ≡ None }
         ensures takes { Makes (takes self.old None) result self.new }
@@ -238,7 +238,7 @@ impl Desk {
         }
     }
 
-    /// Takes a reply for the kernel, if the bytes are one.
+    /// Answers a Post: accepts the reply for the kernel, or returns why not.
     fn post(&mut self, daemon: DaemonId, generation: u64, reply: &[u8]) -> Response
         ensures posts { Makes (posts self.old daemon generation (reply_of reply.now)) result self.new }
     {
@@ -253,7 +253,7 @@ impl Desk {
         })
     }
 
-    /// Hands the seat to a daemon that claims it, or tells why not.
+    /// Answers a Claim: gives the seat to `daemon`, or returns why not.
     fn claim(&mut self, daemon: DaemonId, generation: u64) -> Response
         ensures claims { Makes (claims self.old daemon generation (claim_fault self.old.broker generation)) result self.new }
     {
@@ -266,7 +266,7 @@ impl Desk {
         })
     }
 
-    /// Gives a daemon the free seat, or tells why not.
+    /// Answers a Mount: gives the free seat to `daemon`, or returns why not.
     fn mount(&mut self, daemon: DaemonId) -> Response
         ensures mounts { Makes (mounts self.old daemon (mount_fault self.old.broker)) result self.new }
     {
@@ -277,7 +277,7 @@ impl Desk {
         })
     }
 
-    /// Strikes a daemon that is gone.
+    /// Notes that `daemon` is gone.
     fn strike(&mut self, daemon: DaemonId)
         ensures { self.new ≡ record self.old { daemons = struck self.old.daemons daemon.0 } }
     {
@@ -286,7 +286,7 @@ impl Desk {
         }
     }
 
-    /// Returns the index of a daemon that got a number.
+    /// Returns the index of `daemon`, if it got a number.
     fn index_of(&self, daemon: DaemonId) -> Option<usize>
         ensures index { IfSome result (λ index. daemon.0 ≡ index + 1) }
         ensures below { IfSome result (λ index. index < length self.now.daemons) }
@@ -299,7 +299,7 @@ impl Desk {
     }
 }
 
-/// Returns whether a frame is of a kind that attached daemons send.
+/// Returns whether `frame` is of a kind that attached daemons send.
 fn is_sent_by_daemons(frame: &Frame) -> bool
     ensures { result ≡ is_sent_by_daemons frame.now }
 {

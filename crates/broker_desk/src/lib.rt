@@ -1,4 +1,4 @@
-//! The broker's desk: who is attached to the broker, and what each frame of a daemon is answered.
+//! The broker's desk: who is attached to the broker, and how each frame of a daemon is answered.
 #![tactic(auto)]
 
 mod desk;

@@ -2,14 +2,14 @@
 use eden_base::DaemonId;
 use frames::Frame;
 
-/// Who is at the other end of a connection, by the Attach that it sent.
+/// Who is at the other end of a connection, as its Attach said.
 #[derive(Clone, Copy, PartialEq, Eq)]
 pub enum Peer {
-    /// It sent none that was granted.
+    /// Nobody yet: no Attach of this peer was granted.
     Stranger,
-    /// A daemon, by its first connection. The daemon is gone when this one ends.
+    /// A daemon, at its first connection. When that connection ends, the daemon is gone.
     Daemon(DaemonId),
-    /// A daemon, by the connection of one of its workers.
+    /// A daemon, at the connection of one of its workers.
     Worker(DaemonId),
 }
 
@@ -18,7 +18,7 @@ pub enum Peer {
 pub enum Response {
     /// The peer is sent this frame.
     Tells(Frame),
-    /// No daemon sends such a frame there: the connection is closed.
+    /// The peer may not send such a frame: the connection is closed.
     Closes,
 }
 

@@ -1,4 +1,4 @@
--- Bytes before an offset and behind it, and texts in front of others.
+-- Bytes before an offset and after it, and texts in front of others.
 use Rattle.std.proofs.Common.{◌≡◌, ℕ, ◌+◌, List, ◌++◌, take, drop, sym, ap, ◌∙◌, inl, inr, append_assoc, length-take, arith}
 use Rattle.std.proofs.lemmas.Bool.{cases_lt}
 use Rattle.std.proofs.lemmas.List.{get_or-drop, get_or-take, get_or_past}

@@ -1,4 +1,4 @@
--- A field that is put is read again, and a field that was read is spelled as it stood.
+-- A field that is written is read again, and a field that was read is written with the same bytes.
 use Rattle.std.proofs.Common.{◌≡◌, ℕ, suc, ◌^◌, ◌<◌, ◌≤◌, ltb, List, [], ◌∷◌, ◌++◌, length, Ok, refl, sym, ap, ◌∙◌, length-append, length-take, arith}
 use Rattle.std.specs.Int.{Width, w16, w32, w64, byte_len}
 use Rattle.std.proofs.lemmas.Bool.{ltb-false, le-ltb}
@@ -28,7 +28,7 @@ pub eight : IsWidth w64 (2 ^ 64)
 unfolding number_bytes number_in
 eight = record { len = λ n. refl; again = λ n lt. from_be_bytes-to_be_bytes_8 n lt }
 
--- a width whose bytes are spelled again from the number that they are
+-- a width whose bytes are written again from the number that they are
 pub record IsSpelled (width : Width) (limit : ℕ) : Type 0 where
   pub back : (bytes : List ℕ) → length bytes ≡ byte_len width → AreBytes bytes → number_bytes width (number_in width bytes) ≡ bytes
   pub below : (bytes : List ℕ) → AreBytes bytes → number_in width bytes < limit

@@ -1,4 +1,5 @@
--- Values and their texts: what is spelled is read, and what is read is spelled so; and so of one value behind another.
+-- Values and their texts: each text is read as its value, and what is read has these bytes as its text. The same holds
+-- for one value after another.
 use Rattle.std.proofs.Common.{◌≡◌, ℕ, List, ◌++◌, length, Bool, true, cond, Result, Ok, Err, refl, sym, ap, subst, ◌∙◌, append_assoc}
 use Rattle.std.specs.Int.{Width}
 use Rattle.byte_codec.specs.Field.{AreBytes, byte_text, number_bytes}
@@ -8,7 +9,7 @@ use Rattle.byte_codec.proofs.FieldLaws.{Found, IsBelow, IsSpelled, IsWidth, byte
 use Rattle.byte_codec.proofs.StepLemmas.{done}
 use Rattle.byte_codec.proofs.YieldLemmas.{Any, Yields, Value, if_yields, then_yields, yields_as}
 
--- each value that fits is read from its text, and what is read fits and is spelled so
+-- each value that fits is read from its text, and what is read fits and has these bytes as its text
 pub record IsCodec {F X : Type 0} (text : X → List ℕ) (Fits : X → Type 0) (read : List ℕ → Result (X × List ℕ) F) : Type 0 where
   pub again : (x : X) (rest : List ℕ) → Fits x → read (text x ++ rest) ≡ Ok (x, rest)
   pub found : (bytes : List ℕ) → AreBytes bytes → Yields Any (Found text Fits bytes) (read bytes)
@@ -53,9 +54,9 @@ read_as {text = text} {Fits = Fits} codec same = record {
   found = λ bytes are. subst (Yields Any (Found text Fits bytes)) (sym (same bytes)) (codec.found bytes are);
 }
 
--- ---- one value behind another
+-- ---- one value after another
 
--- what is read at once of a value that stands in front: a part of the whole, with nothing behind it
+-- what is read at once of a value that stands in front: a part of the whole, with nothing after it
 pub seen : {F X Z : Type 0} {text : X → List ℕ} {Fits : X → Type 0} {read : List ℕ → Result (X × List ℕ) F} (Good : Z → Type 0) (part : Z → X) (see : X × List ℕ → Result (Z × List ℕ) F) → IsCodec text Fits read
     → ((x : X × List ℕ) → Fits x.0 → Yields Any (λ z. (part z.0 ≡ x.0) × (z.1 ≡ x.1) × Good z.0) (see x))
     → ((z : Z) (rest : List ℕ) → Good z → Fits (part z) × (see (part z, rest) ≡ Ok (z, rest)))
@@ -88,7 +89,7 @@ tested {X = X} {Fits = Fits} test fault first = seen (λ x. Fits x × (test x �
     (λ x fits. if_yields (test x.0) fault _ tt (λ passes. Value (refl, refl, (fits, passes))))
     (λ z rest good. (good.0, rw good.1 refl))
 
--- a value in front, and what is read behind it with that value known: they are a pair of which both are read
+-- a value in front, and what is read after it with that value known: they are a pair of which both are read
 pub pair : {F X Z : Type 0} {text : X → List ℕ} {Fits : X → Type 0} {read : List ℕ → Result (X × List ℕ) F} (part : Z → X) (others : Z → List ℕ) (Good : X → Z → Type 0) (behind : X → List ℕ → Result (Z × List ℕ) F)
     → IsCodec text Fits read → ((x : X) (z : Z) → Good x z → part z ≡ x) → ((x : X) → IsCodec others (Good x) (behind x))
     → IsCodec (λ z. text (part z) ++ others z) (λ z. Fits (part z) × Good (part z) z) (λ bytes. read bytes >>= λ x. behind x.0 x.1)

@@ -1,4 +1,4 @@
--- Texts that are put one behind the other, and their lengths.
+-- Texts that are put one after the other, and their lengths.
 use Rattle.std.proofs.Common.{◌≡◌, ℕ, ◌+◌, List, [], ◌∷◌, ◌++◌, length, refl, sym, ap, ◌∙◌, append_assoc, length-append, arith}
 use Rattle.std.proofs.lemmas.List.{append-nil}
 use Rattle.std.specs.Global.{Vec}
@@ -36,7 +36,7 @@ both_put old mid new xs ys second first = record {
   capacity = omega (arith, first.capacity, second.capacity);
 }
 
--- so is a byte before a text
+-- a byte and then a text that were written are written together
 pub byte_put : (old mid new : Vec ℕ) (byte : ℕ) (ys : List ℕ) → Puts mid new ys → Puts old mid (byte_text byte) → Puts old new (byte ∷ ys)
 unfolding byte_text
 byte_put old mid new byte ys second first = both_put old mid new (byte ∷ []) ys second first

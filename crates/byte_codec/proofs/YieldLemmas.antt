@@ -1,4 +1,4 @@
--- What a reading yields: a good value, or a fault that may be. Readings one behind the other are one.
+-- What a reading yields: a good value, or a fault that may occur. Two readings, one after the other, are one.
 use Rattle.std.proofs.Common.{◌≡◌, Bool, true, false, cond, Result, Ok, Err, refl, subst}
 use Rattle.byte_codec.specs.Reading.{◌>>=◌}
 use Rattle.byte_codec.proofs.StepLemmas.{ok_is}
@@ -7,11 +7,11 @@ pub data Yields {F Y : Type 0} (Bad : F → Type 0) (Good : Y → Type 0) : Resu
   Value : {y : Y} → Good y → Yields Bad Good (Ok y)
   Fault : {fault : F} → Bad fault → Yields Bad Good (Err fault)
 
--- it is the fault that was named
+-- the fault is the one that was named
 abbrev pub Only : {F : Type 0} → F → F → Type 0
 Only named fault = fault ≡ named
 
--- it may be any
+-- the value may be any
 abbrev pub Any : {X : Type 0} → X → Type 0
 Any x = Unit {0}
 
@@ -41,7 +41,7 @@ pub yields_as : {F Y : Type 0} {Bad : F → Type 0} {Good New : Y → Type 0} (r
 yields_as (Ok y) (Value good) new = Value (new y good)
 yields_as (Err fault) (Fault bad) new = Fault bad
 
--- a reading behind another
+-- a reading after another
 pub then_yields : {F A Y : Type 0} {Bad : F → Type 0} {Mid : A → Type 0} {Good : Y → Type 0} (r : Result A F) (f : A → Result Y F) → Yields Bad Mid r → ((x : A) → Mid x → Yields Bad Good (f x)) → Yields Bad Good (r >>= f)
 then_yields (Ok x) f (Value good) second = second x good
 then_yields (Err fault) f (Fault bad) second = Fault bad

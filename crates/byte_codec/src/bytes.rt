@@ -3,7 +3,8 @@ ghost use Rattle.std.specs.Prelude.{◌≡◌, nat_eq};
 
 use std::marker::Model;
 
-/// Any bytes, as a FUSE message or an image is. They are made of a `Vec` and given back as one without taking memory.
+/// Any bytes, for example a FUSE message or an image. `Bytes` are made of a `Vec`, and turned back into one, without
+/// taking memory.
 #[derive(Drop)]
 pub struct Bytes {
     bytes: Vec<u8>,
@@ -18,7 +19,7 @@ impl Model for Bytes {
 }
 
 impl Bytes {
-    /// Returns these bytes, in the same memory.
+    /// Makes `Bytes` of a `Vec`, in the same memory.
     pub fn of(bytes: Vec<u8>) -> Bytes
         ensures bytes { result ≡ bytes.items }
     {
@@ -32,7 +33,7 @@ impl Bytes {
         self.bytes.as_slice()
     }
 
-    /// Gives the bytes back, in the same memory.
+    /// Returns the bytes as a `Vec`, in the same memory.
     pub fn into_vec(self) -> Vec<u8>
         ensures bytes { result.items ≡ self }
     {

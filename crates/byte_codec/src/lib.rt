@@ -1,4 +1,4 @@
-//! Big-endian fields of bytes: how they are put, how they are read, and the bytes themselves as a value.
+//! Big-endian fields: how they are written, how they are read, and bytes as a value.
 #![tactic(auto)]
 
 mod bytes;

@@ -4,7 +4,7 @@ ghost use Rattle.byte_codec.specs.Reading.{Gives, byte_at, bytes_at, number_at};
 
 use crate::field::{u16_in, u32_in, u64_in};
 
-/// Takes `count` bytes off the front of `bytes`, or tells `short` where there are fewer.
+/// Returns the first `count` bytes and the rest, or `short` if there are fewer.
 #[tactic(auto, unfolding(crate::specs::Reading::bytes_at))]
 pub fn bytes_at<F: Copy>(bytes: &[u8], count: usize, short: F) -> Result<(&[u8], &[u8]), F>
     ensures field { Gives short (λ x. (x.0.now, x.1.now)) result (bytes_at short count bytes.now) }
@@ -16,7 +16,7 @@ pub fn bytes_at<F: Copy>(bytes: &[u8], count: usize, short: F) -> Result<(&[u8],
     Ok((field, rest))
 }
 
-/// Takes one byte off the front of `bytes`, or tells `short` where there is none.
+/// Returns the first byte and the rest, or `short` if there is none.
 #[tactic(auto, unfolding(crate::specs::Reading::byte_at))]
 pub fn byte_at<F: Copy>(bytes: &[u8], short: F) -> Result<(u8, &[u8]), F>
     ensures field { Gives short (λ x. (x.0, x.1.now)) result (byte_at short bytes.now) }
@@ -27,7 +27,7 @@ pub fn byte_at<F: Copy>(bytes: &[u8], short: F) -> Result<(u8, &[u8]), F>
     }
 }
 
-/// Takes a number of two bytes off the front of `bytes`, or tells `short` where there are fewer.
+/// Returns the number in the first two bytes, and the rest, or `short` if there are fewer.
 #[tactic(auto, unfolding(crate::specs::Reading::number_at, crate::specs::Reading::bytes_at))]
 pub fn u16_at<F: Copy>(bytes: &[u8], short: F) -> Result<(u16, &[u8]), F>
     ensures field { Gives short (λ x. (x.0, x.1.now)) result (number_at short w16 bytes.now) }
@@ -39,7 +39,7 @@ pub fn u16_at<F: Copy>(bytes: &[u8], short: F) -> Result<(u16, &[u8]), F>
     Ok((u16_in(field), rest))
 }
 
-/// Takes a number of four bytes off the front of `bytes`, or tells `short` where there are fewer.
+/// Returns the number in the first four bytes, and the rest, or `short` if there are fewer.
 #[tactic(auto, unfolding(crate::specs::Reading::number_at, crate::specs::Reading::bytes_at))]
 pub fn u32_at<F: Copy>(bytes: &[u8], short: F) -> Result<(u32, &[u8]), F>
     ensures field { Gives short (λ x. (x.0, x.1.now)) result (number_at short w32 bytes.now) }
@@ -51,7 +51,7 @@ pub fn u32_at<F: Copy>(bytes: &[u8], short: F) -> Result<(u32, &[u8]), F>
     Ok((u32_in(field), rest))
 }
 
-/// Takes a number of eight bytes off the front of `bytes`, or tells `short` where there are fewer.
+/// Returns the number in the first eight bytes, and the rest, or `short` if there are fewer.
 #[tactic(auto, unfolding(crate::specs::Reading::number_at, crate::specs::Reading::bytes_at))]
 pub fn u64_at<F: Copy>(bytes: &[u8], short: F) -> Result<(u64, &[u8]), F>
     ensures field { Gives short (λ x. (x.0, x.1.now)) result (number_at short w64 bytes.now) }

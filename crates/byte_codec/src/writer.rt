@@ -4,7 +4,7 @@ ghost use Rattle.std.specs.Int.{w16, w32, w64};
 ghost use Rattle.byte_codec.specs.Field.{byte_text, number_bytes};
 ghost use Rattle.byte_codec.specs.Writing.{HasRoom, Puts};
 
-/// Puts `byte` at the end of `out`.
+/// Appends `byte` to `out`.
 #[tactic(auto, unfolding(crate::specs::Field::byte_text))]
 pub fn put_byte(out: &mut Vec<u8>, byte: u8)
     requires room { HasRoom out.old 1 }
@@ -13,7 +13,7 @@ pub fn put_byte(out: &mut Vec<u8>, byte: u8)
     out.push_reserved(byte);
 }
 
-/// Puts `bytes` at the end of `out`, as they are.
+/// Appends `bytes` to `out`.
 pub fn put_slice(out: &mut Vec<u8>, bytes: &[u8])
     requires room { HasRoom out.old (length bytes.now) }
     ensures text { Puts out.old out.new bytes.now }
@@ -21,7 +21,7 @@ pub fn put_slice(out: &mut Vec<u8>, bytes: &[u8])
     out.extend_from_slice(bytes).unwrap();
 }
 
-/// Puts `number` at the end of `out`, in two bytes.
+/// Appends `number` to `out`, in two bytes.
 #[tactic(auto, unfolding(crate::specs::Field::number_bytes))]
 pub fn put_u16(out: &mut Vec<u8>, number: u16)
     requires room { HasRoom out.old 2 }
@@ -31,7 +31,7 @@ pub fn put_u16(out: &mut Vec<u8>, number: u16)
     put_slice(out, &field);
 }
 
-/// Puts `number` at the end of `out`, in four bytes.
+/// Appends `number` to `out`, in four bytes.
 #[tactic(auto, unfolding(crate::specs::Field::number_bytes))]
 pub fn put_u32(out: &mut Vec<u8>, number: u32)
     requires room { HasRoom out.old 4 }
@@ -41,7 +41,7 @@ pub fn put_u32(out: &mut Vec<u8>, number: u32)
     put_slice(out, &field);
 }
 
-/// Puts `number` at the end of `out`, in eight bytes.
+/// Appends `number` to `out`, in eight bytes.
 #[tactic(auto, unfolding(crate::specs::Field::number_bytes))]
 pub fn put_u64(out: &mut Vec<u8>, number: u64)
     requires room { HasRoom out.old 8 }

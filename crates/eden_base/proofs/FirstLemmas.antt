@@ -5,7 +5,7 @@ use Rattle.std.specs.Option.{option_map}
 use Rattle.std.specs.List.{AllByRecursion}
 use Rattle.eden_base.specs.First.{first_where, changed_where, without_where, IsFirstPlace}
 
--- its place in the list
+-- the index of the first member that passes, if one does
 abbrev pub place_where : {X : Type 0} → (X → Bool) → List X → Option ℕ
 place_where p [] = None
 place_where p (x ∷ xs) = if p x then Some 0 else option_map suc (place_where p xs)
@@ -43,7 +43,7 @@ nothing_in p x xs true o e rest h = absurd (let none : ⊥ = cc in none)
 nothing_in p x xs false None e rest h = rw e (rest refl)
 nothing_in p x xs false (Some j) e rest h = absurd (let none : ⊥ = cc in none)
 
--- where there is no place, no member passes
+-- without such an index, no member passes
 pub place_where-none : {X : Type 0} (p : X → Bool) (xs : List X) → place_where p xs ≡ None → first_where p xs ≡ None
 place_where-none p [] h = refl
 place_where-none p (x ∷ xs) h = nothing_in p x xs (p x) (place_where p xs) refl (place_where-none p xs) h
@@ -60,7 +60,7 @@ place_where-here p (x ∷ xs) zero d bound before here = rw here refl
 place_where-here p (x ∷ xs) (suc i) d bound before here =
     here_in p x xs i d _ refl (before 0 (omega arith)) (place_where-here p xs i d (omega arith) (λ j h. before (suc j) (omega arith)) here)
 
--- there is none where no member passes
+-- if no member passes, there is no such index
 pub place_where-nowhere : {X : Type 0} (p : X → Bool) (xs : List X) (d : X) →
     ((j : ℕ) → j < length xs → p (slice_index_or xs j d) ≡ false) → place_where p xs ≡ None
 place_where-nowhere p [] d none = refl
@@ -81,7 +81,7 @@ without_in : {X : Type 0} (p : X → Bool) (x : X) (xs : List X) (b : Bool) → 
 without_in p x xs true h rest = absurd (let none : ⊥ = cc in none)
 without_in p x xs false h rest = ap (λ ys. x ∷ ys) (rest h)
 
--- where no member passes, none is taken out
+-- if no member passes, none is taken out
 pub without_where-none : {X : Type 0} (p : X → Bool) (xs : List X) → first_where p xs ≡ None → without_where p xs ≡ xs
 without_where-none p [] h = refl
 without_where-none p (x ∷ xs) h = without_in p x xs (p x) h (without_where-none p xs)
@@ -122,7 +122,7 @@ append_in : {X : Type 0} (p : X → Bool) (x : X) (xs ys : List X) (b : Bool) �
 append_in p x xs ys true h = refl
 append_in p x xs ys false h = h
 
--- the first that passes in two lists, one behind the other
+-- the first member that passes in two lists, one after the other
 pub first_where-append : {X : Type 0} (p : X → Bool) (xs ys : List X) → first_where p (xs ++ ys) ≡ (if is_some (first_where p xs) then first_where p xs else first_where p ys)
 first_where-append p [] ys = refl
 first_where-append p (x ∷ xs) ys = append_in p x xs ys (p x) (first_where-append p xs ys)

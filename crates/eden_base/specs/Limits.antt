@@ -1,5 +1,5 @@
--- The limits of numbers, of how often one is held, of files and of their sizes, and of generations and sessions. (This
--- project's own; libfuse counts lookups in 64 bits. A size is an `off_t`, which has a sign.)
+-- The limits of numbers, counts, file ids, sizes of files, generations and sessions. They are this project's own:
+-- libfuse counts lookups in 64 bits. A size is an `off_t`, which has a sign.
 use Rattle.std.specs.Prelude.{ℕ, ◌-◌, ◌^◌}
 
 -- how often the kernel may hold one number: a count of 32 bits

@@ -5,18 +5,18 @@ use Rattle.std.specs.List.{list_any}
 use Rattle.eden_base.specs.declared.name.NameFault.{NameFault}
 use Rattle.eden_base.specs.declared.name.NameFault.TheVariants.{Empty, TooLong, BadByte, Dots, NoMemory}
 
--- a slash or a NUL
+-- `byte` is a slash or a NUL
 abbrev pub is_separator : ℕ → Bool
 is_separator byte = byte == 47 || byte == 0
 
--- `.` or `..`
+-- the bytes are `.` or `..`
 abbrev pub is_dots : List ℕ → Bool
 is_dots [] = false
 is_dots (a ∷ []) = a == 46
 is_dots (a ∷ b ∷ []) = a == 46 && b == 46
 is_dots (a ∷ b ∷ c ∷ more) = false
 
--- the first fault of bytes that are no name
+-- why the bytes are no name: their first fault, or none if they are a name
 abbrev pub name_fault : List ℕ → Option NameFault
 name_fault bytes =
     if nat_lt (length bytes) 1 then Some Empty
@@ -29,7 +29,7 @@ name_fault bytes =
 abbrev pub IsNameText : List ℕ → Type 0
 IsNameText bytes = name_fault bytes ≡ None
 
--- a refused parse tells the first fault; out of memory comes for names alone
+-- this is why a parse of the bytes is refused: their first fault as a name, or NoMemory if they are a name
 abbrev pub IsNameRefusal : List ℕ → NameFault → Type 0
 IsNameRefusal bytes NoMemory = IsNameText bytes
 IsNameRefusal bytes fault = name_fault bytes ≡ Some fault

@@ -21,7 +21,7 @@ errno_name ENOTEMPTY = codes "ENOTEMPTY"
 errno_name EOVERFLOW = codes "EOVERFLOW"
 errno_name ESTALE = codes "ESTALE"
 
--- what a file is, in manifests and printed lines
+-- the word for a kind of file, in manifests and printed lines
 abbrev pub kind_name : Kind → List ℕ
 kind_name File = codes "file"
 kind_name Dir = codes "dir"

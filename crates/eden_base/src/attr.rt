@@ -10,7 +10,7 @@ pub enum Kind {
 }
 
 impl Kind {
-    /// Returns its word in manifests and printed lines.
+    /// Returns the word for `self` in manifests and printed lines.
     pub fn name(self) -> &'static str
         ensures name { result.now ≡ kind_name self }
     {
@@ -29,13 +29,13 @@ pub struct Perm {
 }
 
 impl Perm {
-    /// The greatest: 0o7777.
+    /// The greatest value of the bits: 0o7777.
     pub const MAX_BITS: u16 = 4095;
 
-    /// What every directory of a manifest has: 0o755.
+    /// The permissions of every directory of a manifest: 0o755.
     pub const DIRECTORY: Perm = Perm { bits: 493 };
 
-    /// Returns the permissions of these bits, unless a bit above the twelfth is set.
+    /// Returns the permissions with these `bits`, or none if a bit above the twelfth is set.
     pub fn of(bits: u16) -> Option<Perm>
         ensures perm { IfSome result (λ perm. perm.bits ≡ bits) }
         ensures in_range { IsSome result ↔ (bits ≤ 4095) }
@@ -56,13 +56,14 @@ impl Perm {
     }
 }
 
-/// The attributes of a file that a daemon tells the kernel; those that are constant here are written with the reply.
+/// The attributes of a file that a daemon tells the kernel. All other fields are constant, and are written with the
+/// reply.
 #[derive(Clone, Copy, PartialEq, Eq)]
 pub struct Attr {
     pub kind: Kind,
     pub perm: Perm,
-    /// In bytes; 0 for a directory.
+    /// The size in bytes; 0 for a directory.
     pub size: u64,
-    /// 0 for an unlinked file, else 1 for a file and 2 for a directory.
+    /// The count of links: 0 for an unlinked file, else 1 for a regular file and 2 for a directory.
     pub nlink: u32,
 }

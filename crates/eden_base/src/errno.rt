@@ -1,11 +1,11 @@
-//! The error numbers of `errno.h` that a daemon answers.
+//! The error numbers of `errno.h` with which a daemon answers.
 ghost use Rattle.std.specs.Prelude.{◌≡◌};
 ghost use Rattle.eden_base.specs.Words.{errno_name};
 
 /// Why a request failed, as the kernel passes it on to the program that asked.
 #[derive(Clone, Copy, PartialEq, Eq)]
 pub enum Errno {
-    /// No entry of that name.
+    /// The directory has no such name.
     ENOENT,
     /// The backing of the checkout failed.
     EIO,
@@ -13,9 +13,9 @@ pub enum Errno {
     ENOMEM,
     /// The name is taken.
     EEXIST,
-    /// A directory is needed, and this is none.
+    /// A directory is needed, and the file is none.
     ENOTDIR,
-    /// This is a directory, and none may stand here.
+    /// The file is a directory, and none is allowed here.
     EISDIR,
     /// The request has no meaning.
     EINVAL,
@@ -25,7 +25,7 @@ pub enum Errno {
     ENAMETOOLONG,
     /// No such request is served.
     ENOSYS,
-    /// The directory has entries.
+    /// The directory is not empty.
     ENOTEMPTY,
     /// The count of a number is at its limit.
     EOVERFLOW,
@@ -34,7 +34,7 @@ pub enum Errno {
 }
 
 impl Errno {
-    /// Returns its name in `errno.h`.
+    /// Returns the name of `self` in `errno.h`.
     pub fn name(self) -> &'static str
         ensures name { result.now ≡ errno_name self }
     {

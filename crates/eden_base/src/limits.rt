@@ -9,7 +9,7 @@ pub const END_OF_NUMBERS: u64 = (1 << 63) - 1;
 /// The file id after the last that may be given: `i64::MAX`.
 pub const END_OF_FILES: u64 = (1 << 63) - 1;
 
-/// How many bytes a file may have: an offset in it is a number of 64 bits with a sign.
+/// How many bytes a file may have: an offset in a file is a signed number of 64 bits.
 pub const GREATEST_SIZE: u64 = (1 << 63) - 1;
 
 /// The last generation that the seat may have; the first is 1.

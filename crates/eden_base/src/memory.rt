@@ -1,8 +1,8 @@
-//! Out of memory, where that is the only way to fail.
+//! The fault of calls that fail only if memory is refused.
 use std::alloc::{AllocError, AllocFailed};
 use thiserror::Error;
 
-/// The allocator refused. What the call was to change is as it was.
+/// The allocator refused memory. What the call was to change is unchanged.
 #[derive(Clone, Copy, Debug, PartialEq, Eq, Error)]
 #[error("out of memory")]
 pub struct NoMemory;

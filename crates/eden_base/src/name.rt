@@ -15,11 +15,11 @@ use std::cmp::Ordering;
 use std::marker::Model;
 use thiserror::Error;
 
-/// How many bytes a name keeps in its value. Most names of a checkout take no memory so. It is the most with which a
-/// `Name` takes 32 bytes.
+/// How many bytes of a name stand in its `Name` itself. Most names of a checkout have no more bytes, and so take no
+/// memory. With a greater `SHORT`, a `Name` would take more than 32 bytes.
 const SHORT: usize = 16;
 
-/// A name as `path_resolution(7)` has it, in bytes that need be no text.
+/// The name of a directory entry, as `path_resolution(7)` defines it. Its bytes need not be UTF-8.
 #[derive(Drop)]
 pub struct Name {
     bytes: SmallVec<u8, SHORT>,
@@ -35,7 +35,7 @@ impl Model for Name {
 
 const _: () = prove!(size_of::<Name>() <= 32);
 
-/// Why bytes are no name. The first that holds is told, in this order.
+/// Why bytes are no name. If several variants apply, the first in this order is the fault.
 #[derive(Clone, Copy, Debug, PartialEq, Eq, Error)]
 pub enum NameFault {
     #[error("the name is empty")]
@@ -51,10 +51,10 @@ pub enum NameFault {
 }
 
 impl Name {
-    /// In bytes (`NAME_MAX` of `linux/limits.h`).
+    /// The length of the longest name, in bytes (`NAME_MAX` of `linux/limits.h`).
     pub const MAX_LEN: usize = 255;
 
-    /// Returns the name of these bytes.
+    /// Makes a name of `bytes`, or returns why they are no name.
     pub fn parse(alloc: Global, bytes: &[u8]) -> Result<Name, NameFault>
         ensures name { IfOk result (λ name. name ≡ bytes.now) }
         ensures accepted { OnOk result (IsNameText bytes.now) }
@@ -70,7 +70,7 @@ impl Name {
         }
     }
 
-    /// Returns the name of these bytes, in memory that was taken before.
+    /// Makes a name of `bytes` in the memory of `room`, or returns why they are no name.
     pub fn parse_to(room: NameRoom, bytes: &[u8]) -> Result<Name, NameFault>
         ensures name { IfOk result (λ name. name ≡ bytes.now) }
         ensures accepted { OnOk result (IsNameText bytes.now) }
@@ -83,7 +83,7 @@ impl Name {
         }
     }
 
-    /// Returns the name of bytes that are one.
+    /// Makes a name of `bytes`, which must be a valid name.
     pub fn of(alloc: Global, bytes: &[u8]) -> Result<Name, NoMemory>
         requires { IsNameText bytes.now }
         ensures name { IfOk result (λ name. name ≡ bytes.now) }
@@ -95,7 +95,7 @@ impl Name {
         }
     }
 
-    /// Returns the name of bytes that are one, in memory that was taken before.
+    /// Makes a name of `bytes`, which must be a valid name, in the memory of `room`.
     pub fn of_to(room: NameRoom, bytes: &[u8]) -> Name
         requires { IsNameText bytes.now }
         ensures name { result ≡ bytes.now }
@@ -107,7 +107,7 @@ impl Name {
         }
     }
 
-    /// Returns the first fault of bytes as a name, memory apart: none where they are one.
+    /// Returns why `bytes` are no name, or none if they are a name. `NoMemory` is never returned.
     pub fn fault(bytes: &[u8]) -> Option<NameFault>
         ensures fault { result ≡ name_fault bytes.now }
     {
@@ -126,7 +126,7 @@ impl Name {
         None
     }
 
-    /// Returns the bytes as they were parsed: they need be no text.
+    /// Returns the bytes of the name, which need not be UTF-8.
     pub fn bytes(&self) -> &[u8]
         ensures bytes { result.now ≡ self.now }
         ensures is_name { IsNameText result.now }
@@ -134,7 +134,7 @@ impl Name {
         self.bytes.as_slice()
     }
 
-    /// Returns the same name, in memory of its own.
+    /// Makes a copy of the name. The copy of a name of up to 16 bytes takes no memory.
     pub fn copy(&self, alloc: Global) -> Result<Name, NoMemory>
         ensures copy { IfOk result (λ name. name ≡ self.now) }
         ensures short { length self.now ≤ 16 → IsOk result }
@@ -142,14 +142,14 @@ impl Name {
         Name::of(alloc, self.bytes())
     }
 
-    /// Returns the same name, in memory that was taken before.
+    /// Makes a copy of the name in the memory of `room`.
     pub fn copy_to(&self, room: NameRoom) -> Name
         ensures copy { result ≡ self.now }
     {
         Name::of_to(room, self.bytes())
     }
 
-    /// Returns whether the two are one name, byte for byte.
+    /// Returns whether `self` and `other` have the same bytes.
     pub fn is(&self, other: &Name) -> bool
         ensures same { IsTrue result ↔ (self.now ≡ other.now) }
         ensures value { result ≡ pointwise nat_eq self.now other.now }

@@ -1,12 +1,12 @@
-//! Memory for one name, taken before it is known which.
+//! Memory for one name, taken before the name is known.
 ghost use Rattle.std.specs.Prelude.{◌≤◌, IfOk};
 
 use crate::{Name, NoMemory};
 use std::alloc::Global;
 use std::marker::Model;
 
-/// Room for any one name, seen as how many bytes it takes. `Name::of_to`, `parse_to` and `copy_to` use it up, and so
-/// never run out of memory.
+/// Room for any one name, which contracts see as its capacity in bytes. `Name::of_to`, `parse_to` and `copy_to` consume
+/// a room, and so never run out of memory.
 #[derive(Drop)]
 pub struct NameRoom {
     pub(crate) bytes: Vec<u8>,

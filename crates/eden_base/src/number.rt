@@ -1,4 +1,4 @@
-//! The numbers that the kernel, the checkout and the broker give to files and daemons.
+//! The inode numbers of the kernel, the ids of files in the checkout, and the numbers of daemons.
 
 /// An inode number as the kernel holds it: what `linux/fuse.h` calls a nodeid. No file has number 0, which
 /// is the default.
@@ -10,15 +10,15 @@ impl Number {
     pub const ROOT: Number = Number(1);
 }
 
-/// A file of the checkout, named apart from any number that the kernel holds for it.
+/// The id of a file of the checkout, whatever number the kernel holds for that file.
 #[derive(Clone, Copy, PartialEq, Eq)]
 pub struct FileId(pub u64);
 
 impl FileId {
-    /// The root directory of every checkout.
+    /// The id of the root directory, in every checkout.
     pub const ROOT: FileId = FileId(1);
 }
 
-/// A daemon, numbered from 1 in the order in which daemons start.
+/// The number of a daemon. Daemons are numbered from 1, in the order in which they start.
 #[derive(Clone, Copy, PartialEq, Eq)]
 pub struct DaemonId(pub u64);

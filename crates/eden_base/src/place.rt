@@ -4,8 +4,8 @@ use crate::{FileId, Name, Number};
 /// Where the file of a number stands: under a name in a directory, or nowhere any more.
 #[derive(Drop)]
 pub enum Place {
-    /// Under this name, in the directory that has this number.
+    /// Under `name`, in the directory that has the number `parent`.
     Linked { parent: Number, name: Name },
-    /// Its name was taken away while the kernel held its number.
+    /// Nowhere: `file` lost its name while the kernel held its number.
     Unlinked { file: FileId },
 }

@@ -17,7 +17,7 @@ pub alone_again : {width : Width} {limit : ℕ} → IsWidth width limit → (n :
 unfolding alone
 alone_again {width = width} is n lt = rw (is.len n, is.again n lt, eq-eqb (byte_len width) (byte_len width) refl) refl
 
--- versions, one behind the other
+-- versions, one after the other
 pub numbers_again : (versions : List ℕ) → All FitsVersion versions → numbers_at (length versions) (flat_map version_text versions) ≡ versions
 numbers_again [] fit = refl
 numbers_again (version ∷ versions) fit =
@@ -30,7 +30,7 @@ numbers_again (version ∷ versions) fit =
     let tail = numbers_again versions (λ k d lt. fit (suc k) d (omega (arith, lt))) in
     rw (first, others, two.again version low, tail) refl
 
--- an offer's versions behind their count
+-- an offer's versions after their count
 pub versions_again : (versions : List ℕ) → length versions ≤ 8 → All FitsVersion versions → versions_of (length versions ∷ flat_map version_text versions) ≡ Ok versions
 unfolding versions_of
 versions_again versions few fit =

@@ -1,4 +1,4 @@
--- A body that was read is spelled as it stood: a number, nothing, and versions.
+-- A body that was read is the text of what was read: a number, nothing, and versions.
 use Rattle.std.proofs.Common.{◌≡◌, ℕ, zero, suc, ◌*◌, ◌<◌, ◌≤◌, leb, eqb, List, [], ◌∷◌, ◌++◌, length, take, drop, refl, ap, ◌∙◌, length-take, arith}
 use Rattle.std.specs.Int.{Width, w16, byte_len}
 use Rattle.std.specs.Prelude.{◌&&◌}

@@ -1,4 +1,4 @@
--- A frame that was read is spelled as its body stood, and a body that is no frame's is at fault by BadBody alone.
+-- A body that was read is the text of its frame, and a body that is no frame's is at fault by BadBody alone.
 use Rattle.std.proofs.Common.{◌≡◌, ℕ, Bool, true, false, cond, eqb, List, [], ◌∷◌, ◌++◌, Option, Some, None, refl, sym, ap, ◌∙◌}
 use Rattle.std.specs.Int.{w32, w64}
 use Rattle.std.proofs.lemmas.Bool.{eqb-true}

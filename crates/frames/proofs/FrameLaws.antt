@@ -17,7 +17,7 @@ use Rattle.frames.specs.Kind.{kind_with, message_kind_with, message_number, numb
 use Rattle.frames.specs.Reading.{frame_of, message_of, nothing}
 use Rattle.frames.proofs.FieldLaws.{alone_again, versions_again}
 
--- each kind has a number of its own
+-- no two kinds have the same number
 pub message_kind_again : (kind : MessageKind) → message_kind_with (message_number kind) ≡ Some kind
 unfolding message_kind_with
 message_kind_again messages.Offer = refl

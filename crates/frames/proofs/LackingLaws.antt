@@ -114,7 +114,7 @@ few_long : (len n count : ℕ) (kind : Option Kind) (over : Bool) → over ≡ l
 few_long len n count kind true is e = absurd cc
 few_long len n count kind false is e = few_behind kind len n count (ltb-false longest_body len (sym is)) e
 
--- at most the longest body is lacking behind a head
+-- at most the longest body is lacking after a head
 pub lacking_few : (bytes : List ℕ) (n : ℕ) → lacking bytes ≡ Ok n → 5 ≤ length bytes → n ≤ longest_body
 lacking_few [] n e five = absurd (omega (arith, five))
 lacking_few (a ∷ []) n e five = absurd (omega (arith, five))
@@ -141,7 +141,7 @@ kind_there (a ∷ b ∷ c ∷ d ∷ x ∷ bytes) n five e none =
     ap (λ (k : Option Kind). cond over (Err TooLong) (lacking_behind k (of_four a b c d) (length bytes))) (sym none) ∙ sym (lacks_long a b c d x bytes) ∙ e in
     none_long over (of_four a b c d) n (length bytes) told
 
--- ---- a head of five bytes, and a body behind it
+-- ---- a head of five bytes, and a body after it
 
 grown_behind : (kind : Option Kind) (len n : ℕ) (part : List ℕ) → lacking_behind kind len 0 ≡ Ok n → length part ≤ n → lacking_behind kind len (length part) ≡ Ok (n - length part)
 grown_behind None len n part e few = absurd cc

@@ -1,4 +1,4 @@
--- Frames that stand at the front of a stream, one behind the other.
+-- Frames that stand at the front of a stream, one after the other.
 use Rattle.std.proofs.Common.{◌≡◌, ◌≢◌, ℕ, List, [], ◌∷◌, ◌++◌, refl, sym, ap, subst, ◌∙◌}
 use Rattle.frames.specs.declared.fault.FrameFault.{FrameFault}
 use Rattle.frames.specs.declared.frame.Frame.{Frame}
@@ -6,7 +6,7 @@ use Rattle.frames.specs.Laws.{AreFirst, FaultyRest, Parts, Rest, Tail, grown}
 use Rattle.frames.specs.Reading.{Faulty, First, NotYet, said}
 use Rattle.frames.proofs.GrowingLaws.{grows}
 
--- a frame that stands in front still does with more behind
+-- a frame that stands in front still does with more bytes after
 first_grows : (bytes rest more : List ℕ) (frame : Frame) → said bytes ≡ First frame rest → said (bytes ++ more) ≡ First frame (rest ++ more)
 first_grows bytes rest more frame is =
     let some : said bytes ≢ NotYet = λ none. absurd cc in
@@ -21,7 +21,7 @@ pub frames_join : (bytes rest left : List ℕ) (frames : List Frame) (frame : Fr
 frames_join bytes rest left [] frame are is = (left, ap said are ∙ is, refl)
 frames_join bytes rest left (first ∷ frames) frame are is = (are.0, are.1, frames_join are.0 rest left frames frame are.2 is)
 
--- a fault stays with more behind it
+-- a fault stays with more bytes after it
 fault_grows : (rest more : List ℕ) (fault : FrameFault) → said rest ≡ Faulty fault → said (rest ++ more) ≡ Faulty fault
 fault_grows rest more fault is =
     let some : said rest ≢ NotYet = λ none. absurd cc in

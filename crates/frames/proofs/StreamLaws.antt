@@ -62,7 +62,7 @@ front_is (a ∷ b ∷ c ∷ d ∷ []) body rest n kind four e few is =
     is_long a b c d n (body ++ rest) ∙ rw (e, short, is, whole, take_at body rest (length body) refl, drop_at body rest (length body) refl) refl
 front_is (a ∷ b ∷ c ∷ d ∷ x ∷ head) body rest n kind four e few is = absurd (omega (arith, four))
 
--- a text that was written is read as its frame, whatever is behind it
+-- a text that was written is read as its frame, whatever is after it
 pub framed_again : (frame : Frame) (rest : List ℕ) → Fits frame → length (body_of frame) ≤ longest_body → said (framed (kind_of frame) (body_of frame) ++ rest) ≡ First frame rest
 framed_again frame rest fit few =
     let body = body_of frame in

@@ -5,7 +5,7 @@ use Rattle.std.specs.Int.{w16}
 use Rattle.byte_codec.specs.Field.{number_in}
 use Rattle.frames.specs.Reading.{numbers_at}
 
--- the next version stands behind those that were read
+-- the next version stands after those that were read
 pub one_more : (n i : ℕ) (done rest : List ℕ) → i < n → (done ++ number_in w16 (take 2 rest) ∷ []) ++ numbers_at (n - (i + 1)) (drop 2 rest) ≡ done ++ numbers_at (n - i) rest
 one_more n i done rest lt =
     let left : n - i ≡ suc (n - (i + 1)) = omega arith in

@@ -1,4 +1,4 @@
--- The one text of a frame: the length of its body in four bytes, the number of its kind in one, its body. (This
+-- The text of a frame: the length of its body in four bytes, the number of its kind in one byte, and its body. (This
 -- project's own.)
 use Rattle.std.specs.Prelude.{◌≡◌, ◌<◌, ◌≤◌, ◌^◌, ℕ, nat_lt, List, [], ◌∷◌, ◌++◌, length, Option, Some, None, IsSome, if◌then◌else◌}
 use Rattle.std.specs.Int.{w16, w32, w64}
@@ -59,7 +59,7 @@ kind_of (Takeover message) = kinds.Takeover (message_kind message)
 abbrev pub version_text : ℕ → List ℕ
 version_text version = number_bytes w16 version
 
--- the fields of a takeover's message
+-- the body of a takeover's message: its fields
 abbrev pub message_body : Message → List ℕ
 message_body (Offer versions) = length versions ∷ flat_map version_text versions
 message_body (Choice session version) = number_bytes w32 session ++ number_bytes w16 version
@@ -73,7 +73,7 @@ message_body (Part session generation position count bytes) =
     ++ (number_bytes w64 generation ++ (number_bytes w32 position ++ (number_bytes w32 count ++ bytes)))
 message_body (Failed session) = number_bytes w32 session
 
--- the fields of a frame
+-- the body of a frame: its fields
 abbrev pub body_of : Frame → List ℕ
 body_of (Take generation) = number_bytes w64 generation
 body_of (Ask request) = request
@@ -96,7 +96,7 @@ body_of (Takeover message) = message_body message
 
 -- ---- texts
 
--- the length of a body, the number of a kind, the body
+-- the text of a frame with this kind and this body: the length of the body, the number of the kind, the body
 abbrev pub framed : Kind → List ℕ → List ℕ
 framed kind body = number_bytes w32 (length body) ++ (number_of kind ∷ body)
 
@@ -106,15 +106,15 @@ frame_text frame =
     if nat_lt longest_body (length (body_of frame)) then None
     else Some (framed (kind_of frame) (body_of frame))
 
--- a frame is not written where it has no text; out of memory comes only where it has one
+-- a frame is not written for this cause: it has no text, or it has one and memory was refused
 abbrev pub IsNotWritten : Frame → FrameFault → Type 0
 IsNotWritten frame TooLong = frame_text frame ≡ None
 IsNotWritten frame NoMemory = IsSome (frame_text frame)
 IsNotWritten frame fault = ⊥
 
--- ---- numbers that have room in their fields, as those of every frame in a program have
+-- ---- numbers that fit their fields, as those of every frame in a program do
 
--- a version that has room in its two bytes
+-- a version fits its two bytes
 abbrev pub FitsVersion : ℕ → Type 0
 FitsVersion version = version < 2 ^ 16
 

@@ -5,7 +5,7 @@ use Rattle.frames.specs.declared.kind.Kind.TheVariants as kinds
 use Rattle.frames.specs.declared.kind.MessageKind.{MessageKind}
 use Rattle.frames.specs.declared.kind.MessageKind.TheVariants as messages
 
--- the numbers of a takeover's messages
+-- the number of each kind of message
 abbrev pub message_number : MessageKind → ℕ
 message_number messages.Offer = 32
 message_number messages.Choice = 33
@@ -17,7 +17,7 @@ message_number messages.Data = 38
 message_number messages.Failed = 39
 message_number messages.Part = 40
 
--- the numbers of all frames
+-- the number of each kind of frame
 abbrev pub number_of : Kind → ℕ
 number_of kinds.Take = 1
 number_of kinds.Ask = 2
@@ -38,7 +38,7 @@ number_of kinds.Attach = 16
 number_of kinds.Attached = 17
 number_of (kinds.Takeover kind) = message_number kind
 
--- the first of these that has a number; or else what is left
+-- the first of these kinds that has number n, or `left` if none of them has
 abbrev pub first_with : {K : Type 0} → (K → ℕ) → ℕ → List K → Option K → Option K
 first_with number n [] left = left
 first_with number n (kind ∷ others) left = if n == number kind then Some kind else first_with number n others left
@@ -47,7 +47,7 @@ first_with number n (kind ∷ others) left = if n == number kind then Some kind 
 abbrev pub message_kinds : List MessageKind
 message_kinds = messages.Offer ∷ messages.Choice ∷ messages.NoCommon ∷ messages.Busy ∷ messages.Ready ∷ messages.Pong ∷ messages.Data ∷ messages.Failed ∷ messages.Part ∷ []
 
--- the kind of message that has a number, if one has
+-- the kind of message that has this number, if there is one
 unfoldable pub message_kind_with : ℕ → Option MessageKind
 message_kind_with n = first_with message_number n message_kinds None
 
@@ -55,11 +55,11 @@ message_kind_with n = first_with message_number n message_kinds None
 abbrev pub plain_kinds : List Kind
 plain_kinds = kinds.Take ∷ kinds.Ask ∷ kinds.Empty ∷ kinds.Post ∷ kinds.Posted ∷ kinds.Ended ∷ kinds.Stale ∷ kinds.NotAsked ∷ kinds.Claim ∷ kinds.Claimed ∷ kinds.Unanswered ∷ kinds.LastGeneration ∷ kinds.Mount ∷ kinds.Mounted ∷ kinds.Seated ∷ kinds.Attach ∷ kinds.Attached ∷ []
 
--- a kind of message is a frame's kind, too
+-- the kind of the frames that carry this kind of message
 abbrev pub of_takeover : Option MessageKind → Option Kind
 of_takeover None = None
 of_takeover (Some kind) = Some (kinds.Takeover kind)
 
--- the kind of frame that has a number, if one has
+-- the kind of frame that has this number, if there is one
 unfoldable pub kind_with : ℕ → Option Kind
 kind_with n = first_with number_of n plain_kinds (of_takeover (message_kind_with n))

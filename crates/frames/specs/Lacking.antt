@@ -7,12 +7,13 @@ use Rattle.frames.specs.FrameText.{longest_body}
 use Rattle.frames.specs.Kind.{kind_with}
 use Rattle.frames.specs.Reading.{body_len}
 
--- behind the number of a kind, the bytes of its body that are not there
+-- how many bytes of the body are lacking after the number of this kind, or BadKind if the number is of no kind
 abbrev pub lacking_by : Option Kind → List ℕ → Result ℕ FrameFault
 lacking_by None bytes = Err BadKind
 lacking_by (Some kind) bytes = Ok (5 + body_len bytes - length bytes)
 
--- first those up to the kind, then those of the body; or the fault that shows before the body is whole
+-- how many bytes the frame at the front lacks: first those up to the kind, then those of the body; or the fault that
+-- shows before the body is whole
 unfoldable pub lacking : List ℕ → Result ℕ FrameFault
 lacking bytes =
     if nat_lt (length bytes) 4 then Ok (5 - length bytes)
@@ -20,7 +21,7 @@ lacking bytes =
     else if nat_lt (length bytes) 5 then Ok (5 - length bytes)
     else lacking_by (kind_with (slice_index bytes 4)) bytes
 
--- a fault that shows before the body is whole
+-- the fault is one that shows before the body is whole
 abbrev pub IsHeadFault : FrameFault → Type 0
 IsHeadFault TooLong = Unit {0}
 IsHeadFault BadKind = Unit {0}

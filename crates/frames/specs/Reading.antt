@@ -1,4 +1,4 @@
--- Which frame a body is, and what the front of a stream of bytes is. (This project's own.)
+-- How a body is read as a frame, and what is at the front of a stream of bytes. (This project's own.)
 use Rattle.std.specs.Prelude.{◌≡◌, ◌≢◌, ◌≤◌, ◌<◌, IsOkAnd, ℕ, suc, zero, ◌+◌, ◌*◌, ◌==◌, nat_lt, nat_le, ◌&&◌, List, [], ◌∷◌, length, take, drop, slice_index, Option, Some, None, Result, Ok, Err, if◌then◌else◌}
 use Rattle.std.specs.Int.{Width, w16, w32, w64, byte_len}
 use Rattle.byte_codec.specs.Field.{number_in}
@@ -18,55 +18,55 @@ use Rattle.frames.specs.Kind.{kind_with}
 
 -- ---- bodies, as they are read
 
--- a call gave, seen by a view, what reading gives: a value, or BadBody
+-- a call returned what reading gives: the value, seen by `view`, or BadBody
 abbrev pub Is : {X Y : Type 0} → (X → Y) → Result X FrameFault → Result Y FrameFault → Type 0
 Is view (Ok x) read = read ≡ Ok (view x)
 Is view (Err fault) read = (fault ≡ BadBody) × (read ≡ Err BadBody)
 
--- a message with bytes that are copied when it is read, at least one
+-- a message carries bytes, at least one, which are copied when the message is read
 abbrev pub HasImage : Message → Type 0
 HasImage (Data session generation bytes) = bytes ≢ []
 HasImage (Part session generation position count bytes) = bytes ≢ []
 HasImage message = ⊥
 
--- a frame with bytes that are copied when it is read, at least one
+-- a frame carries bytes, at least one, which are copied when the frame is read
 abbrev pub HasBytes : Frame → Type 0
 HasBytes (Ask request) = request ≢ []
 HasBytes (Post generation reply) = reply ≢ []
 HasBytes (Takeover message) = HasImage message
 HasBytes frame = ⊥
 
--- a call gave what reading gives; out of memory comes in place of a frame with bytes alone
+-- a call returned what `read` is; only instead of a value with bytes to copy may it return NoMemory
 abbrev pub Gives : {X : Type 0} → (X → Type 0) → Result X FrameFault → Result X FrameFault → Type 0
 Gives Copied (Ok x) read = read ≡ Ok x
 Gives Copied (Err NoMemory) read = IsOkAnd read Copied
 Gives Copied (Err fault) read = read ≡ Err fault
 
--- the number that a body is
+-- the number that a body is, if it has as many bytes as the width, else BadBody
 unfoldable pub alone : Width → List ℕ → Result ℕ FrameFault
 alone width body = if length body == byte_len width then Ok (number_in width body) else Err BadBody
 
--- the number at the front of a body, and what follows it
+-- the number at the front of a body and what follows it, or BadBody if there are too few bytes
 abbrev pub front : Width → List ℕ → Result (ℕ × List ℕ) FrameFault
 front width body = number_at BadBody width body
 
--- nothing where the body is empty
+-- nothing if the body is empty, else BadBody
 unfoldable pub nothing : List ℕ → Result (Unit {0}) FrameFault
 nothing [] = Ok tt
 nothing (byte ∷ rest) = Err BadBody
 
--- numbers of two bytes, one behind the other
+-- this many numbers at the front of the bytes, of two bytes each
 abbrev pub numbers_at : ℕ → List ℕ → List ℕ
 numbers_at zero bytes = []
 numbers_at (suc n) bytes = number_in w16 (take 2 bytes) ∷ numbers_at n (drop 2 bytes)
 
--- at most eight versions behind their count
+-- the versions in a body: a count of at most eight, and then as many versions; or BadBody
 unfoldable pub versions_of : List ℕ → Result (List ℕ) FrameFault
 versions_of [] = Err BadBody
 versions_of (count ∷ rest) =
     if nat_le count 8 && length rest == 2 * count then Ok (numbers_at count rest) else Err BadBody
 
--- the message of a kind and a body
+-- the message of this kind with this body, or BadBody
 unfoldable pub message_of : MessageKind → List ℕ → Result Message FrameFault
 message_of messages.Offer body = versions_of body >>= λ versions. Ok (Offer versions)
 message_of messages.Choice body = do
@@ -92,11 +92,11 @@ message_of messages.Part body = do
   Ok (Part session.0 generation.0 position.0 count.0 count.1)
 message_of messages.Failed body = alone w32 body >>= λ session. Ok (Failed session)
 
--- a frame that has no field, where the body is empty
+-- this frame, which has no field, if the body is empty, else BadBody
 abbrev pub bare : Frame → List ℕ → Result Frame FrameFault
 bare frame body = nothing body >>= λ _. Ok frame
 
--- the frame of a kind and a body
+-- the frame of this kind with this body, or BadBody
 unfoldable pub frame_of : Kind → List ℕ → Result Frame FrameFault
 frame_of kinds.Take body = alone w64 body >>= λ generation. Ok (Take generation)
 frame_of kinds.Ask body = Ok (Ask body)
@@ -119,36 +119,36 @@ frame_of (kinds.Takeover kind) body = message_of kind body >>= λ message. Ok (T
 
 -- ---- the front of a stream
 
--- a stream begins with this frame, and has this rest behind it; or with a faulty one; or holds no whole frame yet
+-- what is at the front of a stream: a frame, and this rest after it; or a faulty frame; or no whole frame yet
 pub data Said : Type 0 where
   First : (frame : Frame) (rest : List ℕ) → Said
   Faulty : (fault : FrameFault) → Said
   NotYet : Said
 
--- how long the first body is, as the first four bytes say
+-- the length of the first body, as the first four bytes say
 abbrev pub body_len : List ℕ → ℕ
 body_len bytes = number_in w32 (take 4 bytes)
 
--- the first body, and what follows it
+-- the first body; `behind` is what follows it
 abbrev pub body_in : List ℕ → List ℕ
 body_in bytes = take (body_len bytes) (drop 5 bytes)
 
 abbrev pub behind : List ℕ → List ℕ
 behind bytes = drop (5 + body_len bytes) bytes
 
--- a frame with a rest, or its fault
+-- what is at the front, by what a body was read as: this frame with this rest after it, or this fault
 abbrev pub said_frame : Result Frame FrameFault → List ℕ → Said
 said_frame (Ok frame) rest = First frame rest
 said_frame (Err fault) rest = Faulty fault
 
--- what the bytes of a kind say, once the number of the kind is there
+-- what is at the front, once the number of the kind is there, by the kind that has the number, if any
 abbrev pub said_by : Option Kind → List ℕ → Said
 said_by None bytes = Faulty BadKind
 said_by (Some kind) bytes =
     if nat_lt (length bytes) (5 + body_len bytes) then NotYet
     else said_frame (frame_of kind (body_in bytes)) (behind bytes)
 
--- what a stream of bytes says
+-- what is at the front of a stream of bytes
 unfoldable pub said : List ℕ → Said
 said bytes =
     if nat_lt (length bytes) 4 then NotYet
@@ -156,36 +156,36 @@ said bytes =
     else if nat_lt (length bytes) 5 then NotYet
     else said_by (kind_with (slice_index bytes 4)) bytes
 
--- a frame that stands at the front: its kind, and how many bytes its body has
+-- the frame at the front has this kind and a body of this length, and is read from that body
 abbrev pub IsFound : List ℕ → Kind × ℕ → Type 0
 IsFound bytes found =
     (5 + found.1 ≤ length bytes)
     × (said bytes ≡ said_frame (frame_of found.0 (take found.1 (drop 5 bytes))) (drop (5 + found.1) bytes))
 
--- a fault that bytes can have
+-- the frame at the front has this fault, which is not NoMemory
 abbrev pub IsFaulty : List ℕ → FrameFault → Type 0
 IsFaulty bytes NoMemory = ⊥
 IsFaulty bytes fault = said bytes ≡ Faulty fault
 
--- what a look at the front finds
+-- this is found at the front: no whole frame, or a kind and the length of a body, or a fault
 abbrev pub Finds : List ℕ → Result (Option (Kind × ℕ)) FrameFault → Type 0
 Finds bytes (Ok None) = said bytes ≡ NotYet
 Finds bytes (Ok (Some found)) = IsFound bytes found
 Finds bytes (Err fault) = IsFaulty bytes fault
 
--- the bytes say a frame that takes memory
+-- the frame at the front has bytes that are copied, which takes memory
 abbrev pub SaysCopied : Said → Type 0
 SaysCopied (First frame rest) = HasBytes frame
 SaysCopied what = ⊥
 
--- what is read at the front: a frame, and how many bytes it takes up; or none yet; or a fault
+-- this is read at the front: no whole frame, or a frame and how many bytes it takes up, or a fault
 abbrev pub Reads : List ℕ → Result (Option (Frame × ℕ)) FrameFault → Type 0
 Reads bytes (Ok None) = said bytes ≡ NotYet
 Reads bytes (Ok (Some first)) = (first.1 ≤ length bytes) × (said bytes ≡ First first.0 (drop first.1 bytes))
 Reads bytes (Err NoMemory) = SaysCopied (said bytes)
 Reads bytes (Err fault) = said bytes ≡ Faulty fault
 
--- how long the whole frame at the front is; or none yet; or a fault
+-- this is measured at the front: no whole frame, or the length of a whole frame, or a fault
 abbrev pub Measures : List ℕ → Result (Option ℕ) FrameFault → Type 0
 Measures bytes (Ok None) = said bytes ≡ NotYet
 Measures bytes (Ok (Some used)) =

@@ -7,7 +7,7 @@ use Rattle.frames.specs.FrameText.{Fits, body_of, frame_text, kind_of, longest_b
 use Rattle.frames.specs.Kind.{number_of}
 use Rattle.frames.specs.Reading.{Said, First, Faulty, NotYet, body_in, body_len}
 
--- the text of a frame stands in front of a rest
+-- the bytes are the text of this frame, and then this rest
 pub record IsFirst (bytes : List ℕ) (frame : Frame) (rest : List ℕ) : Type 0 where
   pub text : List ℕ
   pub is_text : frame_text frame ≡ Some text
@@ -19,19 +19,19 @@ pub record HasLength (bytes : List ℕ) : Type 0 where
   pub whole : 4 ≤ length bytes
   pub few : body_len bytes ≤ longest_body
 
--- and behind it stands the number of a kind
+-- such a length is followed by the number of this kind
 pub record HasKind (bytes : List ℕ) (kind : Kind) : Type 0 where
   pub len : HasLength bytes
   pub whole : 5 ≤ length bytes
   pub number : slice_index bytes 4 ≡ number_of kind
 
--- the bytes of no frame of this kind
+-- no frame of this kind has this body
 abbrev pub IsNoBody : Kind → List ℕ → Type 0
 IsNoBody kind body = (frame : Frame) → Fits frame → kind_of frame ≡ kind → body_of frame ≢ body
 
--- a frame, where its text stands in front; TooLong, where the length is whole and too long; BadKind, where a length is
--- followed by the number of no kind; BadBody, where the body is whole and no frame's; and nothing, where the length is
--- not whole, or is followed by nothing, or the body is not whole
+-- what the bytes say, by texts. A frame: its text is in front. TooLong: the length is whole and too long. BadKind: a
+-- length is followed by the number of no kind. BadBody: the body is whole and no frame's. NotYet: the length is not
+-- whole, or nothing follows it, or the body is not whole.
 abbrev pub Says : List ℕ → Said → Type 0
 Says bytes (First frame rest) = IsFirst bytes frame rest
 Says bytes (Faulty TooLong) = (4 ≤ length bytes) × (longest_body < body_len bytes)

@@ -1,4 +1,4 @@
-//! Bodies, as they are read.
+//! Bodies of frames, read from their bytes.
 ghost use Rattle.std.specs.Prelude.{◌≡◌, ◌≢◌, ◌*◌, ◌≤◌, [], length, IfOk, IfErr, OnErr};
 ghost use Rattle.frames.specs.declared.fault.FrameFault.TheVariants.{NoMemory};
 ghost use Rattle.frames.specs.declared.kind.Kind.TheVariants as kinds;
@@ -14,7 +14,7 @@ use eden_base::DaemonId;
 use std::alloc::Global;
 use takeover_core::{Message, Versions};
 
-/// Copies bytes that are kept.
+/// Copies `bytes`, which the frame keeps. An empty body takes no memory.
 fn copy(alloc: Global, bytes: &[u8]) -> Result<Vec<u8>, FrameFault>
     ensures copied { IfOk result (λ copied. copied.items ≡ bytes.now) }
     ensures refused { IfErr result (λ fault. fault ≡ NoMemory) }
@@ -29,7 +29,7 @@ fn copy(alloc: Global, bytes: &[u8]) -> Result<Vec<u8>, FrameFault>
     }
 }
 
-/// Reads `count` versions.
+/// Reads `count` versions from `bytes`.
 #[tactic(auto, using(crate::proofs::Versions::one_more, crate::proofs::Versions::no_more))]
 fn read_each(count: usize, bytes: &[u8]) -> Versions
     requires few { count ≤ 8 }
@@ -46,7 +46,7 @@ fn read_each(count: usize, bytes: &[u8]) -> Versions
     Versions::of(versions.as_slice())
 }
 
-/// Reads the versions of an offer.
+/// Reads the versions of an `Offer` from its body.
 #[tactic(auto, unfolding(crate::specs::Reading::versions_of))]
 fn read_versions(body: &[u8]) -> Result<Versions, FrameFault>
     ensures { Is (λ x. x) result (versions_of body.now) }
@@ -63,7 +63,7 @@ fn read_versions(body: &[u8]) -> Result<Versions, FrameFault>
     }
 }
 
-/// Reads the image that a message carries.
+/// Reads a `Data` message, which carries an image, from its body.
 #[tactic(auto, unfolding(crate::specs::Reading::message_of))]
 fn read_data(alloc: Global, body: &[u8]) -> Result<Message, FrameFault>
     ensures { Gives HasImage result (message_of messages.Data body.now) }
@@ -78,7 +78,7 @@ fn read_data(alloc: Global, body: &[u8]) -> Result<Message, FrameFault>
     })
 }
 
-/// Reads the numbered part of a text that a message carries.
+/// Reads a `Part` message, which carries a numbered part of a text, from its body.
 #[tactic(auto, unfolding(crate::specs::Reading::message_of))]
 fn read_part(alloc: Global, body: &[u8]) -> Result<Message, FrameFault>
     ensures { Gives HasImage result (message_of messages.Part body.now) }
@@ -97,7 +97,7 @@ fn read_part(alloc: Global, body: &[u8]) -> Result<Message, FrameFault>
     })
 }
 
-/// Reads the message of a kind and a body.
+/// Reads a message of this kind from its body.
 #[tactic(auto, unfolding(crate::specs::Reading::message_of))]
 fn read_message(alloc: Global, kind: MessageKind, body: &[u8]) -> Result<Message, FrameFault>
     ensures { Gives HasImage result (message_of kind body.now) }
@@ -138,7 +138,7 @@ fn read_message(alloc: Global, kind: MessageKind, body: &[u8]) -> Result<Message
     }
 }
 
-/// Reads a FUSE reply behind its generation.
+/// Reads a `Post` frame from its body: a generation, then a FUSE reply.
 #[tactic(auto, unfolding(crate::specs::Reading::frame_of))]
 fn read_post(alloc: Global, body: &[u8]) -> Result<Frame, FrameFault>
     ensures { Gives HasBytes result (frame_of kinds.Post body.now) }
@@ -148,7 +148,7 @@ fn read_post(alloc: Global, body: &[u8]) -> Result<Frame, FrameFault>
     Ok(Frame::Post { generation, reply })
 }
 
-/// Returns a frame that has no field, where the body is empty.
+/// Returns `frame`, which has no field, if `body` is empty, else `BadBody`.
 fn bare(frame: Frame, body: &[u8]) -> Result<Frame, FrameFault>
     ensures { Is (λ x. x) result (bare frame body.now) }
 {
@@ -156,7 +156,7 @@ fn bare(frame: Frame, body: &[u8]) -> Result<Frame, FrameFault>
     Ok(frame)
 }
 
-/// Reads the frame of a kind and a body.
+/// Reads a frame of this kind from its body.
 #[tactic(auto, unfolding(crate::specs::Reading::frame_of))]
 pub(crate) fn read_frame(alloc: Global, kind: Kind, body: &[u8]) -> Result<Frame, FrameFault>
     ensures { Gives HasBytes result (frame_of kind body.now) }

@@ -7,7 +7,7 @@ pub enum FrameFault {
     /// The body of a frame would be longer than 65,536 bytes.
     #[error("frame too long")]
     TooLong,
-    /// No frame is of this kind.
+    /// The number of the kind is that of no frame.
     #[error("no such kind of frame")]
     BadKind,
     /// The body of a frame does not have the fields of its kind.
@@ -22,7 +22,7 @@ pub enum FrameFault {
     /// The bytes could not be written.
     #[error("link cannot be written")]
     Write,
-    /// The allocator refused.
+    /// The allocator refused memory.
     #[error("out of memory")]
     NoMemory,
 }

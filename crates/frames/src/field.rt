@@ -5,7 +5,7 @@ ghost use Rattle.frames.specs.Reading.{Is, alone, nothing};
 use crate::FrameFault;
 use byte_codec::{u16_in, u32_in, u64_in};
 
-/// Returns the number of two bytes that a body is.
+/// Returns the number that `body` is, if it has two bytes, else `BadBody`.
 #[tactic(auto, unfolding(crate::specs::Reading::alone))]
 pub(crate) fn u16_alone(body: &[u8]) -> Result<u16, FrameFault>
     ensures { Is (λ x. x) result (alone w16 body.now) }
@@ -16,7 +16,7 @@ pub(crate) fn u16_alone(body: &[u8]) -> Result<u16, FrameFault>
     Ok(u16_in(body))
 }
 
-/// Returns the number of four bytes that a body is.
+/// Returns the number that `body` is, if it has four bytes, else `BadBody`.
 #[tactic(auto, unfolding(crate::specs::Reading::alone))]
 pub(crate) fn u32_alone(body: &[u8]) -> Result<u32, FrameFault>
     ensures { Is (λ x. x) result (alone w32 body.now) }
@@ -27,7 +27,7 @@ pub(crate) fn u32_alone(body: &[u8]) -> Result<u32, FrameFault>
     Ok(u32_in(body))
 }
 
-/// Returns the number of eight bytes that a body is.
+/// Returns the number that `body` is, if it has eight bytes, else `BadBody`.
 #[tactic(auto, unfolding(crate::specs::Reading::alone))]
 pub(crate) fn u64_alone(body: &[u8]) -> Result<u64, FrameFault>
     ensures { Is (λ x. x) result (alone w64 body.now) }
@@ -38,7 +38,7 @@ pub(crate) fn u64_alone(body: &[u8]) -> Result<u64, FrameFault>
     Ok(u64_in(body))
 }
 
-/// Returns nothing where the body is empty.
+/// Checks that `body` is empty, else returns `BadBody`.
 #[tactic(auto, unfolding(crate::specs::Reading::nothing))]
 pub(crate) fn nothing(body: &[u8]) -> Result<(), FrameFault>
     ensures { Is (λ x. x) result (nothing body.now) }

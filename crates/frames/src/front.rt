@@ -11,16 +11,17 @@ use byte_codec::u32_in;
 use std::alloc::Global;
 use takeover_core::Versions;
 
-/// How many bytes a body may have. It is this project's own limit.
+/// How many bytes a body may have. The limit is this project's own.
 pub(crate) const LONGEST_BODY: usize = 65_536;
 
-/// How many bytes tell the length of a body.
+/// How many bytes the length of a body takes.
 pub(crate) const LENGTH: usize = 4;
 
 /// How many bytes stand before a body.
 pub(crate) const BEFORE_BODY: usize = 5;
 
-/// Finds the frame at the front: its kind, and how many bytes its body has.
+/// Returns the kind of the frame at the front of `bytes`, and the length of its body, or none if no whole frame is
+/// there.
 #[tactic(auto, unfolding(crate::specs::Reading::said))]
 fn find(bytes: &[u8]) -> Result<Option<(Kind, usize)>, FrameFault>
     ensures found { Finds bytes.now result }
@@ -45,7 +46,7 @@ fn find(bytes: &[u8]) -> Result<Option<(Kind, usize)>, FrameFault>
     Ok(Some((kind, len)))
 }
 
-/// Reads the frame at the front, and how many bytes it takes up.
+/// Returns the frame at the front of `bytes`, and how many bytes it takes up, or none if no whole frame is there.
 #[tactic(auto, using(crate::proofs::SaysLaws::first_says, crate::proofs::TextLaws::reads_text))]
 pub(crate) fn read_first(alloc: Global, bytes: &[u8]) -> Result<Option<(Frame, usize)>, FrameFault>
     ensures read { Reads bytes.now result }
@@ -64,7 +65,7 @@ pub(crate) fn read_first(alloc: Global, bytes: &[u8]) -> Result<Option<(Frame, u
     }
 }
 
-/// Returns whether a body is a message's of this kind.
+/// Returns whether `body` is the body of a message of this kind.
 #[tactic(auto, unfolding(crate::specs::Reading::message_of, crate::specs::Reading::versions_of, crate::specs::Reading::alone, byte_codec::specs::Reading::number_at, byte_codec::specs::Reading::bytes_at, crate::specs::Reading::nothing))]
 fn is_message(kind: MessageKind, body: &[u8]) -> bool
     ensures whole { result ≡ is_ok (message_of kind body.now) }
@@ -87,7 +88,7 @@ fn is_message(kind: MessageKind, body: &[u8]) -> bool
     }
 }
 
-/// Returns whether a body is a frame's of this kind.
+/// Returns whether `body` is the body of a frame of this kind.
 #[tactic(auto, unfolding(crate::specs::Reading::frame_of, crate::specs::Reading::alone, byte_codec::specs::Reading::number_at, byte_codec::specs::Reading::bytes_at, crate::specs::Reading::nothing))]
 pub(crate) fn is_body(kind: Kind, body: &[u8]) -> bool
     ensures whole { result ≡ is_ok (frame_of kind body.now) }
@@ -115,7 +116,7 @@ pub(crate) fn is_body(kind: Kind, body: &[u8]) -> bool
     }
 }
 
-/// Returns how long the whole frame at the front is.
+/// Returns the length of the frame at the front of `bytes`, or none if no whole frame is there.
 fn first_len(bytes: &[u8]) -> Result<Option<usize>, FrameFault>
     ensures len { Measures bytes.now result }
 {
@@ -132,7 +133,7 @@ fn first_len(bytes: &[u8]) -> Result<Option<usize>, FrameFault>
     }
 }
 
-/// Returns how long the whole frame is that begins at an offset.
+/// Returns the length of the frame that begins at offset `at`, or none if no whole frame is there.
 fn len_at(bytes: &[u8], at: usize) -> Result<Option<usize>, FrameFault>
     requires within { at ≤ length bytes.now }
     ensures len { Measures (drop at bytes.now) result }
@@ -141,7 +142,7 @@ fn len_at(bytes: &[u8], at: usize) -> Result<Option<usize>, FrameFault>
     first_len(rest)
 }
 
-/// Returns whether a stream may end behind these bytes, of which those before an offset were read.
+/// Checks that a stream may end after `bytes`, of which the first `read` were read. Otherwise returns `Torn`.
 #[tactic(auto, using(crate::proofs::Ending::passed, crate::proofs::Ending::torn, crate::proofs::Ending::faulty, crate::proofs::Ending::whole))]
 pub(crate) fn end_of(bytes: &[u8], read: usize) -> Result<(), FrameFault>
     requires within { read ≤ length bytes.now }

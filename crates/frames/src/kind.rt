@@ -2,7 +2,7 @@
 ghost use Rattle.std.specs.Prelude.{◌≡◌};
 ghost use Rattle.frames.specs.Kind.{kind_with, message_kind_with, number_of, message_number};
 
-/// What a message of a takeover is, without its fields.
+/// The kind of a takeover's message.
 #[derive(Clone, Copy)]
 pub(crate) enum MessageKind {
     Offer,
@@ -16,7 +16,7 @@ pub(crate) enum MessageKind {
     Part,
 }
 
-/// What a frame is, without its fields.
+/// The kind of a frame.
 #[derive(Clone, Copy)]
 pub(crate) enum Kind {
     Take,
@@ -40,7 +40,7 @@ pub(crate) enum Kind {
 }
 
 impl MessageKind {
-    /// Returns the kind of message that has this number, if one has.
+    /// Returns the kind of message that has this number, if there is one.
     #[tactic(auto, unfolding(crate::specs::Kind::message_kind_with))]
     pub(crate) fn with(number: u8) -> Option<MessageKind>
         ensures kind { result ≡ message_kind_with number }
@@ -78,7 +78,7 @@ impl MessageKind {
 }
 
 impl Kind {
-    /// Returns the kind of frame that has this number, if one has.
+    /// Returns the kind of frame that has this number, if there is one.
     #[tactic(auto, unfolding(crate::specs::Kind::kind_with))]
     pub(crate) fn with(number: u8) -> Option<Kind>
         ensures kind { result ≡ kind_with number }

@@ -1,8 +1,8 @@
-//! What texts and streams promise. Each law is the contract of a function that does nothing, over the definitions that
+//! The laws of frames and streams. Each law is the contract of a function that does nothing, over the definitions that
 //! the contracts of `Frame` and `FrameReader` cite.
 ghost use Rattle.frames.specs.Laws.{EndsAsItParts, EndsOneWay, FaultStays, FramesJoin, HasAParting, HasOneParting, MoreChangesNothing, PiecesJoin, ReadsWhatWasWritten, SaysWhatIsRead};
 
-/// States that the text of a frame is read as that frame, whatever stands behind it, and that this is left unread.
+/// States that the text of a frame is read as that frame, whatever bytes follow, and that these bytes are left unread.
 pub fn reads_what_was_written()
     ensures law { ReadsWhatWasWritten }
 {}
@@ -14,43 +14,44 @@ pub fn more_changes_nothing()
     ensures law { MoreChangesNothing }
 {}
 
-/// States that what is read of a stream is what it says by the texts of frames, which is one thing alone.
+/// States that a stream is read as what the texts of frames say is at its front, and that they say one thing only.
 pub fn says_what_is_read()
     ensures law { SaysWhatIsRead }
 {}
 
-/// States that a stream ends in one way alone: so the end that `FrameReader::finish` tells is the one.
+/// States that a stream ends in one way only, so that no other result of `FrameReader::finish` would be right.
 pub fn ends_one_way()
     ensures law { EndsOneWay }
 {}
 
-/// States that frames that stand at the front of what was fed stand at the front of all that will be.
+/// States that frames at the front of what was fed are still at the front when more is fed.
 pub fn pieces_join()
     ensures law { PiecesJoin }
 {}
 
-/// States that a frame that is taken off stands behind those that were.
+/// States that a frame that is taken next follows the frames that were taken before.
 pub fn frames_join()
     ensures law { FramesJoin }
 {}
 
-/// States that each stream is a list of frames, and behind it bytes in which no frame is whole, or a faulty frame.
+/// States that each stream consists of whole frames and a tail: bytes in which no frame is whole, or a faulty frame and
+/// what follows.
 pub fn has_a_parting()
     ensures law { HasAParting }
 {}
 
-/// States that no stream parts in two ways, be its tail no whole frame or a faulty one. So whatever the pieces are in
-/// which it is fed, and whenever frames are taken off, frames and fault are those of the stream.
+/// States that a stream consists of whole frames and a tail in one way only. So the frames and the fault are those of
+/// the stream, whatever the pieces in which it is fed, and whenever frames are taken.
 pub fn has_one_parting()
     ensures law { HasOneParting }
 {}
 
-/// States that a faulty frame stays behind the same frames, whatever bytes follow.
+/// States that a faulty frame still follows the same frames, whatever bytes follow.
 pub fn fault_stays()
     ensures law { FaultStays }
 {}
 
-/// States that a stream ends as its one parting says: torn exactly where bytes are left of which no frame is whole.
+/// States that a stream ends as its tail says: torn exactly if bytes are left in which no frame is whole.
 pub fn ends_as_it_parts()
     ensures law { EndsAsItParts }
 {}

@@ -15,7 +15,7 @@ use crate::{Frame, FrameFault};
 use byte_codec::{Bytes, u32_in, u64_in};
 use takeover_core::Message;
 
-/// Tells what `missing` does.
+/// Returns how many bytes are lacking, as `missing` does.
 #[tactic(auto, unfolding(crate::specs::Lacking::lacking))]
 fn lacked(bytes: &[u8]) -> Result<usize, FrameFault>
     ensures lacks { result ≡ lacking bytes.now }
@@ -37,8 +37,8 @@ fn lacked(bytes: &[u8]) -> Result<usize, FrameFault>
     Ok((BEFORE_BODY + len).saturating_sub(bytes.len()))
 }
 
-/// Returns how many bytes the frame at the front lacks: those up to its kind first, then those of its body. It is 0
-/// where the body is whole, be it the right one or not.
+/// Returns how many bytes the frame at the front of `bytes` lacks: first those up to its kind, then those of its body.
+/// Returns 0 if the body is whole, whether or not it is one of that kind.
 pub fn missing(bytes: &[u8]) -> Result<usize, FrameFault>
     ensures missing { result ≡ lacking bytes.now }
     ensures not_yet { IfOk result (λ count. 0 < count → said bytes.now ≡ NotYet) }
@@ -52,7 +52,7 @@ pub fn missing(bytes: &[u8]) -> Result<usize, FrameFault>
     }
 }
 
-/// Reads a FUSE reply behind its generation. The reply stays in the body's memory.
+/// Reads a `Post` frame from its body: a generation, then a FUSE reply, which stays in the memory of `body`.
 #[tactic(auto, unfolding(crate::specs::Reading::frame_of, byte_codec::specs::Reading::number_at, byte_codec::specs::Reading::bytes_at))]
 fn post_of(body: Vec<u8>) -> Result<Frame, FrameFault>
     ensures { Is (λ x. x) result (frame_of kinds.Post body.items) }
@@ -69,7 +69,7 @@ fn post_of(body: Vec<u8>) -> Result<Frame, FrameFault>
     })
 }
 
-/// Reads an image behind its session and generation. The image stays in the body's memory.
+/// Reads a `Data` message from its body: a session, a generation, then an image, which stays in the memory of `body`.
 #[tactic(auto, unfolding(crate::specs::Reading::message_of, byte_codec::specs::Reading::number_at, byte_codec::specs::Reading::bytes_at))]
 fn data_of(body: Vec<u8>) -> Result<Message, FrameFault>
     ensures { Is (λ x. x) result (message_of messages.Data body.items) }
@@ -88,7 +88,8 @@ fn data_of(body: Vec<u8>) -> Result<Message, FrameFault>
     })
 }
 
-/// Reads the numbered part of a text behind its session, generation, position and count. It stays in the body's memory.
+/// Reads a `Part` message from its body: a session, a generation, a position, a count, then a part of a text, which
+/// stays in the memory of `body`.
 #[tactic(auto, unfolding(crate::specs::Reading::message_of, byte_codec::specs::Reading::number_at, byte_codec::specs::Reading::bytes_at))]
 fn part_of(body: Vec<u8>) -> Result<Message, FrameFault>
     ensures { Is (λ x. x) result (message_of messages.Part body.items) }
@@ -111,7 +112,7 @@ fn part_of(body: Vec<u8>) -> Result<Message, FrameFault>
     })
 }
 
-/// Reads the frame of a kind and a body, whose memory it keeps where the frame has bytes.
+/// Reads a frame of this kind from its body. Bytes that the frame keeps stay in the memory of `body`.
 #[tactic(auto, using(crate::proofs::PlainKinds::plain_is), unfolding(crate::specs::Reading::frame_of))]
 fn frame_of(kind: Kind, body: Vec<u8>) -> Result<Frame, FrameFault>
     ensures frame { Is (λ x. x) result (frame_of kind body.items) }
@@ -136,8 +137,8 @@ fn frame_of(kind: Kind, body: Vec<u8>) -> Result<Frame, FrameFault>
 }
 
 impl Frame {
-    /// Reads the frame of a head of five bytes and of the body that `missing` tells of it. It takes no memory: bytes that
-    /// the frame has stay in the body's.
+    /// Reads a frame from a head of five bytes and a body, whose length is what `missing` returns for the head. Takes
+    /// no memory: bytes that the frame keeps stay in the memory of `body`.
     #[tactic(auto, using(crate::proofs::LackingLaws::body_says, crate::proofs::LackingLaws::kind_there, crate::proofs::LackingLaws::parts_text))]
     pub fn of_parts(head: &[u8], body: Vec<u8>) -> Result<Frame, FrameFault>
         requires head { length head.now ≡ 5 }

@@ -8,7 +8,7 @@ use crate::{Frame, FrameFault};
 use std::alloc::Global;
 use std::marker::Model;
 
-/// The bytes of a stream that were fed and not read yet, and the fault that was met, if any. Contracts see it as a
+/// The bytes of a stream that were fed and not read yet, and the fault that was met, if any. Contracts see a
 /// `ReaderState`.
 #[derive(Drop)]
 pub struct FrameReader {
@@ -34,10 +34,10 @@ impl Model for FrameReader {
 }
 
 impl FrameReader {
-    /// Read bytes below this count are kept, since std's `drain` clears a buffer of 4,096 bytes at each call.
+    /// Fewer read bytes than this are not dropped, since std's `drain` clears a buffer of 4,096 bytes at each call.
     const MANY: usize = 16_384;
 
-    /// Returns a reader that was fed nothing. It takes no memory.
+    /// Makes a reader that was fed nothing. Takes no memory.
     pub fn new(alloc: Global) -> FrameReader
         ensures unread { result.unread ≡ [] }
         ensures fault { result.fault ≡ None }
@@ -50,8 +50,8 @@ impl FrameReader {
         }
     }
 
-    /// Drops the bytes that were read, once they are many, and as many as the others: then each byte is moved once at
-    /// most for each byte that was read.
+    /// Drops the bytes that were read, if they are at least `MANY` and at least as many as the unread ones. So no more
+    /// bytes are moved than are dropped.
     fn drop_read(&mut self)
         ensures same { self.new ≡ self.old }
     {
@@ -63,7 +63,7 @@ impl FrameReader {
         drop(self.bytes.drain(..read));
     }
 
-    /// Appends a piece of the stream.
+    /// Appends a piece of the stream. Returns the fault that was met before, if any, or `NoMemory`.
     pub fn feed(&mut self, piece: &[u8]) -> Result<(), FrameFault>
         ensures fed { OnOk result (self.new.unread ≡ self.old.unread ++ piece.now) }
         ensures sound { OnOk result (self.old.fault ≡ None) }
@@ -82,7 +82,8 @@ impl FrameReader {
         }
     }
 
-    /// Takes the first frame off the unread bytes, if it is whole. It moves none of those behind it.
+    /// Takes the first frame off the unread bytes, or returns none if it is not whole. Does not move the bytes after
+    /// it.
     pub fn next(&mut self) -> Result<Option<Frame>, FrameFault>
         ensures takes { TakesBeside self.old.fault self.old result self.new }
         ensures text { TakesText self.old.unread result self.new.unread }
@@ -104,8 +105,8 @@ impl FrameReader {
         }
     }
 
-    /// Returns whether the stream may end here: it is Torn where it ends within a frame. A faulty frame is none such:
-    /// `next` tells its fault. Frames that were not taken are passed over.
+    /// Checks that the stream may end here. Returns `Torn` if the unread bytes end within a frame. At a faulty frame
+    /// the stream may end: `next` returns that fault. Frames that were not taken are skipped.
     pub fn finish(self) -> Result<(), FrameFault>
         ensures ends { Ends self.unread (fault_of result) }
         ensures faulty { IsSome self.fault → result ≡ Ok tt }

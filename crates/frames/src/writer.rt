@@ -12,7 +12,7 @@ use byte_codec::{put_byte, put_slice, put_u16, put_u32, put_u64};
 use std::alloc::Global;
 use takeover_core::Message;
 
-/// Returns what kind of message it is.
+/// Returns the kind of `message`.
 fn message_kind(message: &Message) -> MessageKind
     ensures kind { result ≡ message_kind message.now }
 {
@@ -29,7 +29,7 @@ fn message_kind(message: &Message) -> MessageKind
     }
 }
 
-/// Returns what kind of frame it is.
+/// Returns the kind of `frame`.
 fn kind_of(frame: &Frame) -> Kind
     ensures kind { result ≡ kind_of frame.now }
 {
@@ -55,7 +55,7 @@ fn kind_of(frame: &Frame) -> Kind
     }
 }
 
-/// Returns how long the body of a message is.
+/// Returns the length of the body of `message`.
 #[tactic(auto, using(crate::proofs::Written::lengths))]
 fn message_len(message: &Message) -> usize
     ensures len { result ≡ length (message_body message.now) }
@@ -71,7 +71,7 @@ fn message_len(message: &Message) -> usize
     }
 }
 
-/// Returns how long the body of a frame is.
+/// Returns the length of the body of `frame`.
 #[tactic(auto, using(crate::proofs::Written::lengths))]
 fn body_len(frame: &Frame) -> usize
     ensures len { result ≡ length (body_of frame.now) }
@@ -98,7 +98,7 @@ fn body_len(frame: &Frame) -> usize
     }
 }
 
-/// Puts versions, in their order.
+/// Appends `versions` to `out`, in their order.
 #[tactic(auto, using(byte_codec::proofs::WriteLemmas::fields_written))]
 fn put_each(out: &mut Vec<u8>, versions: &[u16])
     requires room { HasRoom out.old (length (flat_map version_text versions.now)) }
@@ -110,7 +110,7 @@ fn put_each(out: &mut Vec<u8>, versions: &[u16])
     }
 }
 
-/// Puts the fields of a message.
+/// Appends the body of `message` to `out`.
 #[tactic(auto, using(crate::proofs::Written::written), unfolding(byte_codec::specs::Field::byte_text))]
 fn put_message(out: &mut Vec<u8>, message: &Message)
     requires room { HasRoom out.old (length (message_body message.now)) }
@@ -161,7 +161,7 @@ fn put_message(out: &mut Vec<u8>, message: &Message)
     }
 }
 
-/// Puts the fields of a frame.
+/// Appends the body of `frame` to `out`.
 #[tactic(auto, using(crate::proofs::Written::written))]
 fn put_body(out: &mut Vec<u8>, frame: &Frame)
     requires room { HasRoom out.old (length (body_of frame.now)) }
@@ -192,7 +192,7 @@ fn put_body(out: &mut Vec<u8>, frame: &Frame)
     }
 }
 
-/// Puts the whole text.
+/// Appends the whole text of `frame` to `out`. `len` is the length of the body.
 #[tactic(auto, using(crate::proofs::Written::written), unfolding(byte_codec::specs::Field::byte_text))]
 fn put_frame(out: &mut Vec<u8>, len: u32, frame: &Frame)
     requires len { len ≡ length (body_of frame.now) }
@@ -206,7 +206,7 @@ fn put_frame(out: &mut Vec<u8>, len: u32, frame: &Frame)
 }
 
 impl Frame {
-    /// Writes the text of the frame. It is all the memory that the call takes, at once.
+    /// Writes the text of the frame. Memory is taken once, only for this text.
     #[tactic(auto, using(crate::proofs::Written::lengths, crate::proofs::StreamLaws::framed_again))]
     pub fn write(&self, alloc: Global) -> Result<Vec<u8>, FrameFault>
         ensures text { IfOk result (λ bytes. frame_text self.now ≡ Some bytes.items) }

@@ -65,7 +65,7 @@ eio-finds old dir name answer new l e =
       by_found None at (Ok file) found g = absurd (let none : ⊥ = cc in none)
       by_found (Some above) at (Ok file) found g = by_entry above file at found g
 
--- so does a file that is shown
+-- EIO for a file that is shown means that the file is not loaded
 pub eio-shows : (old : ServedState) (node : Number) (answer : Answer) → Shows old node answer → answer ≡ Error EIO → ShowsUnloaded old node
 eio-shows old node answer s e = by_file s.file s.located (subst (λ (a : Answer). ShowsFile old node s.file a) e s.shows) where
   by_file : (o : Option FileId) → IsLocated old node.0 o → ShowsFile old node o (Error EIO) → ShowsUnloaded old node
@@ -91,11 +91,11 @@ finds-one served dir name found finds f =
 pub unasked-known : (Asks : Type 0) (answer : Answer) (will : Option Bool) → (Asks → ⊥) → (answer ≡ Error EIO → ⊥) → IsAsKnown Asks answer will
 unasked-known Asks answer will nothing other = record { failing = λ k asks. absurd (nothing asks); answering = λ k e. other e }
 
--- it failed, so it was not known to answer
+-- a backing that failed was not known to answer
 pub failed-known : (Asks : Type 0) (will : Option Bool) → (will ≡ Some true → ⊥) → IsAsKnown Asks (Error EIO) will
 failed-known Asks will not = record { failing = λ k asks. refl; answering = λ k e. not k }
 
--- it told the file, so it was not known to fail
+-- a backing that told the file was not known to fail
 pub told-known : (served : ServedState) (dir : Number) (name : List ℕ) (found : Found) (answer : Answer) (will : Option Bool) → Finds served dir.0 name (Ok found) →
     (will ≡ Some false → IsBacked served.tree found.file → ⊥) → (answer ≡ Error EIO → ⊥) → IsAsKnown (FindsUnloaded served dir name) answer will
 told-known served dir name found answer will finds told other = record {

@@ -18,7 +18,7 @@ use Rattle.entry_table.specs.declared.kept.Kept.{Kept}
 use Rattle.fuse_ops.specs.Soundness.{IsUnlinkedPlace}
 use Rattle.fuse_ops.proofs.Fits.{Fits, linked_is_not_unlinked, no-place-no_file}
 
--- where the next number goes
+-- a place that the next number may get
 pub record IsNewPlace (tree : Tree) (next : ℕ) (es : List Kept) (parent : Number) (name : List ℕ) (dir file : FileId) : Type 0 where
   pub at : IsFileOf tree es parent.0 dir
   pub child : child_of tree dir name ≡ Some file

@@ -23,7 +23,7 @@ use Rattle.fuse_ops.proofs.Fits.{Fits, sound-fits, sound-of_use, fits-sound, pla
 use Rattle.fuse_ops.proofs.FitsChanged.{fits-changed}
 use Rattle.fuse_ops.proofs.FitsAdded.{IsNewPlace, fits-added, new-file, old-file, other-file}
 
--- nothing is given yet
+-- the law of a new map, from which no number was given
 pub new-sound : NewLaw
 new-sound tree limit is = record {
   numbers = omega arith;

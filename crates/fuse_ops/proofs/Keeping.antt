@@ -31,7 +31,7 @@ found-child tree dir file name found = by_kind (kind_of tree dir) found where
   by_kind (Some File) e = absurd (let none : ⊥ = cc in none)
   by_kind None e = absurd (let none : ⊥ = cc in none)
 
--- after an item of a forget
+-- what a daemon knows fits together after an item of a forget
 pub forgotten-sound : (served : ServedState) (n k : ℕ) → IsTree served.tree → IsSound served → IsSound (served_over served.tree (forgotten served.map n k))
 forgotten-sound served n k is sound = by_root (eq-or n 1) where
   by_bad : (n ≡ 1 → ⊥) → (bad : Bool) → is_bad_item served.map.entries n k ≡ bad → IsSound (served_over served.tree (forgotten served.map n k))

@@ -44,7 +44,7 @@ loaded-on old new files left right n attr e =
     let was = right n attr l.0 in
     (was.0, l.1 was.0 was.1, files was.0 (content_in attr) was.2)
 
--- where all but what else is kept is plainly the same
+-- the same loaded attributes are true in a state that is plainly the same
 pub plainly-loaded : (old new : ServedState) → plain new ≡ plain old → new.map.loaded ≡ old.map.loaded → AreLoaded old → AreLoaded new
 plainly-loaded old new e same right n attr l =
     subst (λ (p : PlainState). (file : FileId) × Rattle.entry_table.specs.Entries.IsFileOf p.tree p.entries n file × (tree_file p.tree file ≡ Some (content_in attr))) (sym e)
@@ -92,7 +92,7 @@ load-true served number attr file names is right n a e = in_ (load-loaded served
   in_ (inl (same, own)) = (file, subst (λ (k : ℕ). Names served k file) (sym same) names, is ∙ ap (λ (x : Attr). Some (content_in x)) (sym own))
   in_ (inr before) = right n a before
 
--- one that is loaded becomes the most recent
+-- what is loaded is true after loaded attributes became the most recent
 pub used-true : (served : ServedState) (n : ℕ) → AreLoaded served → AreLoaded (record served { map = record served.map { loaded = used served.map.loaded n } })
 used-true served n right m a e = right m a (used-loaded served.map.loaded n m a e)
 
@@ -127,14 +127,14 @@ left_with-loaded old new es files e l sound names right = loaded-on old new file
     let was = left-loaded es old.map.loaded m a (ap (λ (xs : List LoadedAttr). attr_of xs m) (sym l) ∙ h) in
     (was.0, λ f at. still-named old new sound names m f at (inr (entry_kept new.map.entries m (ap (λ (xs : List Kept). is_kept xs m) e ∙ was.1))))) right
 
--- where neither entries nor what is loaded changed
+-- what is loaded is true if neither entries nor what is loaded changed
 pub stays-loaded : (old new : ServedState) → HasFiles new.tree old.tree → new.map.entries ≡ old.map.entries → new.map.loaded ≡ old.map.loaded → IsSound new → ((m : ℕ) (f : FileId) → Names new m f → Names old m f) → AreLoaded old → AreLoaded new
 stays-loaded old new files e l sound names right = loaded-on old new files (λ m a h. (
   ap (λ (xs : List LoadedAttr). attr_of xs m) (sym l) ∙ h,
   λ f at. still-named old new sound names m f at (subst (λ (xs : List Kept). (m ≡ 1) ⊎ ((kept : Kept) × (entry_of xs m ≡ Some kept))) (sym e) (named-known old.tree old.map.entries m f at)),
 )) right
 
--- after an item of a forget
+-- what is loaded is true after an item of a forget
 pub forgotten-loaded : (served : ServedState) (n k : ℕ) → IsTree served.tree → IsSound served → AreLoaded served → AreLoaded (served_over served.tree (forgotten served.map n k))
 forgotten-loaded served n k is sound right = in_ (n == 1) (is_bad_item served.map.entries n k) refl refl (forgotten-sound served n k is sound) where
   after : Bool → Bool → ServedState

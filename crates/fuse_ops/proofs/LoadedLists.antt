@@ -14,7 +14,7 @@ use Rattle.inode_map.specs.InodeMap.{loaded_number, is_loaded_of, attr_in, attr_
 use Rattle.entry_table.specs.declared.kept.Kept.{Kept}
 use Rattle.inode_map.specs.declared.loaded.LoadedAttr.{LoadedAttr}
 
--- of the first attribute, or of those behind it
+-- the attributes of a number: the first ones if they are its own, or else those found after them
 abbrev first_or : Bool → LoadedAttr → List LoadedAttr → ℕ → Option Attr
 first_or b x xs m = option_map attr_in (cond b (Some x) (first_where (is_loaded_of m) xs))
 
@@ -27,7 +27,7 @@ taken-loaded (suc k) (x ∷ xs) m a e = in_ (x.number.0 == m) e (taken-loaded k 
   in_ true h rest = h
   in_ false h rest = rest h
 
--- so it was with one more in front, but for its own
+-- attributes that are loaded after a load were loaded before, or are the new ones
 pub load-loaded : (limit : ℕ) (xs : List LoadedAttr) (number : Number) (attr : Attr) (m : ℕ) (a : Attr) → attr_of (load limit xs number attr) m ≡ Some a → ((m ≡ number.0) × (a ≡ attr)) ⊎ (attr_of xs m ≡ Some a)
 load-loaded limit xs number attr m a e = in_ (number.0 == m) refl e where
   in_ : (b : Bool) → (number.0 == m) ≡ b → first_or b (record { number = number; attr = attr }) (take (limit - 1) xs) m ≡ Some a → ((m ≡ number.0) × (a ≡ attr)) ⊎ (attr_of xs m ≡ Some a)

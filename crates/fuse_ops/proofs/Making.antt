@@ -83,7 +83,7 @@ free-absent served dir above name sound at free = in_ (entry_at served.map.entri
       let there : child_of served.tree above name ≡ Some g.0 = ap (λ (x : FileId). child_of served.tree x name) (sym same) ∙ c.child in
       absurd (let none : ⊥ = cc in none)
 
--- so it is given the next number, unless there is none
+-- a name without a number is given the next number, unless none is left
 pub clear_next : (map : MapState) (dir : ℕ) (name : List ℕ) → entry_at map.entries dir name ≡ None → map.next < end_of_numbers → give_fault map dir name ≡ None
 clear_next map dir name absent few =
     let t : nat_le end_of_numbers map.next ≡ false = grind (arith, nat_tests) in

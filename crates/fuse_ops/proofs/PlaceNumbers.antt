@@ -29,7 +29,7 @@ module _ (served : ServedState) (parent : ℕ) (name : List ℕ) (dir file : Fil
     )
     in_ None e = absurd (no-place-no_file served.tree served.map.next served.map.entries place.is_tree (sound-fits served place.sound) parent dir file name place.at place.child e n named)
 
-  -- so it is what the place is given
+  -- a number that names the file is the one that its place is given
   pub given-number : (n : ℕ) → Names served n file → (number_given served.map parent name).0 ≡ n
   given-number n named = let p = place-number n named in
       ap (λ (o : Option Kept). (option_map_or number_of_kept o (record { 0 = served.map.next })).0) p.1 ∙ p.2
@@ -49,7 +49,7 @@ module _ (served : ServedState) (parent : ℕ) (name : List ℕ) (dir file : Fil
     in_ (Some kept) e = absurd (free kept.number.0 (place-file served.tree served.map.next served.map.entries (sound-fits served place.sound) parent kept dir file name place.at place.child e))
     in_ None e = e
 
-  -- so it is given the next number, and only the end of numbers stands against it
+  -- a place whose file has no number is given the next number, and only the end of numbers forbids it
   pub next-number : ((n : ℕ) → Names served n file → ⊥) → (number_given served.map parent name).0 ≡ served.map.next
   next-number free = ap (λ (o : Option Kept). (option_map_or number_of_kept o (record { 0 = served.map.next })).0) (no-entry free)
 

@@ -117,7 +117,7 @@ module _ (served : ServedState) (dir : Number) (name : List ℕ) (above : FileId
     same_files : map.remembered ≡ (given served.map dir name).remembered
     same_files = ap (λ (x : MapState). x.remembered) m ∙ given-remembered ready dir name ∙ ap (λ (x : MapState). x.remembered) r ∙ sym (given-remembered served.map dir name)
 
-  -- nothing is loaded by that
+  -- making the room loads nothing
   made-kept : (map ready : MapState) → ready ≡ record served.map { spare = 1 } → map ≡ given ready dir name → (map.loaded ≡ served.map.loaded) × (map.limit ≡ served.map.limit)
   made-kept map ready r m = (
     ap (λ (x : MapState). x.loaded) m ∙ (given-loaded ready dir name).0 ∙ ap (λ (x : MapState). x.loaded) r,
@@ -139,7 +139,7 @@ module _ (served : ServedState) (dir : Number) (name : List ℕ) (above : FileId
         keeps : KeepsNames served (record served { tree = created served.tree above name kind perm })
         keeps = made-keeps served dir name above may kind perm
 
-  -- nothing of the new number
+  -- nothing is loaded for the new number
   made-unloaded : (ready : MapState) (number : Number) → ready ≡ record served.map { spare = 1 } → number ≡ number_given ready dir.0 name → AreLoaded served → attr_of served.map.loaded number.0 ≡ None
   made-unloaded ready number r is right =
       next-unloaded served may.sound right number.0 (ap (λ (n : Number). n.0) is ∙ ap (λ (x : MapState). (number_given x dir.0 name).0) r

@@ -62,7 +62,7 @@ remembered-which files n file m f h = in_ files h where
       by_test true t e = inr e
       by_test false t e = later e
 
--- it is right, where that one is
+-- what is remembered is right, if the file that is added is the one that its number names
 pub remembers : (served : ServedState) (n : ℕ) (file : FileId) → Names served n file → AreRemembered served → AreRemembered (record served { map = record served.map { remembered = remembered served.map.remembered n file } })
 remembers served n file names right m f h = in_ (remembered-which served.map.remembered n file m f h) where
   in_ : ((m ≡ n) × (f ≡ file)) ⊎ (file_remembered served.map.remembered m ≡ Some f) → Names served m f
@@ -115,7 +115,7 @@ given-remembered map dir name = in_ (is_some (entry_at map.entries dir.0 name)) 
   in_ true = refl
   in_ false = refl
 
--- where all but what is remembered is plainly the same
+-- the same remembered files are right in a state that is plainly the same
 pub plainly-remembers : (old new : ServedState) → plain new ≡ plain old → new.map.remembered ≡ old.map.remembered → AreRemembered old → AreRemembered new
 plainly-remembers old new e r right m f h =
     subst (λ (p : PlainState). IsFileOf p.tree p.entries m f) (sym e) (right m f (ap (λ (files : List (ℕ × FileId)). file_remembered files m) (sym r) ∙ h))
@@ -157,14 +157,14 @@ left_with-remembers old new es e r sound names right = left-remembers old new so
     let was = left-file es old.map.remembered m f (ap (λ (files : List (ℕ × FileId)). file_remembered files m) (sym r) ∙ h) in
     (right m f was.0, subst (λ (xs : List Kept). IsIn xs m) (sym e) was.1))
 
--- where neither entries nor what is remembered changed
+-- what is remembered is right if neither entries nor what is remembered changed
 pub stays-remembers : (old new : ServedState) → new.map.entries ≡ old.map.entries → new.map.remembered ≡ old.map.remembered → IsSound new → ((m : ℕ) (f : FileId) → Names new m f → Names old m f) →
     AreRemembered old → AreRemembered new
 stays-remembers old new e r sound names right = left-remembers old new sound names (λ m f h.
     let at = right m f (ap (λ (files : List (ℕ × FileId)). file_remembered files m) (sym r) ∙ h) in
     (at, subst (λ (xs : List Kept). IsIn xs m) (sym e) (named-known old.tree old.map.entries m f at)))
 
--- after an item of a forget
+-- what is remembered is right after an item of a forget
 pub forgotten-remembers : (served : ServedState) (n k : ℕ) → IsTree served.tree → IsSound served → AreRemembered served → AreRemembered (served_over served.tree (forgotten served.map n k))
 forgotten-remembers served n k is sound right = in_ (n == 1) (is_bad_item served.map.entries n k) refl refl (forgotten-sound served n k is sound) where
   after : Bool → Bool → ServedState

@@ -141,7 +141,7 @@ makes_in old request dir name kind perm (Ok above) (Ok (number, attr)) new tells
 makes_in old request dir name kind perm (Ok above) (Err errno) new tells free ((fault, refusal, e), same) =
     unentered-legally old request dir name (created old.tree above name kind perm) (next_file old.tree) errno new tells (refused_in old request dir name (created old.tree above name kind perm) (next_file old.tree) errno fault refusal e) same
 
--- so is a file that is made
+-- making a file is a legal step
 pub make-replay : (old : ServedState) (request : Request) (dir : Number) (name : List ℕ) (kind : Kind) (perm : Perm) (told : Result (Number × Attr) Errno) (new : ServedState) → deed_of request ≡ make_file dir name kind perm → Makes old dir name kind perm told new →
     Replay old request (Some (made_answer request told)) new
 make-replay old request dir name kind perm told new does m =
@@ -167,7 +167,7 @@ takes_in old request dir name against (Some above) answer new place frees h = in
     effect : Effect
     effect = record { tree = removed old.tree above name; file = None; counts = false; unnamed = Some file }
 
--- so is a name that is taken away
+-- taking a name away is a legal step
 pub take-replay : (old : ServedState) (request : Request) (dir : Number) (name : List ℕ) (kind : Kind) (answer : Answer) (new : ServedState) → deed_of request ≡ take_name dir name kind → Takes old dir name (against_taking kind old.tree) answer new → Replay old request (Some answer) new
 take-replay old request dir name kind answer new does t =
     replays old request dir (λ tree above. takes_from tree (against_taking kind tree) above name) t.dir_file answer new (take-goes request dir name kind does) t.located

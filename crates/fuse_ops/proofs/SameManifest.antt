@@ -58,7 +58,7 @@ after-over tree (Err errno) Done over = refl
 pub answered-manifest : (tree : Tree) (files : ℕ → Option FileId) (request : Request) (answer : Answer) → (tree_after tree (comes_to tree files request) answer).manifest ≡ tree.manifest
 answered-manifest tree files request answer = after-over tree (comes_to tree files request) answer (done-over tree files (deed_of request))
 
--- and after a step
+-- the manifest is the same after a step
 pub replay-manifest : (old : ServedState) (request : Request) (answer : Option Answer) (new : ServedState) → Replay old request answer new → new.tree.manifest ≡ old.tree.manifest
 replay-manifest old request (Some answer) new (is, legal) = ap (λ (p : PlainState). p.tree.manifest) legal.makes ∙ answered-manifest old.tree legal.files request answer
 replay-manifest old request None new (is, same) = ap (λ (s : ServedState). s.tree.manifest) same

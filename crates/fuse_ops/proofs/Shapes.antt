@@ -35,13 +35,13 @@ pub record GoesTo (request : Request) (node : Number) (effect : Tree → Option 
   pub comes : (tree : Tree) (files : ℕ → Option FileId) → comes_to tree files request ≡ effect tree (files node.0)
   pub stale : (tree : Tree) → effect tree None ≡ Err ESTALE
 
--- its success tells the entry of that name
+-- the success of this request tells the entry of this name
 pub record TellsEntry (request : Request) (dir : Number) (name : List ℕ) : Type 0 where
   pub told : place_told request ≡ Some (dir, name)
   pub taken : place_taken request ≡ None
   pub gives : (number : Number) (attr : Attr) → given_out (telling request number attr) ≡ Some number
 
--- its success takes the name away
+-- the success of this request takes this name away
 pub record TakesPlace (request : Request) (dir : Number) (name : List ℕ) : Type 0 where
   pub told : place_told request ≡ None
   pub taken : place_taken request ≡ Some (dir, name)
@@ -70,7 +70,7 @@ entry-gives : (request : Request) (dir : Number) (name : List ℕ) → place_tol
 entry-gives (Other opcode node) dir name e number attr = absurd (let none : ⊥ = cc in none)
 entry-gives request dir name e number attr = cc
 
--- the form in which a name that is found is told, and a file that is shown, and that a name was taken away
+-- the forms of the answers for a name that is found, a file that is shown, and a name that is taken away
 pub find-form : (request : Request) (dir : Number) (name : List ℕ) → deed_of request ≡ find_name dir name → form_of request ≡ AnEntry
 find-form (Other opcode node) dir name e = absurd (let none : ⊥ = cc in none)
 find-form request dir name e = cc

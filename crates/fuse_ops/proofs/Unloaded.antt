@@ -37,7 +37,7 @@ pub number-unloaded : (served : ServedState) → IsTree served.tree → IsSound 
 number-unloaded served is sound n file at none backed =
     (backed, λ m named. subst (λ (k : ℕ). attr_of served.map.loaded k ≡ None) (same-number served is sound n m file at named) none)
 
--- nor is it where the name that gives it has no number
+-- a file under a name without a number is not loaded
 pub new-unloaded : (served : ServedState) (dir : Number) (name : List ℕ) (found : Found) → IsTree served.tree → IsSound served → Finds served dir.0 name (Ok found) → entry_at served.map.entries dir.0 name ≡ None → IsBacked served.tree found.file → IsUnloaded served found.file
 new-unloaded served dir name found is sound finds free backed = (
   backed,

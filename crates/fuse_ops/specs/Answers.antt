@@ -1,6 +1,6 @@
--- What each request is answered, as a table: first what it comes to in the tree, then what stands against a number,
--- then what may fail. The world's moves and what `apply` promises read the same rows. The requests are those of
--- `linux/fuse.h`; which errors there are, and in which order they are told, is this project's own.
+-- How each request is answered, as a table: first what it comes to in the tree, then what forbids to give a number,
+-- then what may fail. The world's moves and the contract of `apply` use the same rows. The requests are those of
+-- `linux/fuse.h`; which errors there are, and in which order they come, is this project's own.
 use Rattle.std.specs.Prelude.{◌≡◌, ℕ, ◌+◌, ◌<◌, ◌⊎◌, Bool, true, false, nat_le, List, [], ◌∷◌, length, Contains, Option, Some, None, is_some, Result, Ok, Err, if◌then◌else◌}
 use Rattle.std.specs.Option.{option_map_or}
 use Rattle.eden_base.specs.Limits.{end_of_files}
@@ -24,37 +24,37 @@ use Rattle.fuse_wire.specs.declared.reply.Answer.TheVariants.{Entry, Opened, Att
 
 -- ---- by the tree
 
--- a success: the tree after it, the file of that tree that the answer tells, whether its number is held once more, and
--- the file that lost its name
+-- a success: the tree after it; the file of that tree that the answer tells, if any; whether that file's number is
+-- counted once more; and the file that lost its name, if any
 pub record Effect : Type 0 where
   pub tree : Tree
   pub file : Option FileId
   pub counts : Bool
   pub unnamed : Option FileId
 
--- the file under a name in a directory of this kind
+-- the file under a name in `dir`, which has this kind, or the error if there is no such file
 abbrev pub found_in_dir : Tree → FileId → List ℕ → Option Kind → Result FileId Errno
 found_in_dir tree dir name (Some Dir) =
     option_map_or (λ (file : FileId). Ok file) (child_of tree dir name) (Err ENOENT)
 found_in_dir tree dir name (Some File) = Err ENOTDIR
 found_in_dir tree dir name None = Err ENOTDIR
 
--- the file under a name, where a number names this file or none
+-- the file under a name in the directory that a number names, if it names one, or the error
 abbrev pub found_in : Tree → Option FileId → List ℕ → Result FileId Errno
 found_in tree (Some dir) name = found_in_dir tree dir name (kind_of tree dir)
 found_in tree None name = Err ESTALE
 
--- an entry for a file of a tree that stays as it is
+-- a success that answers with an entry for this file and leaves the tree unchanged, or the error
 abbrev pub enters : Tree → Result FileId Errno → Result Effect Errno
 enters tree (Ok file) = Ok (record { tree = tree; file = Some file; counts = true; unnamed = None })
 enters tree (Err errno) = Err errno
 
--- the attributes of a file of a tree that stays as it is, where a number names this file or none
+-- a success that answers with the attributes of the file that a number names, if it names one, or the error
 abbrev pub shows : Tree → Option FileId → Result Effect Errno
 shows tree (Some file) = Ok (record { tree = tree; file = Some file; counts = false; unnamed = None })
 shows tree None = Err ESTALE
 
--- a directory of this kind in which a new file may get a name
+-- `dir`, which has this kind, if it is a directory in which a new file may get this name, else the error
 abbrev pub free_in_dir : Tree → FileId → List ℕ → Option Kind → Result FileId Errno
 free_in_dir tree dir name (Some Dir) =
     if is_unlinked tree dir then Err ENOENT
@@ -64,12 +64,12 @@ free_in_dir tree dir name (Some Dir) =
 free_in_dir tree dir name (Some File) = Err ENOTDIR
 free_in_dir tree dir name None = Err ENOTDIR
 
--- the same, where a number names this file or none
+-- the directory that a number names, if it names one and a new file may get this name in it, else the error
 abbrev pub free_in : Tree → Option FileId → List ℕ → Result FileId Errno
 free_in tree (Some dir) name = free_in_dir tree dir name (kind_of tree dir)
 free_in tree None name = Err ESTALE
 
--- an entry for a file that is made
+-- a success that makes a file under this name and answers with an entry for it, or the error
 abbrev pub makes : Tree → List ℕ → Kind → Perm → Result FileId Errno → Result Effect Errno
 makes tree name kind perm (Ok dir) = Ok (record {
   tree = created tree dir name kind perm;
@@ -79,32 +79,32 @@ makes tree name kind perm (Ok dir) = Ok (record {
 })
 makes tree name kind perm (Err errno) = Err errno
 
--- what stands against taking a name away: UNLINK takes no directory's
+-- why UNLINK may not take the name of this file: it is a directory
 abbrev pub against_unlink : Tree → FileId → Option Errno
 against_unlink tree file = if is_dir (kind_of tree file) then Some EISDIR else None
 
--- and RMDIR an empty directory's alone
+-- why RMDIR may not take the name of this file: it is no directory, or is not empty
 abbrev pub against_rmdir : Tree → FileId → Option Errno
 against_rmdir tree file =
     if is_dir (kind_of tree file) then (if has_links tree file then Some ENOTEMPTY else None) else Some ENOTDIR
 
--- a file that was found and against which nothing stands
+-- the file, if one was found and nothing forbids to take its name, else the error
 abbrev pub unless : (FileId → Option Errno) → Result FileId Errno → Result FileId Errno
 unless against (Ok file) = option_map_or (λ (errno : Errno). Err errno) (against file) (Ok file)
 unless against (Err errno) = Err errno
 
--- a name taken out of a directory
+-- a success that takes this name out of a directory, or the error
 abbrev pub takes : Tree → FileId → List ℕ → Result FileId Errno → Result Effect Errno
 takes tree dir name (Ok file) =
     Ok (record { tree = removed tree dir name; file = None; counts = false; unnamed = Some file })
 takes tree dir name (Err errno) = Err errno
 
--- the same, where a number names this directory or none
+-- a success that takes a name out of the directory that a number names, if it names one, or the error
 abbrev pub takes_from : Tree → (FileId → Option Errno) → Option FileId → List ℕ → Result Effect Errno
 takes_from tree against (Some dir) name = takes tree dir name (unless against (found_in tree (Some dir) name))
 takes_from tree against None name = Err ESTALE
 
--- what stands against taking a name away from its file, by the kind of file that loses it
+-- why a name may not be taken from this file, by the kind of file that the request is for
 abbrev pub against_taking : Kind → Tree → FileId → Option Errno
 against_taking File = against_unlink
 against_taking Dir = against_rmdir
@@ -129,7 +129,7 @@ deed_of (Unlink dir name) = take_name dir name File
 deed_of (Rmdir dir name) = take_name dir name Dir
 deed_of request = unserved
 
--- the number whose file is looked at
+-- the numbers whose files are looked at for a deed
 abbrev pub looked_at : Deed → List Number
 looked_at (find_name dir name) = dir ∷ []
 looked_at (make_file dir name kind perm) = dir ∷ []
@@ -137,7 +137,7 @@ looked_at (take_name dir name kind) = dir ∷ []
 looked_at (show_file node) = node ∷ []
 looked_at unserved = []
 
--- what a deed comes to, where `files` tells the file that a number names; one row a deed
+-- what a deed comes to, if `files` says which file each number names; one row a deed
 abbrev pub done_to : Tree → (ℕ → Option FileId) → Deed → Result Effect Errno
 done_to tree files (find_name dir name) = enters tree (found_in tree (files dir.0) name)
 done_to tree files (make_file dir name kind perm) = makes tree name kind perm (free_in tree (files dir.0) name)
@@ -145,46 +145,46 @@ done_to tree files (take_name dir name kind) = takes_from tree (against_taking k
 done_to tree files (show_file node) = shows tree (files node.0)
 done_to tree files unserved = Err ENOSYS
 
--- the numbers whose files a request's row looks at
+-- the numbers whose files are looked at for a request
 abbrev pub looks_at : Request → List Number
 looks_at request = looked_at (deed_of request)
 
--- what a request comes to
+-- what a request comes to: a success, or an error
 abbrev pub comes_to : Tree → (ℕ → Option FileId) → Request → Result Effect Errno
 comes_to tree files request = done_to tree files (deed_of request)
 
--- how a number and attributes are told in a form; a form with neither tells that it was done
+-- the answer of a form with this number and these attributes; Done for a form with neither
 abbrev pub told_as : Form → Number → Attr → Answer
 told_as AnEntry number attr = Entry number attr
 told_as AnOpenEntry number attr = Opened number attr
 told_as Attributes number attr = Attrs number attr
 told_as form number attr = Done
 
--- how a success tells a number and attributes
+-- the answer to a request that succeeds, with this number and these attributes
 abbrev pub telling : Request → Number → Attr → Answer
 telling request = told_as (form_of request)
 
 -- ---- by the number
 
--- why a file's number cannot be held once more: the first of these
+-- why a file's number cannot be counted once more: the first of these that applies
 pub data NumberFault : Type 0 where
   none_left : NumberFault
   at_greatest : NumberFault
 
--- what it is answered
+-- the error for such a cause
 abbrev pub number_errno : NumberFault → Errno
 number_errno none_left = ENOSPC
 number_errno at_greatest = EOVERFLOW
 
--- Who reads the table says of a file: what stands against holding its number once more, which number may be told, and
--- where its attributes or the memory for its number may fail to come.
+-- What the reader of the table says of a file: what forbids to count its number once more, which number may be told,
+-- when its attributes may fail to come, and when memory for its number may be refused.
 pub record Numbers : Type 1 where
   pub IsAgainst : FileId → Option NumberFault → Type 0
   pub IsNumber : FileId → ℕ → Type 0
   pub MayFail : FileId → Type 0
   pub MayWant : FileId → Type 0
 
--- the answer tells one of these numbers, with the file's attributes
+-- the answer tells one of these numbers, with the attributes of the file
 pub record Tells (request : Request) (tree : Tree) (file : FileId) (IsNumber : ℕ → Type 0)
     (answer : Answer) : Type 0 where
   pub number : Number
@@ -193,7 +193,7 @@ pub record Tells (request : Request) (tree : Tree) (file : FileId) (IsNumber : �
   pub is_number : IsNumber number.0
   pub is_attr : attr_of tree file ≡ Some attr
 
--- the answers for a file whose number is held once more
+-- this is an answer for a file whose number is to be counted once more
 abbrev pub AnswersCounted : Numbers → Request → Tree → FileId → Option NumberFault → Answer → Type 0
 AnswersCounted numbers request tree file (Some fault) answer = answer ≡ Error (number_errno fault)
 AnswersCounted numbers request tree file None answer =
@@ -201,31 +201,31 @@ AnswersCounted numbers request tree file None answer =
     ⊎ ((answer ≡ Error EIO) × numbers.MayFail file)
     ⊎ ((answer ≡ Error ENOMEM) × numbers.MayWant file)
 
--- the answers for a file whose number, one of the request's own, is held as often as before
+-- this is an answer for a file whose number is one of the request's own, and whose count is unchanged
 abbrev pub AnswersShown : Numbers → Request → Tree → FileId → Answer → Type 0
 AnswersShown numbers request tree file answer =
     Tells request tree file (λ n. Contains (nodes request) (record { 0 = n })) answer
     ⊎ ((answer ≡ Error EIO) × numbers.MayFail file)
 
--- the answers to a success, by the file that it tells and whether that file's number is held once more
+-- this is an answer to a success, by the file that is told and whether its number is to be counted once more
 abbrev pub AnswersFile : Numbers → Request → Tree → Option FileId → Bool → Answer → Type 0
 AnswersFile numbers request tree (Some file) true answer =
     (fault : Option NumberFault) × numbers.IsAgainst file fault × AnswersCounted numbers request tree file fault answer
 AnswersFile numbers request tree (Some file) false answer = AnswersShown numbers request tree file answer
 AnswersFile numbers request tree None counts answer = answer ≡ Done
 
--- the answers to a request, by what it comes to
+-- this is an answer to a request, by what the request comes to
 abbrev pub Answers : Numbers → Request → Result Effect Errno → Answer → Type 0
 Answers numbers request (Ok effect) answer = AnswersFile numbers request effect.tree effect.file effect.counts answer
 Answers numbers request (Err errno) answer = answer ≡ Error errno
 
--- a regular file of the manifest, which alone a backing is asked for
+-- a regular file of the manifest; the backing is asked for such files only
 abbrev pub IsBacked : Tree → FileId → Type 0
 IsBacked tree file = (kind_of tree file ≡ Some File) × (file.0 < length tree.manifest.lines + 2)
 
 -- ---- afterwards
 
--- the tree after an answer: an error leaves it
+-- the tree after an answer; an error leaves it unchanged
 abbrev pub tree_after : Tree → Result Effect Errno → Answer → Tree
 tree_after tree result (Error errno) = tree
 tree_after tree (Ok effect) answer = effect.tree
@@ -237,7 +237,7 @@ file_unnamed result (Error errno) = None
 file_unnamed (Ok effect) answer = effect.unnamed
 file_unnamed (Err errno) answer = None
 
--- the file that is told, if one is
+-- the file that a success tells, if any
 abbrev pub file_told : Result Effect Errno → Option FileId
 file_told (Ok effect) = effect.file
 file_told (Err errno) = None

@@ -1,5 +1,5 @@
--- What making a file and taking a name away do to what a daemon knows: the shapes of their laws. (EdenFS's documents
--- on inode lifetime: a number names its file though the file's name is gone.)
+-- The laws of making a file and of taking a name away: how they change what a daemon knows. (EdenFS's documents on
+-- inode lifetime: a number names its file though the file's name is gone.)
 use Rattle.std.specs.Prelude.{◌≡◌, ℕ, false, List, Some, None}
 use Rattle.eden_base.specs.declared.attr.Kind.{Kind}
 use Rattle.eden_base.specs.declared.attr.Perm.{Perm}
@@ -11,7 +11,7 @@ use Rattle.entry_table.specs.Entries.{count_of, IsFileOf}
 use Rattle.fuse_ops.specs.Served.{ServedState, name_taken}
 use Rattle.fuse_ops.specs.Soundness.{IsSound}
 
--- no number is counted more or less, or names another file than before, and none is given
+-- no count changed, no number names another file than before, and no number was given
 pub record KeepsNames (old new : ServedState) : Type 0 where
   pub sound : IsSound new
   pub counts : (n : ℕ) → count_of new.map.entries n ≡ count_of old.map.entries n
@@ -26,7 +26,7 @@ MakingLaw =
     IsTree served.tree → IsSound served → child_of served.tree dir name ≡ None →
     KeepsNames served (record served { tree = created served.tree dir name kind perm })
 
--- a name in the directory of a number, which may be taken away
+-- this name in the directory that a number names may be taken from this file
 pub record MayLose (served : ServedState) (number : Number) (dir : FileId) (name : List ℕ)
     (file : FileId) : Type 0 where
   pub is_tree : IsTree served.tree

@@ -1,5 +1,5 @@
--- What giving a number and forgetting one do to what a daemon knows, over a tree that stays: the shapes of their laws.
--- (libfuse's rules for lookup counts, `fuse_lowlevel.h`.)
+-- The laws of giving a number and of forgetting one, over a tree that is unchanged: how they change what a daemon
+-- knows. (libfuse's rules for lookup counts, `fuse_lowlevel.h`.)
 use Rattle.std.specs.Prelude.{◌≡◌, ℕ, ◌+◌, ◌-◌, ◌<◌, ◌≤◌, ◌↔◌, ◌⊎◌, true, false, List, Option, Some, None}
 use Rattle.eden_base.specs.declared.number.FileId.{FileId}
 use Rattle.eden_base.specs.declared.number.Number.{Number}
@@ -12,16 +12,16 @@ use Rattle.entry_table.specs.declared.kept.Kept.{Kept}
 use Rattle.fuse_ops.specs.Served.{ServedState}
 use Rattle.fuse_ops.specs.Soundness.{IsSound}
 
--- numbers over a tree, as what a daemon serves
+-- what a daemon serves with this tree and these numbers
 abbrev pub served_over : Tree → MapState → ServedState
 served_over tree map = record { map = map; tree = tree }
 
--- the number was the file's already, or it was the next one
+-- the number named the file before, or it was the next one
 abbrev pub GaveOldOrNext : Tree → MapState → MapState → ℕ → FileId → Type 0
 GaveOldOrNext tree old new n file =
     (IsFileOf tree old.entries n file × (new.next ≡ old.next)) ⊎ ((n ≡ old.next) × (new.next ≡ old.next + 1))
 
--- a number of the file was given: it is counted once more, and names the file; all else stays
+-- a number of the file was given: its count rose by 1, and it names the file; all else is unchanged
 pub record Gave (tree : Tree) (old new : MapState) (n : ℕ) (file : FileId) : Type 0 where
   pub sound : IsSound (served_over tree new)
   pub names : IsFileOf tree new.entries n file
@@ -33,14 +33,14 @@ pub record Gave (tree : Tree) (old new : MapState) (n : ℕ) (file : FileId) : T
   pub low : 2 ≤ n
   pub high : n < new.next
 
--- a place in a directory that a number names
+-- this file stands under a name in a directory that a number names
 pub record IsPlaced (served : ServedState) (parent : ℕ) (name : List ℕ) (dir file : FileId) : Type 0 where
   pub is_tree : IsTree served.tree
   pub sound : IsSound served
   pub at : IsFileOf served.tree served.map.entries parent dir
   pub child : child_of served.tree dir name ≡ Some file
 
--- the law of giving
+-- the law of giving a number
 abbrev pub GivingLaw : Type 0
 GivingLaw =
     (served : ServedState) (parent : Number) (name : List ℕ) (dir file : FileId) →
@@ -48,18 +48,18 @@ GivingLaw =
     give_fault served.map parent.0 name ≡ None →
     Gave served.tree served.map (given served.map parent name) (number_given served.map parent.0 name).0 file
 
--- the number of an entry names the file, and without an entry no number does
+-- the number of the entry names the file; or there is no entry, and no number names the file
 abbrev pub NumberAtPlace : Tree → MapState → Option Kept → FileId → Type 0
 NumberAtPlace tree map (Some kept) file = IsFileOf tree map.entries kept.number.0 file
 NumberAtPlace tree map None file = (m : ℕ) → IsFileOf tree map.entries m file → ⊥
 
--- the file at a place with a number is that number's, and at a place without one it is no number's
+-- the number that a place has names the file there; at a place without a number, no number names the file
 abbrev pub PlaceLaw : Type 0
 PlaceLaw =
     (served : ServedState) (parent : ℕ) (name : List ℕ) (dir file : FileId) → IsPlaced served parent name dir file →
     NumberAtPlace served.tree served.map (entry_at served.map.entries parent name) file
 
--- a number was counted k times less: what is no longer of use left, and all else stays
+-- the count of a number fell by k; entries that are no longer of use left, and all else is unchanged
 pub record Forgets (tree : Tree) (old new : MapState) (n k : ℕ) : Type 0 where
   pub sound : IsSound (served_over tree new)
   pub lowered : count_of new.entries n ≡ count_of old.entries n - k
@@ -67,17 +67,17 @@ pub record Forgets (tree : Tree) (old new : MapState) (n k : ℕ) : Type 0 where
   pub left_name : (m : ℕ) (file : FileId) → IsFileOf tree new.entries m file → IsFileOf tree old.entries m file
   pub next : new.next ≡ old.next
 
--- neither entries nor the next number changed
+-- neither the entries nor the next number changed
 pub record KeepsEntries (tree : Tree) (old new : MapState) : Type 0 where
   pub sound : IsSound (served_over tree new)
   pub entries : new.entries ≡ old.entries
   pub next : new.next ≡ old.next
 
--- it was neither bad nor the root's
+-- a forget with this result was neither bad nor the root's
 abbrev pub IsTaken : Forgot → Type 0
 IsTaken told = (told ≡ Lowered) ⊎ (told ≡ Dropped)
 
--- the law of forgetting
+-- the law of forgetting a number
 abbrev pub ForgettingLaw : Type 0
 ForgettingLaw =
     (served : ServedState) (n k : ℕ) → IsTree served.tree → IsSound served →
@@ -90,6 +90,6 @@ BadForgetLaw =
     (served : ServedState) (n k : ℕ) → IsSound served → (n ≡ 1) ⊎ (is_bad_item served.map.entries n k ≡ true) →
     KeepsEntries served.tree served.map (forgotten served.map n k)
 
--- nothing is given yet
+-- the law of a new map, from which no number was given
 abbrev pub NewLaw : Type 0
 NewLaw = (tree : Tree) (limit : ℕ) → IsTree tree → IsSound (served_over tree (new_map limit))

@@ -20,19 +20,19 @@ use Rattle.fuse_ops.specs.Served.{ServedState, IsUnloaded, place_taken, map_with
 
 -- ---- the backing
 
--- the backing holds each regular file of the tree's manifest, as it stands there
+-- the backing holds each regular file of the tree's manifest, as the manifest says it
 abbrev pub Backs : (FileId → Option Content) → Tree → Type 0
 Backs content tree = (file : FileId) (f : Content) →
     file_of (tree_of tree.manifest) file ≡ Some f → f.kind ≡ File → content file ≡ Some f
 
--- the backing failed in a call exactly where EIO is answered
+-- the backing failed in a call exactly if EIO is answered
 pub record FailsAs (answer : Option Answer) (before after : ℕ) : Type 0 where
   pub eio : answer ≡ Some (Error EIO) → before < after
   pub answered : (answer ≡ Some (Error EIO) → ⊥) → after ≡ before
 
--- ---- which requests ask it
+-- ---- which requests ask the backing
 
--- a name gives a file that isn't loaded, and nothing stands against its number
+-- a name leads to a file that isn't loaded, and nothing forbids to give its number
 pub record FindsUnloaded (served : ServedState) (dir : Number) (name : List ℕ) : Type 0 where
   pub above : FileId
   pub file : FileId
@@ -47,18 +47,18 @@ pub record ShowsUnloaded (served : ServedState) (node : Number) : Type 0 where
   pub located : IsFileOf served.tree served.map.entries node.0 file
   pub unloaded : IsUnloaded served file
 
--- the backing is asked to find a name and to show a file, where that isn't loaded; one row a deed
+-- the backing is asked for this deed: to find a name or to show a file, if the file isn't loaded; one row a deed
 abbrev pub AsksFor : ServedState → Deed → Type 0
 AsksFor served (find_name dir name) = FindsUnloaded served dir name
 AsksFor served (show_file node) = ShowsUnloaded served node
 AsksFor served deed = ⊥
 
--- it is asked for a request
+-- the backing is asked for this request
 abbrev pub AsksBacking : ServedState → Request → Type 0
 AsksBacking served request = AsksFor served (deed_of request)
 
--- EIO is answered only where the backing is asked, and there always by one that is known to fail. One that is known to
--- answer has none.
+-- EIO is answered only if the backing is asked. A backing that is known to fail is then always answered with EIO, and
+-- one that is known to answer never.
 pub record AsksAs (served : ServedState) (request : Request) (answer : Option Answer)
     (will_answer : Option Bool) : Type 0 where
   pub eio : answer ≡ Some (Error EIO) → AsksBacking served request
@@ -67,26 +67,27 @@ pub record AsksAs (served : ServedState) (request : Request) (answer : Option An
 
 -- ---- what is loaded
 
--- The attributes of a number are told, and become the most recent: those that are loaded of it, or else these, for
--- which the oldest makes place at the limit. The root's are never loaded.
+-- The loaded attributes after these were told for a number. Those that are loaded for the number become the most
+-- recent. If none are, these are loaded as the most recent, and at the limit the oldest are dropped. The root's are
+-- never loaded.
 abbrev pub loaded_told : MapState → Number → Attr → List LoadedAttr
 loaded_told map number attr =
     if number.0 == 1 then map.loaded
     else if is_some (attr_of map.loaded number.0) then used map.loaded number.0
     else load map.limit map.loaded number attr
 
--- they are, and the limit stays
+-- the attributes of a number were told and are loaded, and the limit is unchanged
 pub record LoadsTold (old : MapState) (number : Number) (attr : Attr) (new : MapState) : Type 0 where
   pub loaded : new.loaded ≡ loaded_told old number attr
   pub limit : new.limit ≡ old.limit
 
--- nothing becomes more recent, is loaded or unloaded
+-- nothing became more recent, was loaded or was unloaded
 pub record LoadsNone (old new : MapState) : Type 0 where
   pub loaded : new.loaded ≡ old.loaded
   pub limit : new.limit ≡ old.limit
 
--- What a request makes of what is loaded, by its answer: a number that is told with attributes is loaded, and none
--- with an error. With a number that is dropped goes what is loaded of it.
+-- How a request changes what is loaded, by its answer. Attributes that are told with a number are loaded, and an error
+-- loads none. When a number is dropped, its loaded attributes are, too.
 abbrev pub Loads : MapState → Request → Option Answer → MapState → Type 0
 Loads old request (Some (Entry number attr)) new = LoadsTold old number attr new
 Loads old request (Some (Opened number attr)) new = LoadsTold old number attr new

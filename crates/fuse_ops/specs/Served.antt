@@ -1,4 +1,4 @@
--- What a daemon serves: its numbers and the tree of its checkout, and one step of it by a request and its answer.
+-- What a daemon serves: its numbers and the tree of its checkout; and how a request and its answer change this.
 -- (EdenFS's documents on inode lifetime; libfuse's rules for lookup counts, `fuse_lowlevel.h`.)
 use Rattle.std.specs.Prelude.{◌≡◌, ℕ, max, true, false, List, [], ◌∷◌, MatchOption, Option, Some, None, Result}
 use Rattle.std.specs.Option.{option_map_or}
@@ -25,70 +25,70 @@ pub record ServedState : Type 0 where
   pub map : MapState
   pub tree : Tree
 
--- what is kept of that whatever is loaded, remembered or made ready: the numbers with place and count, the next one,
--- and the tree
+-- the part of what a daemon serves that does not depend on what is loaded, remembered or made ready: the numbers with
+-- place and count, the next number, and the tree
 pub record PlainState : Type 0 where
   pub entries : List Kept
   pub next : ℕ
   pub tree : Tree
 
--- the plain state in what a daemon serves
+-- the plain state of what a daemon serves
 abbrev pub plain : ServedState → PlainState
 plain served = record { entries = served.map.entries; next = served.map.next; tree = served.tree }
 
--- a daemon that begins to serve a checkout; its limit of loaded attributes is 1 at least
+-- what a daemon serves when it begins to serve a checkout; its limit of loaded attributes is at least 1
 abbrev pub new_served : Manifest → ℕ → ServedState
 new_served manifest limit = record { map = new_map (max limit 1); tree = tree_of manifest }
 
--- a daemon that begins to serve a tree with numbers that were given before
+-- what a daemon serves when it begins to serve a tree with numbers that were given before
 abbrev pub served_of : List Kept → ℕ → ℕ → Tree → ServedState
 served_of entries next limit tree = record { map = map_of entries next (max limit 1); tree = tree }
 
--- the file that a number names for this daemon, or none where it names none
+-- this is the file that a number names for this daemon, or None if it names none
 abbrev pub IsLocated : ServedState → ℕ → Option FileId → Type 0
 IsLocated served n found =
     MatchOption found ((file : FileId) → IsFileOf served.tree served.map.entries n file → ⊥)
     (IsFileOf served.tree served.map.entries n)
 
--- the files that the numbers of a request name for this daemon, as far as they are looked at
+-- `files` says which file each number names for this daemon, for the numbers that are looked at for a request
 abbrev pub Locates : ServedState → Request → (ℕ → Option FileId) → Type 0
 Locates served request files =
     AllByRecursion (λ (node : Number). IsLocated served node.0 (files node.0)) (looks_at request)
 
--- the directory and the name whose number a success of a deed tells, where it tells an entry
+-- the directory and the name whose number a deed gives out when it succeeds, if it answers with an entry
 abbrev pub place_entered : Deed → Option (Number × List ℕ)
 place_entered (find_name dir name) = Some (dir, name)
 place_entered (make_file dir name kind perm) = Some (dir, name)
 place_entered deed = None
 
--- the directory and the name that it takes away
+-- the directory and the name that a deed takes away when it succeeds, if it takes one
 abbrev pub place_left : Deed → Option (Number × List ℕ)
 place_left (take_name dir name kind) = Some (dir, name)
 place_left deed = None
 
--- the directory and the name whose number a request's success tells, where it tells an entry
+-- the directory and the name whose number a request gives out when it succeeds, if it is answered with an entry
 abbrev pub place_told : Request → Option (Number × List ℕ)
 place_told request = place_entered (deed_of request)
 
--- the directory and the name that a request's success takes away
+-- the directory and the name that a request takes away when it succeeds, if it takes one
 abbrev pub place_taken : Request → Option (Number × List ℕ)
 place_taken request = place_left (deed_of request)
 
--- why a place's number is not given, in the words of the table
+-- the table's word for the cause why a number is not given; none for a lack of memory
 abbrev pub number_fault : Option GiveFault → Option NumberFault
 number_fault (Some NoNumber) = Some none_left
 number_fault (Some TooMany) = Some at_greatest
 number_fault (Some NoMemory) = None
 number_fault None = None
 
--- a regular file of the manifest of which nothing is loaded, so that the backing alone can tell it
+-- a regular file of the manifest for which nothing is loaded, so that only the backing can tell its attributes
 abbrev pub IsUnloaded : ServedState → FileId → Type 0
 IsUnloaded served file =
     IsBacked served.tree file
     × ((n : ℕ) → IsFileOf served.tree served.map.entries n file → attr_of served.map.loaded n ≡ None)
 
--- what a daemon reads the table by: its map says which number a place has; its backing may fail to tell a file that
--- isn't loaded; memory is wanted for a new number alone
+-- how a daemon reads the table: its map says which number a place has; its backing may fail for a file that isn't
+-- loaded; and only a new number takes memory
 abbrev pub numbers_at : ServedState → Option (Number × List ℕ) → Numbers
 numbers_at served (Some (dir, name)) = record {
   IsAgainst = λ file fault. fault ≡ number_fault (give_fault served.map dir.0 name);
@@ -103,12 +103,12 @@ numbers_at served None = record {
   MayWant = λ file. ⊥;
 }
 
--- the map after an answer: what is given out is counted once more
+-- the map after an answer: the number that is given out, if any, is counted once more
 abbrev pub map_after : MapState → Option (Number × List ℕ) → Option Number → MapState
 map_after map (Some (dir, name)) (Some number) = given map dir name
 map_after map place number = map
 
--- the map after a place lost its name: the number that it has, if any, names the file by a mark
+-- the map after a place lost its name: the number at that place, if any, names the file by a mark
 abbrev pub name_taken : MapState → Number → List ℕ → FileId → MapState
 name_taken map dir name file =
     option_map_or (λ (kept : Kept). unlinked map kept.number.0 file) (entry_at map.entries dir.0 name) map
@@ -126,17 +126,17 @@ served_after old request result answer = record {
   tree = tree_after old.tree result answer;
 }
 
--- a legal answer to an ask, and what the daemon knows after it
+-- this is a legal answer to an ask, and this is what the daemon knows after it
 pub record IsLegal (old : ServedState) (request : Request) (answer : Answer) (new : ServedState) : Type 0 where
   pub files : ℕ → Option FileId
   pub locates : Locates old request files
   pub answers : Answers (numbers_at old (place_told request)) request (comes_to old.tree files request) answer
   pub makes : plain new ≡ plain (served_after old request (comes_to old.tree files request) answer)
   pub bad_items : new.map.bad_items ≡ old.map.bad_items
-  -- files and links stay a tree
+  -- files and links are still a tree
   pub keeps_tree : IsTree old.tree → IsTree new.tree
 
--- each item by itself, in order
+-- the map after each item was forgotten by itself, in order
 abbrev pub forgotten_all : MapState → List Item → MapState
 forgotten_all map [] = map
 forgotten_all map (item ∷ items) = forgotten_all (forgotten map item.node.0 item.k) items

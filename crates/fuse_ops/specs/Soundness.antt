@@ -14,25 +14,25 @@ use Rattle.inode_map.specs.InodeMap.{attr_of}
 use Rattle.entry_table.specs.declared.kept.Kept.{Kept}
 use Rattle.fuse_ops.specs.Served.{ServedState}
 
--- the place is one that was taken away
+-- the place is a mark that the file was unlinked
 abbrev pub IsUnlinkedPlace : Place → Type 0
 IsUnlinkedPlace (Linked dir name) = ⊥
 IsUnlinkedPlace (Unlinked file) = Unit {0}
 
--- a file that a number names for this daemon
+-- a number names this file for this daemon
 abbrev pub Names : ServedState → ℕ → FileId → Type 0
 Names served n file = IsFileOf served.tree served.map.entries n file
 
--- what is remembered of a number is the file that it names
+-- the file that is remembered for a number is the file that it names
 abbrev pub AreRemembered : ServedState → Type 0
 AreRemembered served = (n : ℕ) (file : FileId) →
     file_remembered served.map.remembered n ≡ Some file → Names served n file
 
--- what attributes say of a file, its names apart
+-- what attributes say of a file, besides its link count
 abbrev pub content_in : Attr → Content
 content_in attr = record { kind = attr.kind; perm = attr.perm; size = attr.size }
 
--- what is loaded of a number is true: the kind, the permissions and the size of the file that it names
+-- what is loaded for a number is true: the kind, the permissions and the size of the file that it names
 abbrev pub AreLoaded : ServedState → Type 0
 AreLoaded served = (n : ℕ) (attr : Attr) → attr_of served.map.loaded n ≡ Some attr →
     (file : FileId) × Names served n file × (tree_file served.tree file ≡ Some (content_in attr))

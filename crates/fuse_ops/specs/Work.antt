@@ -1,4 +1,4 @@
--- What the code of a served state says of its answers.
+-- What the contracts inside the code of a served state say.
 use Rattle.std.specs.Prelude.{◌≡◌, ◌≢◌, ℕ, ◌<◌, ◌≤◌, ◌⊎◌, Bool, true, false, IsSome, List, Option, Some, None, Result, Ok, Err}
 use Rattle.eden_base.specs.Limits.{end_of_numbers}
 use Rattle.eden_base.specs.Name.{IsNameText}
@@ -22,46 +22,46 @@ use Rattle.fuse_ops.specs.declared.served.Found.{Found}
 use Rattle.fuse_ops.specs.declared.served.Linkage.{Linkage}
 use Rattle.fuse_ops.specs.declared.served.Linkage.TheVariants.{Linked, Unlinked}
 
--- the directory of a number and the file under a name in it, or the error that is told in their place
+-- this is the directory that a number names, with the file under a name in it, or the error if there is no such file
 abbrev pub IsFoundAs : Tree → Option FileId → List ℕ → Result Found Errno → Type 0
 IsFoundAs tree dir name (Ok found) =
     (dir ≡ Some found.dir) × (found_in tree dir name ≡ Ok found.file) × IsSome (file_of tree found.file)
 IsFoundAs tree dir name (Err errno) = found_in tree dir name ≡ Err errno
 
--- no name leads to the file
+-- no name leads to a file of this linkage
 abbrev pub lacks_name : Linkage → Bool
 lacks_name Linked = false
 lacks_name Unlinked = true
 
--- the file that the number of a directory names, and what a name in it gives
+-- this was found: the directory that a number names, with the file under a name in it, or the error
 pub record Finds (served : ServedState) (dir : ℕ) (name : List ℕ) (told : Result Found Errno) : Type 0 where
   pub dir_file : Option FileId
   pub located : IsLocated served dir dir_file
   pub found : IsFoundAs served.tree dir_file name told
 
--- what is answered where no number can be given
+-- the error for the cause why no number can be given
 abbrev pub errno_of : GiveFault → Errno
 errno_of NoNumber = ENOSPC
 errno_of TooMany = EOVERFLOW
 errno_of NoMemory = ENOMEM
 
--- neither a number, nor a place, nor the tree changed, and no forget was bad
+-- no number, count, place or tree changed, and no forget was bad
 pub record IsSamePlainly (old new : ServedState) : Type 0 where
   pub plainly : plain new ≡ plain old
   pub bad_items : new.map.bad_items ≡ old.map.bad_items
 
--- why a file that was found is no entry: its number can't be given, or else the backing didn't tell the file
+-- this error is answered for a file that was found: its number can't be given, or else the backing failed for the file
 abbrev pub IsEntryRefusal : ServedState → Number → List ℕ → FileId → Errno → Type 0
 IsEntryRefusal old dir name file errno =
     ((fault : GiveFault) × IsGiveRefusal old.map dir.0 name fault × (errno ≡ errno_of fault))
     ⊎ ((errno ≡ EIO) × (give_fault old.map dir.0 name ≡ None) × IsUnloaded old file)
 
--- what is known of the backing beforehand shows in the answer, where it is asked
+-- if the backing is asked, then what is known of it beforehand decides whether EIO is answered
 pub record IsAsKnown (Asks : Type 0) (answer : Answer) (will_answer : Option Bool) : Type 0 where
   pub failing : will_answer ≡ Some false → Asks → answer ≡ Error EIO
   pub answering : will_answer ≡ Some true → answer ≢ Error EIO
 
--- the answer for a file that was found, and what the daemon knows after it
+-- this is the answer for a file that was found, and what the daemon knows after it
 abbrev pub GivesEntry : ServedState → Number → List ℕ → FileId → Answer → ServedState → Type 0
 GivesEntry old dir name file (Entry number attr) new =
     (give_fault old.map dir.0 name ≡ None) × (number ≡ number_given old.map dir.0 name)
@@ -70,38 +70,39 @@ GivesEntry old dir name file (Entry number attr) new =
 GivesEntry old dir name file (Error errno) new = IsEntryRefusal old dir name file errno × (new ≡ old)
 GivesEntry old dir name file answer new = ⊥
 
--- an error is told as it is, and for a file its number is given
+-- an error is answered as it is; for a file, its number is given
 abbrev pub GivesFound : ServedState → Number → List ℕ → Result FileId Errno → Answer → ServedState → Type 0
 GivesFound old dir name (Ok file) answer new = GivesEntry old dir name file answer new
 GivesFound old dir name (Err errno) answer new = (answer ≡ Error errno) × (new ≡ old)
 
--- a lookup's answer, and what the daemon knows after it
+-- this is the answer to a lookup, and what the daemon knows after it
 pub record LooksUp (old : ServedState) (dir : Number) (name : List ℕ) (answer : Answer)
     (new : ServedState) : Type 0 where
   pub dir_file : Option FileId
   pub located : IsLocated old dir.0 dir_file
   pub gives : GivesFound old dir name (found_in old.tree dir_file name) answer new
 
--- the answer with the attributes of a number's file, which the backing may fail to tell where it isn't loaded
+-- this is an answer with the attributes of the file that a number names, if any; the backing may fail if it isn't
+-- loaded
 abbrev pub ShowsFile : ServedState → Number → Option FileId → Answer → Type 0
 ShowsFile served node (Some file) answer =
     ((attr : Attr) × (attr_of served.tree file ≡ Some attr) × (answer ≡ Attrs node attr))
     ⊎ ((answer ≡ Error EIO) × IsUnloaded served file)
 ShowsFile served node None answer = answer ≡ Error ESTALE
 
--- a GETATTR's answer
+-- this is an answer to a GETATTR
 pub record Shows (served : ServedState) (node : Number) (answer : Answer) : Type 0 where
   pub file : Option FileId
   pub located : IsLocated served node.0 file
   pub shows : ShowsFile served node file answer
 
--- why the next number is not made ready: there is none, or memory was refused
+-- the next number is not made ready for this cause: no number is left, or memory was refused
 abbrev pub IsNextRefusal : ℕ → Errno → Type 0
 IsNextRefusal next errno =
     ((errno ≡ ENOSPC) × (end_of_numbers ≤ next)) ⊎ ((errno ≡ ENOMEM) × (next < end_of_numbers))
 
--- the number and the attributes of a file that was made under a free name, and what the daemon knows after it; or why
--- it was not made
+-- this is the number and the attributes of a file that was made under a free name, or the error for which it was not
+-- made; and what the daemon knows after it
 abbrev pub MakesFile : ServedState → Number → List ℕ → FileId → Tree → Result (Number × Attr) Errno → ServedState →
     Type 0
 MakesFile old dir name file tree (Ok (number, attr)) new =
@@ -111,33 +112,33 @@ MakesFile old dir name file tree (Ok (number, attr)) new =
 MakesFile old dir name file tree (Err errno) new =
     ((fault : GiveFault) × IsGiveRefusal old.map dir.0 name fault × (errno ≡ errno_of fault)) × IsSamePlainly old new
 
--- an error is told as it is, and in a directory a file is made
+-- an error is returned as it is; in a directory a file is made
 abbrev pub MakesIn : ServedState → Number → List ℕ → Kind → Perm → Result FileId Errno → Result (Number × Attr) Errno →
     ServedState → Type 0
 MakesIn old dir name kind perm (Ok above) told new =
     MakesFile old dir name (next_file old.tree) (created old.tree above name kind perm) told new
 MakesIn old dir name kind perm (Err errno) told new = (told ≡ Err errno) × IsSamePlainly old new
 
--- a file is made under a name in the directory of a number
+-- a file is made under a name in the directory that a number names, or this error is returned
 pub record Makes (old : ServedState) (dir : Number) (name : List ℕ) (kind : Kind) (perm : Perm)
     (told : Result (Number × Attr) Errno) (new : ServedState) : Type 0 where
   pub dir_file : Option FileId
   pub located : IsLocated old dir.0 dir_file
   pub makes : MakesIn old dir name kind perm (free_in old.tree dir_file name) told new
 
--- the directory of a number in which a name is free, or the error that is told in its place
+-- this is the directory that a number names, if a name is free in it, or the error
 pub record IsFree (served : ServedState) (dir : ℕ) (name : List ℕ) (told : Result FileId Errno) : Type 0 where
   pub dir_file : Option FileId
   pub located : IsLocated served dir dir_file
   pub free : free_in served.tree dir_file name ≡ told
 
--- a name was taken out of the directory of a number
+-- a name was taken out of the directory that a number names
 abbrev pub NameIsTaken : ServedState → Number → FileId → List ℕ → ServedState → Type 0
 NameIsTaken old number dir name new =
     (file : FileId) × (child_of old.tree dir name ≡ Some file)
     × (new ≡ record { map = name_taken old.map number name file; tree = removed old.tree dir name })
 
--- an error is told as it is, and else the name is taken away
+-- an error is answered as it is; otherwise the name is taken away
 abbrev pub TakesName : ServedState → Number → Option FileId → List ℕ → Result FileId Errno → Answer → ServedState →
     Type 0
 TakesName old dir (Some above) name (Ok file) answer new =
@@ -146,7 +147,7 @@ TakesName old dir (Some above) name (Ok file) answer new =
 TakesName old dir None name (Ok file) answer new = ⊥
 TakesName old dir above name (Err errno) answer new = (answer ≡ Error errno) × (new ≡ old)
 
--- a name is taken away from its file, where nothing stands against that
+-- a name is taken away from its file, if nothing forbids that, or this error is answered
 pub record Takes (old : ServedState) (dir : Number) (name : List ℕ) (against : FileId → Option Errno)
     (answer : Answer) (new : ServedState) : Type 0 where
   pub dir_file : Option FileId

@@ -1,4 +1,4 @@
-//! What one daemon serves, and what it answers the kernel from it.
+//! What one daemon serves, and how it answers the kernel.
 #![tactic(auto)]
 
 mod served;

@@ -52,21 +52,21 @@ impl Model for Served {
         × AreLoaded (record { map = s.map; tree = s.tree }) };
 }
 
-/// The file of a directory's number, and the file under a name in it.
+/// A directory, and the file under a name in it.
 #[derive(Drop)]
 struct Found {
     dir: FileId,
     file: FileId,
 }
 
-/// How a file stands: a name leads to it, or none does. The root counts as linked, though no name leads to it.
+/// Whether a name leads to a file. The root counts as linked, though no name leads to it.
 #[derive(Clone, Copy)]
 enum Linkage {
     Linked,
     Unlinked,
 }
 
-/// The file that a number names, and how it stands.
+/// The file that a number names, and whether a name leads to it.
 #[derive(Clone, Copy)]
 struct Located {
     file: FileId,
@@ -74,7 +74,7 @@ struct Located {
 }
 
 impl Linkage {
-    /// Returns the linkage of a file that is linked, or isn't.
+    /// Returns `Linked` if `is_linked`, else `Unlinked`.
     fn of(is_linked: bool) -> Linkage
         ensures { lacks_name result ≡ not is_linked }
     {
@@ -85,7 +85,7 @@ impl Linkage {
         }
     }
 
-    /// Returns how many names a file of a kind has.
+    /// Returns the link count of a file of this kind, which is 0 if no name leads to the file.
     fn nlink(self, kind: Kind) -> u32
         ensures { result ≡ (if lacks_name self then 0 else nlink_of_kind kind) }
     {
@@ -97,8 +97,8 @@ impl Linkage {
 }
 
 impl Served {
-    /// Returns a daemon that begins to serve what `manifest` says. At most `limit` attributes are loaded at once, and
-    /// one may always be.
+    /// Makes the state of a daemon that begins to serve what `manifest` says. At most `limit` attributes are loaded at
+    /// once, or 1 if `limit` is 0.
     pub fn new(alloc: Global, manifest: &Manifest, limit: usize) -> Result<Served, NoMemory>
         ensures new { IfOk result (λ served. served ≡ new_served manifest.now limit) }
         ensures sound { IfOk result IsSound }
@@ -108,9 +108,9 @@ impl Served {
         Ok(Served { map, tree })
     }
 
-    /// Returns a daemon that begins to serve `tree`, with numbers that were given before and no attribute loaded. At
-    /// most `limit` attributes are loaded at once, and one may always be. `entries` and `tree` are lost where memory is
-    /// refused.
+    /// Makes the state of a daemon that begins to serve `tree`, with numbers that were given before, and no attributes
+    /// loaded. At most `limit` attributes are loaded at once, or 1 if `limit` is 0. If memory is refused, `entries` and
+    /// `tree` are dropped.
     pub fn of_entries(
         alloc: Global,
         entries: Vec<Kept>,
@@ -126,7 +126,7 @@ impl Served {
         Ok(Served { map, tree })
     }
 
-    /// Returns the numbers that the daemon gave. What it knows fits together, whatever it was asked.
+    /// Returns the numbers that the daemon gave. What the daemon knows fits together, whatever was asked before.
     pub fn map(&self) -> &InodeMap
         ensures map { result.now ≡ self.now.map }
         ensures sound { IsSound self.now }
@@ -143,9 +143,9 @@ impl Served {
         &self.tree
     }
 
-    /// Answers an ask, or applies the items of a forget, which has no answer. The backing is asked for the request's
-    /// file alone, if it isn't loaded and only memory may still be refused. An error changes no number, count, place or
-    /// tree, and loads no attribute.
+    /// Answers an ask, or applies the items of a forget, which has no answer. Asks the backing at most for the
+    /// request's file, if its attributes are not loaded. By then every refusal but that of memory is excluded. An error
+    /// changes no number, count, place or tree, and loads no attributes.
     #[tactic(auto, using(crate::proofs::Steps::steps))]
     pub fn apply<B: Backing>(
         &mut self,
@@ -206,7 +206,7 @@ impl Served {
         }
     }
 
-    /// Answers an UNLINK. It takes no memory.
+    /// Answers an UNLINK. Takes no memory.
     fn unlink(&mut self, dir: Number, name: &Name) -> Answer
         ensures takes { Takes self.old dir name.now (against_unlink self.old.tree) result self.new }
         ensures loads { Loads self.old.map (Unlink dir name.now) (Some result) self.new.map }
@@ -222,7 +222,7 @@ impl Served {
         Answer::Done
     }
 
-    /// Answers an RMDIR. It takes no memory.
+    /// Answers an RMDIR. Takes no memory.
     fn remove_dir(&mut self, dir: Number, name: &Name) -> Answer
         ensures takes { Takes self.old dir name.now (against_rmdir self.old.tree) result self.new }
         ensures loads { Loads self.old.map (Rmdir dir name.now) (Some result) self.new.map }
@@ -241,7 +241,7 @@ impl Served {
         Answer::Done
     }
 
-    /// Returns the file that a number names. Where that is not remembered, the way to the root is walked.
+    /// Returns the file that `number` names, if any. If no file is remembered for it, the names above it are followed.
     fn file_of(&mut self, number: Number) -> Option<FileId>
         ensures located { IsLocated self.old number.0 result }
         ensures unchanged { self.new ≡ self.old }
@@ -255,7 +255,7 @@ impl Served {
         }
     }
 
-    /// Returns the file that a number names, and whether a name leads to it.
+    /// Returns the file that `number` names, if any, and whether a name leads to that file.
     fn linked_file_of(&mut self, number: Number) -> Option<Located>
         ensures located { IsLocated self.old number.0 (option_map (λ found. found.file) result) }
         ensures linkage { IfSome result (λ found. is_unlinked self.old.tree found.file ≡ lacks_name found.linkage) }
@@ -280,7 +280,8 @@ impl Served {
         })
     }
 
-    /// Finds the directory of a number, and the file under a name in it.
+    /// Returns the directory that a number names, and the file under a name in it, or the error if there is no such
+    /// file.
     fn find(&mut self, dir: Number, name: &Name) -> Result<Found, Errno>
         ensures found { Finds self.old dir.0 name.now result }
         ensures unchanged { self.new ≡ self.old }

@@ -1,4 +1,4 @@
--- The bodies of requests: what is read of one is spelled so, and what is spelled so is read.
+-- The bodies of requests: what is read has these bytes as its body, and each body is read.
 use Rattle.std.proofs.Common.{All, ◌≡◌, ℕ, zero, suc, ◌+◌, ◌-◌, ◌*◌, ◌%◌, ◌^◌, ◌<◌, ◌≤◌, true, false, cond, not, ◌&&◌, ◌||◌, eqb, ltb, List, [], ◌∷◌, ◌++◌, length, take, drop, get_or, Option, Some, None, Result, Ok, Err, refl, sym, ap, subst, ◌∙◌, append_assoc, length-append, length-take, length-drop, drop-cons, arith}
 use Rattle.std.specs.Prelude.{slice_index}
 use Rattle.std.specs.List.{flat_map, AllByRecursion}
@@ -75,7 +75,7 @@ parted bytes n m = ap (λ (d : List ℕ). take m (drop n bytes) ++ d) (sym (drop
 abbrev pub pair : List ℕ → Perm → List ℕ × Perm
 pair name perm = (name, perm)
 
--- the parts of a body that has a mode at an offset and a count of bytes behind it
+-- the parts of a body that has a mode at an offset and a count of bytes after it
 made_front : (offset rest : ℕ) (body : List ℕ) → AreBytes body → offset + 4 + rest ≤ length body
     → (take offset body ++ u32_bytes (u32_at (drop offset body)) ++ take rest (drop (offset + 4) body)) ++ drop (offset + 4 + rest) body ≡ body
 made_front offset rest body are long =

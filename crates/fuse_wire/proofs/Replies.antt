@@ -30,7 +30,7 @@ text_again reply bytes fits is =
     let same : bytes_eq bytes (reply_text reply) ≡ true = grind (arith, bytes_eq-Decides) in
     answered bytes reply.unique (i32_at (drop 4 bytes)) reply.answer read.long read.len refl read.unique read.answer ∙ rw same refl
 
--- ---- what is read is spelled so, and the faults
+-- ---- the bytes that were read are the text of what is returned; and the faults
 
 -- what the clauses of a reading say
 pub record IsReading (bytes : List ℕ) (r : Result Reply WireFault) : Type 0 where

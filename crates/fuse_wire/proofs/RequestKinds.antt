@@ -1,4 +1,4 @@
--- Each kind of request: its opcode, its nodeid and its body, as they are read, and as what is spelled so is read again.
+-- Each kind of request: its opcode, its nodeid and its body, as they are read, and as their texts are read again.
 use Rattle.std.proofs.Common.{◌≡◌, ℕ, ◌^◌, ◌<◌, eqb, List, [], ◌∷◌, ◌++◌, length, Ok, refl, sym, ap, subst, ◌∙◌, arith}
 use Rattle.std.proofs.lemmas.Bool.{eqb-true}
 use Rattle.std.proofs.lemmas.Bool.Decides.{nat_tests}

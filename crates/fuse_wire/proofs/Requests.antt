@@ -1,4 +1,4 @@
--- Whole requests: what is read is a text of what is told, and what is a text is read.
+-- Whole requests: the bytes that were read are a text of what is returned, and each text is read.
 use Rattle.std.proofs.Common.{◌≡◌, ℕ, ◌+◌, ◌≤◌, true, false, cond, eqb, ltb, List, ◌++◌, length, take, drop, Result, Ok, Err, refl, sym, ap, subst, ◌∙◌, append_assoc, length-append, length-take, length-drop, arith}
 use Rattle.std.specs.Prelude.{IfOk}
 use Rattle.std.proofs.lemmas.Bool.{ltb-false, le-ltb, eqb-true}
@@ -111,7 +111,7 @@ request_again ask bytes fits is =
     ap (λ (k : ℕ). what_of (opcode_of k) node (drop 40 bytes)) code_is ∙ ap (λ (o : Opcode). what_of o node (drop 40 bytes)) (opcode_again ask.what is.rest is.is_body) ∙ ap (what_of (opcode ask.what) node) at40 ∙ what_again ask.what node is.rest fits.body_fits node_is is.is_body in
     rw (long, same, what, unique_is) refl
 
--- what a call read is spelled so
+-- the bytes that a call read are a text of what it returned
 pub is_text : (bytes : List ℕ) (r : Result Ask WireFault) → AreBytes bytes → Gives WantsMemory r (request_of bytes) → IfOk r (λ ask. IsRequestText ask bytes)
 is_text bytes (Ok ask) are given = request_found bytes ask are given
 is_text bytes (Err fault) are given = tt

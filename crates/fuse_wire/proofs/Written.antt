@@ -1,4 +1,4 @@
--- Fields that were written one behind the other.
+-- Fields that were written one after the other.
 use Rattle.std.proofs.Common.{All, ◌≡◌, ℕ, ◌+◌, ◌<◌, ◌≤◌, List, [], ◌∷◌, ◌++◌, length, take, drop, get_or, refl, sym, ap, ◌∙◌, append_assoc, length-append, length-take, arith}
 use Rattle.std.proofs.lemmas.List.{append-nil, take-append-drop, drop-drop, drop_all, take_at, drop_at}
 use Rattle.std.specs.List.{flat_map}
@@ -19,7 +19,7 @@ written_nothing old at =
 pub puts_nothing : (writer : Writer) → Puts writer writer []
 puts_nothing writer = record { same = refl; field = written_nothing writer.bytes.now writer.at; after = omega arith; len = refl }
 
--- what is written behind what was written is written with it
+-- two texts that were written one after the other are written together
 written_then : (old mid new : List ℕ) (at next : ℕ) (xs ys : List ℕ) → next ≡ at + length xs → at ≤ length old → Writes old mid at xs → Writes mid new next ys → Writes old new at (xs ++ ys)
 written_then old mid new at next xs ys is fits first second =
     let front : take next mid ≡ take at old ++ xs = ap (take next) first ∙ take_at (take at old ++ xs) (drop (at + length xs) old) next (omega (arith, length-append (take at old) xs, length-take at old)) in
@@ -48,7 +48,7 @@ whole old new bytes first is put =
 
 pub ruleset written = (puts_nothing, Puts-then, lengths)
 
--- these items were written behind what was there
+-- these items were written after what was there
 pub record AreWritten (before now : Writer) (items : List Item) : Type 0 where
   pub lines : Puts before now (flat_map item_text items)
   pub fit : All FitsItem items

@@ -3,11 +3,11 @@ use Rattle.std.specs.Prelude.{ℕ, ℤ, List, replicate}
 use Rattle.std.specs.Int.{w32, cast_unsigned, cast_signed}
 use Rattle.byteorder.specs.Endian.{little_bytes, little_number}
 
--- a count of bytes that are 0
+-- this count of bytes that are 0
 unfoldable pub zeros : ℕ → List ℕ
 zeros n = replicate n 0
 
--- a number of four bytes, and one of eight
+-- a number in four bytes, and a number in eight
 unfoldable pub u32_bytes : ℕ → List ℕ
 u32_bytes n = little_bytes 4 n
 

@@ -6,7 +6,7 @@ use Rattle.fuse_wire.specs.declared.reply.Answer.TheVariants.{Entry, Opened, Att
 use Rattle.fuse_wire.specs.declared.form.Form.{Form}
 use Rattle.fuse_wire.specs.declared.form.Form.TheVariants.{AnEntry, AnOpenEntry, Attributes, NoValue}
 
--- an answer belongs to a request of a form; an error belongs to each
+-- an answer belongs to a request of a form; an error belongs to every form
 abbrev pub belongs : Form → Answer → Bool
 belongs AnEntry (Entry number attr) = true
 belongs AnOpenEntry (Opened number attr) = true

@@ -4,7 +4,7 @@ use Rattle.eden_base.specs.declared.number.Number.{Number}
 use Rattle.fuse_wire.specs.declared.reply.Answer.{Answer}
 use Rattle.fuse_wire.specs.declared.reply.Answer.TheVariants.{Entry, Opened}
 
--- the number that the kernel holds once more by an answer
+-- the number that an answer gives out, if any; the kernel holds that number once more
 abbrev pub given_out : Answer → Option Number
 given_out (Entry number attr) = Some number
 given_out (Opened number attr) = Some number

@@ -1,4 +1,4 @@
--- When two items are the same (linux/fuse.h: fuse_forget_one): nodeid and nlookup are.
+-- Two items are the same if they have the same nodeid and the same nlookup (linux/fuse.h: fuse_forget_one).
 use Rattle.std.specs.Prelude.{Bool, List, nat_eq}
 use Rattle.std.specs.Cmp.{IsEquivalence}
 use Rattle.std.specs.Cmp.Lexicographic.{pointwise, lists_equiv}
@@ -6,11 +6,11 @@ use Rattle.std.specs.Cmp.Rules.{comparing}
 use Rattle.std.specs.Ordering.{on, eq_of_both}
 use Rattle.fuse_wire.specs.declared.item.Item.{Item}
 
--- nodeid and nlookup are the same
+-- two items have the same nodeid and the same nlookup
 abbrev pub same_item : Item → Item → Bool
 same_item = eq_of_both (on (λ i. i.node.0) nat_eq) (on (λ i. i.k) nat_eq)
 
--- so are the items of two lists, one after another
+-- two lists have the same items in the same order
 abbrev pub same_items : List Item → List Item → Bool
 same_items = pointwise same_item
 

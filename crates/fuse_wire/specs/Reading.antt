@@ -1,15 +1,15 @@
--- What a reader gives: a value or the first fault, and out of memory in place of some values alone.
+-- What a reader returns: a value or the first fault. Instead of a value that takes memory, it may return NoMemory.
 use Rattle.std.specs.Prelude.{◌≡◌, Bool, IsTrue, IsOkAnd, Result, Ok, Err}
 use Rattle.fuse_wire.specs.declared.fault.WireFault.{WireFault}
 use Rattle.fuse_wire.specs.declared.fault.WireFault.TheVariants.{NoMemory}
 
--- what a call gave that takes memory for some values: out of memory comes in place of one of them alone
+-- a call returned what `read` is, a value or a fault, or it returned NoMemory instead of a value that takes memory
 abbrev pub Gives : {X : Type 0} → (X → Type 0) → Result X WireFault → Result X WireFault → Type 0
 Gives Takes (Ok x) read = read ≡ Ok x
 Gives Takes (Err NoMemory) read = IsOkAnd read Takes
 Gives Takes (Err fault) read = read ≡ Err fault
 
--- every value takes memory, as a name does
+-- any value takes memory, as a name does
 abbrev pub TakesSome : {X : Type 0} → X → Type 0
 TakesSome x = Unit {0}
 

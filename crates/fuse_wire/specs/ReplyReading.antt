@@ -1,5 +1,6 @@
--- How a reply is read: the fields that vary, at the offsets that the length of the whole tells, and then the bytes as a
--- whole, since a reply has one spelling (linux/fuse.h: fuse_out_header, and the struct of each answer).
+-- How a reply is read. The fields that vary are read, at offsets that depend on the length of the whole. The bytes are
+-- then compared with the text of the reply that has these fields (linux/fuse.h: fuse_out_header, and the struct of each
+-- answer).
 use Rattle.std.specs.Prelude.{ℕ, zero, suc, ◌==◌, nat_lt, ℤ, pos, negsuc, List, length, drop, Option, Some, None, Result, Ok, Err, if◌then◌else◌}
 use Rattle.std.specs.Str.{bytes_eq}
 use Rattle.eden_base.specs.declared.attr.Attr.{Attr}
@@ -17,7 +18,7 @@ use Rattle.fuse_wire.specs.Field.{i32_at, u32_at, u64_at}
 use Rattle.fuse_wire.specs.Mode.{S_IFREG, perm_of}
 use Rattle.fuse_wire.specs.ReplyText.{reply_text}
 
--- the error of a number
+-- the error with this number, if there is one
 abbrev pub errno_numbered : ℕ → Option Errno
 errno_numbered n =
     if n == 2 then Some ENOENT
@@ -35,15 +36,15 @@ errno_numbered n =
     else if n == 116 then Some ESTALE
     else None
 
--- the kind of a regular file's or a directory's mode; no other mode is spelled so
+-- the kind of a regular file's or a directory's mode; no other mode is in the text of a reply
 abbrev pub kind_of : ℕ → Kind
 kind_of mode = if nat_lt mode S_IFREG then Dir else File
 
--- the number in attributes; ino is at 0 in them, size at 8, mode at 60, nlink at 64
+-- the number in the bytes of attributes, in which ino is at 0, size at 8, mode at 60, nlink at 64
 abbrev pub number_at : List ℕ → Number
 number_at bytes = record { 0 = u64_at bytes }
 
--- the attributes but for the number
+-- the attributes in such bytes, but for the number
 unfoldable pub attr_at : List ℕ → Attr
 attr_at bytes = record {
   kind = kind_of (u32_at (drop 60 bytes));
@@ -52,7 +53,7 @@ attr_at bytes = record {
   nlink = u32_at (drop 64 bytes);
 }
 
--- the answer without an error whose text has this length; attributes are at 32 alone, and at 56 in an entry
+-- the answer in a reply of this length without an error, if any; attributes alone are at 32, those of an entry at 56
 abbrev pub success_at : ℕ → List ℕ → Option Answer
 success_at len bytes =
     if len == 16 then Some Done
@@ -61,26 +62,26 @@ success_at len bytes =
     else if len == 160 then Some (Opened (number_at (drop 56 bytes)) (attr_at (drop 56 bytes)))
     else None
 
--- the error of an error field, where its number is negative
+-- the error of an error field, if the field is a negative error number
 abbrev pub errno_of : ℤ → Option Errno
 errno_of (pos n) = None
 errno_of (negsuc n) = errno_numbered (suc n)
 
--- the answer of an error
+-- the answer that is this error, if there is one
 abbrev pub failure_of : Option Errno → Option Answer
 failure_of (Some errno) = Some (Error errno)
 failure_of None = None
 
--- the one answer whose text the bytes can be, by the error field
+-- the only answer that a reply with this error field and these bytes can have, if there is one
 unfoldable pub answer_at : ℤ → List ℕ → Option Answer
 answer_at (pos zero) bytes = success_at (length bytes) bytes
 answer_at error bytes = failure_of (errno_of error)
 
--- a reply, if the bytes are its text
+-- this reply if the bytes are its text, else BadBody
 abbrev pub if_spelled : Reply → List ℕ → Result Reply WireFault
 if_spelled reply bytes = if bytes_eq bytes (reply_text reply) then Ok reply else Err BadBody
 
--- the reply of a unique and an answer, if the bytes are one
+-- the reply with this unique and this answer if there is one and the bytes are its text, else BadBody
 abbrev pub reply_with : ℕ → Option Answer → List ℕ → Result Reply WireFault
 reply_with unique (Some answer) bytes = if_spelled (record { unique = unique; answer = answer }) bytes
 reply_with unique None bytes = Err BadBody
@@ -93,7 +94,7 @@ reply_of bytes =
     then reply_with (u64_at (drop 8 bytes)) (answer_at (i32_at (drop 4 bytes)) bytes) bytes
     else Err BadLength
 
--- the faults of a reply
+-- a fault that reading a reply may have
 abbrev pub IsReplyFault : WireFault → Type 0
 IsReplyFault Short = Unit {0}
 IsReplyFault BadLength = Unit {0}

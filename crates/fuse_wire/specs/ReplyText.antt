@@ -1,5 +1,5 @@
--- The one spelling of a reply (linux/fuse.h: fuse_out_header, fuse_entry_out, fuse_attr_out, fuse_open_out,
--- fuse_attr). What a daemon does not tell here (times, owners, how long an answer may be kept) is 0.
+-- The bytes of a reply, of which no others are read (linux/fuse.h: fuse_out_header, fuse_entry_out, fuse_attr_out,
+-- fuse_open_out, fuse_attr). What a daemon does not tell here (times, owners, how long an answer may be kept) is 0.
 use Rattle.std.specs.Prelude.{◌<◌, ◌^◌, ℕ, ◌+◌, ℤ, pos, neg_ℤ, List, [], ◌++◌, length}
 use Rattle.eden_base.specs.declared.attr.Attr.{Attr}
 use Rattle.eden_base.specs.declared.errno.Errno.{Errno}
@@ -36,18 +36,18 @@ error_field answer = pos 0
 abbrev pub mode : Attr → ℕ
 mode attr = type_bits attr.kind + attr.perm.bits
 
--- ino, size; blocks and three times, with nanoseconds; mode, nlink; uid, gid, rdev; blksize; flags
+-- attributes: ino, size; blocks and three times, with nanoseconds; mode, nlink; uid, gid, rdev; blksize; flags
 abbrev pub attributes : Number → Attr → List ℕ
 attributes number attr =
     u64_bytes number.0 ++ u64_bytes attr.size ++ zeros 44 ++ u32_bytes (mode attr) ++ u32_bytes attr.nlink ++ zeros 12
     ++ u32_bytes 4096 ++ zeros 4
 
--- the nodeid; its generation and how long the entry and its attributes may be kept; the attributes
+-- an entry: the nodeid; its generation and how long the entry and its attributes may be kept; the attributes
 abbrev pub entry : Number → Attr → List ℕ
 entry number attr = u64_bytes number.0 ++ zeros 32 ++ attributes number attr
 
--- what follows the header: after an entry a file handle and its flags, before lone attributes how long they may be
--- kept
+-- what follows the header; an opened file's has a file handle and flags after the entry, and attributes alone have
+-- before them how long they may be kept
 abbrev pub payload : Answer → List ℕ
 payload (Entry number attr) = entry number attr
 payload (Opened number attr) = entry number attr ++ zeros 16
@@ -55,7 +55,7 @@ payload (Attrs number attr) = zeros 16 ++ attributes number attr
 payload Done = []
 payload (Error errno) = []
 
--- the length of the whole, the error, the unique
+-- the header of a reply: the length of the whole, the error, the unique
 abbrev pub reply_header : ℕ → ℤ → ℕ → List ℕ
 reply_header len error unique = u32_bytes len ++ i32_bytes error ++ u64_bytes unique
 
@@ -64,19 +64,19 @@ abbrev pub reply_text : Reply → List ℕ
 reply_text reply =
     reply_header (16 + length (payload reply.answer)) (error_field reply.answer) reply.unique ++ payload reply.answer
 
--- numbers of the sizes that their fields have
+-- a number and its attributes fit their fields
 pub record FitsAttr (number : Number) (attr : Attr) : Type 0 where
   pub number_fits : number.0 < 2 ^ 64
   pub size_fits : attr.size < 2 ^ 64
   pub nlink_fits : attr.nlink < 2 ^ 32
 
--- and those of an answer
+-- the number and the attributes of an answer fit their fields
 abbrev pub FitsAnswer : Answer → Type 0
 FitsAnswer (Entry number attr) = FitsAttr number attr
 FitsAnswer (Opened number attr) = FitsAttr number attr
 FitsAnswer (Attrs number attr) = FitsAttr number attr
 FitsAnswer answer = Unit {0}
 
--- and those of a reply
+-- the numbers and the attributes of a reply fit their fields
 abbrev pub FitsReply : Reply → Type 0
 FitsReply reply = (reply.unique < 2 ^ 64) × FitsAnswer reply.answer

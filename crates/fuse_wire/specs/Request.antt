@@ -1,7 +1,7 @@
 -- What a request is, by its kind: its opcode and the nodeid in its header (linux/fuse.h, enum fuse_opcode and
--- fuse_in_header), and what a layer above has to know of it: the kernel waits for no reply to a forget, asks only on
--- numbers that it holds, and is answered in a form by the kind (libfuse's `fuse_lowlevel.h`). A kind of request is a
--- row in each table.
+-- fuse_in_header). Also what a layer above has to know of it: the kernel waits for no reply to a forget, and asks only
+-- on numbers that it holds; the kind says the form of the answer (libfuse's `fuse_lowlevel.h`). Each table has a row
+-- for each kind of request.
 use Rattle.std.specs.Prelude.{◌≡◌, ℕ, ◌==◌, Bool, true, false, List, [], ◌∷◌, Option, Some, None, if◌then◌else◌}
 use Rattle.eden_base.specs.declared.number.Number.{Number}
 use Rattle.fuse_wire.specs.declared.form.Form.{Form}
@@ -12,9 +12,9 @@ use Rattle.fuse_wire.specs.declared.request.Opcode.TheVariants as opcodes
 use Rattle.fuse_wire.specs.declared.request.Request.{Request}
 use Rattle.fuse_wire.specs.declared.request.Request.TheVariants.{Lookup, Getattr, Create, Mkdir, Unlink, Rmdir, Forget, BatchForget, Other}
 
--- ---- opcodes: RENAME, 12, is none of those that are served
+-- ---- opcodes; RENAME, 12, is not served
 
--- the number of an opcode
+-- the opcode of an operation, as a number
 abbrev pub code : Opcode → ℕ
 code opcodes.Lookup = 1
 code opcodes.Forget = 2
@@ -26,7 +26,7 @@ code opcodes.Create = 35
 code opcodes.BatchForget = 42
 code (opcodes.Other n) = n
 
--- the opcode of a number
+-- the operation with this opcode
 unfoldable pub opcode_of : ℕ → Opcode
 opcode_of n =
     if n == 1 then opcodes.Lookup
@@ -39,13 +39,13 @@ opcode_of n =
     else if n == 42 then opcodes.BatchForget
     else opcodes.Other n
 
--- the kernel waits for no reply to a forget
+-- the operation is a forget, for which the kernel awaits no reply
 abbrev pub is_forget : Opcode → Bool
 is_forget opcodes.Forget = true
 is_forget opcodes.BatchForget = true
 is_forget opcode = false
 
--- the opcode that a request goes by
+-- the operation of a request
 abbrev pub opcode : Request → Opcode
 opcode (Lookup dir name) = opcodes.Lookup
 opcode (Getattr node) = opcodes.Getattr
@@ -57,23 +57,23 @@ opcode (Forget item) = opcodes.Forget
 opcode (BatchForget items) = opcodes.BatchForget
 opcode (Other n node) = opcodes.Other n
 
--- a request of another opcode than those that have a form of their own
+-- a request can be sent: an Other does not have the opcode of another variant
 abbrev pub IsSendable : Request → Type 0
 IsSendable (Other n node) = opcode_of n ≡ opcodes.Other n
 IsSendable request = Unit {0}
 
--- a request of an operation that has no form of its own
+-- the request Other for this operation and this number, if no other variant has the operation
 abbrev pub other_by : Opcode → Number → Option Request
 other_by (opcodes.Other n) node = Some (Other n node)
 other_by opcode node = None
 
--- the request of an opcode for a number, where no request of another form has that opcode
+-- the request Other for this opcode and this number, if no other variant has the opcode
 abbrev pub other_of : ℕ → Number → Option Request
 other_of n node = other_by (opcode_of n) node
 
 -- ---- the nodeid
 
--- the nodeid in the header; a batch is of many
+-- the nodeid that is written into the header; 0 for a batch, whose numbers are in its items
 abbrev pub nodeid : Request → ℕ
 nodeid (Lookup dir name) = dir.0
 nodeid (Getattr node) = node.0
@@ -85,20 +85,20 @@ nodeid (Forget item) = item.node.0
 nodeid (BatchForget items) = 0
 nodeid (Other n node) = node.0
 
--- the nodeid in the header, which is any number before a batch
+-- the header of a request may have this nodeid, which is any number for a batch
 abbrev pub IsNodeid : Request → ℕ → Type 0
 IsNodeid (BatchForget items) n = Unit {0}
 IsNodeid request n = n ≡ nodeid request
 
 -- ---- what a layer above has to know
 
--- the request is answered
+-- whether a request is answered
 abbrev pub is_ask : Request → Bool
 is_ask (Forget item) = false
 is_ask (BatchForget items) = false
 is_ask request = true
 
--- the numbers that a request goes to; those of a forget are in its items
+-- the numbers of the files that a request is for; those of a forget are in its items
 abbrev pub nodes : Request → List Number
 nodes (Lookup dir name) = dir ∷ []
 nodes (Getattr node) = node ∷ []
@@ -110,7 +110,7 @@ nodes (Forget item) = []
 nodes (BatchForget items) = []
 nodes (Other n node) = node ∷ []
 
--- the form in which a request is answered where it does not fail
+-- the form of the answer to a request, if the request does not fail
 abbrev pub form_of : Request → Form
 form_of (Lookup dir name) = AnEntry
 form_of (Mkdir dir name perm) = AnEntry
@@ -120,12 +120,12 @@ form_of (Unlink dir name) = NoValue
 form_of (Rmdir dir name) = NoValue
 form_of request = OnlyAnError
 
--- the item of a FORGET; a batch has none of its own
+-- the item of a FORGET; none for any other request, also for a batch
 abbrev pub item_of : Request → Option Item
 item_of (Forget item) = Some item
 item_of request = None
 
--- the items of a forget of either form
+-- the items of a forget of either form; none for any other request
 abbrev pub items_of : Request → List Item
 items_of (Forget item) = item ∷ []
 items_of (BatchForget items) = items

@@ -1,6 +1,6 @@
--- The body of a request, by its kind (linux/fuse.h: the struct of each opcode): how it is written, where what no
--- reader looks at is 0; all the bytes that are read as it; and what bytes are read as, or which fault is the first. A
--- kind of request is a row in each table.
+-- The body of a request, by its kind (linux/fuse.h: the struct of each opcode). First comes how it is written, with 0
+-- in the fields that no reader uses, then which bytes are read as the body. Last comes what bytes are read as, or their
+-- first fault. Each table has a row for each kind of request.
 use Rattle.std.specs.Prelude.{All, ◌≡◌, ◌<◌, ◌≤◌, ◌^◌, ◌+◌, ◌-◌, ◌*◌, ◌%◌, ℕ, zero, suc, not, ◌||◌, ◌&&◌, ◌==◌, nat_lt, List, [], ◌∷◌, ◌++◌, length, take, drop, slice_index, Option, Some, None, Result, Ok, Err, if◌then◌else◌}
 use Rattle.std.specs.List.{flat_map}
 use Rattle.eden_base.specs.declared.attr.Perm.{Perm}
@@ -21,7 +21,7 @@ use Rattle.fuse_wire.specs.Request.{opcode_of}
 
 -- ---- as written
 
--- a name, and NUL
+-- a name and its NUL
 abbrev pub name_text : List ℕ → List ℕ
 name_text name = name ++ 0 ∷ []
 
@@ -29,15 +29,16 @@ name_text name = name ++ 0 ∷ []
 abbrev pub item_text : Item → List ℕ
 item_text item = u64_bytes item.node.0 ++ u64_bytes item.k
 
--- a fixed part, in which a mode stands at an offset with a count of bytes behind it, then a name
+-- a fixed part, in which a mode stands at an offset with `rest` bytes after the mode, and then a name
 abbrev pub made_body : ℕ → ℕ → ℕ → List ℕ → List ℕ
 made_body offset mode rest name = (zeros offset ++ u32_bytes mode ++ zeros rest) ++ name_text name
 
--- the count and four bytes, then the items
+-- the body of a batch: the count and four bytes, then the items
 abbrev pub batch_body : List Item → List ℕ
 batch_body items = (u32_bytes (length items) ++ zeros 4) ++ flat_map item_text items
 
--- what follows the header; before a mode CREATE has flags, behind it umask and one more word, MKDIR umask alone
+-- what follows the header; CREATE has flags before the mode, and umask and another word after it, MKDIR has umask after
+-- it
 abbrev pub body : Request → List ℕ
 body (Lookup dir name) = name_text name
 body (Unlink dir name) = name_text name
@@ -49,14 +50,14 @@ body (Forget item) = u64_bytes item.k
 body (BatchForget items) = batch_body items
 body (Other n node) = []
 
--- ---- as read: what is ignored is any bytes
+-- ---- as read: fields that are ignored may be any bytes
 
--- bytes whose mode has these permissions; the bits above them are ignored
+-- a mode has these permissions; its bits above them are ignored
 pub record IsMode (perm : Perm) (mode : ℕ) : Type 0 where
   pub in_range : mode < 2 ^ 32
   pub low : mode % 4096 ≡ perm.bits
 
--- CREATE and MKDIR: a fixed part of which the mode is looked at, then a name
+-- a body of CREATE or MKDIR: a fixed part, of which only the mode is read, then a name
 pub record IsMadeBody (offset rest : ℕ) (name : List ℕ) (perm : Perm) (bytes : List ℕ) : Type 0 where
   pub before : List ℕ
   pub mode : ℕ
@@ -67,14 +68,14 @@ pub record IsMadeBody (offset rest : ℕ) (name : List ℕ) (perm : Perm) (bytes
   pub is_name : IsNameText name
   pub parts : bytes ≡ (before ++ u32_bytes mode ++ behind) ++ name_text name
 
--- BATCH_FORGET: the count, four bytes that are ignored, the items
+-- a body of BATCH_FORGET: the count, four bytes that are ignored, the items
 pub record IsBatchBody (items : List Item) (bytes : List ℕ) : Type 0 where
   pub others : List ℕ
   pub four : length others ≡ 4
   pub at_most : length items ≤ 256
   pub parts : bytes ≡ (u32_bytes (length items) ++ others) ++ flat_map item_text items
 
--- the bytes behind the header are of this request
+-- the bytes after the header are a body of this request
 abbrev pub IsBody : Request → List ℕ → Type 0
 IsBody (Lookup dir name) bytes = IsNameText name × (bytes ≡ name_text name)
 IsBody (Unlink dir name) bytes = IsNameText name × (bytes ≡ name_text name)
@@ -86,14 +87,14 @@ IsBody (Forget item) bytes = bytes ≡ u64_bytes item.k
 IsBody (BatchForget items) bytes = IsBatchBody items bytes
 IsBody (Other n node) bytes = opcode_of n ≡ opcodes.Other n
 
--- ---- numbers of the sizes that their fields have
+-- ---- numbers that fit their fields
 
--- those of an item
+-- the numbers of an item fit their fields
 pub record FitsItem (item : Item) : Type 0 where
   pub node_fits : item.node.0 < 2 ^ 64
   pub k_fits : item.k < 2 ^ 64
 
--- those of a body
+-- the numbers of a body fit their fields
 abbrev pub FitsBody : Request → Type 0
 FitsBody (Forget item) = item.k < 2 ^ 64
 FitsBody (BatchForget items) = All FitsItem items
@@ -101,23 +102,23 @@ FitsBody request = Unit {0}
 
 -- ---- what is read, or the first fault
 
--- a name that was cut out of a body
+-- this name if it has no fault, else BadName with the fault
 abbrev pub checked : List ℕ → Option NameFault → Result (List ℕ) WireFault
 checked name None = Ok name
 checked name (Some fault) = Err (BadName fault)
 
--- a name, and NUL
+-- the name in a body that ends with a NUL, or the first fault
 unfoldable pub name_of : List ℕ → Result (List ℕ) WireFault
 name_of body =
     if nat_lt 0 (length body) && slice_index body (length body - 1) == 0
     then checked (take (length body - 1) body) (name_fault (take (length body - 1) body))
     else Err BadBody
 
--- a name beside permissions
+-- the name in these bytes with these permissions, or the first fault
 abbrev pub named_with : Perm → List ℕ → Result (List ℕ × Perm) WireFault
 named_with perm rest = name_of rest >>= λ name. Ok (name, perm)
 
--- the permissions of the mode at an offset, and the name behind it, after a count of bytes
+-- the name after the mode and `rest` more bytes, with the permissions of the mode at `offset`, or the first fault
 unfoldable pub made_of : ℕ → ℕ → List ℕ → Result (List ℕ × Perm) WireFault
 made_of offset rest body =
     if nat_lt (length body) (offset + 4 + rest) then Err BadBody
@@ -127,23 +128,23 @@ made_of offset rest body =
 abbrev pub item_at : List ℕ → Item
 item_at bytes = record { node = record { 0 = u64_at bytes }; k = u64_at (drop 8 bytes) }
 
--- the items of a batch, one after the other
+-- this count of items at the front of the bytes, of sixteen bytes each
 unfoldable pub items_at : ℕ → List ℕ → List Item
 items_at zero bytes = []
 items_at (suc n) bytes = item_at bytes ∷ items_at n (drop 16 bytes)
 
--- the items of a BATCH_FORGET: a count, four bytes that are ignored, the items, at most 256
+-- the items in a body of BATCH_FORGET, at most 256, or the first fault; four bytes after the count are ignored
 unfoldable pub batch_of : List ℕ → Result (List Item) WireFault
 batch_of body =
     if nat_lt (length body) 8 then Err BadBody
     else if nat_lt 256 (u32_at body) || not (length body == 8 + 16 * u32_at body) then Err BadCount
     else Ok (items_at (u32_at body) (drop 8 body))
 
--- the item of a FORGET, on the number in the header
+-- the item of a FORGET with this number in the header and this body, or BadBody
 unfoldable pub forget_of : Number → List ℕ → Result Item WireFault
 forget_of node body = if length body == 8 then Ok (record { node = node; k = u64_at body }) else Err BadBody
 
--- the request of an opcode, a nodeid and a body
+-- the request with this operation, this nodeid and this body, or the first fault
 unfoldable pub what_of : Opcode → Number → List ℕ → Result Request WireFault
 what_of opcodes.Lookup node body = name_of body >>= λ name. Ok (Lookup node name)
 what_of opcodes.Unlink node body = name_of body >>= λ name. Ok (Unlink node name)
@@ -155,13 +156,13 @@ what_of opcodes.Forget node body = forget_of node body >>= λ item. Ok (Forget i
 what_of opcodes.BatchForget node body = batch_of body >>= λ items. Ok (BatchForget items)
 what_of (opcodes.Other opcode) node body = Ok (Other opcode node)
 
--- the items of a forget; another request has none
+-- the items of a forget with this operation, this nodeid and this body; BadBody for any other request
 unfoldable pub forgotten_of : Opcode → Number → List ℕ → Result (List Item) WireFault
 forgotten_of opcodes.Forget node body = forget_of node body >>= λ item. Ok (item ∷ [])
 forgotten_of opcodes.BatchForget node body = batch_of body
 forgotten_of opcode node body = Err BadBody
 
--- the items of a request that is a forget
+-- the items of a request that is a forget; BadBody for any other request
 abbrev pub items_told : Request → Result (List Item) WireFault
 items_told (Forget item) = Ok (item ∷ [])
 items_told (BatchForget items) = Ok items
@@ -169,7 +170,7 @@ items_told request = Err BadBody
 
 -- ---- what takes memory
 
--- a name takes memory, and so does a batch
+-- a request takes memory: it has a name, or is a batch
 abbrev pub TakesMemory : Request → Type 0
 TakesMemory (Lookup dir name) = Unit {0}
 TakesMemory (Create dir name perm) = Unit {0}

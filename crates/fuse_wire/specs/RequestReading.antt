@@ -1,4 +1,4 @@
--- What a request is read as, and which fault is the first: the header's, then that of the body its opcode asks for.
+-- What a request is read as, or its first fault: that of the header, or else that of the body, by the opcode.
 use Rattle.std.specs.Prelude.{◌≡◌, ℕ, ◌==◌, nat_lt, List, length, drop, Result, Ok, Err, if◌then◌else◌}
 use Rattle.fuse_wire.specs.declared.fault.WireFault.{WireFault}
 use Rattle.fuse_wire.specs.declared.fault.WireFault.TheVariants.{Short, BadLength}
@@ -13,11 +13,11 @@ use Rattle.fuse_wire.specs.RequestBody.{what_of, forgotten_of, items_told, Takes
 
 -- ---- the header: 40 bytes, of which the last 16 (uid, gid, pid, padding) are ignored
 
--- what stands behind it
+-- what follows the header
 abbrev pub body_of : List ℕ → List ℕ
 body_of bytes = drop 40 bytes
 
--- its fields behind the length
+-- the fields of the header after the length
 unfoldable pub fields_of : List ℕ → Header
 fields_of bytes = record {
   opcode = u32_at (drop 4 bytes);
@@ -25,7 +25,7 @@ fields_of bytes = record {
   node = record { 0 = u64_at (drop 16 bytes) };
 }
 
--- the header of bytes that are as long as it tells
+-- the header of bytes that are as long as the header tells, or the first fault
 unfoldable pub header_of : List ℕ → Result Header WireFault
 header_of bytes =
     if nat_lt (length bytes) 40 then Err Short
@@ -34,15 +34,15 @@ header_of bytes =
 
 -- ---- whole messages
 
--- a request, under the unique of its header
+-- an ask of this request, with the unique of the header
 abbrev pub asked : Header → Request → Ask
 asked header what = record { unique = header.unique; what = what }
 
--- the request of a header and a body
+-- the ask with this header and this body, or the first fault
 abbrev pub asked_of : Header → List ℕ → Result Ask WireFault
 asked_of header body = what_of (opcode_of header.opcode) header.node body >>= λ what. Ok (asked header what)
 
--- the request that the bytes are, or their first fault
+-- the ask that the bytes are, or their first fault
 unfoldable pub request_of : List ℕ → Result Ask WireFault
 request_of bytes = header_of bytes >>= λ header. asked_of header (body_of bytes)
 
@@ -54,6 +54,6 @@ items_of bytes = header_of bytes >>= λ header. forgotten_of (opcode_of header.o
 abbrev pub IsForgetOf : List ℕ → List Item → Type 0
 IsForgetOf bytes items = (ask : Ask) × (request_of bytes ≡ Ok ask) × (items_told ask.what ≡ Ok items)
 
--- an ask takes memory where its request does
+-- an ask takes memory if its request does
 abbrev pub WantsMemory : Ask → Type 0
 WantsMemory ask = TakesMemory ask.what

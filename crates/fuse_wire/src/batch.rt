@@ -8,8 +8,8 @@ use eden_base::NoMemory;
 use std::alloc::Global;
 use std::marker::Model;
 
-/// The items of a batch, at most 256, in order. They lie in memory of their own, so that a request takes at most 80
-/// bytes: with 256 items in it, it would take 4,112, which are moved at every step.
+/// The items of a batch, at most 256, in order. They stand in separate memory, so that a `Request` has at most 80
+/// bytes. With 256 items inside, a `Request` would have 4,112 bytes, which are moved at every step.
 #[derive(Drop)]
 pub struct Batch {
     items: Vec<Item>,
@@ -26,8 +26,8 @@ impl Model for Batch {
     ghost invariant = { λ batch. length batch.items.items ≤ 256 };
 }
 
-/// Room for any one batch, seen as how many items it takes. `Batch::of_to`, `Batch::copy_to` and `read_request_to` use
-/// it up, and so never run out of memory.
+/// Room for any one batch, which contracts see as its capacity in items. `Batch::of_to`, `Batch::copy_to` and
+/// `read_request_to` consume a room, and so never run out of memory.
 #[derive(Drop)]
 pub struct BatchRoom {
     pub(crate) items: Vec<Item>,
@@ -56,7 +56,7 @@ impl BatchRoom {
 }
 
 impl Batch {
-    /// Returns a batch of these items.
+    /// Makes a batch of `items`.
     pub fn of(alloc: Global, items: &[Item]) -> Result<Batch, NoMemory>
         requires { length items.now ≤ 256 }
         ensures items { IfOk result (λ batch. batch ≡ items.now) }
@@ -67,7 +67,7 @@ impl Batch {
         }
     }
 
-    /// Returns a batch of these items, in memory that was taken before.
+    /// Makes a batch of `items` in the memory of `room`.
     pub fn of_to(room: BatchRoom, items: &[Item]) -> Batch
         requires { length items.now ≤ 256 }
         ensures items { result ≡ items.now }
@@ -77,7 +77,7 @@ impl Batch {
         Batch { items: taken }
     }
 
-    /// Reads `count` items.
+    /// Reads a batch of `count` items from `bytes`.
     pub(crate) fn read(alloc: Global, count: usize, bytes: &[u8]) -> Result<Batch, NoMemory>
         requires whole { length bytes.now ≡ 16 * count }
         requires at_most { count ≤ 256 }
@@ -87,7 +87,7 @@ impl Batch {
         Ok(Batch::fill(items, count, bytes))
     }
 
-    /// Reads `count` items into `room`, memory that was taken before.
+    /// Reads a batch of `count` items from `bytes`, into the memory of `room`.
     pub(crate) fn read_to(room: BatchRoom, count: usize, bytes: &[u8]) -> Batch
         requires whole { length bytes.now ≡ 16 * count }
         requires at_most { count ≤ 256 }
@@ -96,7 +96,7 @@ impl Batch {
         Batch::fill(room.items, count, bytes)
     }
 
-    /// Reads `count` items into an empty list that has room for them.
+    /// Reads `count` items from `bytes` into `items`, an empty list that has room for them.
     fn fill(mut items: Vec<Item>, count: usize, bytes: &[u8]) -> Batch
         requires empty { vec_len items ≡ 0 }
         requires room { count ≤ vec_capacity items }
@@ -119,7 +119,7 @@ impl Batch {
         self.items.as_slice()
     }
 
-    /// Returns how many there are.
+    /// Returns how many items there are.
     pub fn len(&self) -> usize
         ensures len { result ≡ length self.now }
         ensures at_most { result ≤ 256 }
@@ -127,28 +127,28 @@ impl Batch {
         self.as_slice().len()
     }
 
-    /// Returns whether there are none.
+    /// Returns whether there are no items.
     pub fn is_empty(&self) -> bool
         ensures empty { result ≡ (length self.now == 0) }
     {
         self.as_slice().is_empty()
     }
 
-    /// Returns whether the two have the same items in the same order.
+    /// Returns whether `self` and `other` have the same items in the same order.
     pub(crate) fn is(&self, other: &Batch) -> bool
         ensures same { IsTrue result ↔ (self.now ≡ other.now) }
     {
         self == other
     }
 
-    /// Returns the same items, in memory of their own.
+    /// Makes a copy of the batch, in memory that `alloc` gives.
     pub fn copy(&self, alloc: Global) -> Result<Batch, NoMemory>
         ensures copy { IfOk result (λ batch. batch ≡ self.now) }
     {
         Batch::of(alloc, self.as_slice())
     }
 
-    /// Returns the same items, in memory that was taken before.
+    /// Makes a copy of the batch in the memory of `room`.
     pub fn copy_to(&self, room: BatchRoom) -> Batch
         ensures copy { result ≡ self.now }
     {

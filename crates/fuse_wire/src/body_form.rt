@@ -1,4 +1,4 @@
-//! The forms that bodies have, each with its length, its writing and its reading: a name; a mode and a name; the item
+//! The forms of request bodies, each with its length, its writing and its reading: a name; a mode and a name; the item
 //! of a FORGET; the items of a batch.
 ghost use Rattle.std.specs.Prelude.{All, ◌≡◌, ◌≤◌, ◌+◌, ◌*◌, ℕ, length, IfOk, IfErr, Ok, Err};
 ghost use Rattle.std.specs.List.{flat_map};
@@ -24,7 +24,7 @@ pub(crate) fn name_len(name: &Name) -> usize
     name.bytes().len() + 1
 }
 
-/// Writes a name, and NUL.
+/// Writes a name and its NUL.
 #[tactic(auto, using(crate::proofs::Written::written))]
 pub(crate) fn put_name(fields: &mut Writer, name: &Name)
     requires { HasRoom fields.old (length (name_text name.now)) }
@@ -34,7 +34,7 @@ pub(crate) fn put_name(fields: &mut Writer, name: &Name)
     fields.put_slice(&[0]);
 }
 
-/// Reads a name, and NUL.
+/// Reads a name and its NUL.
 #[tactic(auto, unfolding(crate::specs::RequestBody::name_of))]
 pub(crate) fn read_name<M: Memory>(memory: M, body: &[u8]) -> Result<Name, WireFault>
     ensures { Gives (MayLack M.may_lack TakesSome) result (name_of body.now) }
@@ -56,8 +56,8 @@ pub(crate) fn read_name<M: Memory>(memory: M, body: &[u8]) -> Result<Name, WireF
     }
 }
 
-/// Returns the length of a fixed part, in which a mode stands at `offset` with `rest` bytes behind it, and of the name
-/// behind that part.
+/// Returns the length of a fixed part and of the name after it. In the fixed part, a mode stands at `offset`, with
+/// `rest` bytes after the mode.
 #[tactic(auto, using(crate::proofs::Lengths::lengths))]
 pub(crate) fn made_len(offset: usize, rest: usize, name: &Name) -> usize
     requires { offset + rest ≤ 12 }
@@ -80,7 +80,7 @@ pub(crate) fn put_made(fields: &mut Writer, offset: usize, mode: u32, rest: usiz
     put_name(fields, name);
 }
 
-/// Returns the permissions of the mode at `offset`, and what stands `rest` bytes behind it.
+/// Returns the permissions of the mode at `offset`, and the bytes after the mode and `rest` more bytes.
 #[tactic(auto, unfolding(crate::specs::RequestBody::made_of))]
 fn mode_part(offset: usize, rest: usize, body: &[u8]) -> Result<(Perm, &[u8]), WireFault>
     requires { offset + rest ≤ 12 }
@@ -97,7 +97,7 @@ fn mode_part(offset: usize, rest: usize, body: &[u8]) -> Result<(Perm, &[u8]), W
     Ok((mode::perm_of(mode), named))
 }
 
-/// Reads a name, and the permissions of the mode that stands at `offset`, `rest` bytes before the name.
+/// Reads the permissions of the mode at `offset`, and the name that follows the mode and `rest` more bytes.
 pub(crate) fn read_made<M: Memory>(
     memory: M,
     offset: usize,
@@ -125,7 +125,7 @@ pub(crate) fn read_forget(node: Number, body: &[u8]) -> Result<Item, WireFault>
     Ok(Item { node, k })
 }
 
-/// Returns the length of a batch with its items.
+/// Returns the length of the body of a batch of `items`.
 #[tactic(auto, using(crate::proofs::Lengths::lengths))]
 pub(crate) fn batch_len(items: &[Item]) -> usize
     requires { length items.now ≤ 256 }
@@ -171,7 +171,7 @@ fn put_item(fields: &mut Writer, item: Item)
     fields.put_u64(item.k);
 }
 
-/// Returns how many items a BATCH_FORGET has, and their bytes (`struct fuse_batch_forget_in`).
+/// Returns how many items the body of a BATCH_FORGET has, and their bytes (`struct fuse_batch_forget_in`).
 #[tactic(auto, unfolding(crate::specs::RequestBody::batch_of))]
 pub(crate) fn items_part(body: &[u8]) -> Result<(usize, &[u8]), WireFault>
     ensures items { IfOk result (λ part. batch_of body.now ≡ Ok (items_at part.0 part.1.now)) }

@@ -38,7 +38,7 @@ fn errno_number(errno: Errno) -> i32
     }
 }
 
-/// Returns the error that a reply's error field tells.
+/// Returns the error of a reply's error field, or none if the field is no negative error number.
 pub(crate) fn errno_of(error: i32) -> Option<Errno>
     ensures { result ≡ errno_of error }
 {

@@ -2,7 +2,7 @@
 use eden_base::NameFault;
 use thiserror::Error;
 
-/// The first that holds is told, in this order.
+/// Why bytes are no message. If several variants apply, the first in this order is the fault.
 #[derive(Clone, Copy, Debug, PartialEq, Eq, Error)]
 pub enum WireFault {
     #[error("the header is cut")]

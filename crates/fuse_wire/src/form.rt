@@ -4,7 +4,7 @@ ghost use Rattle.fuse_wire.specs.Form.{belongs};
 
 use crate::Answer;
 
-/// What stands in the reply to a request that does not fail.
+/// What the reply to a request contains, if the request does not fail.
 #[derive(Clone, Copy, PartialEq, Eq)]
 pub enum Form {
     /// A `fuse_entry_out`.
@@ -15,12 +15,12 @@ pub enum Form {
     Attributes,
     /// A header alone.
     NoValue,
-    /// Nothing: the request is not served, or it is a forget, which has no reply at all.
+    /// No value: the request is not served and always fails, or it is a forget, which has no reply.
     OnlyAnError,
 }
 
 impl Form {
-    /// Returns whether an answer belongs to a request of this form. An error belongs to each.
+    /// Returns whether `answer` belongs to a request of this form. An error belongs to every form.
     pub fn admits(self, answer: &Answer) -> bool
         ensures belongs { result ≡ belongs self answer.now }
     {

@@ -6,7 +6,7 @@ use crate::Answer;
 use eden_base::Number;
 
 impl Answer {
-    /// Returns the number that the kernel holds once more by this answer.
+    /// Returns the number that this answer gives out, if any. The kernel holds that number once more.
     pub fn given_out(&self) -> Option<Number>
         ensures number { result ≡ given_out self.now }
     {

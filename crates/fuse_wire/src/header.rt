@@ -7,7 +7,7 @@ use crate::reader::Reader;
 use crate::{Ask, Request, WireFault};
 use eden_base::Number;
 
-/// What a header says of its request (`struct fuse_in_header`), but for the length and the last 16 bytes.
+/// The fields of a request's header (`struct fuse_in_header`), but for the length and the last 16 bytes.
 #[derive(Clone, Copy)]
 pub(crate) struct Header {
     pub opcode: u32,
@@ -15,14 +15,14 @@ pub(crate) struct Header {
     pub node: Number,
 }
 
-/// In bytes.
+/// The length of the header's length field, in bytes.
 const LENGTH_LEN: usize = 4;
 
 impl Header {
-    /// In bytes.
+    /// The length of a header, in bytes.
     pub(crate) const LEN: usize = 40;
 
-    /// Reads the header of bytes that have one, whatever length it tells.
+    /// Reads the header at the front of `bytes`, but not its length field.
     #[tactic(auto, unfolding(crate::specs::RequestReading::fields_of))]
     pub(crate) fn of(bytes: &[u8]) -> Header
         requires { 40 ≤ length bytes.now }
@@ -40,7 +40,7 @@ impl Header {
         }
     }
 
-    /// Returns a request under the unique of this header.
+    /// Makes an `Ask` of the request `what` and the unique of this header.
     pub(crate) fn asks(self, what: Request) -> Ask
         ensures { result ≡ asked self what }
     {
@@ -51,7 +51,8 @@ impl Header {
     }
 }
 
-/// Reads the header of a whole request: the length that it tells is that of the bytes.
+/// Reads the header of a whole request. Returns `Short` if `bytes` have no whole header, and `BadLength` if the length
+/// in the header is not that of `bytes`.
 #[tactic(auto, unfolding(crate::specs::RequestReading::header_of))]
 pub(crate) fn read_header(bytes: &[u8]) -> Result<Header, WireFault>
     ensures header { result ≡ header_of bytes.now }

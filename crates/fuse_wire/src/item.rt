@@ -7,7 +7,7 @@ use arrayvec::ArrayVec;
 use eden_base::Number;
 use std::marker::Model;
 
-/// One pair of a forget: the kernel holds the number `k` times less (`nlookup` of `linux/fuse.h`).
+/// One item of a forget: `k` lookups of the number `node` are taken back (`nlookup` of `linux/fuse.h`).
 #[derive(Clone, Copy, PartialEq, Eq)]
 pub struct Item {
     pub node: Number,
@@ -15,17 +15,17 @@ pub struct Item {
 }
 
 impl Item {
-    /// In bytes (`struct fuse_forget_one`).
+    /// The length of an item of a batch, in bytes (`struct fuse_forget_one`).
     pub(crate) const LEN: usize = 16;
 
-    /// Returns whether the two are the same item.
+    /// Returns whether `self` and `other` have the same number and the same `k`.
     pub(crate) fn is(&self, other: &Item) -> bool
         ensures same { IsTrue result ↔ (self.now ≡ other.now) }
     {
         self.node == other.node && self.k == other.k
     }
 
-    /// Reads the item that comes next.
+    /// Reads the next item of `fields`.
     pub(crate) fn read(fields: &mut Reader) -> Item
         requires { fields.old.at + 16 ≤ length fields.old.bytes.now }
         ensures item { result ≡ item_at (drop fields.old.at fields.old.bytes.now) }
@@ -47,7 +47,7 @@ impl Default for Item {
     }
 }
 
-/// The items of a batch, at most 256, in order. They lie in the value itself, so that `read_items` takes no memory.
+/// The items of a batch, at most 256, in order. They stand in the value itself, so that `read_items` takes no memory.
 #[derive(Drop)]
 pub struct Items {
     items: ArrayVec<Item, 256>,
@@ -65,7 +65,7 @@ impl Model for Items {
 }
 
 impl Items {
-    /// This project's own limit.
+    /// The greatest count of items in a batch. The limit is this project's own.
     pub const MAX_LEN: usize = 256;
 
     /// Makes an empty list.
@@ -92,7 +92,7 @@ impl Items {
         self.items.push(item);
     }
 
-    /// Reads `count` items.
+    /// Reads `count` items from `bytes`.
     pub(crate) fn read(count: usize, bytes: &[u8]) -> Items
         requires whole { length bytes.now ≡ 16 * count }
         requires at_most { count ≤ 256 }
@@ -114,7 +114,7 @@ impl Items {
         self.items.as_slice()
     }
 
-    /// Returns how many there are.
+    /// Returns how many items there are.
     pub fn len(&self) -> usize
         ensures len { result ≡ length self.now }
         ensures at_most { result ≤ 256 }
@@ -122,14 +122,14 @@ impl Items {
         self.items.len()
     }
 
-    /// Returns whether there are none.
+    /// Returns whether there are no items.
     pub fn is_empty(&self) -> bool
         ensures empty { result ≡ (length self.now == 0) }
     {
         self.items.is_empty()
     }
 
-    /// Returns the same items once more. It takes no memory.
+    /// Makes a copy of the list. Takes no memory.
     pub fn copy(&self) -> Items
         ensures copy { result ≡ self.now }
     {

@@ -1,79 +1,80 @@
 //! The lengths of the parts of a message, in bytes, and their offsets.
 
-/// The end of `struct fuse_in_header`: uid, gid, pid, padding.
+/// The length of the end of `struct fuse_in_header`: uid, gid, pid, padding.
 pub(crate) const SENDER_LEN: usize = 16;
 
-/// A mode.
+/// The length of a mode.
 pub(crate) const MODE_LEN: usize = 4;
 
 /// The offset of the mode in `struct fuse_create_in`: flags, mode, umask, open_flags.
 pub(crate) const CREATE_MODE: usize = 4;
 
-/// The end of `struct fuse_create_in`, behind the mode: umask, open_flags.
+/// The length of the end of `struct fuse_create_in`, after the mode: umask, open_flags.
 pub(crate) const CREATE_REST_LEN: usize = 8;
 
 /// The offset of the mode in `struct fuse_mkdir_in`: mode, umask.
 pub(crate) const MKDIR_MODE: usize = 0;
 
-/// The end of `struct fuse_mkdir_in`, behind the mode: umask.
+/// The length of the end of `struct fuse_mkdir_in`, after the mode: umask.
 pub(crate) const MKDIR_REST_LEN: usize = 4;
 
-/// `struct fuse_getattr_in`: getattr_flags, dummy, fh.
+/// The length of `struct fuse_getattr_in`: getattr_flags, dummy, fh.
 pub(crate) const GETATTR_LEN: usize = 16;
 
-/// `struct fuse_forget_in`: nlookup.
+/// The length of `struct fuse_forget_in`: nlookup.
 pub(crate) const FORGET_LEN: usize = 8;
 
-/// `struct fuse_batch_forget_in`: count, dummy.
+/// The length of `struct fuse_batch_forget_in`: count, dummy.
 pub(crate) const BATCH_FIXED: usize = 8;
 
-/// The end of `struct fuse_batch_forget_in`, behind the count: dummy.
+/// The length of the end of `struct fuse_batch_forget_in`, after the count: dummy.
 pub(crate) const BATCH_REST_LEN: usize = 4;
 
-/// `struct fuse_out_header`: len, error, unique.
+/// The length of `struct fuse_out_header`: len, error, unique.
 pub(crate) const REPLY_HEADER_LEN: usize = 16;
 
-/// `struct fuse_entry_out`: nodeid, how long it may be kept, attr.
+/// The length of `struct fuse_entry_out`: nodeid, generation, how long it may be kept, attr.
 pub(crate) const ENTRY_LEN: usize = 128;
 
-/// The middle of `struct fuse_entry_out`: generation, and how long the entry and its attributes may be kept.
+/// The length of the middle of `struct fuse_entry_out`: generation, and how long the entry and its attributes may be
+/// kept.
 pub(crate) const VALID_LEN: usize = 32;
 
-/// `struct fuse_open_out`: fh, open_flags, padding.
+/// The length of `struct fuse_open_out`: fh, open_flags, padding.
 pub(crate) const OPEN_LEN: usize = 16;
 
-/// The start of `struct fuse_attr_out`: how long the attributes may be kept.
+/// The length of the start of `struct fuse_attr_out`: how long the attributes may be kept, and a padding.
 pub(crate) const ATTR_VALID_LEN: usize = 16;
 
-/// `struct fuse_attr`, from ino to flags.
+/// The length of `struct fuse_attr`, from ino to flags.
 pub(crate) const ATTRIBUTES_LEN: usize = 88;
 
-/// In `struct fuse_attr`: blocks, atime, mtime, ctime and their nanoseconds.
+/// The length of these fields of `struct fuse_attr`: blocks, atime, mtime, ctime and their nanoseconds.
 pub(crate) const BLOCKS_AND_TIMES_LEN: usize = 44;
 
-/// In `struct fuse_attr`: uid, gid, rdev.
+/// The length of these fields of `struct fuse_attr`: uid, gid, rdev.
 pub(crate) const OWNERS_LEN: usize = 12;
 
-/// In `struct fuse_attr`: flags.
+/// The length of this field of `struct fuse_attr`: flags.
 pub(crate) const FLAGS_LEN: usize = 4;
 
-/// A whole reply that is `Answer::Done`.
+/// The length of a whole reply whose answer is `Answer::Done`.
 pub(crate) const DONE_REPLY_LEN: usize = REPLY_HEADER_LEN;
 
-/// A whole reply that is `Answer::Attrs`.
+/// The length of a whole reply whose answer is `Answer::Attrs`.
 pub(crate) const ATTRS_REPLY_LEN: usize = REPLY_HEADER_LEN + ATTR_VALID_LEN + ATTRIBUTES_LEN;
 
-/// The offset of the attributes in a reply that is `Answer::Attrs`.
+/// The offset of the attributes in a reply whose answer is `Answer::Attrs`.
 pub(crate) const ATTRS_REPLY_ATTRIBUTES: usize = REPLY_HEADER_LEN + ATTR_VALID_LEN;
 
-/// A whole reply that is `Answer::Entry`.
+/// The length of a whole reply whose answer is `Answer::Entry`.
 pub(crate) const ENTRY_REPLY_LEN: usize = REPLY_HEADER_LEN + ENTRY_LEN;
 
-/// A whole reply that is `Answer::Opened`.
+/// The length of a whole reply whose answer is `Answer::Opened`.
 pub(crate) const OPENED_REPLY_LEN: usize = REPLY_HEADER_LEN + ENTRY_LEN + OPEN_LEN;
 
-/// The offset of the attributes in a reply that is `Answer::Entry` or `Answer::Opened`.
+/// The offset of the attributes in a reply whose answer is `Answer::Entry` or `Answer::Opened`.
 pub(crate) const ENTRY_REPLY_ATTRIBUTES: usize = REPLY_HEADER_LEN + ENTRY_LEN - ATTRIBUTES_LEN;
 
-/// The `blksize` of each file.
+/// The `blksize` in the attributes of every file.
 pub(crate) const BLOCK_SIZE: u32 = 4096;

@@ -1,4 +1,4 @@
-//! Where the name or the batch of a request that is read or copied gets its memory.
+//! The memory for the name or the batch of a request that is read or copied.
 ghost use Rattle.std.specs.Prelude.{◌≡◌, ◌≤◌, ◌*◌, Bool, true, false, IsTrue, length, IfOk, OnErr};
 ghost use Rattle.eden_base.specs.Name.{IsNameText};
 ghost use Rattle.fuse_wire.specs.RequestBody.{items_at};
@@ -7,19 +7,19 @@ use crate::{Batch, BatchRoom};
 use eden_base::{Name, NameRoom, NoMemory};
 use std::alloc::Global;
 
-/// Memory for what one request holds, at most two names or a batch: an allocator, which may be out of it, or rooms that
-/// were taken before.
+/// Memory for the names or the batch of one request: an allocator, which may refuse, or rooms that were taken before.
+/// No request has a second name.
 pub(crate) trait Memory: Drop {
-    /// It may be refused.
+    /// Whether this memory may be refused.
     ghost may_lack: { Bool };
 
-    /// Copies bytes that are a name.
+    /// Makes a name of `bytes`, which must be a valid name.
     fn name(self, bytes: &[u8]) -> Result<Name, NoMemory>
         requires { IsNameText bytes.now }
         ensures name { IfOk result (λ name. name ≡ bytes.now) }
         ensures lack { OnErr result (IsTrue may_lack) };
 
-    /// Copies the bytes of two names.
+    /// Makes two names of `first` and `second`, which must be valid names.
     fn names(self, first: &[u8], second: &[u8]) -> Result<(Name, Name), NoMemory>
         requires is_first { IsNameText first.now }
         requires is_second { IsNameText second.now }
@@ -27,7 +27,7 @@ pub(crate) trait Memory: Drop {
         ensures second { IfOk result (λ names. names.1 ≡ second.now) }
         ensures lack { OnErr result (IsTrue may_lack) };
 
-    /// Reads `count` items.
+    /// Reads a batch of `count` items from `bytes`.
     fn batch(self, count: usize, bytes: &[u8]) -> Result<Batch, NoMemory>
         requires whole { length bytes.now ≡ 16 * count }
         requires at_most { count ≤ 256 }
@@ -83,7 +83,7 @@ impl Memory for Global {
     }
 }
 
-/// Room for whatever request comes.
+/// Rooms for the name or the batch of any request. No request has a second name.
 #[derive(Drop)]
 pub(crate) struct Rooms {
     pub first: NameRoom,

@@ -31,7 +31,7 @@ fn type_bits(kind: Kind) -> u32
     }
 }
 
-/// Returns the kind of a regular file's or a directory's mode; for any other mode one of the two.
+/// Returns the kind of a regular file's or a directory's mode. For any other mode, one of the two is returned.
 pub(crate) fn kind_of(mode: u32) -> Kind
     ensures { result ≡ kind_of mode }
 {
@@ -42,7 +42,7 @@ pub(crate) fn kind_of(mode: u32) -> Kind
     }
 }
 
-/// Returns a file's mode.
+/// Returns the mode of a file of this kind with these permissions.
 pub(crate) fn mode_of(kind: Kind, perm: Perm) -> u32
     ensures { result ≡ type_bits kind + perm.bits }
 {

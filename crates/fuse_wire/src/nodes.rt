@@ -1,11 +1,11 @@
-//! The numbers that a request goes to.
+//! The numbers of the files that a request is for.
 ghost use Rattle.std.specs.Prelude.{◌≡◌, ◌≤◌, [], ◌∷◌, length};
 
 use arrayvec::ArrayVec;
 use eden_base::Number;
 use std::marker::Model;
 
-/// The numbers that one request goes to, at most two.
+/// The numbers of the files that one request is for. There is room for two; no request is for more than one.
 #[derive(Drop)]
 pub struct Nodes {
     numbers: ArrayVec<Number, 2>,

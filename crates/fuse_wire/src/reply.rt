@@ -4,22 +4,22 @@ ghost use Rattle.std.specs.Prelude.{◌≡◌, ◌↔◌, IsTrue};
 use crate::same::same_attr;
 use eden_base::{Attr, Errno, Number};
 
-/// The result of a request.
+/// What a daemon answers: a reply without its unique.
 #[derive(Clone, Copy, PartialEq, Eq)]
 pub enum Answer {
-    /// Of LOOKUP and MKDIR: the kernel holds the number once more.
+    /// To LOOKUP and MKDIR: the kernel holds `number` once more.
     Entry { number: Number, attr: Attr },
-    /// Of CREATE: as `Entry`, and the file is open.
+    /// To CREATE: as `Entry`, and the file is open.
     Opened { number: Number, attr: Attr },
-    /// Of GETATTR.
+    /// To GETATTR.
     Attrs { number: Number, attr: Attr },
-    /// Of UNLINK and RMDIR.
+    /// To UNLINK and RMDIR.
     Done,
     Error(Errno),
 }
 
 impl Answer {
-    /// Returns whether the two are the same answer.
+    /// Returns whether `self` and `other` are the same answer.
     pub fn is(&self, other: &Answer) -> bool
         ensures same { IsTrue result ↔ (self.now ≡ other.now) }
     {
@@ -39,7 +39,7 @@ impl Answer {
     }
 }
 
-/// An answer, and the `unique` of the request that it goes to.
+/// An answer, and the `unique` of the request that is answered.
 #[derive(Clone, Copy, PartialEq, Eq)]
 pub struct Reply {
     pub unique: u64,

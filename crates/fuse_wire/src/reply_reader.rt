@@ -14,7 +14,8 @@ use crate::{Answer, MAX_REPLY_LEN, Reply, WireFault, mode, write_reply};
 use byteorder::{ByteOrder, LittleEndian};
 use eden_base::{Attr, Number};
 
-/// Reads a reply. A reply has one spelling: other bytes are `BadBody`. It takes no memory.
+/// Reads a reply, without taking memory. Bytes of the right length that are not what `write_reply` writes are
+/// `BadBody`.
 pub fn read_reply(bytes: &[u8]) -> Result<Reply, WireFault>
     ensures text { IfOk result (λ reply. bytes.now ≡ reply_text reply) }
     ensures only { (reply : Reply) → FitsReply reply → bytes.now ≡ reply_text reply
@@ -23,13 +24,13 @@ pub fn read_reply(bytes: &[u8]) -> Result<Reply, WireFault>
     ensures bad_length { IsErrOf result WireFault.BadLength
         ↔ ((16 ≤ length bytes.now) × (u32_at bytes.now ≢ length bytes.now)) }
     ensures no_others { IfErr result IsReplyFault }
-    // Which fault it is.
+    // The result for any bytes, with the exact fault.
     ensures exact { result ≡ reply_of bytes.now }
 {
     read_spelled(bytes)
 }
 
-/// Reads the header first, then the answer that the rest can be.
+/// Reads a reply as `read_reply` does: first the header, and then the answer.
 #[tactic(auto, unfolding(crate::specs::ReplyReading::reply_of))]
 fn read_spelled(bytes: &[u8]) -> Result<Reply, WireFault>
     ensures { result ≡ reply_of bytes.now }
@@ -64,7 +65,7 @@ impl Reader<'_> {
     }
 }
 
-/// Returns the reply, if the bytes are its text.
+/// Returns `reply` if `bytes` are its text, else `BadBody`.
 #[tactic(auto, using(crate::proofs::Lengths::lengths))]
 fn if_spelled(reply: Reply, bytes: &[u8]) -> Result<Reply, WireFault>
     ensures { result ≡ if_spelled reply bytes.now }
@@ -77,7 +78,8 @@ fn if_spelled(reply: Reply, bytes: &[u8]) -> Result<Reply, WireFault>
     Ok(reply)
 }
 
-/// Returns the one answer whose text the bytes can be, by their length and the fields that vary.
+/// Returns the only answer that a reply with this `error` and these `bytes` can have, or none if there is no such
+/// answer.
 #[tactic(auto, unfolding(crate::specs::ReplyReading::answer_at))]
 fn answer_of(error: i32, bytes: &[u8]) -> Option<Answer>
     ensures { result ≡ answer_at error bytes.now }
@@ -103,7 +105,7 @@ fn answer_of(error: i32, bytes: &[u8]) -> Option<Answer>
     }
 }
 
-/// Reads the fields of `struct fuse_attr` that vary.
+/// Returns the number and the attributes in the `struct fuse_attr` at `offset`. Constant fields are skipped.
 #[tactic(auto, unfolding(crate::specs::ReplyReading::attr_at))]
 fn attributes_at(bytes: &[u8], offset: usize) -> (Number, Attr)
     requires { offset + 88 ≤ length bytes.now }

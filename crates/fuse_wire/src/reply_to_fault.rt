@@ -7,8 +7,8 @@ use crate::request::Opcode;
 use crate::{Answer, Reply, WireFault};
 use eden_base::{Errno, NameFault};
 
-/// Returns the reply to bytes that `read_request` refused. A forget has none, nor have bytes without a whole header.
-/// It takes no memory.
+/// Returns the reply to `bytes`, which `read_request` refused with `fault`. Returns none for a forget, and for bytes
+/// without a whole header. Takes no memory.
 pub fn fault_reply(bytes: &[u8], fault: &WireFault) -> Option<Reply>
     ensures reply { result ≡ fault_reply_of bytes.now fault.now }
 {
@@ -25,7 +25,7 @@ pub fn fault_reply(bytes: &[u8], fault: &WireFault) -> Option<Reply>
     })
 }
 
-/// Returns the error that the program which asked is told.
+/// Returns the error that answers a request which was refused with `fault`.
 fn errno_of_fault(fault: &WireFault) -> Errno
     ensures { result ≡ errno_of_fault fault.now }
 {

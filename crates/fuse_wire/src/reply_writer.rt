@@ -14,10 +14,10 @@ use crate::writer::Writer;
 use crate::{Answer, Reply};
 use eden_base::{Attr, Number};
 
-/// The length of the longest reply, an opened file's.
+/// The length of the longest reply, whose answer is `Answer::Opened`.
 pub const MAX_REPLY_LEN: usize = OPENED_REPLY_LEN;
 
-/// Writes a reply from the front of the buffer on, and returns its length. The bytes behind it stay.
+/// Writes `reply` at the front of `out`, and returns its length. The bytes after the reply are unchanged.
 #[tactic(auto, using(crate::proofs::Written::written))]
 pub fn write_reply(reply: &Reply, out: &mut [u8; MAX_REPLY_LEN]) -> usize
     ensures text { out.new ≡ reply_text reply.now ++ drop result out.old }
@@ -45,7 +45,7 @@ fn put_header(fields: &mut Writer, len: u32, reply: &Reply)
     fields.put_u64(reply.unique);
 }
 
-/// Returns how many bytes follow the header.
+/// Returns how many bytes follow the header in a reply with this answer.
 #[tactic(auto, using(crate::proofs::Lengths::lengths))]
 fn payload_len(answer: &Answer) -> usize
     ensures len { result ≡ length (payload answer.now) }
@@ -59,7 +59,7 @@ fn payload_len(answer: &Answer) -> usize
     }
 }
 
-/// Writes what follows the header.
+/// Writes what follows the header in a reply with this answer.
 #[tactic(auto, using(crate::proofs::Written::written))]
 fn put_payload(fields: &mut Writer, answer: &Answer)
     requires { HasRoom fields.old (length (payload answer.now)) }
@@ -80,7 +80,7 @@ fn put_payload(fields: &mut Writer, answer: &Answer)
     }
 }
 
-/// Writes a number and its attributes, which the kernel may keep for no time (`struct fuse_entry_out`).
+/// Writes a `struct fuse_entry_out`: a number, and its attributes, which the kernel may not cache.
 #[tactic(auto, using(crate::proofs::Written::written))]
 fn put_entry(fields: &mut Writer, number: Number, attr: &Attr)
     requires { HasRoom fields.old 128 }
@@ -92,7 +92,7 @@ fn put_entry(fields: &mut Writer, number: Number, attr: &Attr)
     put_attributes(fields, number, attr);
 }
 
-/// Writes the attributes (`struct fuse_attr`).
+/// Writes a `struct fuse_attr`: a number and its attributes.
 #[tactic(auto, using(crate::proofs::Written::written))]
 fn put_attributes(fields: &mut Writer, number: Number, attr: &Attr)
     requires { HasRoom fields.old 88 }

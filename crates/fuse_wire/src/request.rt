@@ -9,7 +9,7 @@ use eden_base::{Name, NameRoom, NoMemory, Number, Perm};
 use std::alloc::Global;
 use std::array;
 
-/// A request without the number that its reply goes by. `dir` is the nodeid of the header, a directory's.
+/// A request without its unique. `dir` and `node` are the nodeid of the header; `dir` is a directory's.
 #[derive(PartialEq, Eq, Drop)]
 pub enum Request {
     Lookup { dir: Number, name: Name },
@@ -18,15 +18,15 @@ pub enum Request {
     Mkdir { dir: Number, name: Name, perm: Perm },
     Unlink { dir: Number, name: Name },
     Rmdir { dir: Number, name: Name },
-    /// Has no reply.
+    /// A forget of one item. It has no reply.
     Forget(Item),
-    /// Has no reply.
+    /// A forget of a batch of items. It has no reply.
     BatchForget(Batch),
-    /// A request that is not served, by its opcode.
+    /// A request that is not served, with its opcode.
     Other { opcode: u32, node: Number },
 }
 
-/// A request, and the `unique` that its reply goes by.
+/// A request, and the `unique` that its reply has.
 #[derive(PartialEq, Eq, Drop)]
 pub struct Ask {
     pub unique: u64,
@@ -44,12 +44,12 @@ pub(crate) enum Opcode {
     Rmdir,
     Create,
     BatchForget,
-    /// Any other, which is answered without a look at its body.
+    /// Any other operation. The body of its requests is ignored.
     Other(u32),
 }
 
 impl Request {
-    /// Returns the same request, in this memory.
+    /// Makes a copy of the request in `memory`.
     fn copied<M: Memory>(&self, memory: M) -> Result<Request, NoMemory>
         ensures copy { IfOk result (λ copy. copy ≡ self.now) }
         ensures lack { OnErr result (IsTrue M.may_lack) }
@@ -96,15 +96,15 @@ impl Request {
         }
     }
 
-    /// Returns the same request, in memory of its own.
+    /// Makes a copy of the request, in memory that `alloc` gives.
     pub fn copy(&self, alloc: Global) -> Result<Request, NoMemory>
         ensures copy { IfOk result (λ copy. copy ≡ self.now) }
     {
         self.copied(alloc)
     }
 
-    /// Returns the same request, in memory that was taken before: room for as many names as a request can have, and for
-    /// a batch.
+    /// Makes a copy of the request in rooms that were taken before: `first` for its name, or `batch`. No request has a
+    /// second name, so `second` is dropped.
     pub fn copy_to(&self, first: NameRoom, second: NameRoom, batch: BatchRoom) -> Request
         ensures copy { result ≡ self.now }
     {
@@ -116,7 +116,7 @@ impl Request {
         self.copied(rooms).unwrap()
     }
 
-    /// Returns whether the two are the same request.
+    /// Returns whether `self` and `other` are the same request.
     pub fn is(&self, other: &Request) -> bool
         ensures same { IsTrue result ↔ (self.now ≡ other.now) }
     {
@@ -151,7 +151,7 @@ impl Request {
         }
     }
 
-    /// Returns the request of an opcode that no other variant has; nothing for an opcode that one has.
+    /// Returns the request `Other` with this opcode, or none if another variant has the opcode.
     pub fn other(opcode: u32, node: Number) -> Option<Request>
         ensures other { result ≡ other_of opcode node }
     {
@@ -161,14 +161,14 @@ impl Request {
         }
     }
 
-    /// Returns whether the kernel waits for a reply: to all but the two forgets.
+    /// Returns whether the kernel waits for a reply, as it does for all but the two forgets.
     pub fn is_ask(&self) -> bool
         ensures ask { result ≡ is_ask self.now }
     {
         !matches!(self, Request::Forget(_) | Request::BatchForget(_))
     }
 
-    /// Returns the form in which the request is answered where it does not fail.
+    /// Returns the form of the answer to the request, if the request does not fail.
     pub fn form(&self) -> Form
         ensures form { result ≡ form_of self.now }
     {
@@ -183,7 +183,7 @@ impl Request {
         }
     }
 
-    /// Returns the opcode that the request goes by.
+    /// Returns the operation of the request.
     pub(crate) fn opcode(&self) -> Opcode
         ensures { result ≡ opcode self.now }
     {
@@ -200,7 +200,7 @@ impl Request {
         }
     }
 
-    /// Returns the nodeid of the header, which is 0 for a batch.
+    /// Returns the nodeid that is written into the header: 0 for a batch.
     pub(crate) fn nodeid(&self) -> u64
         ensures { result ≡ nodeid self.now }
     {
@@ -216,7 +216,8 @@ impl Request {
         }
     }
 
-    /// Returns the numbers that the request goes to. Those of a forget are in its items.
+    /// Returns the numbers of the files that the request is for. The list is empty for a forget, whose numbers are in
+    /// its items.
     pub fn nodes(&self) -> Nodes
         ensures nodes { result ≡ nodes self.now }
     {
@@ -231,7 +232,7 @@ impl Request {
         }
     }
 
-    /// Returns the item of a FORGET; a batch has none of its own.
+    /// Returns the item of a FORGET, or none for any other request, also for a batch.
     pub fn item(&self) -> Option<Item>
         ensures item { result ≡ item_of self.now }
     {
@@ -241,7 +242,7 @@ impl Request {
         }
     }
 
-    /// Returns the items of a forget of either form; another request has none.
+    /// Returns the items of a forget of either form, or no items for any other request.
     pub fn items(&self) -> &[Item]
         ensures items { result.now ≡ items_of self.now }
         ensures at_most { length result.now ≤ 256 }
@@ -255,7 +256,7 @@ impl Request {
 }
 
 impl Opcode {
-    /// Returns the operation of a header's opcode.
+    /// Returns the operation whose opcode is `code`.
     #[tactic(auto, unfolding(crate::specs::Request::opcode_of))]
     pub(crate) fn of(code: u32) -> Opcode
         ensures { result ≡ opcode_of code }
@@ -273,7 +274,7 @@ impl Opcode {
         }
     }
 
-    /// Returns the opcode, as `linux/fuse.h` numbers it.
+    /// Returns the opcode of the operation, as `linux/fuse.h` numbers it.
     pub(crate) fn code(self) -> u32
         ensures { result ≡ code self }
     {
@@ -290,7 +291,7 @@ impl Opcode {
         }
     }
 
-    /// Returns whether it is a forget's, to which the kernel waits for no reply.
+    /// Returns whether the operation is one of the two forgets, for which the kernel awaits no reply.
     pub(crate) fn is_forget(self) -> bool
         ensures { result ≡ is_forget self }
     {

@@ -1,4 +1,4 @@
-//! The body of a request, by its kind: its length, its writing and its reading. A kind of request is a row in each.
+//! The body of a request: its length, its writing and its reading. Each function has a row for each kind of request.
 ghost use Rattle.std.specs.Prelude.{◌≡◌, ◌≤◌, length};
 ghost use Rattle.fuse_wire.specs.Reading.{Gives, MayLack};
 ghost use Rattle.fuse_wire.specs.Request.{opcode_of, IsSendable};
@@ -21,7 +21,7 @@ use crate::writer::Writer;
 use crate::{Ask, Items, Request, WireFault};
 use eden_base::Kind;
 
-/// Returns how many bytes follow the header.
+/// Returns how many bytes follow the header of `request`.
 #[tactic(auto, using(crate::proofs::Lengths::lengths, crate::proofs::OwnTexts::own_bodies))]
 pub(crate) fn body_len(request: &Request) -> usize
     ensures len { result ≡ length (body request.now) }
@@ -40,7 +40,7 @@ pub(crate) fn body_len(request: &Request) -> usize
     }
 }
 
-/// Writes what follows the header. What no reader looks at is 0.
+/// Writes what follows the header of `request`. Fields that no reader uses are 0.
 #[tactic(auto, using(crate::proofs::Written::written))]
 pub(crate) fn put_body(fields: &mut Writer, request: &Request)
     requires { HasRoom fields.old (length (body request.now)) }
@@ -65,7 +65,7 @@ pub(crate) fn put_body(fields: &mut Writer, request: &Request)
     }
 }
 
-/// Reads the request of a header and a body.
+/// Reads a request from its body, as the opcode in `header` says.
 #[tactic(auto, unfolding(crate::specs::RequestBody::what_of))]
 pub(crate) fn read_body<M: Memory>(memory: M, header: Header, body: &[u8]) -> Result<Ask, WireFault>
     ensures { Gives (MayLack M.may_lack WantsMemory) result (asked_of header body.now) }
@@ -107,7 +107,7 @@ pub(crate) fn read_body<M: Memory>(memory: M, header: Header, body: &[u8]) -> Re
     }
 }
 
-/// Reads the items of a header and the body of a forget; another request is `BadBody`.
+/// Returns the items of the forget with this header and this body, or `BadBody` for any other request.
 #[tactic(auto, unfolding(crate::specs::RequestBody::forgotten_of))]
 pub(crate) fn forgotten_items(header: Header, body: &[u8]) -> Result<Items, WireFault>
     ensures { result ≡ forgotten_of (opcode_of header.opcode) header.node body.now }

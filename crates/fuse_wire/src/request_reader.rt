@@ -13,7 +13,7 @@ use crate::{Ask, BatchRoom, Items, WireFault};
 use eden_base::NameRoom;
 use std::alloc::Global;
 
-/// Reads the header first, then the body.
+/// Reads a request: first its header, and then its body.
 #[tactic(auto, unfolding(crate::specs::RequestReading::request_of))]
 fn read_ask<M: Memory>(memory: M, bytes: &[u8]) -> Result<Ask, WireFault>
     ensures { Gives (MayLack M.may_lack WantsMemory) result (request_of bytes.now) }
@@ -23,34 +23,34 @@ fn read_ask<M: Memory>(memory: M, bytes: &[u8]) -> Result<Ask, WireFault>
     read_body(memory, header, body)
 }
 
-/// Reads the request that the bytes are. A name takes memory, and so does a batch.
+/// Reads a request from its bytes. Takes memory for a name or for a batch.
 pub fn read_request(alloc: Global, bytes: &[u8]) -> Result<Ask, WireFault>
-    // What is read is spelled so.
+    // `bytes` are a text of the request that is returned.
     ensures text { IfOk result (λ ask. IsRequestText ask bytes.now) }
-    // What is spelled so is read, unless memory runs out.
+    // If `bytes` are a text of a request, then that request is returned, unless memory is refused.
     ensures only { (ask : Ask) → FitsAsk ask → IsRequestText ask bytes.now
         → Gives WantsMemory result (Ok ask) }
     ensures sendable { IfOk result (λ ask. IsSendable ask.what) }
-    // Which fault it is.
+    // The result for any bytes, with the exact fault.
     ensures exact { Gives WantsMemory result (request_of bytes.now) }
 {
     read_ask(alloc, bytes)
 }
 
-/// Reads the request that the bytes are, to memory that was taken before: room for as many names as a request can have,
-/// and for a batch.
+/// Reads a request from its bytes, in rooms that were taken before: `first` for its name, or `batch`. No request has a
+/// second name, so `second` is dropped.
 pub fn read_request_to(
     first: NameRoom,
     second: NameRoom,
     batch: BatchRoom,
     bytes: &[u8],
 ) -> Result<Ask, WireFault>
-    // What is read is spelled so.
+    // `bytes` are a text of the request that is returned.
     ensures text { IfOk result (λ ask. IsRequestText ask bytes.now) }
-    // What is spelled so is read.
+    // If `bytes` are a text of a request, then that request is returned.
     ensures only { (ask : Ask) → FitsAsk ask → IsRequestText ask bytes.now → result ≡ Ok ask }
     ensures sendable { IfOk result (λ ask. IsSendable ask.what) }
-    // Which fault it is.
+    // The result for any bytes, with the exact fault.
     ensures exact { result ≡ request_of bytes.now }
     ensures never_out_of_memory { ¬ (result ≡ Err WireFault.NoMemory) }
 {
@@ -62,19 +62,19 @@ pub fn read_request_to(
     read_ask(rooms, bytes)
 }
 
-/// Reads the items of a forget of either form. Any other request is `BadBody`. It takes no memory.
+/// Reads the items of a forget of either form, without taking memory. Returns `BadBody` for any other request.
 pub fn read_items(bytes: &[u8]) -> Result<Items, WireFault>
-    // What is read are the items of the forget that the bytes are.
+    // The items that are returned are those of the forget that `bytes` are.
     ensures forget { IfOk result (IsForgetOf bytes.now) }
-    // Of each request its items are read.
+    // If `bytes` are read as a request, then its items are returned, or `BadBody` if it is no forget.
     ensures only { (ask : Ask) → request_of bytes.now ≡ Ok ask → result ≡ items_told ask.what }
-    // Which fault it is.
+    // The result for any bytes, with the exact fault.
     ensures exact { result ≡ items_of bytes.now }
 {
     read_forgotten(bytes)
 }
 
-/// Reads the header first, then the items of its body.
+/// Reads the items as `read_items` does: first the header, and then the items of the body.
 #[tactic(auto, unfolding(crate::specs::RequestReading::items_of))]
 fn read_forgotten(bytes: &[u8]) -> Result<Items, WireFault>
     ensures { result ≡ items_of bytes.now }

@@ -19,8 +19,8 @@ use std::marker::Model;
 /// The length of the longest request: a batch of 256 items.
 pub const MAX_REQUEST_LEN: usize = 4144;
 
-/// Room for the text of any one request, seen as how many bytes it takes. `write_request_to` uses it up, and so never
-/// runs out of memory.
+/// Room for the text of any one request, which contracts see as its capacity in bytes. `write_request_to` consumes a
+/// room, and so never runs out of memory.
 #[derive(Drop)]
 pub struct RequestRoom {
     bytes: Vec<u8>,
@@ -48,7 +48,7 @@ impl RequestRoom {
     }
 }
 
-/// Writes a request. What no reader looks at is 0. The bytes are all the memory that it takes.
+/// Writes a request. Takes memory only for the bytes that are returned. Fields that no reader uses are 0.
 pub fn write_request(alloc: Global, ask: &Ask) -> Result<Vec<u8>, NoMemory>
     requires { IsSendable ask.now.what }
     ensures text { IfOk result (λ bytes. bytes.items ≡ request_text ask.now) }
@@ -61,7 +61,7 @@ pub fn write_request(alloc: Global, ask: &Ask) -> Result<Vec<u8>, NoMemory>
     Ok(bytes)
 }
 
-/// Writes a request as `write_request` does, into memory that was taken before.
+/// Writes a request as `write_request` does, in the memory of `room`.
 pub fn write_request_to(room: RequestRoom, ask: &Ask) -> Vec<u8>
     requires { IsSendable ask.now.what }
     ensures text { result.items ≡ request_text ask.now }
@@ -75,7 +75,7 @@ pub fn write_request_to(room: RequestRoom, ask: &Ask) -> Vec<u8>
     bytes
 }
 
-/// Writes a request into a buffer of its length.
+/// Writes a request into `bytes`, a buffer of exactly its length.
 #[tactic(auto, using(crate::proofs::Written::written))]
 fn put_request(bytes: &mut [u8], ask: &Ask)
     requires short { length bytes.old < 2 ^ 32 }
@@ -89,7 +89,7 @@ fn put_request(bytes: &mut [u8], ask: &Ask)
     put_body(&mut fields, &ask.what);
 }
 
-/// Writes the header (`struct fuse_in_header`).
+/// Writes the header (`struct fuse_in_header`) of a request of `len` bytes.
 #[tactic(auto, using(crate::proofs::Written::written))]
 fn put_header(fields: &mut Writer, len: u32, ask: &Ask)
     requires { HasRoom fields.old 40 }

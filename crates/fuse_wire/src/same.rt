@@ -3,14 +3,14 @@ ghost use Rattle.std.specs.Prelude.{◌≡◌, ◌↔◌, IsTrue};
 
 use eden_base::{Attr, Name, Number, Perm};
 
-/// Returns whether two permissions are the same.
+/// Returns whether `first` and `second` are the same permissions.
 pub(crate) fn same_perm(first: Perm, second: Perm) -> bool
     ensures same { IsTrue result ↔ (first ≡ second) }
 {
     first == second
 }
 
-/// Returns whether two files have the same attributes.
+/// Returns whether `first` and `second` are the same attributes.
 pub(crate) fn same_attr(first: Attr, second: Attr) -> bool
     ensures same { IsTrue result ↔ (first ≡ second) }
 {
@@ -20,7 +20,7 @@ pub(crate) fn same_attr(first: Attr, second: Attr) -> bool
         && first.nlink == second.nlink
 }
 
-/// Returns whether two names are the same, in the same directory.
+/// Returns whether `dir` is `other`, and `name` has the same bytes as `its`.
 pub(crate) fn same_place(dir: Number, name: &Name, other: Number, its: &Name) -> bool
     ensures dir { IsTrue result → dir ≡ other }
     ensures name { IsTrue result → name.now ≡ its.now }

@@ -13,7 +13,7 @@ pub(crate) struct Writer<'a> {
 }
 
 impl<'a> Writer<'a> {
-    /// Returns a writer before the first field.
+    /// Makes a writer before the first field.
     pub(crate) fn new(bytes: &'a mut [u8]) -> Writer<'a>
         ensures same { result.bytes.ghost_name ≡ bytes.entry.ghost_name }
         ensures bytes { result.bytes.now ≡ bytes.old }
@@ -52,7 +52,7 @@ impl<'a> Writer<'a> {
         self.at += 8;
     }
 
-    /// Writes bytes that are 0.
+    /// Writes `count` bytes that are 0.
     #[tactic(auto, unfolding(crate::specs::Field::zeros))]
     pub(crate) fn put_zeros(&mut self, count: usize)
         requires { HasRoom self.old count }

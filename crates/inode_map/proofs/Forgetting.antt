@@ -84,7 +84,7 @@ lowered-numbers es next n k are = numbers-changed es 2 next (has_number n) (less
 pub lowered-others : (es : List Kept) (n k : ℕ) → AreOfUseBut None es → AreOfUseBut (Some n) (lowered es n k)
 lowered-others es n k useful = lowered-of_use es n (less k) (less-keeps k) useful
 
--- where the number is of use still, so are all
+-- if the number is still of use, so is every entry
 pub lowered-kept : (map : MapState) (n k : ℕ) → AreKept map.next map.entries → IsTold map n k false → AreKept map.next (lowered map.entries n k)
 lowered-kept map n k are told = record {
   numbers = lowered-numbers map.entries map.next n k are.numbers;

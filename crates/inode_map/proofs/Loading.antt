@@ -62,7 +62,7 @@ module _ (notes : List (ℕ × ℕ)) (nodes : Arena LoadedAttr) (named : AreName
             let there : value_at nodes e.0 ≡ Some w.0 = subst (λ (k : ℕ). value_at nodes (slot_noted k) ≡ Some w.0) same w.1 in
             other (ap (λ (l : LoadedAttr). l.number.0) (some-same (value_at nodes e.0) e.1 w.0 found there) ∙ w.2)) ∙ sym (eq-false e.1.number.0 n other)
 
-  -- where it has none, nothing is loaded of it
+  -- if a number has no note, nothing is loaded of it
   pub are-others : note_of notes n ≡ None → AreOthers n nodes.entries
   are-others none = Each-kept (λ (e : Slot × LoadedAttr). value_at nodes e.0 ≡ Some e.1) (λ (e : Slot × LoadedAttr). (e.1.number.0 == n) ≡ false)
       nodes.entries (each-found nodes.entries distinct) (λ e found. eq-false e.1.number.0 n (λ same.
@@ -78,7 +78,7 @@ pub looked-none : (n : ℕ) (es : Held) → AreOthers n es → first_where (is_l
 looked-none n [] are = refl
 looked-none n (e ∷ es) are = ap (λ b. cond b (Some e.1) (first_where (is_loaded_of n) (values_of es))) are.0 ∙ looked-none n es are.1
 
--- and so is what is left
+-- what is left without the slot is what is left without the number
 pub left : (s : Slot) (n : ℕ) (es : Held) → AreMatched s n es → values_of (remove_entry (is_slot s) es) ≡ without_where (is_loaded_of n) (values_of es)
 left s n [] are = refl
 left s n (e ∷ es) are = in_ (is_slot s e.0) (e.1.number.0 == n) are.0 (left s n es are.1) where
@@ -95,7 +95,7 @@ others-stay n [] are = refl
 others-stay n (e ∷ es) are =
     ap (λ b. cond (not b) (e.1 ∷ of_others n (values_of es)) (of_others n (values_of es))) are.0 ∙ ap (λ (xs : List LoadedAttr). e.1 ∷ xs) (others-stay n es are.1)
 
--- behind the slot all are of others
+-- after the slot, all loaded attributes are of other numbers
 behind-others : (s : Slot) (n : ℕ) (es : Held) → AllByRecursion (λ (t : Slot). is_slot s t ≡ false) (keys_of es) → AreMatched s n es → AreOthers n es
 behind-others s n [] apart are = tt
 behind-others s n (e ∷ es) apart are = (sym are.0 ∙ apart.0, behind-others s n es apart.1 are.1)

@@ -34,7 +34,7 @@ pub record Pruned (old now : TableState) (before after : List LoadedAttr) : Type
   pub table : now ≡ record old { entries = now.entries; remembered = of_kept file_number now.entries old.remembered; notes = now.notes }
   pub loaded : after ≡ of_kept loaded_number now.entries before
 
--- nothing yet
+-- the table before anything was struck
 pub pruned-init : (table : TableState) (loaded : List LoadedAttr) → AreNumbers 2 table.next table.entries → AreOfKept loaded_number table.entries loaded → AreOfKept file_number table.entries table.remembered → Pruned table table loaded loaded
 pruned-init table loaded are attrs files = record {
   same = refl;
@@ -43,7 +43,7 @@ pruned-init table loaded are attrs files = record {
   loaded = sym (of_kept-all loaded_number table.entries loaded attrs);
 }
 
--- one more
+-- the table after one more entry was struck
 pub pruned-step : (old now later : TableState) (before after left : List LoadedAttr) (n : ℕ) → Pruned old now before after → AreOfUseBut (Some n) now.entries → is_useless now.entries n ≡ true →
     later ≡ without_entry now n (without_where (has_number n) now.entries) → left ≡ filter (λ (l : LoadedAttr). is_other n (loaded_number l)) after → Pruned old later before left
 pruned-step old now later before after left n p useful useless table loaded = subst (λ (t : TableState). Pruned old t before left) (sym table) (subst (λ (l : List LoadedAttr). Pruned old next before l) (sym loaded) (record {
@@ -56,7 +56,7 @@ pruned-step old now later before after left n p useful useless table loaded = su
   next : TableState
   next = without_entry now n (without_where (has_number n) now.entries)
 
--- its directory alone may be of no use then
+-- after an entry was struck, its directory alone may be of no use
 pub pruned-others : (old now later : TableState) (before after : List LoadedAttr) (n : ℕ) (place : Place) → Pruned old now before after → AreOfUseBut (Some n) now.entries → is_useless now.entries n ≡ true →
     option_map place_of_kept (entry_of now.entries n) ≡ Some place → later ≡ without_entry now n (without_where (has_number n) now.entries) → AreOfUseBut (dir_of place) later.entries
 pruned-others old now later before after n place p useful useless at table =

@@ -23,7 +23,7 @@ raised es n = changed_where (has_number n) once_more es
 less-once : (x : Kept) → less 1 (once_more x) ≡ x
 less-once x = let same : x.count + 1 - 1 ≡ x.count = omega arith in λ i. record x { count = same i }
 
--- so are the entries
+-- entries of which one was raised and is lowered are what they were
 lowered-raised : (es : List Kept) (n : ℕ) → lowered (raised es n) n 1 ≡ es
 lowered-raised [] n = refl
 lowered-raised (x ∷ es) n = in_ (x.number.0 == n) refl (lowered-raised es n) where

@@ -57,7 +57,7 @@ left-of_use es low next n gone are u useful m now e = use_in (useful m now l.1) 
   use_in (inl t) = parts (or_cases (nat_lt 0 now.count) (list_any (is_kid_of now.number.0) es) t)
   use_in (inr same) = absurd (l.0 (let e' : n ≡ m = cc in sym e'))
 
--- nothing is of no use where the one that may be isn't
+-- no entry is of no use if the only one that may be is of use
 pub all-of_use : (es : List Kept) (n : ℕ) → is_useless es n ≡ false → AreOfUseBut (Some n) es → AreOfUseBut None es
 all-of_use es n h useful m now e = in_ (useful m now e) where
   in_ : (is_of_use es now ≡ true) ⊎ (Some n ≡ Some m) → (is_of_use es now ≡ true) ⊎ (None ≡ Some m)

@@ -1,5 +1,5 @@
--- What a daemon remembers for the kernel, as EdenFS's inode map does: each number that it gave, where the file of that
--- number stands, and how often the kernel holds it, with libfuse's rules for lookup counts (`fuse_lowlevel.h`).
+-- What a daemon remembers for the kernel, as EdenFS's inode map does: each number that the daemon gave, where the file
+-- of that number stands, and its count, with libfuse's rules for lookup counts (`fuse_lowlevel.h`).
 use Rattle.std.specs.Prelude.{◌≡◌, ℕ, suc, zero, ◌+◌, ◌-◌, ◌^◌, min, Bool, false, take, ◌==◌, nat_le, not, List, [], ◌∷◌, ◌++◌, length, Option, Some, None, is_some, if◌then◌else◌}
 use Rattle.std.specs.Option.{option_map, option_map_or}
 use Rattle.std.specs.List.{filter}
@@ -16,9 +16,9 @@ use Rattle.inode_map.specs.declared.inode_map.GiveFault.TheVariants.{NoNumber, T
 use Rattle.inode_map.specs.declared.inode_map.Forgot.{Forgot}
 use Rattle.inode_map.specs.declared.inode_map.Forgot.TheVariants.{Lowered, Dropped, Bad, Root}
 
--- the numbers that were given and are not forgotten by rising number, the next number, how many bad forgets came, the
--- loaded attributes by recency and how many there may be, how many numbers can be given without memory, and the files
--- that are remembered by rising number
+-- The entries of the numbers that were given and not struck, by rising number; the next number; and how many bad
+-- forgets came. The loaded attributes, the most recent first, and how many of these there may be. How many numbers can
+-- be given without memory, and the files that are remembered, by rising number.
 pub record MapState : Type 0 where
   pub entries : List Kept
   pub next : ℕ
@@ -28,7 +28,7 @@ pub record MapState : Type 0 where
   pub spare : ℕ
   pub remembered : List (ℕ × FileId)
 
--- the number is remembered, and is of no use
+-- the number has an entry, which is of no use
 abbrev pub is_useless : List Kept → ℕ → Bool
 is_useless entries n = option_map_or (λ (kept : Kept). not (is_of_use entries kept)) (entry_of entries n) false
 
@@ -36,43 +36,45 @@ is_useless entries n = option_map_or (λ (kept : Kept). not (is_of_use entries k
 abbrev pub struck_once : List Kept → List Kept
 struck_once entries = filter (is_of_use entries) entries
 
--- that as often as there are entries, since a directory may be of no use once what stood in it is struck
+-- the entries after this many rounds, each of which strikes all entries of no use; a directory may be of no use after
+-- what stood in it was struck
 abbrev pub struck : ℕ → List Kept → List Kept
 struck zero entries = entries
 struck (suc rounds) entries = struck rounds (struck_once entries)
 
--- every entry of no use is struck, until there is none: each round but the last strikes an entry at least
+-- the entries after all of no use were struck; as many rounds as entries are enough, since each round but the last
+-- strikes at least one entry
 abbrev pub left_of_use : List Kept → List Kept
 left_of_use entries = struck (length entries) entries
 
--- by the entry of the place, if it has one: it may not be counted more often, or no number is left
+-- why no number can be given for a place: the count of its entry is at the limit; or it has none, and no number is left
 abbrev pub give_fault_at : MapState → Option Kept → Option GiveFault
 give_fault_at map (Some kept) = if nat_le greatest_count kept.count then Some TooMany else None
 give_fault_at map None = if nat_le end_of_numbers map.next then Some NoNumber else None
 
--- why no number can be given for a place, if none can, but for memory
+-- why no number can be given for a name in a directory, if there is a cause other than memory
 abbrev pub give_fault : MapState → ℕ → List ℕ → Option GiveFault
 give_fault map parent name = give_fault_at map (entry_at map.entries parent name)
 
--- what a place is given: the number that it has, or the next
+-- the number that is given for a name in a directory: the number that the name has, or else the next
 abbrev pub number_given : MapState → ℕ → List ℕ → Number
 number_given map parent name =
     option_map_or number_of_kept (entry_at map.entries parent name) (record { 0 = map.next })
 
--- after a number was given
+-- the map after a number was given
 abbrev pub given : MapState → Number → List ℕ → MapState
 given map parent name =
     if is_some (entry_at map.entries parent.0 name)
     then record map { entries = changed_where (stands_at parent.0 name) once_more map.entries }
     else record map { entries = map.entries ++ new_entry map.next parent name ∷ []; next = map.next + 1; spare = 0 }
 
--- a refused gift tells the first fault; out of memory comes for a new number alone, where no other fault does
+-- giving is refused with this fault: the first one; or NoMemory, for a new number only, if there is no other
 abbrev pub IsGiveRefusal : MapState → ℕ → List ℕ → GiveFault → Type 0
 IsGiveRefusal map parent name NoMemory =
     (entry_at map.entries parent name ≡ None) × (give_fault map parent name ≡ None)
 IsGiveRefusal map parent name fault = give_fault map parent name ≡ Some fault
 
--- what becomes of a forget
+-- the result of a forget
 abbrev pub forgot : MapState → ℕ → ℕ → Forgot
 forgot map n k =
     if n == 1 then Root
@@ -84,7 +86,7 @@ forgot map n k =
 abbrev pub loaded_number : LoadedAttr → ℕ
 loaded_number loaded = loaded.number.0
 
--- what is left where only these entries are: with a number goes its loaded attribute, and the file that is remembered
+-- the map with these entries only; what is loaded or remembered of other numbers is dropped
 abbrev pub left_with : List Kept → MapState → MapState
 left_with entries map = record map {
   entries = entries;
@@ -92,48 +94,49 @@ left_with entries map = record map {
   remembered = filter (λ (file : ℕ × FileId). is_kept entries file.0) map.remembered;
 }
 
--- after a forget
+-- the map after a forget
 abbrev pub forgotten : MapState → ℕ → ℕ → MapState
 forgotten map n k =
     if n == 1 then map
     else if is_bad_item map.entries n k then record map { bad_items = min (map.bad_items + 1) (2 ^ 64 - 1) }
     else left_with (left_of_use (lowered map.entries n k)) map
 
--- the loaded attribute is of this number
+-- the loaded attributes are those of this number
 abbrev pub is_loaded_of : ℕ → LoadedAttr → Bool
 is_loaded_of n loaded = loaded.number.0 == n
 
--- the attribute in it
+-- the attributes that are loaded, without their number
 abbrev pub attr_in : LoadedAttr → Attr
 attr_in loaded = loaded.attr
 
--- the loaded attribute of a number
+-- the loaded attributes of a number, if any
 abbrev pub attr_of : List LoadedAttr → ℕ → Option Attr
 attr_of loaded n = option_map attr_in (first_where (is_loaded_of n) loaded)
 
--- one that is loaded becomes the most recent
+-- the loaded attributes after those of a number were used: these are the most recent, if they are loaded
 abbrev pub used : List LoadedAttr → ℕ → List LoadedAttr
 used loaded n =
     option_map_or (λ (found : LoadedAttr). found ∷ without_where (is_loaded_of n) loaded)
     (first_where (is_loaded_of n) loaded) loaded
 
--- an attribute becomes the most recent, and the oldest makes place for it at the limit
+-- the loaded attributes after more were loaded: these are the most recent, and at the limit the oldest are dropped
 abbrev pub load : ℕ → List LoadedAttr → Number → Attr → List LoadedAttr
 load limit loaded number attr = record { number = number; attr = attr } ∷ take (limit - 1) loaded
 
--- without the oldest
+-- the loaded attributes without the oldest
 abbrev pub without_oldest : List LoadedAttr → List LoadedAttr
 without_oldest loaded = take (length loaded - 1) loaded
 
--- after the name of a number was taken away: its directory leaves where it is of no use, with each above that then is
+-- the map after a number lost its name; its directory is struck if it is of no use, and so is each directory above it
+-- that is then of no use
 abbrev pub unlinked : MapState → ℕ → FileId → MapState
 unlinked map n file = left_with (left_of_use (changed_where (has_number n) (marked file) map.entries)) map
 
--- a map with entries of which nothing is loaded or remembered
+-- a map with these entries, of which nothing is loaded or remembered
 abbrev pub map_of : List Kept → ℕ → ℕ → MapState
 map_of entries next limit =
     record { entries = entries; next = next; bad_items = 0; loaded = []; limit = limit; spare = 0; remembered = [] }
 
--- nothing was given yet but the root, which is no entry
+-- the map before any number was given; it knows the root, which is no entry
 abbrev pub new_map : ℕ → MapState
 new_map limit = map_of [] 2 limit

@@ -1,4 +1,4 @@
--- What the fields of an inode map keep.
+-- What holds of the fields of an inode map.
 use Rattle.std.specs.Prelude.{◌≤◌, None}
 use Rattle.eden_base.specs.Limits.{end_of_numbers}
 use Rattle.inode_map.specs.declared.inode_map.InodeMap.TheInside as map
@@ -8,7 +8,8 @@ use Rattle.inode_map.specs.InodeMap.{loaded_number}
 use Rattle.inode_map.specs.Loaded.{attrs_in, AreNamed}
 use Rattle.entry_table.specs.Table.{AreOfKept}
 
--- numbers rise and stay below the next, each is of use, and what is loaded is of an entry, which notes its slot
+-- numbers rise and stay below the next, each entry is of use, and loaded attributes belong to an entry, which notes
+-- their slot
 pub record IsConsistent (m : map.Inside) : Type 0 where
   pub numbers : AreNumbers 2 m.table.next m.table.entries
   pub numbers_fit : m.table.next ≤ end_of_numbers

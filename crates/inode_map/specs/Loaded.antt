@@ -6,16 +6,16 @@ use Rattle.inode_map.specs.declared.loaded.LoadedAttr.{LoadedAttr}
 use Rattle.node_arena.specs.Arena.{Arena, value_at}
 use Rattle.node_arena.specs.declared.slot.Slot.{Slot}
 
--- the attributes, most recent first
+-- the loaded attributes, the most recent first
 abbrev pub attrs_in : Arena LoadedAttr → List LoadedAttr
 attrs_in nodes = values_of nodes.entries
 
--- the slot of a note
+-- the slot that a note says
 abbrev pub slot_noted : ℕ → Slot
 slot_noted note = record { index = note }
 
--- entries and nodes name each other: a slot that an entry notes holds an attribute of its number, and the entry of the
--- number of an attribute notes the attribute's slot
+-- entries and nodes name each other: a slot that an entry notes holds the attributes of the entry's number, and the
+-- entry of the number of loaded attributes notes their slot
 pub record AreNamed (notes : List (ℕ × ℕ)) (nodes : Arena LoadedAttr) : Type 0 where
   pub noted : (n note : ℕ) → note_of notes n ≡ Some note →
       (loaded : LoadedAttr) × (value_at nodes (slot_noted note) ≡ Some loaded) × (loaded.number.0 ≡ n)

@@ -1,9 +1,9 @@
--- The words that printed lines have for what became of a forget. (This project's own.)
+-- The words that printed lines have for the result of a forget. (This project's own.)
 use Rattle.std.specs.Prelude.{ℕ, List, codes}
 use Rattle.inode_map.specs.declared.inode_map.Forgot.{Forgot}
 use Rattle.inode_map.specs.declared.inode_map.Forgot.TheVariants as forgot
 
--- what became of a forget
+-- the word for the result of a forget
 abbrev pub forgot_name : Forgot → List ℕ
 forgot_name forgot.Lowered = codes "Lowered"
 forgot_name forgot.Dropped = codes "Dropped"

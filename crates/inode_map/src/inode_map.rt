@@ -28,17 +28,17 @@ use thiserror::Error;
 pub enum Forgot {
     /// The count is lower, and the entry stays.
     Lowered,
-    /// The number left, with each directory above it that has count 0 and no other child.
+    /// The number was struck, and so was each directory above it that then had count 0 and no child.
     Dropped,
-    /// The number is unknown, its count is below what the forget takes back, or that is 0: `bad_items` counts it, and
-    /// nothing else changes.
+    /// The number is unknown, `k` is 0, or the count is below `k`. The forget is counted in `bad_items`, and nothing
+    /// else changes.
     Bad,
-    /// The root is held always; nothing changed.
+    /// The number is the root, which is held always. Nothing changes.
     Root,
 }
 
 impl Forgot {
-    /// Returns the word that a printed line has for it.
+    /// Returns the word for `self` in a printed line.
     pub fn name(self) -> &'static str
         ensures name { result.now ≡ forgot_name self }
     {
@@ -62,7 +62,7 @@ pub enum GiveFault {
     NoMemory,
 }
 
-/// The entries, the next number, how many bad forgets came, and the loaded attributes.
+/// The entries, the next number, how many bad forgets came, and the loaded attributes. Contracts see a `MapState`.
 #[derive(Drop)]
 pub struct InodeMap {
     table: Table,
@@ -92,7 +92,7 @@ impl Model for InodeMap {
 }
 
 impl InodeMap {
-    /// Makes a map without entries, which knows the root alone. At most `loaded_limit` attributes are loaded at once.
+    /// Makes a map that has no entry and knows the root only. At most `loaded_limit` attributes are loaded at once.
     pub fn new(alloc: Global, loaded_limit: usize) -> Result<InodeMap, NoMemory>
         requires limit { 1 ≤ loaded_limit }
         ensures new { IfOk result (λ map. map ≡ new_map loaded_limit) }
@@ -105,8 +105,8 @@ impl InodeMap {
         })
     }
 
-    /// Remembers entries that were kept before, and gives `next` as the next number. At most `loaded_limit` attributes
-    /// are loaded at once. The entries are lost where memory is refused.
+    /// Makes a map of entries that were kept before, with `next` as the next number. At most `loaded_limit` attributes
+    /// are loaded at once. If memory is refused, the entries are dropped.
     pub fn of_entries(
         alloc: Global,
         entries: Vec<Kept>,
@@ -140,7 +140,7 @@ impl InodeMap {
         self.bad_items
     }
 
-    /// Tells whether a number is the root's or has an entry.
+    /// Returns whether a number is the root's or has an entry.
     pub fn known(&self, number: Number) -> bool
         ensures known { result ≡ is_known self.now.entries number.0 }
     {
@@ -165,7 +165,8 @@ impl InodeMap {
         Some(&self.table.get(number)?.place)
     }
 
-    /// Returns the least number above another. Numbers rise, so who goes on from the last answer sees each once.
+    /// Returns the least number above `number` that has an entry, if there is one. Calls that each go on from the last
+    /// result find every such number once.
     pub fn after(&self, number: Number) -> Option<Number>
         ensures after { result ≡ number_after self.now.entries number.0 }
         ensures numbers { AreNumbers 2 self.now.next self.now.entries }
@@ -173,7 +174,7 @@ impl InodeMap {
         self.table.after(number)
     }
 
-    /// Returns the entries by rising number, in memory of their own. It goes over them once.
+    /// Returns a copy of the entries, by rising number. Goes over them once.
     pub fn to_entries(&self, alloc: Global) -> Result<Vec<Kept>, NoMemory>
         ensures entries { IfOk result (λ kept. kept.items ≡ self.now.entries) }
         ensures named { IfOk result (λ kept. AllByRecursion IsNamedEntry kept.items) }
@@ -181,7 +182,7 @@ impl InodeMap {
         self.table.to_entries(alloc)
     }
 
-    /// Returns the number that a name in a directory has.
+    /// Returns the number of a name in a directory, if the name has one.
     pub fn number_for(&self, parent: Number, name: &Name) -> Option<Number>
         ensures number { result
             ≡ option_map number_of_kept (entry_at self.now.entries parent.0 name.now) }
@@ -189,7 +190,8 @@ impl InodeMap {
         self.table.find(parent, name)
     }
 
-    /// Finds the file that a number names in a tree, by the names above it. It takes no memory.
+    /// Returns the file that `number` names in `tree`, if any. It is found by the names above `number`. Takes no
+    /// memory.
     pub fn locate(&mut self, tree: &Tree, number: Number) -> Option<FileId>
         ensures found { MatchOption result
             ((file : FileId) → IsFileOf tree.now self.old.entries number.0 file → ⊥)
@@ -199,7 +201,8 @@ impl InodeMap {
         self.table.locate(tree, number)
     }
 
-    /// Gives the number of a name in a directory, which is then held once more: the one that it has, or the next.
+    /// Gives out the number of a name in a directory: the number that the name has, or else the next one. The count of
+    /// the number rises by 1.
     pub fn give(&mut self, alloc: Global, parent: Number, name: &Name) -> Result<Number, GiveFault>
         ensures number { IfOk result (λ number. number ≡ number_given self.old parent.0 name.now) }
         ensures given { OnOk result (self.new ≡ given self.old parent name.now) }
@@ -213,7 +216,7 @@ impl InodeMap {
         }
     }
 
-    /// Gives the next number to a name in a directory that has none, as `give` does.
+    /// Gives out the next number, as `give` does, for a name in a directory that has no number.
     pub fn give_next(
         &mut self,
         alloc: Global,
@@ -247,7 +250,7 @@ impl InodeMap {
         self.table.reserve(alloc)
     }
 
-    /// Gives the number of a name in a directory as `give` does, in the room that `reserve` made.
+    /// Gives out the number of a name in a directory, as `give` does, in the room that `reserve` made.
     pub fn give_ready(&mut self, parent: Number, name: Name) -> Result<Number, GiveFault>
         requires room { self.old.spare ≡ 1 }
         ensures number { IfOk result (λ number. number ≡ number_given self.old parent.0 name) }
@@ -265,8 +268,8 @@ impl InodeMap {
         Ok(self.table.add(parent, name))
     }
 
-    /// Gives the number that a name in a directory has, as `give` does. It takes no memory, and a forget of one takes
-    /// it back.
+    /// Gives out the number that a name in a directory has, as `give` does. Takes no memory. A forget of that number
+    /// with `k` 1 undoes this.
     pub fn give_again(
         &mut self,
         parent: Number,
@@ -287,7 +290,7 @@ impl InodeMap {
         Ok(number)
     }
 
-    /// Returns the result that a forget would have.
+    /// Returns the result that a forget of `number` with this `k` would have.
     pub fn forgot(&self, number: Number, k: u64) -> Forgot
         ensures forgot { result ≡ forgot self.now number.0 k }
     {
@@ -307,7 +310,8 @@ impl InodeMap {
         Forgot::Dropped
     }
 
-    /// Lowers the count of a number. An entry with count 0 and no children goes, then each parent that has become one.
+    /// Lowers the count of `number` by `k`. If the entry of `number` is then of no use (count 0 and no child), it is
+    /// removed, and so is each entry above it that is then of no use.
     pub fn forget(&mut self, number: Number, k: u64) -> Forgot
         ensures forgot { result ≡ forgot self.old number.0 k }
         ensures forgotten { self.new ≡ forgotten self.old number.0 k }
@@ -329,8 +333,9 @@ impl InodeMap {
         Forgot::Dropped
     }
 
-    /// Takes the name of a number away: from now on it names its file by a mark. Its directory's entry is removed if it
-    /// has count 0 and no other child, then each parent that has become one.
+    /// Takes the name of `number` away: from then on a mark says that the number names `file`. If the entry of its
+    /// directory is then of no use (count 0 and no child), it is removed, and so is each entry above it that is then of
+    /// no use.
     pub fn unlink(&mut self, number: Number, file: FileId)
         requires linked { IsLinked self.old.entries number.0 }
         requires no_kids { list_any (is_kid_of number.0) self.old.entries ≡ false }
@@ -340,7 +345,7 @@ impl InodeMap {
         prune(&mut self.table, &mut self.loaded, dir);
     }
 
-    /// Returns the loaded attribute of a number, and makes it the most recent.
+    /// Returns the loaded attributes of `number`, if any, and makes them the most recent.
     pub fn attr(&mut self, number: Number) -> Option<Attr>
         ensures attr { result ≡ attr_of self.old.loaded number.0 }
         ensures used { self.new ≡ record self.old { loaded = used self.old.loaded number.0 } }
@@ -348,7 +353,7 @@ impl InodeMap {
         attr_at(&self.table, &mut self.loaded, number)
     }
 
-    /// Loads the attribute of a number. At the limit the oldest is unloaded first.
+    /// Loads the attributes of `number`. If the limit is reached, the oldest attributes are unloaded first.
     pub fn load(&mut self, number: Number, attr: Attr)
         requires entry { IsSome (entry_of self.old.entries number.0) }
         requires unloaded { attr_of self.old.loaded number.0 ≡ None }
@@ -358,7 +363,7 @@ impl InodeMap {
         load_attr(&mut self.table, &mut self.loaded, number, attr);
     }
 
-    /// Unloads the attribute that was used longest ago, if there is one.
+    /// Unloads the attributes that were used longest ago, and returns whether there were any.
     pub fn unload_oldest(&mut self) -> bool
         ensures some { result ≡ nat_lt 0 (length self.old.loaded) }
         ensures unloaded { self.new ≡ record self.old { loaded = without_oldest self.old.loaded } }
@@ -366,7 +371,7 @@ impl InodeMap {
         unload_oldest(&mut self.table, &mut self.loaded)
     }
 
-    /// Remembers the file that a number names. A number never names another file.
+    /// Remembers that `number` names `file`. A number never names another file.
     pub fn remember(&mut self, number: Number, file: FileId)
         requires entry { IsSome (entry_of self.old.entries number.0) }
         ensures remembered { self.new
@@ -375,14 +380,14 @@ impl InodeMap {
         self.table.remember(number, file);
     }
 
-    /// Returns the file that is remembered of a number.
+    /// Returns the file that is remembered for `number`, if any.
     pub fn recall(&self, number: Number) -> Option<FileId>
         ensures file { result ≡ file_remembered self.now.remembered number.0 }
     {
         self.table.get(number)?.file
     }
 
-    /// Returns the file that is remembered of a number, and whether the number stands under a name.
+    /// Returns the file that is remembered for `number`, if any, and whether the number stands under a name.
     pub fn recall_linked(&self, number: Number) -> Option<(FileId, bool)>
         ensures file { option_map (λ found. found.0) result ≡ file_remembered self.now.remembered number.0 }
         ensures linked { IfSome result (λ found.
@@ -394,7 +399,7 @@ impl InodeMap {
     }
 }
 
-/// Tells whether a number has an entry with count 0 and no children.
+/// Returns whether `number` has an entry with count 0 and no child.
 fn is_useless(table: &Table, number: Number) -> bool
     ensures useless { result ≡ is_useless table.now.entries number.0 }
     ensures kept { AreOfKept file_number table.now.entries table.now.remembered }
@@ -405,7 +410,8 @@ fn is_useless(table: &Table, number: Number) -> bool
     }
 }
 
-/// Removes an entry with count 0 and no children, then each parent that has become one.
+/// Removes the entry of `number` if it is of no use (count 0 and no child), and each entry above it that is then of no
+/// use.
 fn prune(table: &mut Table, loaded: &mut Nodes<LoadedAttr>, number: Number)
     requires numbers { AreNumbers 2 table.old.next table.old.entries }
     requires others_of_use { AreOfUseBut (Some number.0) table.old.entries }
@@ -423,7 +429,8 @@ fn prune(table: &mut Table, loaded: &mut Nodes<LoadedAttr>, number: Number)
     }
 }
 
-/// Removes an entry that has count 0 and no children, then each parent that has become one.
+/// Removes the entry of `number`, which is of no use (count 0 and no child), and each entry above it that is then of no
+/// use.
 fn drop_upwards(table: &mut Table, loaded: &mut Nodes<LoadedAttr>, number: Number)
     requires numbers { AreNumbers 2 table.old.next table.old.entries }
     requires useless { is_useless table.old.entries number.0 ≡ true }

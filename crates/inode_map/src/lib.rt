@@ -1,5 +1,5 @@
 //! What a daemon remembers for the kernel: the numbers that it gave, what each names, and how often the kernel holds
-//! it.
+//! each.
 #![tactic(auto)]
 
 mod inode_map;

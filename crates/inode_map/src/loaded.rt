@@ -1,4 +1,4 @@
-//! The attributes of the numbers that were asked for last, each in a node whose slot its entry notes.
+//! The attributes of the numbers that were used last, each in a node whose slot the entry of its number notes.
 ghost use Rattle.std.specs.Prelude.{◌≡◌, ◌-◌, ◌≤◌, ◌<◌, [], None, Some, IsSome, take, length, nat_lt, IfOk, MatchOption};
 ghost use Rattle.std.specs.List.{filter};
 ghost use Rattle.std.specs.Option.{option_map};
@@ -25,7 +25,7 @@ pub struct LoadedAttr {
     pub attr: Attr,
 }
 
-/// Takes the memory for as many attributes as the limit says. There is none for more than 65,536.
+/// Takes the memory for `limit` attributes. Refuses a `limit` above 65,536, also with `NoMemory`.
 pub(crate) fn nodes_of(alloc: Global, limit: usize) -> Result<Nodes<LoadedAttr>, NoMemory>
     requires { 1 ≤ limit }
     ensures { IfOk result (λ nodes. nodes ≡ arena [] limit) }
@@ -36,7 +36,7 @@ pub(crate) fn nodes_of(alloc: Global, limit: usize) -> Result<Nodes<LoadedAttr>,
     Ok(Nodes::new(alloc, limit)?)
 }
 
-/// Returns the slot that the entry of a number notes.
+/// Returns the slot that the entry of `number` notes, if any.
 fn slot_of(table: &Table, number: Number) -> Option<Slot>
     ensures { MatchOption result (note_of table.now.notes number.0 ≡ None)
         (λ slot. note_of table.now.notes number.0 ≡ Some slot.index) }
@@ -45,7 +45,7 @@ fn slot_of(table: &Table, number: Number) -> Option<Slot>
     Some(Slot { index })
 }
 
-/// Returns the loaded attribute of a number, and makes it the most recent.
+/// Returns the loaded attributes of `number`, if any, and makes them the most recent.
 pub(crate) fn attr_at(table: &Table, nodes: &mut Nodes<LoadedAttr>, number: Number) -> Option<Attr>
     requires named { AreNamed table.now.notes nodes.old }
     ensures attr { result ≡ attr_of (attrs_in nodes.old) number.0 }
@@ -60,7 +60,7 @@ pub(crate) fn attr_at(table: &Table, nodes: &mut Nodes<LoadedAttr>, number: Numb
     Some(attr)
 }
 
-/// Unloads the attribute that was used longest ago, if there is one, and returns whether it did.
+/// Unloads the attributes that were used longest ago, and returns whether there were any.
 pub(crate) fn unload_oldest(table: &mut Table, nodes: &mut Nodes<LoadedAttr>) -> bool
     requires entries { AreOfKept loaded_number table.old.entries (attrs_in nodes.old) }
     requires named { AreNamed table.old.notes nodes.old }
@@ -79,7 +79,7 @@ pub(crate) fn unload_oldest(table: &mut Table, nodes: &mut Nodes<LoadedAttr>) ->
     true
 }
 
-/// Unloads the oldest attribute where the limit is reached.
+/// Unloads the oldest attributes if the limit is reached.
 fn make_room(table: &mut Table, nodes: &mut Nodes<LoadedAttr>)
     requires entries { AreOfKept loaded_number table.old.entries (attrs_in nodes.old) }
     requires named { AreNamed table.old.notes nodes.old }
@@ -95,7 +95,7 @@ fn make_room(table: &mut Table, nodes: &mut Nodes<LoadedAttr>)
     }
 }
 
-/// Makes an attribute the most recent, and unloads the oldest first where the limit is reached.
+/// Loads attributes, which become the most recent. If the limit is reached, the oldest are unloaded first.
 pub(crate) fn load_attr(
     table: &mut Table,
     nodes: &mut Nodes<LoadedAttr>,
@@ -119,7 +119,7 @@ pub(crate) fn load_attr(
     table.note(number, Some(slot.index));
 }
 
-/// Removes an entry with its loaded attribute, and returns its place.
+/// Removes the entry of `number` with its loaded attributes, and returns its place.
 pub(crate) fn strike(table: &mut Table, nodes: &mut Nodes<LoadedAttr>, number: Number) -> Place
     requires entry { IsSome (entry_of table.old.entries number.0) }
     requires named { AreNamed table.old.notes nodes.old }

@@ -4,11 +4,11 @@ use Rattle.fuse_wire.specs.declared.request.Request.{Request}
 use Rattle.fuse_wire.specs.declared.reply.Answer.{Answer}
 use Rattle.journal.specs.declared.journal.Record.{Record}
 
--- what was applied, first to last, and room for more
+-- a journal: what was applied, first to last, and how many more records there is room for
 pub record JournalState : Type 0 where
   pub records : List Record
   pub room : ℕ
 
--- a request that was applied, with what it was answered
+-- the record of a request that was applied with this answer
 abbrev pub applied : Request → Option Answer → Record
 applied request answer = record { request = request; answer = answer }

@@ -6,11 +6,11 @@ use Rattle.journal.specs.Receipts.{ReceiptsState}
 use Rattle.journal.specs.declared.journal.Record.{Record}
 use Rattle.journal.specs.declared.receipt.Receipt.{Receipt}
 
--- the record at the receipt's position has its request and its answer
+-- the record at the receipt's position has the receipt's request and its answer
 abbrev pub IsOf : List Record → Receipt → Type 0
 IsOf records receipt = slice_get records receipt.position ≡ Some (applied receipt.ask.what receipt.answer)
 
--- each receipt's position is below the next one's
+-- each receipt's position is below that of the next receipt
 abbrev pub IsRising : List Receipt → Type 0
 IsRising receipts = AllAdjacentBelow (λ (one next : Receipt). one.position < next.position) receipts (length receipts)
 

@@ -13,8 +13,8 @@ pub struct Record {
     pub answer: Option<Answer>,
 }
 
-/// The records of a round, in the order of its turns. Contracts see it as a `JournalState`: the records, and how many
-/// more there is room for.
+/// The records of a round, in the order of its turns. Contracts see a `JournalState`: the records, and how many more
+/// there is room for.
 #[derive(Drop)]
 pub struct Journal {
     records: Vec<Record>,
@@ -33,7 +33,7 @@ impl Model for Journal {
 }
 
 impl Journal {
-    /// Takes the memory for `capacity` records.
+    /// Makes a journal with memory for `capacity` records.
     pub fn new(alloc: Global, capacity: usize) -> Result<Journal, NoMemory>
         ensures empty { IfOk result (λ journal. journal.records ≡ []) }
         ensures room { IfOk result (λ journal. journal.room ≡ capacity) }
@@ -47,7 +47,7 @@ impl Journal {
         }
     }
 
-    /// Returns a journal without room. It takes no memory.
+    /// Makes a journal without room. Takes no memory.
     pub fn without_room(alloc: Global) -> Journal
         ensures empty { result.records ≡ [] }
         ensures room { result.room ≡ 0 }
@@ -58,7 +58,7 @@ impl Journal {
         }
     }
 
-    /// Drops the records, and keeps their room for others.
+    /// Drops the records, and keeps their memory for others.
     pub fn clear(&mut self)
         ensures records { self.new.records ≡ [] }
         ensures room { self.old.room + length self.old.records ≤ self.new.room }
@@ -67,7 +67,7 @@ impl Journal {
         self.room = self.records.capacity();
     }
 
-    /// Drops the records, and takes memory where there is no room for `capacity` others.
+    /// Drops the records, and takes memory if there is no room for `capacity` others.
     pub fn refill(&mut self, alloc: Global, capacity: usize) -> Result<(), NoMemory>
         ensures records { self.new.records ≡ [] }
         ensures room { OnOk result (capacity ≤ self.new.room) }
@@ -89,7 +89,7 @@ impl Journal {
         self.room
     }
 
-    /// Writes a record behind the others. It takes no memory.
+    /// Appends a record. Takes no memory.
     pub fn push(&mut self, entry: Record)
         requires room { 0 < self.old.room }
         ensures records { self.new.records ≡ self.old.records ++ entry ∷ [] }

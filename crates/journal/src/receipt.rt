@@ -7,8 +7,8 @@ use fuse_wire::{Answer, Ask, BatchRoom, Request};
 use std::alloc::Global;
 use std::marker::Model;
 
-/// What one turn of a worker was: the ask that it took, the position of its record in the journal, and its answer. A
-/// forget has no answer.
+/// What one turn of a worker was: the ask that the worker took, its answer, and the index of its record in the journal.
+/// A forget has no answer.
 #[derive(Drop)]
 pub struct Receipt {
     pub position: usize,
@@ -24,9 +24,9 @@ struct CopyRoom {
     batch: BatchRoom,
 }
 
-/// The receipts of a worker in the order of its turns, with places for more. One spare room, some 4.6 kB, is there for
-/// the copy of a request where memory is refused. A room for each turn would cost more than the turn. Contracts see it
-/// as a `ReceiptsState`: the receipts, for how many more there is a place, and whether the spare room is there.
+/// The receipts of a worker in the order of its turns, with memory for more. One spare room, of some 4.6 kB, is there
+/// for the copy of a request if memory is refused. A room for each turn would cost more than the turn. Contracts see a
+/// `ReceiptsState`: the receipts, the count of free places, and whether the spare room is there.
 #[derive(Drop)]
 pub struct Receipts {
     alloc: Global,
@@ -52,7 +52,7 @@ impl Model for Receipts {
 }
 
 impl CopyRoom {
-    /// Takes memory for two names and a batch, of which a request has fewer.
+    /// Takes memory for two names and a batch. A request has a name or a batch at most.
     fn new(alloc: Global) -> Result<CopyRoom, NoMemory> {
         let first = NameRoom::new(alloc)?;
         let second = NameRoom::new(alloc)?;
@@ -66,7 +66,7 @@ impl CopyRoom {
 }
 
 impl Receipts {
-    /// Takes the memory for the receipts of `turns` turns, and the spare room.
+    /// Takes the memory for the receipts of `turns` turns, and for the spare room.
     pub fn new(alloc: Global, turns: usize) -> Result<Receipts, NoMemory>
         ensures empty { IfOk result (λ kept. kept.list ≡ []) }
         ensures places { IfOk result (λ kept. kept.places ≡ turns) }
@@ -82,7 +82,7 @@ impl Receipts {
         })
     }
 
-    /// Returns whether there is no receipt, a place for those of `turns` turns, and the spare room.
+    /// Returns whether there is no receipt, a free place for each of `turns` turns, and the spare room.
     pub fn is_fresh(&self, turns: usize) -> bool
         ensures fresh { IsTrue result ↔ IsFresh turns self.now }
     {
@@ -96,7 +96,7 @@ impl Receipts {
         self.spare.is_some()
     }
 
-    /// Drops the receipts, and keeps their places for others.
+    /// Drops the receipts, and keeps their memory for others.
     pub fn clear(&mut self)
         ensures list { self.new.list ≡ [] }
         ensures places { self.old.places + length self.old.list ≤ self.new.places }
@@ -106,7 +106,7 @@ impl Receipts {
         self.places = self.receipts.capacity();
     }
 
-    /// Drops the receipts, and takes memory where there is no place for those of `turns` turns or no spare room.
+    /// Drops the receipts, and takes memory if there are too few free places for `turns` turns, or no spare room.
     pub fn refill(&mut self, turns: usize) -> Result<(), NoMemory>
         ensures fresh { OnOk result (IsFresh turns self.new) }
         ensures needed { OnErr result (IsFresh turns self.old → ⊥) }
@@ -119,7 +119,7 @@ impl Receipts {
         self.refill_spare()
     }
 
-    /// Takes memory for the receipts of `turns` turns, where there are too few places.
+    /// Takes memory for the receipts of `turns` turns, if there are too few free places.
     fn refill_places(&mut self, turns: usize) -> Result<(), NoMemory>
         requires none { self.old.list ≡ [] }
         ensures none { self.new.list ≡ [] }
@@ -134,7 +134,7 @@ impl Receipts {
         Ok(())
     }
 
-    /// Takes memory for the spare room, where it was used.
+    /// Takes memory for the spare room, if it was used.
     fn refill_spare(&mut self) -> Result<(), NoMemory>
         ensures list { self.new.list ≡ self.old.list }
         ensures places { self.new.places ≡ self.old.places }
@@ -148,7 +148,7 @@ impl Receipts {
         Ok(())
     }
 
-    /// Returns the same request, in memory of its own. Where memory is refused, it is in the spare room.
+    /// Makes a copy of `request`, in new memory, or in the spare room if memory is refused.
     pub fn copy(&mut self, request: &Request) -> Request
         requires spare { self.old.spare ≡ true }
         ensures copy { result ≡ request.now }
@@ -161,7 +161,7 @@ impl Receipts {
         }
     }
 
-    /// Returns the same request, in the spare room.
+    /// Makes a copy of `request` in the spare room.
     fn copy_to_spare(&mut self, request: &Request) -> Request
         requires spare { self.old.spare ≡ true }
         ensures copy { result ≡ request.now }
@@ -179,7 +179,7 @@ impl Receipts {
         request.copy_to(first, second, batch)
     }
 
-    /// Keeps a receipt behind the others. It takes no memory.
+    /// Appends a receipt. Takes no memory.
     pub fn push(&mut self, receipt: Receipt)
         requires room { 0 < self.old.places }
         ensures list { self.new.list ≡ self.old.list ++ receipt ∷ [] }
@@ -197,7 +197,7 @@ impl Receipts {
         self.receipts.as_slice()
     }
 
-    /// Returns these receipts, without a place for more and without the spare room.
+    /// Makes `Receipts` of this list, without a free place and without the spare room.
     pub fn of(alloc: Global, receipts: Vec<Receipt>) -> Receipts
         ensures list { result.list ≡ receipts.items }
         ensures places { result.places ≡ 0 }
@@ -211,7 +211,7 @@ impl Receipts {
         }
     }
 
-    /// Returns the receipts as a list of their own, in the order of the turns.
+    /// Returns the list of the receipts, in the order of the turns.
     pub fn into_list(self) -> Vec<Receipt>
         ensures list { result.items ≡ self.list }
     {

@@ -10,7 +10,7 @@ use eden_base::NoMemory;
 use fuse_wire::Answer;
 use std::alloc::Global;
 
-/// Returns whether two requests have the same answer, or both have none.
+/// Returns whether `first` and `second` are the same answer, or are both none.
 fn same_outcome(first: &Option<Answer>, second: &Option<Answer>) -> bool
     ensures same { IsTrue result ↔ (first.now ≡ second.now) }
 {
@@ -23,7 +23,7 @@ fn same_outcome(first: &Option<Answer>, second: &Option<Answer>) -> bool
     }
 }
 
-/// Returns whether the record at a receipt's position has its request and its answer.
+/// Returns whether the record at the receipt's position has the receipt's request and its answer.
 fn is_of(records: &[Record], receipt: &Receipt) -> bool
     ensures same { IsTrue result ↔ IsOf records.now receipt.now }
 {
@@ -35,7 +35,7 @@ fn is_of(records: &[Record], receipt: &Receipt) -> bool
     }
 }
 
-/// Returns whether each receipt is that of the record at its position.
+/// Returns whether the record at each receipt's position has that receipt's request and its answer.
 fn are_of(records: &[Record], receipts: &[Receipt]) -> bool
     ensures same { IsTrue result ↔ All (IsOf records.now) receipts.now }
 {
@@ -47,7 +47,7 @@ fn are_of(records: &[Record], receipts: &[Receipt]) -> bool
     true
 }
 
-/// Returns whether each receipt's position is below the next one's.
+/// Returns whether each receipt's position is below that of the next receipt.
 fn is_rising(receipts: &[Receipt]) -> bool
     ensures rising { IsTrue result ↔ IsRising receipts.now }
 {
@@ -59,7 +59,7 @@ fn is_rising(receipts: &[Receipt]) -> bool
     true
 }
 
-/// Counts the position of each receipt, and returns whether none was counted before.
+/// Counts the position of each receipt in `counts`, and returns whether none was counted before.
 fn count(counts: &mut Vec<u8>, receipts: &[Receipt]) -> bool
     requires in_range { All (λ (receipt : ReceiptValue). receipt.position < length counts.old.items) receipts.now }
     ensures len { length counts.new.items ≡ length counts.old.items }
@@ -84,8 +84,8 @@ fn all_once(counts: &[u8]) -> bool
     counts.iter().all(|count| *count == 1)
 }
 
-/// Counts the positions of a worker's receipts, and returns whether these are those of the records, rise, and were not
-/// counted before.
+/// Counts the positions of a worker's receipts. Returns whether each receipt is that of the record at its position, and
+/// the positions rise and were not counted before.
 fn joins(records: &[Record], counts: &mut Vec<u8>, receipts: &[Receipt]) -> bool
     requires len { length counts.old.items ≡ length records.now }
     ensures len { length counts.new.items ≡ length counts.old.items }

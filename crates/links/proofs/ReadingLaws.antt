@@ -19,7 +19,7 @@ use Rattle.links.specs.Reading.{Gives, GivesBehind, GivesFirst, GivesHead, Gives
 
 -- ---- a room that is filled from its front on
 
--- what stands in the first of it, where more was read behind what it held
+-- what the front of a room has after more was read: what it had, and then what was read
 pub room_grown : (held k count : ℕ) (xs ys : List ℕ) → held ≤ length xs → count ≤ length ys → take (held + count) (put_mid held k xs ys) ≡ take held xs ++ take count ys
 room_grown held k count xs ys within fits =
     let after = post_of held k xs in
@@ -41,7 +41,7 @@ pub room_same : (old mid new : Option (List ℕ)) (held k : ℕ) (xs ys : List �
 room_same old mid new held k xs ys within first kept =
     subst (Consumes old new) (sym (room_kept held k xs ys within)) (Consumes-kept old mid new (take held xs) first kept)
 
--- the end, behind what was read
+-- the end, after what was read
 pub room_ended : (old mid new : Option (List ℕ)) (held k : ℕ) (xs ys : List ℕ) → held ≤ length xs → Consumes old mid (take held xs) → Consumes mid new (take 0 ys) → Consumes old new (take held (put_mid held k xs ys))
 room_ended old mid new held k xs ys within first then =
     subst (Consumes old new) (append-nil (take held xs) ∙ sym (room_kept held k xs ys within)) (Consumes-trans old mid new (take held xs) [] first then)
@@ -53,7 +53,7 @@ read_before old new held enough xs few first = record { bytes = take held xs; ta
 pub read_failed : (old mid new : Option (List ℕ)) (held enough : ℕ) (xs : List ℕ) → held < enough → Consumes old mid (take held xs) → Keeps mid new → Took old new (λ bytes. length bytes < enough)
 read_failed old mid new held enough xs few first kept = read_before old new held enough xs few (Consumes-kept old mid new (take held xs) first kept)
 
--- ---- a fault behind a front
+-- ---- a fault after a front
 
 pub head_fault : (bytes : List ℕ) (left : Option (List ℕ)) (fault : FrameFault) → IsHeadFault fault → said bytes ≡ Faulty fault → IsFault bytes left fault
 head_fault bytes left TooLong is says = says
@@ -64,7 +64,7 @@ head_fault bytes left Read is says = absurd is
 head_fault bytes left Write is says = absurd is
 head_fault bytes left NoMemory is says = absurd is
 
--- a fault of bytes that were read behind a front is one of all of them
+-- a fault of bytes that were read after a front is one of all of them
 pub joined_fault : (old mid new : Option (List ℕ)) (front : List ℕ) (fault : FrameFault) → Consumes old mid front → Took mid new (λ bytes. IsFault (front ++ bytes) new fault) → Took old new (λ bytes. IsFault bytes new fault)
 joined_fault old mid new front fault first then = record {
   bytes = front ++ then.bytes;
@@ -77,7 +77,7 @@ pub head_read : (old new : Option (List ℕ)) (head : List ℕ) (given : Option 
 head_read old new head (Some n) count e is = is.0
 head_read old new head None count e is = absurd cc
 
--- and so is a frame
+-- a frame that was read after its head was read as a whole
 pub joined_frame : (old mid new : Option (List ℕ)) (head : List ℕ) (frame : Frame) → Consumes old mid head → Took mid new (λ bytes. IsFirst (head ++ bytes) frame []) → Took old new (λ bytes. IsFirst bytes frame [])
 joined_frame old mid new head frame first then = record {
   bytes = head ++ then.bytes;
@@ -85,7 +85,7 @@ joined_frame old mid new head frame first then = record {
   holds = then.holds;
 }
 
--- and so is a head that was read in two parts
+-- a head that was read in two parts was read as a whole
 pub joined_head : (old mid new : Option (List ℕ)) (front head : List ℕ) → Consumes old mid front → Took mid new (λ bytes. head ≡ front ++ bytes) → Consumes old new head
 joined_head old mid new front head first then = subst (Consumes old new) (sym then.holds) (Consumes-trans old mid new front then.bytes first then.taken)
 
@@ -97,7 +97,7 @@ no_bytes : (bytes : List ℕ) → length bytes < 1 → bytes ≡ []
 no_bytes [] few = refl
 no_bytes (byte ∷ bytes) few = absurd (omega (arith, few))
 
--- or before the kind was there
+-- a read failed before the kind was there
 pub kind_fault : (old new : Option (List ℕ)) (front : List ℕ) → said front ≡ NotYet → Took old new (λ bytes. length bytes < 1) → Took old new (λ bytes. IsFault (front ++ bytes) new Read)
 kind_fault old new front none took = record {
   bytes = took.bytes;
@@ -105,7 +105,7 @@ kind_fault old new front none took = record {
   holds = ap (λ (t : List ℕ). said (front ++ t)) (no_bytes took.bytes took.holds) ∙ ap said (append-nil front) ∙ none;
 }
 
--- or before the body was whole
+-- a read failed before the body was whole
 pub body_fault : (old new : Option (List ℕ)) (head : List ℕ) (n : ℕ) → length head ≡ 5 → lacking head ≡ Ok n → Took old new (λ bytes. length bytes < n) → Took old new (λ bytes. IsFault (head ++ bytes) new Read)
 body_fault old new head n five lacks took = record { bytes = took.bytes; taken = took.taken; holds = part_says_nothing head took.bytes n five lacks took.holds }
 
@@ -148,7 +148,7 @@ some_faulty bytes fault is none = absurd cc
 faulty_more : (all bytes left : List ℕ) (fault : FrameFault) → all ≡ bytes ++ left → said bytes ≡ Faulty fault → said all ≡ Faulty fault
 faulty_more all bytes left fault e is = ap said e ∙ grows bytes left (some_faulty bytes fault is) ∙ ap (λ what. grown what left) is
 
--- and so is a frame
+-- a frame in front of bytes is one in front of more bytes
 text_more : (all bytes left : List ℕ) (frame : Frame) → all ≡ bytes ++ left → IsFirst bytes frame [] → IsFirst all frame left
 text_more all bytes left frame e is = record {
   text = is.text;

@@ -5,12 +5,12 @@ use Rattle.std.proofs.KnownBytes.{Appends-nil, Appends-kept, Appends-trans}
 use Rattle.std.proofs.Math.Seq.{take-add}
 use Rattle.std.specs.Io.KnownBytes.{Appends, Keeps}
 
--- a write behind what was written
+-- a write after what was written
 pub text_grown : (old mid new : Option (List ℕ)) (written count : ℕ) (text : List ℕ) → Appends old mid (take written text) → Appends mid new (take count (drop written text)) → Appends old new (take (written + count) text)
 text_grown old mid new written count text first then =
     subst (Appends old new) (sym (take-add written count text)) (Appends-trans old mid new (take written text) (take count (drop written text)) first then)
 
--- what is left of a text is all that stands behind what was written
+-- what is left of a text is all that stands after what was written
 left_whole : (written : ℕ) (text : List ℕ) → take (length text - written) (drop written text) ≡ drop written text
 left_whole written text = take_all (length text - written) (drop written text) (omega (arith, length-drop written text))
 
@@ -25,7 +25,7 @@ within_left written count text fits = subst (λ (n : ℕ). count ≤ n) (ap leng
 pub nothing_written : (old new : Option (List ℕ)) → Keeps old new → Appends old new []
 nothing_written old new kept = Appends-kept old old new [] (Appends-nil old) kept
 
--- a write that failed behind what was written
+-- a write that failed after what was written
 pub text_cut : (old mid new : Option (List ℕ)) (written : ℕ) (text : List ℕ) → written < length text → Appends old mid (take written text) → Appends mid new [] → Cuts old new text
 text_cut old mid new written text fewer first then = record {
   count = written;

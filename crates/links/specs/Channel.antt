@@ -1,5 +1,5 @@
--- A channel over a connection, as contracts see it, and what a look for an ask and a reply make of it. (This project's
--- own.)
+-- A channel over a connection, as contracts see it, and what taking an ask and posting a reply do to it. (This
+-- project's own.)
 use Rattle.std.specs.Prelude.{◌≡◌, ◌≢◌, ◌⊎◌, ◌<◌, ◌++◌, ℕ, List, [], ◌∷◌, length, flat_map, Option, Some, None, Result, Ok, Err}
 use Rattle.std.specs.Io.KnownBytes.{Appends, Consumes, Keeps}
 use Rattle.broker_core.specs.declared.fault.TakeFault.{TakeFault}
@@ -22,8 +22,8 @@ use Rattle.workers.specs.declared.channel.Posted.TheVariants as post
 use Rattle.workers.specs.declared.channel.Taken.{Taken}
 use Rattle.workers.specs.declared.channel.Taken.TheVariants as took
 
--- a channel: the generation at which it serves, why it stopped, and, where they are known, the bytes that come in and
--- those that went out
+-- a channel: the generation at which it serves; why it stopped, if it did; and, if they are known, the bytes that are
+-- to come in and those that went out
 pub record ConnectionState : Type 0 where
   pub generation : ℕ
   pub ended : Option TakeFault
@@ -43,7 +43,7 @@ state_of remaining contents channel = record {
 abbrev pub text_of : Frame → List ℕ
 text_of frame = framed (kind_of frame) (body_of frame)
 
--- a frame was written, and a frame was read
+-- one frame was written, and then another was read
 pub record Exchanged (old new : ConnectionState) (said heard : Frame) : Type 0 where
   pub generation : new.generation ≡ old.generation
   pub ended : new.ended ≡ old.ended
@@ -55,7 +55,7 @@ abbrev pub IsNoFrame : Result (Option Frame) FrameFault → Type 0
 IsNoFrame (Ok (Some frame)) = ⊥
 IsNoFrame result = Unit {0}
 
--- a frame was not answered: it could not be written whole, or then no frame could be read
+-- a frame was not answered: it could not be written whole, or no frame could be read after that
 pub data Unanswered : ConnectionState → Frame → ConnectionState → Type 0 where
   NotSent : {old new : ConnectionState} {said : Frame} (fault : FrameFault) →
       Writes old.outgoing new.outgoing said (Err fault) → Keeps old.incoming new.incoming → Unanswered old said new
@@ -63,27 +63,27 @@ pub data Unanswered : ConnectionState → Frame → ConnectionState → Type 0 w
       Writes old.outgoing new.outgoing said (Ok tt) → IsNoFrame result →
       Took old.incoming new.incoming (λ bytes. Gives bytes new.incoming result) → Unanswered old said new
 
--- the answer to a frame
+-- the answer to a frame, if there is one
 abbrev pub Answers : ConnectionState → Frame → Option Frame → ConnectionState → Type 0
 Answers old said (Some heard) new = Exchanged old new said heard
 Answers old said None new = Unanswered old said new
 
 -- ---- replies
 
--- the frame of a reply
+-- the Post of a reply
 abbrev pub post_of : ConnectionState → Reply → Frame
 post_of channel reply = frames.Post channel.generation (reply_text reply)
 
--- what the answer to a Post tells of the reply
+-- what the answer to a Post says of the reply
 abbrev pub posted_of : Frame → Posted
 posted_of frames.Posted = post.Done
 posted_of heard = post.Broken
 
--- a reply was not answered; or memory for its frame was refused, and nothing was said
+-- a reply was not posted: its frame was not answered, or memory for the frame was refused and nothing was written
 abbrev pub IsUnposted : ConnectionState → Reply → ConnectionState → Type 0
 IsUnposted old reply new = Unanswered old (post_of old reply) new ⊎ (new ≡ old)
 
--- the outcome of a reply: what the other end tells of it; or it is Broken, since nothing was told
+-- the outcome of a reply: what the other end answered, or Broken where no answer came
 abbrev pub Posts : ConnectionState → Reply → Posted → ConnectionState → Type 0
 Posts old reply posted new =
     ((heard : Frame) × (posted ≡ posted_of heard) × Exchanged old new (post_of old reply) heard)
@@ -91,7 +91,7 @@ Posts old reply posted new =
 
 -- ---- asks
 
--- a frame that no Take is answered
+-- a frame with which no Take is answered
 abbrev pub IsNoAnswer : Frame → Type 0
 IsNoAnswer (frames.Ask request) = ⊥
 IsNoAnswer frames.Empty = ⊥
@@ -99,7 +99,8 @@ IsNoAnswer frames.Ended = ⊥
 IsNoAnswer (frames.Stale now) = ⊥
 IsNoAnswer frame = Unit {0}
 
--- the request that a frame has is answered by an error, where it cannot be read and the kernel waits for it
+-- a request that cannot be read is answered by an error, if the kernel waits for a reply; otherwise the result is
+-- Broken
 abbrev pub Refuses : ConnectionState → List ℕ → WireFault → Taken → ConnectionState → Type 0
 Refuses old bytes fault took.Empty new =
     (reply : Reply) × (fault_reply_of bytes fault ≡ Some reply) × Posts old reply post.Done new
@@ -108,12 +109,12 @@ Refuses old bytes fault took.Broken new =
     ⊎ ((reply : Reply) × (fault_reply_of bytes fault ≡ Some reply) × Posts old reply post.Broken new)
 Refuses old bytes fault taken new = ⊥
 
--- the outcome of the request that a frame has
+-- the outcome of a request that was handed out, as its bytes are read
 abbrev pub Serves : ConnectionState → List ℕ → Result Ask WireFault → Taken → ConnectionState → Type 0
 Serves old bytes (Ok ask) taken new = (taken ≡ took.Ask ask) × (new ≡ old)
 Serves old bytes (Err fault) taken new = Refuses old bytes fault taken new
 
--- it has ended, for this cause
+-- the channel stops for this cause
 abbrev pub Stops : ConnectionState → TakeFault → Taken → ConnectionState → Type 0
 Stops old why taken new = (taken ≡ took.Stopped) × (new ≡ record old { ended = Some why })
 
@@ -125,12 +126,12 @@ Hears old frames.Ended taken new = Stops old refused.Ended taken new
 Hears old (frames.Stale now) taken new = Stops old (refused.Stale now) taken new
 Hears old frame taken new = (taken ≡ took.Broken) × (new ≡ old)
 
--- the frame that asks
+-- the Take of a channel
 abbrev pub take_of : ConnectionState → Frame
 take_of channel = frames.Take channel.generation
 
--- The outcome of a look for an ask: it is asked, and the answer decides; or the asking is not answered; or nothing is
--- asked at all, since there is no room for what may come.
+-- The outcome of taking an ask: the broker was asked, and its answer decides; or it was asked and did not answer; or
+-- nothing was asked, since there is no room for what may come.
 pub data Takes : ConnectionState → Taken → ConnectionState → Type 0 where
   Heard : {old new : ConnectionState} {taken : Taken} (mid : ConnectionState) (answer : Frame) →
       Exchanged old mid (take_of old) answer → Hears mid answer taken new → Takes old taken new

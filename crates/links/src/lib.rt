@@ -1,4 +1,4 @@
-//! Frames over a reader and a writer.
+//! Frames sent over a reader and a writer.
 #![tactic(auto)]
 
 mod reading;

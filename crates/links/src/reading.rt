@@ -1,4 +1,4 @@
-//! Frames, as they are read.
+//! Frames, read from a reader.
 ghost use Rattle.std.specs.Prelude.{◌≡◌, ◌<◌, ◌≤◌, Ok, length, take, IfOk, IfErr};
 ghost use Rattle.std.specs.Io.KnownBytes.{Consumes, IsAtEnd};
 ghost use Rattle.frames.specs.declared.fault.FrameFault.TheVariants.{Read as ReadFault};
@@ -10,7 +10,7 @@ use frames::missing;
 use std::alloc::Global;
 use std::io::{ErrorKind, Read};
 
-/// How often a reader may be read for one frame. A read that was interrupted counts.
+/// The greatest count of reads for one frame. A read that was interrupted counts.
 pub const MAX_READS: usize = 131_072;
 
 /// How many bytes tell the length of a body.
@@ -19,8 +19,8 @@ const LENGTH: usize = 4;
 /// How many bytes stand before a body.
 const HEAD: usize = 5;
 
-/// Reads until the room has at least `enough` bytes or the input ends, and returns how many it has. It makes at most
-/// `left` reads, and lowers `left` by each.
+/// Reads until `room` has at least `enough` bytes or the input ends, and returns how many bytes it has. Makes at most
+/// `left` reads, and lowers `left` by 1 for each.
 #[tactic(auto, using(crate::proofs::ReadingLaws::room_read, crate::proofs::ReadingLaws::room_same))]
 fn fill<R: Read>(
     reader: &mut R,
@@ -55,7 +55,7 @@ fn fill<R: Read>(
     Err(FrameFault::Read)
 }
 
-/// Reads the kind behind a length that was read, and returns how long the body is.
+/// Reads the kind after a length that was read, and returns the length of the body.
 #[tactic(auto, using(crate::proofs::ReadingLaws::head_fault, crate::proofs::ReadingLaws::kind_fault, crate::proofs::ReadingLaws::kind_torn))]
 fn read_kind<R: Read>(
     reader: &mut R,
@@ -75,7 +75,7 @@ fn read_kind<R: Read>(
     missing(head)
 }
 
-/// Reads a head, and returns how long the body behind it is; none where the input ends before the head.
+/// Reads a head, and returns the length of the body after it, or none if the input ends before the head.
 #[tactic(auto, using(crate::proofs::ReadingLaws::few_fault, crate::proofs::ReadingLaws::head_torn, crate::proofs::ReadingLaws::joined_fault, crate::proofs::ReadingLaws::joined_head))]
 fn read_head<R: Read>(
     reader: &mut R,
@@ -100,7 +100,7 @@ fn read_head<R: Read>(
     Ok(Some(missing(head)?))
 }
 
-/// Reads the body behind a head.
+/// Reads the body after `head`, and returns the frame.
 #[tactic(auto, using(crate::proofs::ReadingLaws::body_fault, crate::proofs::ReadingLaws::body_torn, crate::proofs::ReadingLaws::body_unread))]
 fn read_body<R: Read>(
     alloc: Global,
@@ -129,7 +129,7 @@ fn read_body<R: Read>(
     Frame::of_parts(head, body)
 }
 
-/// Reads a head and then its body.
+/// Reads the head of a frame and then its body. Returns none if the input has ended.
 #[tactic(auto, using(crate::proofs::ReadingLaws::joined_frame, crate::proofs::ReadingLaws::joined_fault))]
 fn read_parts<R: Read>(alloc: Global, reader: &mut R) -> Result<Option<Frame>, FrameFault>
     ensures gives { Took (R.remaining reader.old) (R.remaining reader.new)
@@ -147,9 +147,9 @@ fn read_parts<R: Read>(alloc: Global, reader: &mut R) -> Result<Option<Frame>, F
     }
 }
 
-/// Reads one frame, and no byte behind it. Returns none where the input has ended. It makes at most 131,072 reads, and
-/// repeats only a read that was interrupted. It takes memory for a body alone. After a fault, close the connection: a
-/// part of a frame may be lost.
+/// Reads one frame, and no byte after it. Returns none if the input has ended. Makes at most 131,072 reads, and repeats
+/// only a read that was interrupted. Takes memory for a body only. After a fault, close the connection, since a part of
+/// a frame may be lost.
 #[tactic(auto, using(crate::proofs::ReadingLaws::gives_known))]
 pub fn read_frame<R: Read>(alloc: Global, reader: &mut R) -> Result<Option<Frame>, FrameFault>
     ensures gives { Took (R.remaining reader.old) (R.remaining reader.new)

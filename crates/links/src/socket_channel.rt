@@ -15,7 +15,7 @@ use std::alloc::Global;
 use std::io::{Read, Write};
 use workers::{Channel, Posted, Taken};
 
-/// Room for what one request holds: two names and a batch.
+/// Room for two names and a batch. A request holds a name or a batch at most.
 #[derive(Drop)]
 struct Rooms {
     first: NameRoom,
@@ -36,7 +36,7 @@ impl Rooms {
         })
     }
 
-    /// Reads the request that the bytes are.
+    /// Reads the request that `bytes` are, in these rooms.
     fn read(self, bytes: &[u8]) -> Result<Ask, WireFault>
         ensures exact { result ≡ request_of bytes.now }
     {
@@ -44,7 +44,7 @@ impl Rooms {
     }
 }
 
-/// The asks of a broker, and its end of a connection: a reader and a writer, of which a socket has two handles.
+/// A worker's channel over its connection to the broker: a reader and a writer, for which a socket has two handles.
 #[derive(Drop)]
 pub struct SocketChannel<R, W> {
     alloc: Global,
@@ -56,8 +56,8 @@ pub struct SocketChannel<R, W> {
 }
 
 impl<R: Read, W: Write> SocketChannel<R, W> {
-    /// Returns a channel at a generation, over a connection whose daemon is attached. Reader and writer are lost where
-    /// memory is refused.
+    /// Makes a channel at a generation, over a connection on which the daemon is attached. If memory is refused,
+    /// `reader` and `writer` are dropped.
     pub fn new(
         alloc: Global,
         reader: R,
@@ -93,7 +93,7 @@ impl<R: Read, W: Write> SocketChannel<R, W> {
         self.ended
     }
 
-    /// Writes a frame and reads the answer. There is none where either fails.
+    /// Writes a frame and reads the answer. Returns none if either fails.
     fn ask(&mut self, frame: &Frame) -> Option<Frame>
         ensures answers { Answers (state_of R.remaining W.contents self.old) frame.now result
             (state_of R.remaining W.contents self.new) }
@@ -109,7 +109,7 @@ impl<R: Read, W: Write> SocketChannel<R, W> {
         }
     }
 
-    /// Makes room for any request, and returns whether it could.
+    /// Makes room for any request, if there is none, and returns whether there is room.
     fn has_rooms(&mut self) -> bool
         ensures rooms { IsTrue result → IsSome self.new.rooms }
         ensures same { state_of R.remaining W.contents self.new
@@ -127,7 +127,7 @@ impl<R: Read, W: Write> SocketChannel<R, W> {
         }
     }
 
-    /// Reads the request that the bytes are, in the rooms where memory is refused.
+    /// Reads the request that `bytes` are, in new memory, or in the rooms if memory is refused.
     fn read(&mut self, bytes: &[u8]) -> Result<Ask, WireFault>
         requires rooms { IsSome self.old.rooms }
         ensures exact { result ≡ request_of bytes.now }
@@ -144,7 +144,7 @@ impl<R: Read, W: Write> SocketChannel<R, W> {
         }
     }
 
-    /// Answers a request that cannot be read, where the kernel waits for it.
+    /// Answers a request that cannot be read by an error, if the kernel waits for a reply. Otherwise returns Broken.
     fn refuse(&mut self, bytes: &[u8], fault: WireFault) -> Taken
         ensures refuses { Refuses (state_of R.remaining W.contents self.old) bytes.now fault result
             (state_of R.remaining W.contents self.new) }
@@ -158,7 +158,7 @@ impl<R: Read, W: Write> SocketChannel<R, W> {
         }
     }
 
-    /// Takes the request that the bytes are.
+    /// Returns the ask that `bytes` are. A request that cannot be read is refused.
     fn serve(&mut self, bytes: &[u8]) -> Taken
         requires rooms { IsSome self.old.rooms }
         ensures serves { Serves (state_of R.remaining W.contents self.old) bytes.now
@@ -170,7 +170,7 @@ impl<R: Read, W: Write> SocketChannel<R, W> {
         }
     }
 
-    /// Stops for a cause.
+    /// Notes why the channel stopped, and returns Stopped.
     fn stop(&mut self, why: TakeFault) -> Taken
         ensures stops { Stops (state_of R.remaining W.contents self.old) why result
             (state_of R.remaining W.contents self.new) }
@@ -179,7 +179,7 @@ impl<R: Read, W: Write> SocketChannel<R, W> {
         Taken::Stopped
     }
 
-    /// Does what the answer to a Take tells.
+    /// Returns what the answer to a Take comes to.
     fn hear(&mut self, answer: Frame) -> Taken
         requires rooms { IsSome self.old.rooms }
         ensures hears { Hears (state_of R.remaining W.contents self.old) answer result
@@ -194,9 +194,9 @@ impl<R: Read, W: Write> SocketChannel<R, W> {
         }
     }
 
-    /// Takes the next ask from the broker. It first makes room for any request, and is Empty without asking where that
-    /// room is refused: so no request is lost out of memory. A request that can't be read is answered by its error, and
-    /// the result is Empty. Where it is Broken, close the connection.
+    /// Takes the next ask from the broker. First makes room for any request. If that is refused, asks nothing and
+    /// returns Empty, so that no request is lost for lack of memory. A request that can't be read is answered by its
+    /// error, and Empty is returned. If the result is Broken, close the connection.
     pub fn take(&mut self) -> Taken
         ensures takes { Takes (state_of R.remaining W.contents self.old) result
             (state_of R.remaining W.contents self.new) }
@@ -211,7 +211,7 @@ impl<R: Read, W: Write> SocketChannel<R, W> {
         }
     }
 
-    /// Posts the reply to an ask that was taken. Where it is Broken, close the connection.
+    /// Posts the reply to an ask that was taken. If the result is Broken, close the connection.
     pub fn post(&mut self, reply: Reply) -> Posted
         ensures posts { Posts (state_of R.remaining W.contents self.old) reply result
             (state_of R.remaining W.contents self.new) }
@@ -230,7 +230,7 @@ impl<R: Read, W: Write> SocketChannel<R, W> {
     }
 }
 
-/// Returns what the answer to a Post tells of the reply.
+/// Returns what the answer to a Post says of the reply.
 fn posted_of(answer: &Frame) -> Posted
     ensures { result ≡ posted_of answer.now }
 {

@@ -1,4 +1,4 @@
-//! Frames, as they are written.
+//! Frames, written to a writer.
 ghost use Rattle.std.specs.Prelude.{◌≡◌, ◌<◌, ◌≤◌, [], length, take, OnOk, OnErr, IfOk, IfErr};
 ghost use Rattle.std.specs.Io.KnownBytes.{Appends};
 ghost use Rattle.frames.specs.declared.fault.FrameFault.TheVariants.{Write as WriteFault};
@@ -8,10 +8,10 @@ use crate::{Frame, FrameFault};
 use std::alloc::Global;
 use std::io::{ErrorKind, Write};
 
-/// How often a frame may be written on. A write that was interrupted counts.
+/// The greatest count of writes for one frame. A write that was interrupted counts.
 pub const MAX_WRITES: usize = 131_072;
 
-/// Makes one write, and returns how many bytes it took: none where it was interrupted.
+/// Makes one write, and returns how many bytes the writer took: 0 if the write was interrupted.
 #[tactic(auto, using(crate::proofs::WritingLaws::nothing_written))]
 fn write_once<W: Write>(writer: &mut W, bytes: &[u8]) -> Result<usize, FrameFault>
     ensures within { IfOk result (λ count. count ≤ length bytes.now) }
@@ -28,7 +28,7 @@ fn write_once<W: Write>(writer: &mut W, bytes: &[u8]) -> Result<usize, FrameFaul
     }
 }
 
-/// Writes bytes, in one write where the writer takes them all.
+/// Writes `bytes`, in one write if the writer takes them all.
 #[tactic(auto, using(crate::proofs::WritingLaws::text_cut, crate::proofs::WritingLaws::text_grown, crate::proofs::WritingLaws::text_whole))]
 fn write_bytes<W: Write>(writer: &mut W, bytes: &[u8]) -> Result<(), FrameFault>
     requires some { 0 < length bytes.now }
@@ -49,8 +49,8 @@ fn write_bytes<W: Write>(writer: &mut W, bytes: &[u8]) -> Result<(), FrameFault>
     Err(FrameFault::Write)
 }
 
-/// Writes the text of a frame, in one write where the writer takes it all. It takes memory for the text alone, and
-/// flushes nothing. After a fault of the writer, close the connection: a part of the text may be out.
+/// Writes the text of a frame, in one write if the writer takes it all. Takes memory for the text only, and flushes
+/// nothing. After a fault of the writer, close the connection, since a part of the text may be out.
 pub fn write_frame<W: Write>(alloc: Global, writer: &mut W, frame: &Frame) -> Result<(), FrameFault>
     ensures writes { Writes (W.contents writer.old) (W.contents writer.new) frame.now result }
 {

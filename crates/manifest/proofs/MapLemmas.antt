@@ -125,7 +125,7 @@ no_tie_below Less h = refl
 no_tie_below Equal h = absurd h
 no_tie_below Greater h = absurd h
 
--- a key that is found behind another doesn't tie with it
+-- a key that is found after another doesn't tie with it
 pub no_tie_behind : {K X : Type 0} {R : K → K → Ordering} (o : IsTotalOrder R) (x q : K) (es : List (K × X)) (v : X) → T (below_all R x es) → find R q es ≡ Some v → eq_by_cmp R q x ≡ false
 no_tie_behind o x q [] v below h = absurd (cc)
 no_tie_behind {K} {X} {R} o x q (e ∷ es) v below h =

@@ -13,7 +13,7 @@ has byte xs = list_any (λ b. b == byte) xs
 same_byte : (a b : ℕ) → (a == b) ≡ true → a ≡ b
 same_byte a b h = grind (arith, nat_tests)
 
--- a text without the byte, and the byte behind it
+-- a text without the byte, and the byte after it
 pub parts-append : (byte : ℕ) (xs rest : List ℕ) → has byte xs ≡ false → parts byte (xs ++ byte ∷ rest) ≡ xs ∷ parts byte rest
 parts-append byte [] rest h = let e : (byte == byte) ≡ true = grind (arith, nat_tests) in rw e refl
 parts-append byte (b ∷ bs) rest h =
@@ -46,7 +46,7 @@ joined-parts byte (b ∷ bs) =
       | false ↦ λ e. ap (λ ps. joined byte (in_first b ps)) p.2 ∙ joined-in_first byte b p.0 p.1 ∙ ap (λ xs. b ∷ xs) rest
     ] refl
 
--- the first of several parts, and what follows the byte behind it
+-- the first of several parts, and what follows the byte after it
 pub record IsSplit (byte : ℕ) (text first : List ℕ) (more : List (List ℕ)) : Type 0 where
   pub rest : List ℕ
   pub is : text ≡ first ++ byte ∷ rest
@@ -77,7 +77,7 @@ joined-cut byte xs before rest h =
     let all = parts-cut byte xs before rest h in
     sym (joined-parts byte xs) ∙ ap (joined byte) all ∙ ap (λ ps. joined byte (before ∷ ps)) p.2 ∙ ap (λ ys. before ++ byte ∷ ys) (sym (ap (joined byte) p.2) ∙ joined-parts byte rest)
 
--- the cut at a byte behind a text without it
+-- the cut at a byte after a text without it
 pub cut-append : (byte : ℕ) (xs rest : List ℕ) → has byte xs ≡ false → cut byte (xs ++ byte ∷ rest) ≡ Some (xs, rest)
 cut-append byte xs rest h =
     let whole = parts-append byte xs rest h in

@@ -88,7 +88,7 @@ refusal-with_commit commit r n NoParent h = ap (with_commit commit) h
 refusal-with_commit commit r n Twice h = ap (with_commit commit) h
 refusal-with_commit commit r n TooManyLines h = ap (with_commit commit) h
 
--- a line behind the first, and before the last, may have any fault
+-- a line after the first, and before the last, may have any fault
 pub among_lines : (count line : ℕ) (kind : ManifestFaultKind) → 1 < line → line < count → IsAmongLines count line kind
 among_lines count line NoMemory low high = (omega arith, high, λ first. absurd (omega (arith, first)))
 among_lines count line NoCommit low high = (omega arith, omega arith)

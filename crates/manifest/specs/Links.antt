@@ -1,8 +1,8 @@
--- What an index of names lists of itself.
+-- How an index of names lists its links.
 use Rattle.std.specs.Prelude.{ℕ, List, Some}
 use Rattle.eden_base.specs.declared.number.FileId.{FileId}
 use Rattle.manifest.specs.declared.links.LinkChange.{LinkChange}
 
--- a link that was added, with its place
+-- a link as a change that added it
 abbrev pub added_change : (ℕ × List ℕ) × FileId → LinkChange
 added_change link = record { dir = record { 0 = link.0.0 }; name = link.0.1; target = Some link.1 }

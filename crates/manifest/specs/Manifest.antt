@@ -7,7 +7,7 @@ use Rattle.eden_base.specs.Limits.{greatest_size}
 use Rattle.eden_base.specs.Name.{IsNameText}
 use Rattle.manifest.specs.declared.content.Content.{Content}
 
--- what a checkout knows of a file, its names apart
+-- what a checkout knows of a file, besides its names
 abbrev pub File : Type 0
 File = Content
 
@@ -17,7 +17,7 @@ pub record Line : Type 0 where
   pub name : List ℕ
   pub file : File
 
--- a commit's name, and lines: the first of them is of file 2, and so on, since file 1 is the root, which has no line
+-- a commit's name, and lines; the first line is that of file 2, and so on, since file 1 is the root, which has no line
 pub record Manifest : Type 0 where
   pub commit : List ℕ
   pub lines : List Line
@@ -26,14 +26,14 @@ pub record Manifest : Type 0 where
 abbrev pub most_lines : ℕ
 most_lines = 65535
 
--- the root, or the directory of an earlier line
+-- the directory is the root, or that of a line before line i
 abbrev pub IsDirBefore : List Line → ℕ → FileId → Type 0
 IsDirBefore lines i dir =
     (dir.0 ≡ 1)
     ⊎ ((j : ℕ) × (above : Line) × (j < i) × (dir.0 ≡ j + 2) × (slice_get lines j ≡ Some above)
     × (above.file.kind ≡ Dir))
 
--- what holds of each line
+-- what holds of line i
 pub record IsLine (lines : List Line) (i : ℕ) (line : Line) : Type 0 where
   pub name : IsNameText line.name
   pub size : line.file.size ≤ greatest_size
@@ -41,21 +41,21 @@ pub record IsLine (lines : List Line) (i : ℕ) (line : Line) : Type 0 where
   pub place_is_new : (j : ℕ) (other : Line) → j < i → slice_get lines j ≡ Some other → other.dir ≡ line.dir →
       other.name ≢ line.name
 
--- lines that each stand below an earlier one, no two at one place
+-- each line stands in the root or in the directory of an earlier line, and no two lines at one place
 pub record AreLines (lines : List Line) : Type 0 where
   pub few : length lines ≤ most_lines
   pub each : (i : ℕ) (line : Line) → slice_get lines i ≡ Some line → IsLine lines i line
 
--- twenty bytes, and such lines
+-- a manifest has a commit of twenty bytes, and such lines
 pub record IsManifest (m : Manifest) : Type 0 where
   pub commit : length m.commit ≡ 20
   pub lines : AreLines m.lines
 
--- the line of a file; the root has none
+-- the line of a file, if it has one; the root has none
 abbrev pub line_of : List Line → FileId → Option Line
 line_of lines file = if nat_lt file.0 2 then None else slice_get lines (file.0 - 2)
 
--- how many lines stand in a directory
+-- how many of the lines stand in a directory
 abbrev pub kids_in : ℕ → List Line → ℕ
 kids_in dir [] = 0
 kids_in dir (l ∷ ls) = (if l.dir.0 == dir then 1 else 0) + kids_in dir ls

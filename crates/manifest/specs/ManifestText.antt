@@ -18,27 +18,27 @@ use Rattle.eden_base.specs.Text.{cut}
 use Rattle.manifest.specs.Text.{after, parts, front, last, mode_of, size_of}
 use Rattle.manifest.specs.Tree.{Tree, tree_of, kind_of, child_of, file_at, root, dir_perm, is_dir}
 
--- the lines that are ended by LF, and then what is not
+-- the lines of a text that are ended by LF, and then what follows the last LF
 abbrev pub lines_of : List ℕ → List (List ℕ)
 lines_of text = parts 10 text
 
--- the commit that the first line names, in hexadecimal digits of either case
+-- the commit that a first line names, in hexadecimal digits of either case, if it names one
 abbrev pub commit_of : List ℕ → Option (List ℕ)
 commit_of line =
     option_and_then (λ (digits : List ℕ). result_ok (decode_sized digits 20)) (after (codes "commit ") line)
 
--- what a line says of its file, where it says so, and its path
+-- what a line says: the kind of its file, the permissions and the size if they are well written, and the path
 pub record Entry : Type 0 where
   pub kind : Kind
   pub perm : Option Perm
   pub size : Option ℕ
   pub path : List ℕ
 
--- `dir PATH`: its owner's alone to write, and without content
+-- the entry of a line `dir PATH`: only the owner may write the directory, and its size is 0
 abbrev pub dir_entry : List ℕ → Entry
 dir_entry path = record { kind = Dir; perm = Some dir_perm; size = Some 0; path = path }
 
--- `MODE SIZE PATH`
+-- the entry of what follows `file ` in a line, `MODE SIZE PATH`, if it has these fields
 abbrev pub file_entry : List ℕ → Option Entry
 file_entry rest =
     option_and_then (λ (m : List ℕ × List ℕ).
@@ -47,7 +47,7 @@ file_entry rest =
     (cut 32 m.1))
     (cut 32 rest)
 
--- a line is a directory's or a file's
+-- the entry that a line says, if the line is a directory's or a file's
 abbrev pub entry_of : List ℕ → Option Entry
 entry_of line =
     option_or (option_map dir_entry (after (codes "dir ") line))
@@ -57,7 +57,7 @@ entry_of line =
 abbrev pub names_of : List ℕ → List (List ℕ)
 names_of path = parts 47 path
 
--- what is wrong with a line's fields, the first in this order
+-- the first fault of a line's fields, in this order, if there is one
 abbrev pub entry_fault : Option Entry → Option ManifestFaultKind
 entry_fault None = Some BadLine
 entry_fault (Some e) =
@@ -69,19 +69,19 @@ entry_fault (Some e) =
 abbrev pub tree_so_far : List Line → Tree
 tree_so_far lines = tree_of (record { commit = []; lines = lines })
 
--- the file, where it is a directory
+-- the file, if it is a directory
 abbrev pub only_dir : Tree → FileId → Option FileId
 only_dir tree file = if is_dir (kind_of tree file) then Some file else None
 
--- the directory at a path
+-- the directory at a path, if there is one
 abbrev pub dir_at : Tree → List (List ℕ) → Option FileId
 dir_at tree names = option_and_then (only_dir tree) (file_at tree root names)
 
--- the directory that holds a path's last name
+-- the directory that holds the last name of a path, if there is one
 abbrev pub parent_of : List Line → List ℕ → Option FileId
 parent_of lines path = dir_at (tree_so_far lines) (front (names_of path))
 
--- what is wrong with a path after these lines, the first in this order
+-- the first fault of a path after these lines, in this order, if there is one
 abbrev pub place_fault : List Line → List ℕ → Option ManifestFaultKind
 place_fault lines path =
     if not (list_all is_name (names_of path)) then Some BadPath
@@ -99,7 +99,7 @@ line_said lines e = record {
   file = record { kind = e.kind; perm = unwrap_or e.perm dir_perm; size = unwrap_or e.size 0 };
 }
 
--- what a line without a fault of its own makes after these lines
+-- the line that an entry makes after these lines, or this fault if there is one
 abbrev pub placed : List Line → Entry → Option ManifestFaultKind → Result Line ManifestFaultKind
 placed lines e None = Ok (line_said lines e)
 placed lines e (Some fault) = Err fault
@@ -109,20 +109,20 @@ abbrev pub line_of_entry : List Line → Option Entry → Result Line ManifestFa
 line_of_entry lines None = Err BadLine
 line_of_entry lines (Some e) = placed lines e (option_or (entry_fault (Some e)) (place_fault lines e.path))
 
--- the same of a line's text
+-- the line that a text makes after these lines, or its first fault
 abbrev pub line_of_text : List Line → List ℕ → Result Line ManifestFaultKind
 line_of_text lines text = line_of_entry lines (entry_of text)
 
--- what is wrong, with the number of the line
+-- a fault, with the number of its line
 abbrev pub fault_at : ℕ → ManifestFaultKind → ManifestFault
 fault_at line kind = record { line = line; kind = kind }
 
--- what follows from a line, or from its fault
+-- what `f` makes of the line, or what `g` makes of the fault
 abbrev pub on_line : {R : Type 0} → Result Line ManifestFaultKind → (Line → R) → (ManifestFaultKind → R) → R
 on_line (Ok line) f g = f line
 on_line (Err fault) f g = g fault
 
--- the lines of a text from this number on, after these; what isn't ended by LF is no line
+-- these lines and then those of a text from this number on, or the first fault; what isn't ended by LF is no line
 abbrev pub read_on : List Line → ℕ → List (List ℕ) → Result (List Line) ManifestFault
 read_on lines number [] = Ok lines
 read_on lines number ([] ∷ []) = Ok lines
@@ -131,18 +131,18 @@ read_on lines number (text ∷ next ∷ more) =
     on_line (line_of_text lines text) (λ line. read_on (lines ++ line ∷ []) (number + 1) (next ∷ more))
     (λ fault. Err (fault_at number fault))
 
--- a commit with lines
+-- the manifest with this commit and these lines, or the fault of the lines
 abbrev pub with_commit : List ℕ → Result (List Line) ManifestFault → Result Manifest ManifestFault
 with_commit commit (Ok lines) = Ok (record { commit = commit; lines = lines })
 with_commit commit (Err fault) = Err fault
 
--- the first line is the commit's, and is ended
+-- the manifest with the commit of a first line, or the first fault; the first line has to name a commit and be ended
 abbrev pub after_commit : Option (List ℕ) → List (List ℕ) → Result Manifest ManifestFault
 after_commit None rest = Err (fault_at 1 NoCommit)
 after_commit (Some commit) [] = Err (fault_at 1 BadLine)
 after_commit (Some commit) (line ∷ more) = with_commit commit (read_on [] 2 (line ∷ more))
 
--- what the lines of a text say
+-- the manifest that the lines of a text say, or the first fault
 abbrev pub manifest_of_lines : List (List ℕ) → Result Manifest ManifestFault
 manifest_of_lines [] = Err (fault_at 1 NoCommit)
 manifest_of_lines (first ∷ rest) = after_commit (commit_of first) rest
@@ -151,22 +151,22 @@ manifest_of_lines (first ∷ rest) = after_commit (commit_of first) rest
 abbrev pub manifest_of : List ℕ → Result Manifest ManifestFault
 manifest_of text = manifest_of_lines (lines_of text)
 
--- a refused line tells its first fault; out of memory comes for lines without one
+-- a line is refused with this fault: its first one, or NoMemory if it has none
 abbrev pub IsLineRefusal : Result Line ManifestFaultKind → ManifestFaultKind → Type 0
 IsLineRefusal line NoMemory = IsOk line
 IsLineRefusal line fault = line ≡ Err fault
 
--- a refused text tells its first fault; out of memory comes at a line that has none, nor any before it
+-- a text is refused with this fault at this line: its first fault, or NoMemory at a line before that of any fault
 abbrev pub IsRefusal : {T : Type 0} → Result T ManifestFault → ℕ → ManifestFaultKind → Type 0
 IsRefusal said line NoMemory = IfErr said (λ first. line < first.line)
 IsRefusal said line fault = said ≡ Err (fault_at line fault)
 
--- that of a manifest, at one of its lines
+-- the text of a manifest is refused with this fault
 abbrev pub IsManifestRefusal : List ℕ → ManifestFault → Type 0
 IsManifestRefusal text fault = IsRefusal (manifest_of text) fault.line fault.kind
 
--- where a fault stands among a count of lines, the last of which LF doesn't end: out of memory comes for lines that are
--- ended, and for the commit's alone where no other follows it
+-- a fault may stand at this line among a count of lines, the last of which LF doesn't end; NoMemory stands at a line
+-- that is ended, and at the commit's only if no other ended line follows
 abbrev pub IsAmongLines : ℕ → ℕ → ManifestFaultKind → Type 0
 IsAmongLines count line NoMemory = (0 < line) × (line < count) × (line ≡ 1 → count ≡ 2)
 IsAmongLines count line fault = (0 < line) × (line ≤ count)

@@ -1,4 +1,4 @@
--- Names as a test.
+-- Whether bytes are a name.
 use Rattle.std.specs.Prelude.{ℕ, Bool, List, is_none}
 use Rattle.eden_base.specs.Name.{name_fault}
 

@@ -1,7 +1,7 @@
 -- How often each number below a room was counted.
 use Rattle.std.specs.Prelude.{ℕ, List, slice_index}
 
--- the counts of the first numbers, those of all others being 0, and how many may be counted without taking memory
+-- the counts of the first numbers, while all others have 0, and how many numbers may be counted without taking memory
 pub record Tally : Type 0 where
   pub counts : List ℕ
   pub room : ℕ

@@ -1,9 +1,9 @@
--- The words that a fault is told by. (This project's own.)
+-- The words for faults of a manifest. (This project's own.)
 use Rattle.std.specs.Prelude.{ℕ, List, codes}
 use Rattle.manifest.specs.declared.fault.ManifestFaultKind.{ManifestFaultKind}
 use Rattle.manifest.specs.declared.fault.ManifestFaultKind.TheVariants as kind
 
--- what is wrong with a line
+-- the word for what is wrong with a line
 abbrev pub kind_text : ManifestFaultKind → List ℕ
 kind_text kind.NoCommit = codes "NoCommit"
 kind_text kind.BadLine = codes "BadLine"

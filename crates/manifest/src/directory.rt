@@ -1,4 +1,4 @@
-//! The names in one directory, and the file that each of them gives.
+//! The names in one directory, and the file to which each of them leads.
 ghost use Rattle.std.specs.Prelude.{◌≡◌, ◌↔◌, ◌++◌, map, IsTrue, OnOk, OnErr};
 ghost use Rattle.std.specs.Ordering.{nat_cmp};
 ghost use Rattle.std.specs.Cmp.Lexicographic.{slice_cmp};
@@ -48,21 +48,21 @@ impl Directory {
         }
     }
 
-    /// Returns the file under a name.
+    /// Returns the file under `name`, if there is one.
     pub fn get(&self, name: &[u8]) -> Option<FileId>
         ensures { result ≡ get self.now name.now }
     {
         self.files.get(name).copied()
     }
 
-    /// Returns whether no name stands in it.
+    /// Returns whether the directory has no name.
     pub fn is_empty(&self) -> bool
         ensures { IsTrue result ↔ (self.now ≡ empty) }
     {
         self.files.is_empty()
     }
 
-    /// Writes the names, in their order, behind those that are listed.
+    /// Appends each name to `links`, in order, as a link in `dir` that was added.
     pub fn list(
         &self,
         alloc: Global,
@@ -84,7 +84,7 @@ impl Directory {
         Ok(())
     }
 
-    /// Lets a name give a file.
+    /// Makes `name` lead to `file`.
     pub fn insert(&mut self, alloc: Global, name: &[u8], file: FileId) -> Result<(), NoMemory>
         ensures ok { OnOk result (self.new ≡ insert self.old name.now file) }
         ensures err { OnErr result (self.new ≡ self.old) }
@@ -94,7 +94,7 @@ impl Directory {
         Ok(())
     }
 
-    /// Takes a name out, and returns the file that it gave. Takes no memory.
+    /// Removes `name`, and returns the file to which it led, if any. Takes no memory.
     pub fn remove(&mut self, name: &[u8]) -> Option<FileId>
         ensures value { result ≡ get self.old name.now }
         ensures files { self.new ≡ remove self.old name.now }

@@ -17,7 +17,7 @@ pub struct Entry<'a> {
 }
 
 impl<'a> Entry<'a> {
-    /// Reads a line, without its LF.
+    /// Reads a line, which is given without its LF.
     pub fn read(line: &'a [u8]) -> Result<Entry<'a>, ManifestFaultKind>
         ensures entry { IfOk result (λ e. entry_of line.now ≡ Some (record {
           kind = e.kind;
@@ -42,7 +42,7 @@ impl<'a> Entry<'a> {
         Err(ManifestFaultKind::BadLine)
     }
 
-    /// Reads `MODE SIZE PATH`.
+    /// Reads what follows `file ` in a line: `MODE SIZE PATH`.
     fn of_file(rest: &'a [u8]) -> Result<Entry<'a>, ManifestFaultKind>
         ensures entry { IfOk result (λ e. file_entry rest.now ≡ Some (record {
           kind = e.kind;

@@ -9,12 +9,12 @@ use thiserror::Error;
 #[derive(Clone, Copy, Debug, PartialEq, Eq, Error)]
 #[error("line {line}: {kind}")]
 pub struct ManifestFault {
-    /// From 1.
+    /// The number of the line, from 1.
     pub line: usize,
     pub kind: ManifestFaultKind,
 }
 
-/// What is wrong with a line. Of several faults the one that stands first here is told.
+/// What is wrong with a line. If several variants apply, the first in this order is the fault.
 #[derive(Clone, Copy, Debug, PartialEq, Eq)]
 pub enum ManifestFaultKind {
     /// The first line isn't `commit ` and forty hexadecimal digits.
@@ -29,7 +29,7 @@ pub enum ManifestFaultKind {
     BadPath,
     /// No earlier line makes the directory that holds the file.
     NoParent,
-    /// An earlier line has the path.
+    /// An earlier line has the same path.
     Twice,
     /// The line is the 65,537th.
     TooManyLines,

@@ -8,21 +8,21 @@ ghost use Rattle.manifest.specs.Names.{is_name};
 
 use eden_base::{GREATEST_SIZE, Name, Perm, cut};
 
-/// Returns what follows a front, if the text has it.
+/// Returns what follows `front` in `text`, or none if `text` does not begin with it.
 pub fn after<'a>(front: &[u8], text: &'a [u8]) -> Option<&'a [u8]>
     ensures { option_copied result ≡ after front.now text.now }
 {
     text.strip_prefix(front)
 }
 
-/// Returns whether the bytes are a name, as `Name::parse` has it.
+/// Returns whether `bytes` are a name, by the rules of `Name::parse`.
 fn is_name(bytes: &[u8]) -> bool
     ensures { result ≡ is_name bytes.now }
 {
     Name::fault(bytes).is_none()
 }
 
-/// Returns whether all that the slashes of a path part are names.
+/// Returns whether each part of `path` between slashes is a name.
 pub fn is_path(path: &[u8]) -> bool
     ensures { result ≡ list_all is_name (parts 47 path.now) }
 {
@@ -36,7 +36,7 @@ pub fn is_path(path: &[u8]) -> bool
     is_name(rest)
 }
 
-/// Returns the permissions that four octal digits write, none for any other text.
+/// Returns the permissions of a mode in four octal digits, or none for any other text.
 pub fn mode_of(digits: &[u8]) -> Option<Perm>
     ensures mode { result ≡ mode_of digits.now }
 {
@@ -50,7 +50,7 @@ pub fn mode_of(digits: &[u8]) -> Option<Perm>
     Perm::of(special * 512 + owner * 64 + group * 8 + others)
 }
 
-/// Returns the value of an octal digit.
+/// Returns the value of an octal digit, or none for any other byte.
 fn octal(digit: u8) -> Option<u16>
     ensures { SomeIff result (IsTrue (is_octal digit)) (digit - 48) }
 {
@@ -60,7 +60,8 @@ fn octal(digit: u8) -> Option<u16>
     }
 }
 
-/// Returns the size that decimal digits write without a leading zero, if a file may have it.
+/// Returns the size that `digits` say, or none. They must be decimal digits without a leading zero, and a file must be
+/// able to have this size.
 pub fn size_of(digits: &[u8]) -> Option<u64>
     ensures size { result ≡ size_of digits.now }
     ensures small { IfSome result (λ n. n ≤ greatest_size) }
@@ -77,7 +78,7 @@ pub fn size_of(digits: &[u8]) -> Option<u64>
     value_of(digits)
 }
 
-/// Returns whether a zero stands before another digit.
+/// Returns whether `digits` begin with a zero that another byte follows.
 fn has_leading_zero(digits: &[u8]) -> bool
     ensures { result ≡ has_leading_zero digits.now }
 {
@@ -87,14 +88,14 @@ fn has_leading_zero(digits: &[u8]) -> bool
     }
 }
 
-/// Returns whether the bytes are decimal digits.
+/// Returns whether each of `digits` is a decimal digit.
 fn is_decimal(digits: &[u8]) -> bool
     ensures { result ≡ list_all is_decimal digits.now }
 {
     digits.iter().all(|d| *d >= b'0' && *d <= b'9')
 }
 
-/// Returns the number of these digits, if it is a file's size.
+/// Returns the value of these decimal digits, if a file may have it as its size.
 fn value_of(digits: &[u8]) -> Option<u64>
     ensures value { result
         ≡ (if nat_le (decimal digits.now) greatest_size then Some (decimal digits.now) else None) }

@@ -16,7 +16,7 @@ pub struct Line {
     pub name: Name,
     pub kind: Kind,
     pub perm: Perm,
-    /// In bytes; 0 for a directory.
+    /// The size in bytes; 0 for a directory.
     pub size: u64,
 }
 
@@ -36,7 +36,7 @@ impl Model for Line {
 }
 
 impl Line {
-    /// Returns what the line says of its file.
+    /// Returns the kind, the permissions and the size that the line says of its file.
     pub fn content(&self) -> Content
         ensures content { result ≡ self.now.file }
     {
@@ -48,7 +48,7 @@ impl Line {
     }
 }
 
-/// Returns the line of a file among these, of which the first is of file 2; the root has none.
+/// Returns the line of `file`, if it has one. The first of `lines` is that of file 2; the root has no line.
 pub fn line_of(lines: &[Line], file: FileId) -> Option<&Line>
     ensures { option_copied result ≡ line_of lines.now file }
 {
@@ -58,7 +58,7 @@ pub fn line_of(lines: &[Line], file: FileId) -> Option<&Line>
     lines.get((file.0 - 2) as usize)
 }
 
-/// Returns the content of a file of these lines, or of the root.
+/// Returns the content of `file`, if it is the root or has a line.
 pub fn content_of(lines: &[Line], file: FileId) -> Option<Content>
     ensures { result ≡ get (files_from 2 lines.now) file.0 }
 {
@@ -73,7 +73,7 @@ pub fn content_of(lines: &[Line], file: FileId) -> Option<Content>
     Some(line.content())
 }
 
-/// Returns the kind of a file of these lines, or of the root.
+/// Returns the kind of `file`, if it is the root or has a line.
 pub fn kind_of(lines: &[Line], file: FileId) -> Option<Kind>
     ensures { result ≡ option_map (λ (f : File). f.kind) (get (files_from 2 lines.now) file.0) }
 {

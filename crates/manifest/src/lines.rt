@@ -44,7 +44,7 @@ impl Model for Lines {
 }
 
 impl Lines {
-    /// How many lines may follow the commit's.
+    /// How many lines may follow the line of the commit.
     const MAX_LINES: usize = 65535;
 
     /// Makes an empty list of lines.
@@ -74,7 +74,7 @@ impl Lines {
         self.lines.as_slice()
     }
 
-    /// Returns the file that the lines have under a name in a directory.
+    /// Returns the file under a name in a directory, if the lines have one there.
     pub fn child(&self, dir: FileId, name: &[u8]) -> Option<FileId>
         ensures { result ≡ get (links_from 2 self.now) (dir.0, name.now) }
     {
@@ -88,7 +88,7 @@ impl Lines {
         self.kids.count(dir.0)
     }
 
-    /// Takes one more line, without its LF.
+    /// Reads one more line, which is given without its LF, and appends it.
     pub fn add(&mut self, alloc: Global, text: &[u8]) -> Result<(), ManifestFaultKind>
         ensures added { OnOk result (IsOkAnd (line_of_text self.old text.now) (λ line.
             self.new ≡ self.old ++ line ∷ [])) }
@@ -112,7 +112,7 @@ impl Lines {
         }
     }
 
-    /// Returns the directory and the name that a path ends in, where the next line may stand.
+    /// Returns the directory and the name with which `path` ends, if the next line may stand there, or else why not.
     fn place<'a>(&self, path: &'a [u8]) -> Result<(FileId, &'a [u8]), ManifestFaultKind>
         ensures fits { OnOk result (place_fault self.now path.now ≡ None) }
         ensures dir { IfOk result (λ p. parent_of self.now path.now ≡ Some p.0) }
@@ -139,7 +139,8 @@ impl Lines {
         Ok((dir, name))
     }
 
-    /// Returns the file that all but the last name of a path lead to, and that name.
+    /// Returns the file to which all names of `path` but the last lead, and the last name. Returns none if they lead
+    /// nowhere.
     fn walk<'a>(&self, path: &'a [u8]) -> Option<(FileId, &'a [u8])>
         ensures { let found = file_at (tree_so_far self.now) root (front (names_of path.now)) in
             MatchOption result (found ≡ None) (λ p.
@@ -154,7 +155,7 @@ impl Lines {
         Some((dir, rest))
     }
 
-    /// Adds a line at a new place.
+    /// Appends a line, whose place is new.
     fn push(&mut self, alloc: Global, line: Line) -> Result<(), NoMemory>
         requires room { length self.old < most_lines }
         requires size { line.file.size ≤ greatest_size }

@@ -1,4 +1,4 @@
-//! The names in every directory, and the file that each of them gives.
+//! The names in every directory, and the file to which each of them leads.
 ghost use Rattle.std.specs.Prelude.{◌≡◌, ◌==◌, ◌++◌, map, OnOk, OnErr};
 ghost use Rattle.std.specs.FinMap.{FinMap, empty, entries, get, insert, remove};
 ghost use Rattle.std.specs.List.{AllByRecursion, list_any};
@@ -12,19 +12,19 @@ use std::alloc::Global;
 use std::collections::HashMap;
 use std::marker::Model;
 
-/// A name in a directory that gives another file than the manifest says, or none where the manifest says one.
+/// A name in a directory that leads to another file than the manifest says, or to none although the manifest says one.
 #[derive(Drop)]
 pub struct LinkChange {
     pub dir: FileId,
     pub name: Name,
-    /// The file that it gives now, if any.
+    /// The file to which the name leads now, if any.
     pub target: Option<FileId>,
 }
 
-/// The names of every directory. An empty directory has no entry here.
+/// The names of every directory. A directory without names may have an entry here, or none.
 #[derive(Drop)]
 pub struct Links {
-    /// By their ids, which the tree gives itself, so a hash with a fixed seed serves.
+    /// The directories by their ids. The tree itself gives these ids, so a hash with a fixed seed is enough.
     directories: HashMap<u64, Directory>,
 }
 
@@ -47,7 +47,7 @@ impl Model for Links {
 }
 
 impl Links {
-    /// Returns an index without links.
+    /// Makes an index without links.
     pub fn new(alloc: Global) -> Links
         ensures { result ≡ empty }
     {
@@ -56,14 +56,14 @@ impl Links {
         }
     }
 
-    /// Returns the file under a name in a directory.
+    /// Returns the file under a name in a directory, if there is one.
     pub fn get(&self, dir: FileId, name: &[u8]) -> Option<FileId>
         ensures { result ≡ get self.now (dir.0, name.now) }
     {
         self.directories.get(&dir.0)?.get(name)
     }
 
-    /// Returns whether a name stands in the directory.
+    /// Returns whether `dir` has a name.
     pub fn has_links(&self, dir: FileId) -> bool
         ensures { result ≡ list_any (λ link. link.0.0 == dir.0) (entries self.now) }
     {
@@ -73,7 +73,7 @@ impl Links {
         }
     }
 
-    /// Writes the names, those of one directory together, behind those that are listed.
+    /// Appends each name to `links`, as a link that was added. The names of one directory stand together.
     pub fn list(&self, alloc: Global, links: &mut Vec<LinkChange>) -> Result<(), NoMemory>
         requires names { AllByRecursion (λ link. IsNameText link.0.1) (entries self.now) }
         ensures { OnOk result (IsPermutation (links.old.items ++ map added_change (entries self.now)) links.new.items) }
@@ -84,7 +84,7 @@ impl Links {
         Ok(())
     }
 
-    /// Lets a name in a directory give a file.
+    /// Makes a name in a directory lead to `file`.
     pub fn insert(
         &mut self,
         alloc: Global,
@@ -100,7 +100,7 @@ impl Links {
         directory.insert(alloc, name, file)
     }
 
-    /// Takes a name out of a directory, and returns the file that it gave. Takes no memory.
+    /// Removes a name from a directory, and returns the file to which it led, if any. Takes no memory.
     pub fn remove(&mut self, dir: FileId, name: &[u8]) -> Option<FileId>
         ensures value { result ≡ get self.old (dir.0, name.now) }
         ensures links { self.new ≡ remove self.old (dir.0, name.now) }

@@ -14,8 +14,8 @@ use std::alloc::Global;
 use std::marker::Model;
 use std::sync::Arc;
 
-/// The files of a checkout at a commit, each directory before what it holds. Every daemon of a mount is handed the
-/// same one.
+/// The files of a checkout at a commit, each directory before what it holds. Every daemon of a mount gets the same
+/// manifest.
 #[derive(Drop)]
 pub struct Manifest {
     commit: [u8; 20],
@@ -38,8 +38,8 @@ impl Model for Manifest {
 impl Manifest {
     ghost use Rattle.manifest.specs.Tree.{IsTree, tree_of, files_from, links_from};
 
-    /// Reads a line `commit ` with forty hexadecimal digits, and then lines `dir PATH` and `file MODE SIZE PATH`. Each
-    /// is ended by LF.
+    /// Reads a manifest: a line `commit ` with forty hexadecimal digits, and then lines `dir PATH` and `file MODE SIZE
+    /// PATH`. Each line is ended by LF.
     pub fn read(alloc: Global, bytes: &[u8]) -> Result<Manifest, ManifestFault>
         ensures manifest { IfOk result (λ manifest. manifest_of bytes.now ≡ Ok manifest) }
         ensures form { IfOk result (λ manifest. IsManifestForm manifest bytes.now) }
@@ -63,7 +63,7 @@ impl Manifest {
         }
     }
 
-    /// Returns the name of the commit, as Git and EdenFS have it: twenty bytes of a hash.
+    /// Returns the name of the commit, as Git and EdenFS name it: the twenty bytes of a hash.
     pub fn commit(&self) -> [u8; 20]
         ensures commit { result ≡ self.now.commit }
         ensures is_manifest { IsManifest self.now }
@@ -79,7 +79,7 @@ impl Manifest {
         self.lines.as_slice()
     }
 
-    /// Returns one more owner of the same lines, which make a tree. It is refused where owners can't be counted.
+    /// Returns one more owner of the same lines, which make a tree, or `NoMemory` if one more owner can't be counted.
     pub fn share(&self) -> Result<Manifest, NoMemory>
         ensures same { IfOk result (λ shared. shared ≡ self.now) }
         ensures is_manifest { IfOk result IsManifest }
@@ -92,7 +92,7 @@ impl Manifest {
         })
     }
 
-    /// Returns what the manifest says of a file.
+    /// Returns what the manifest says of `file`, if it has this file.
     pub fn content(&self, file: FileId) -> Option<Content>
         ensures content { result ≡ get (files_from 2 self.now.lines) file.0 }
         ensures is_manifest { IsManifest self.now }
@@ -100,7 +100,7 @@ impl Manifest {
         content_of(self.lines(), file)
     }
 
-    /// Returns the file that the manifest has under a name in a directory.
+    /// Returns the file that the manifest has under a name in a directory, if any.
     pub fn child(&self, dir: FileId, name: &[u8]) -> Option<FileId>
         ensures child { result ≡ get (links_from 2 self.now.lines) (dir.0, name.now) }
         ensures is_manifest { IsManifest self.now }
@@ -116,7 +116,7 @@ impl Manifest {
     }
 }
 
-/// Reads the commit; returns it with what comes after its line.
+/// Reads the line of the commit, and returns the commit and what follows that line.
 fn read_commit(bytes: &[u8]) -> Result<([u8; 20], &[u8]), ManifestFaultKind>
     ensures commit { IfOk result (λ p.
         manifest_of bytes.now ≡ with_commit p.0 (read_on [] 2 (lines_of p.1.now))) }
@@ -137,7 +137,7 @@ fn read_commit(bytes: &[u8]) -> Result<([u8; 20], &[u8]), ManifestFaultKind>
     }
 }
 
-/// Returns the commit that the first line names.
+/// Returns the commit that the first line names, if it names one.
 fn commit_of(line: &[u8]) -> Option<[u8; 20]>
     ensures { result ≡ commit_of line.now }
 {

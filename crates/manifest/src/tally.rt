@@ -1,4 +1,4 @@
-//! A count for each of the first numbers.
+//! A count for each number below a limit.
 ghost use Rattle.std.specs.Prelude.{◌≡◌, ◌==◌, ◌+◌, ◌-◌, ◌<◌, ◌≤◌, ◌^◌, ℕ, [], IfOk, OnOk, length, slice_index, if◌then◌else◌};
 ghost use Rattle.std.specs.Vec.{vec_capacity, vec_len};
 ghost use Rattle.manifest.specs.Tally.{count_of};
@@ -7,7 +7,8 @@ use eden_base::NoMemory;
 use std::alloc::Global;
 use std::marker::Model;
 
-/// The counts are filled in up to the greatest number that was counted, so that a room costs nothing before it is used.
+/// A count for each number below `room`. The counts are filled in up to the greatest number that was counted, so that
+/// room which is not used is not written.
 #[derive(Drop)]
 pub struct Tally {
     counts: Vec<u32>,
@@ -27,7 +28,7 @@ impl Model for Tally {
 }
 
 impl Tally {
-    /// Returns a tally without room.
+    /// Makes a tally without room.
     pub fn new(alloc: Global) -> Tally
         ensures { result ≡ record { counts = []; room = 0 } }
     {
@@ -37,7 +38,7 @@ impl Tally {
         }
     }
 
-    /// Returns a tally for this many numbers, from 0.
+    /// Makes a tally with room for this many numbers, from 0.
     pub fn with_room(alloc: Global, room: usize) -> Result<Tally, NoMemory>
         ensures { IfOk result (λ tally. tally ≡ record { counts = []; room = room }) }
     {
@@ -79,7 +80,7 @@ impl Tally {
     }
 }
 
-/// Lengthens the counts to this many, by zeros, in the room that there is.
+/// Appends zeros to `counts` until there are `len`. Takes no memory.
 fn fill(counts: &mut Vec<u32>, len: usize)
     requires { len ≤ vec_capacity counts.old }
     ensures same { (q : ℕ) → slice_index counts.new.items q ≡ slice_index counts.old.items q }

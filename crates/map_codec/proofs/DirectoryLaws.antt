@@ -19,11 +19,11 @@ use Rattle.map_codec.proofs.PlaceLaws.{entry_there, numbers_behind}
 abbrev pub IsEachAt : {X Y : Type 0} → (X → Y → Type 0) → List X → List Y → Type 0
 IsEachAt {X} {Y} R xs ys = (i : ℕ) (x : X) (y : Y) → slice_get xs i ≡ Some x → slice_get ys i ≡ Some y → R x y
 
--- none stands in a list without members
+-- an empty second list belongs to any first list
 pub each_of_none : {X Y : Type 0} (R : X → Y → Type 0) (xs : List X) (ys : List Y) → ys ≡ [] → IsEachAt R xs ys
 each_of_none {X} {Y} R xs ys none = λ i x y here there. absurd (let no : ⊥ = cc in no)
 
--- and so do those of the next place
+-- with one more member in the second list, which belongs to its partner, all still belong together
 pub each_pushed : {X Y : Type 0} (R : X → Y → Type 0) (xs : List X) (ys : List Y) (y : Y) → ((x : X) → slice_get xs (length ys) ≡ Some x → R x y) → IsEachAt R xs ys → IsEachAt R xs (ys ++ y ∷ [])
 each_pushed {X} {Y} R xs ys y last each = λ i x z here there. in_ i x z here there (cases_lt i (length ys)) where
   in_ : (i : ℕ) (x : X) (z : Y) → slice_get xs i ≡ Some x → slice_get (ys ++ y ∷ []) i ≡ Some z → (i < length ys) ⊎ (length ys ≤ i) → R x z
@@ -52,7 +52,7 @@ place_itself entries i rise lt = elim (slice_get_cases entries i).1 [
   | inr past ↦ absurd (omega (arith, past.0, lt))
 ]
 
--- so it is where the number that is read there is this one
+-- the entry of a number stands at an index if its number, read there, is this one
 pub place_read : (entries : List Kept) (n i : ℕ) (kept : Kept) → rises entry_follows None entries ≡ true → i < length entries → kept ≡ get_or entries i kept → kept.number.0 ≡ n → IsPlaceOf entries n i
 place_read entries n i kept rise lt is same = record {
   kept = kept;
@@ -72,7 +72,7 @@ low_there [] low next i kept are is = absurd (cc)
 low_there (x ∷ entries) low next zero kept are is = let it : x ≡ kept = cc in subst (λ (k : Kept). low ≤ k.number.0) it are.0
 low_there (x ∷ entries) low next (suc i) kept are is = let a = are.0 in omega (arith, a, low_there entries (x.number.0 + 1) next i kept are.1 is)
 
--- it is not the root's
+-- the number of an entry is not the root's
 pub not_root : (entries : List Kept) (n i : ℕ) → rises entry_follows None entries ≡ true → IsPlaceOf entries n i → n ≡ 1 → ⊥
 not_root entries n i rise at one =
     let are = numbers_behind entries None rise in
@@ -80,7 +80,7 @@ not_root entries n i rise at one =
     let same : at.kept.number.0 ≡ n = entry_of-number entries n at.kept at.entry in
     omega (arith, low, same, one)
 
--- where the entry at a place has a directory, those behind it all have one exactly where it and they do
+-- if the entry at an index has a directory, all from there on have one exactly if all after it have one
 pub had_there : (p : Kept → Bool) (entries : List Kept) (i : ℕ) (kept : Kept) → i < length entries → kept ≡ get_or entries i kept → p kept ≡ true → list_all p (drop i entries) ≡ list_all p entries → list_all p (drop (i + 1) entries) ≡ list_all p entries
 had_there p entries i kept lt is has so_far =
     let here : p (get_or entries i kept) ≡ true = ap p (sym is) ∙ has in

@@ -24,7 +24,7 @@ module _ (served : ServedState) (at : ℕ) (image : Image) (sound : IsSound serv
   same_tree : tree_told m image ≡ served.tree
   same_tree = tree_is_changed served.tree image.changes tree manifest is.changes
 
-  -- nothing stands against the image but the want of memory
+  -- only a lack of memory prevents that the image is restored
   pub image_raises : IsRaisable m image
   image_raises = record {
     tree = record { commit = is.commit; changes = good };

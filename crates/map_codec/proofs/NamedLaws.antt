@@ -39,7 +39,7 @@ none_found tree entries found is =
 pub entry_read : (entries : List Kept) (n i : ℕ) (kept : Kept) → IsPlaceOf entries n i → kept ≡ get_or entries i kept → entry_of entries n ≡ Some kept
 entry_read entries n i kept at is = at.entry ∙ ap Some (sym (get_or_from_slice_get entries i at.kept kept at.stands) ∙ sym is)
 
--- and so where it is linked, it is a step up to its directory
+-- the linked entry that is read at the index of a number is a step up to its directory
 pub step_at : (entries : List Kept) (n i : ℕ) (kept : Kept) (dir : Number) (name : List ℕ) → (n ≡ 1 → ⊥) → IsPlaceOf entries n i → kept ≡ get_or entries i kept → (get_or entries i kept).place ≡ Linked dir name → StepsUp entries n dir.0
 step_at entries n i kept dir name other at is linked = step-read entries n kept dir name other (entry_read entries n i kept at is) (ap (λ (k : Kept). k.place) is ∙ linked)
 

@@ -17,7 +17,7 @@ use Rattle.entry_table.proofs.EntryRuns.{cut, found-there}
 use Rattle.map_image.specs.Fit.{rises, entry_follows}
 use Rattle.map_codec.specs.Named.{IsPlaceOf}
 
--- what the numbers behind one are above
+-- the lower bound of the numbers after this entry
 abbrev pub low_after : Option Kept → ℕ
 low_after None = 2
 low_after (Some last) = last.number.0 + 1

@@ -24,7 +24,7 @@ names_of_each : (tree : Tree) (all es : List Kept) → AllByRecursion (HasFile t
 names_of_each tree all [] have = tt
 names_of_each tree all (x ∷ es) have = (have.0.0, names_of_each tree all es have.1)
 
--- where one names no file not each has one
+-- if one entry names no file, then not each entry has one
 pub one_names_none : (tree : Tree) (es : List Kept) → (EachNames tree es → ⊥) → HaveFiles tree es → ⊥
 one_names_none tree es none have = none (names_of_each tree es es have)
 
@@ -33,7 +33,7 @@ marks_of_each tree all [] have = refl
 marks_of_each tree all (x ∷ es) have =
     ap (λ (b : Bool). b && list_all (λ (kept : Kept). is_right_mark tree kept.place) es) have.0.1 ∙ marks_of_each tree all es have.1
 
--- nor where a mark is wrong
+-- if one mark is wrong, then not each entry has a file
 pub one_mark_wrong : (tree : Tree) (es : List Kept) → are_right_marks tree es ≡ false → HaveFiles tree es → ⊥
 one_mark_wrong tree es wrong have = let right = marks_of_each tree es es have in let c : true ≡ false = sym right ∙ wrong in absurd (cc)
 

@@ -70,7 +70,7 @@ found_twice n (f ∷ files) le = in_ (f.0 == n) refl (found_twice n files) where
       let lt = r.before in
       record { one = suc r.one; other = suc r.other; file = r.file; before = omega (arith, lt); one_stands = r.one_stands; other_stands = r.other_stands }
 
--- in whatever order they stand
+-- a file stands twice in a list, in whatever order the list is
 pub twice_in_any_order : (xs ys : List FileId) → IsPermutation xs ys → IsTwice ys → IsTwice xs
 twice_in_any_order xs ys moved twice =
     let n = twice.file.0 in
@@ -83,7 +83,7 @@ twice_back xs ys moved = twice_in_any_order ys xs (IsPermutation-sym xs ys moved
 abbrev pub AreNotOne : FileId → FileId → Type 0
 AreNotOne f g = f.0 ≡ g.0 → ⊥
 
--- where files rise and no two neighbours are one none stands twice
+-- if files rise and no two neighbours are the same, then no file stands twice
 pub none_twice : (files : List FileId) → IsNonDecreasingBy (λ (f : FileId). f.0) files → AllAdjacentBelow AreNotOne files (length files) → IsTwice files → ⊥
 none_twice files rise apart twice =
     let i = twice.one in

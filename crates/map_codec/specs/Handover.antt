@@ -21,7 +21,7 @@ use Rattle.map_codec.specs.declared.fault.HandoverFault.TheVariants.{Refused, No
 use Rattle.map_codec.specs.declared.fault.RaiseFault.{RaiseFault}
 use Rattle.map_codec.specs.declared.fault.RaiseFault.TheVariants as raising
 
--- ---- what is told of a fault: memory may suffice the next time, and all else stays
+-- ---- what a fault is told as: memory may suffice the next time, and any other cause stays
 
 abbrev pub told_of_write : WriteFault → HandoverFault
 told_of_write writing.NoMemory = NoMemory
@@ -48,19 +48,19 @@ pub record IsHandedOver (served : ServedState) (at version : ℕ) (bytes : List 
 abbrev pub CannotBeHandedOver : ServedState → ℕ → ℕ → Type 0
 CannotBeHandedOver served at version = (image : Image) → IsImageOf served at image → refusal image version ≢ None
 
--- why an image is not written: it has no such text, or memory ran out where nothing else stands against it
+-- an image is not written for this cause: it has no such text, or memory was refused and there is no other cause
 abbrev pub IsTextRefusal : Image → ℕ → HandoverFault → Type 0
 IsTextRefusal image version Refused = refusal image version ≢ None
 IsTextRefusal image version NoMemory = refusal image version ≡ None
 
--- why nothing is handed over; memory is wanted for the image once there is such a version
+-- nothing is handed over for this cause: the image cannot be written, or memory was refused and there is such a version
 abbrev pub IsHandingRefusal : ServedState → ℕ → ℕ → HandoverFault → Type 0
 IsHandingRefusal served at version Refused = CannotBeHandedOver served at version
 IsHandingRefusal served at version NoMemory = is_some (form_of version) ≡ true
 
 -- ---- taking over
 
--- what is raised over a manifest from bytes that tell an image of this generation
+-- this is what is restored over a manifest from bytes that are the text of an image of this generation
 pub record IsTakenOver (manifest : Manifest) (limit at : ℕ) (bytes : List ℕ) (served : ServedState) : Type 0 where
   pub image : Image
   pub version : ℕ
@@ -70,7 +70,7 @@ pub record IsTakenOver (manifest : Manifest) (limit at : ℕ) (bytes : List ℕ)
   pub is : served ≡ raised manifest image limit
   pub sound : IsSound served
 
--- no image of this generation has this text, or something stands against raising it
+-- no image of this generation that has this text may be restored over the manifest
 abbrev pub CannotBeTakenOver : Manifest → ℕ → List ℕ → Type 0
 CannotBeTakenOver manifest at bytes =
     (image : Image) (version : ℕ) → IsImageText image version bytes → image.generation ≡ at →
@@ -83,17 +83,17 @@ pub record HasRightHeader (manifest : Manifest) (at : ℕ) (bytes : List ℕ) : 
   pub generation : header.generation ≡ at
   pub commit : header.commit ≡ manifest.commit
 
--- why no image is read: the bytes are none, or memory ran out behind their header
+-- no image is read for this cause: the bytes are no image, or memory was refused after their header
 abbrev pub IsReadRefusal : List ℕ → HandoverFault → Type 0
 IsReadRefusal bytes Refused = (image : Image) (version : ℕ) → IsImageText image version bytes → ⊥
 IsReadRefusal bytes NoMemory = HasHeader bytes
 
--- why nothing is served of an image: something stands against it, or memory ran out where `raise` may tell so
+-- nothing is restored for this cause: the image may not be restored, or memory was refused when `raise` may say so
 abbrev pub IsServingRefusal : Manifest → Image → HandoverFault → Type 0
 IsServingRefusal manifest image Refused = IsRaisable manifest image → ⊥
 IsServingRefusal manifest image NoMemory = IsRaiseRefusal manifest image raising.NoMemory
 
--- why nothing is taken over; memory is wanted once the header is right
+-- nothing is taken over for this cause: it cannot be taken over, or memory was refused after a right header
 abbrev pub IsTakingRefusal : Manifest → ℕ → List ℕ → HandoverFault → Type 0
 IsTakingRefusal manifest at bytes Refused = CannotBeTakenOver manifest at bytes
 IsTakingRefusal manifest at bytes NoMemory = HasRightHeader manifest at bytes

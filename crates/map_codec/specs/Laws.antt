@@ -1,5 +1,5 @@
--- What holds of the definitions alone: from what one daemon handed over the next one serves the same, and it is not too
--- long.
+-- Laws of the definitions alone: from what one daemon handed over the next one serves the same, and what is handed over
+-- is not too long.
 use Rattle.std.specs.Prelude.{◌≡◌, ℕ, List}
 use Rattle.manifest.specs.Manifest.{Manifest, IsManifest}
 use Rattle.manifest.specs.Tree.{IsTree}
@@ -8,14 +8,14 @@ use Rattle.fuse_ops.specs.Soundness.{IsSound}
 use Rattle.map_image.specs.Versions.{IsNoLonger}
 use Rattle.map_codec.specs.Handover.{CannotBeTakenOver, IsHandedOver, IsTakenOver}
 
--- what is taken over from the bytes of what was served over the same manifest knows the same, at whatever limit
+-- what is taken over from the bytes of what was served over the same manifest is the same, at whatever limit
 abbrev pub TakenKnows : Type 0
 TakenKnows =
     (manifest : Manifest) (limit at g version : ℕ) (bytes : List ℕ) (made later : ServedState) → IsSound made →
     IsTree made.tree → IsManifest manifest → made.tree.manifest ≡ manifest → IsHandedOver made g version bytes →
     IsTakenOver manifest limit at bytes later → plain later ≡ plain made
 
--- and nothing stands against taking it over at the generation of the image
+-- what was handed over can be taken over, at the generation of the image
 abbrev pub CanBeTaken : Type 0
 CanBeTaken =
     (manifest : Manifest) (at version : ℕ) (bytes : List ℕ) (made : ServedState) → IsSound made →

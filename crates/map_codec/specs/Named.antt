@@ -1,4 +1,4 @@
--- Which file each entry of an image names in a tree, and what is found of them one by one. (This project's own.)
+-- Which file each entry of an image names in a tree, and how these files are found one by one. (This project's own.)
 use Rattle.std.specs.Prelude.{◌≡◌, ◌<◌, ℕ, true, false, List, length, map, slice_get, All, Option, Some, None}
 use Rattle.std.specs.Option.{option_map_or}
 use Rattle.std.specs.List.{AllByRecursion}
@@ -19,39 +19,39 @@ abbrev pub EachNames : Tree → List Kept → Type 0
 EachNames tree entries =
     AllByRecursion (λ (kept : Kept). (file : FileId) × IsFileOf tree entries kept.number.0 file) entries
 
--- the files that the entries name, one for each
+-- these are the files that the entries name, one for each
 pub record AreFilesOf (tree : Tree) (entries : List Kept) (files : List FileId) : Type 0 where
   pub len : length files ≡ length entries
   pub each : (i : ℕ) (kept : Kept) (file : FileId) → slice_get entries i ≡ Some kept → slice_get files i ≡ Some file →
       IsFileOf tree entries kept.number.0 file
 
--- the entry of a number stands at a place
+-- the entry of a number stands at this index
 pub record IsPlaceOf (entries : List Kept) (n i : ℕ) : Type 0 where
   pub kept : Kept
   pub stands : slice_get entries i ≡ Some kept
   pub entry : entry_of entries n ≡ Some kept
 
--- the number of the entry at a place
+-- the number of the entry at an index
 abbrev pub number_at : List Kept → ℕ → Number
 number_at entries i = option_map_or number_of_kept (slice_get entries i) (record { 0 = 0 })
 
--- the entry of a directory stands at this place; the root has none
+-- the entry of a directory stands at this index; the root has no entry
 abbrev pub IsDirectoryAt : List Kept → ℕ → Option ℕ → Type 0
 IsDirectoryAt entries n (Some i) = IsPlaceOf entries n i
 IsDirectoryAt entries n None = n ≡ 1
 
--- the directory of a place has its entry there; a mark is in none
+-- the entry of the directory in which a place is stands at this index; a mark is in no directory
 abbrev pub IsDirectoryOf : List Kept → Place → Option ℕ → Type 0
 IsDirectoryOf entries (Linked dir name) at = IsDirectoryAt entries dir.0 at
 IsDirectoryOf entries (Unlinked file) at = at ≡ None
 
--- what is told of the directory of a place: it wants no entry, it has one there, or it has none
+-- this is known of a place's directory: it needs no entry, its entry stands at this index, or its entry is missing
 abbrev pub TellsDirectory : List Kept → Place → DirectoryEntry → Type 0
 TellsDirectory entries place Unwanted = (has_parent entries place ≡ true) × IsDirectoryOf entries place None
 TellsDirectory entries place (At i) = (has_parent entries place ≡ true) × IsDirectoryOf entries place (Some i)
 TellsDirectory entries place Missing = has_parent entries place ≡ false
 
--- where the directory of each entry has its own
+-- for each entry, the index of its directory's entry; None if the directory needs none
 pub record AreDirectories (entries : List Kept) (places : List (Option ℕ)) : Type 0 where
   pub len : length places ≡ length entries
   pub each : (i : ℕ) (kept : Kept) (at : Option ℕ) → slice_get entries i ≡ Some kept → slice_get places i ≡ Some at →
@@ -61,13 +61,13 @@ pub record AreDirectories (entries : List Kept) (places : List (Option ℕ)) : T
 abbrev pub NamesNone : List Kept → ℕ → Type 0
 NamesNone entries n = (tree : Tree) (file : FileId) → IsFileOf tree entries n file → ⊥
 
--- for each entry the file that it names, where it was found
+-- for each entry, the file that it names, if that was found
 pub record AreFound (tree : Tree) (entries : List Kept) (found : List (Option FileId)) : Type 0 where
   pub len : length found ≡ length entries
   pub each : (i : ℕ) (kept : Kept) (file : FileId) → slice_get entries i ≡ Some kept →
       slice_get found i ≡ Some (Some file) → IsFileOf tree entries kept.number.0 file
 
--- a way up from the entry at a place to a number that names this file, by the places of the entries on it
+-- a way up from the entry at an index to a number that names this file, as the indices of the entries on the way
 pub record IsWayTo (tree : Tree) (entries : List Kept) (place : ℕ) (way : List ℕ) (file : FileId) : Type 0 where
   pub top : ℕ
   pub climbs : Climbs entries (number_at entries place).0 (map (number_at entries) way) top

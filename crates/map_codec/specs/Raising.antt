@@ -1,5 +1,5 @@
--- What a daemon serves that is restored from an image over a manifest, and what stands against it. (This project's own;
--- EdenFS's daemon takes what it is sent as it is.)
+-- What a daemon serves that is restored from an image over a manifest, and why an image is not restored. (This
+-- project's own; EdenFS's daemon takes what it is sent as it is.)
 use Rattle.std.specs.Prelude.{◌≡◌, ◌≢◌, ℕ, ◌<◌, ◌&&◌, Bool, true, false, nat_lt, nat_le, List, slice_get, Option, Some, None, is_some, Result, Ok, Err}
 use Rattle.std.specs.List.{AllByRecursion, list_all}
 use Rattle.eden_base.specs.Limits.{end_of_numbers}
@@ -31,7 +31,7 @@ has_parent entries (Unlinked file) = true
 abbrev pub have_parents : List Kept → Bool
 have_parents entries = list_all (λ (kept : Kept). has_parent entries kept.place) entries
 
--- a mark is of a file of the tree that no link gives, and not of the root
+-- a place is linked, or its mark names an unlinked file of the tree
 abbrev pub is_right_mark : Tree → Place → Bool
 is_right_mark tree (Linked parent name) = true
 is_right_mark tree (Unlinked file) = is_some (kind_of tree file) && is_unlinked tree file
@@ -44,7 +44,7 @@ HasFile tree entries kept =
 abbrev pub HaveFiles : Tree → List Kept → Type 0
 HaveFiles tree entries = AllByRecursion (HasFile tree entries) entries
 
--- two entries name one file; so do two of one place
+-- two entries name one file, as two entries of one place would
 pub record AreOfOneFile (tree : Tree) (entries : List Kept) : Type 0 where
   pub one : ℕ
   pub other : ℕ
@@ -57,23 +57,23 @@ pub record AreOfOneFile (tree : Tree) (entries : List Kept) : Type 0 where
   pub one_names : IsFileOf tree entries one_kept.number.0 file
   pub other_names : IsFileOf tree entries other_kept.number.0 file
 
--- a next number is above each entry
+-- the next number is above that of each entry
 abbrev pub are_below : ℕ → List Kept → Bool
 are_below next entries = list_all (λ (kept : Kept). nat_lt kept.number.0 next) entries
 
--- the next number may be given, or is the end of numbers, and is above each entry
+-- the next number is from 2 to the end of numbers, and above that of each entry
 abbrev pub is_next : ℕ → List Kept → Bool
 is_next next entries =
     nat_le 2 next && nat_le next end_of_numbers && are_below next entries
 
--- entries and a next number that may be served over a tree
+-- these entries and this next number may be served over the tree
 pub record AreRaisable (tree : Tree) (entries : List Kept) (next : ℕ) : Type 0 where
   pub parents : have_parents entries ≡ true
   pub files : HaveFiles tree entries
   pub apart : AreOfOneFile tree entries → ⊥
   pub next_is : is_next next entries ≡ true
 
--- the first that stands against them, if anything does
+-- this is the first fault of these entries and this next number, or None if they have none
 abbrev pub StandsAgainst : Tree → List Kept → ℕ → Option RaiseFault → Type 0
 StandsAgainst tree entries next None = AreRaisable tree entries next
 StandsAgainst tree entries next (Some NoParent) = have_parents entries ≡ false
@@ -85,7 +85,7 @@ StandsAgainst tree entries next (Some NumberTooHigh) =
     × (is_next next entries ≡ false)
 StandsAgainst tree entries next (Some fault) = ⊥
 
--- what is told where this was found against entries: out of memory is a cause of its own
+-- the fault that was found in the entries, if any, or NoMemory if memory was refused
 abbrev pub entries_told : Result (Option RaiseFault) Lack → Option RaiseFault
 entries_told (Ok found) = found
 entries_told (Err lack) = Some NoMemory
@@ -100,11 +100,12 @@ pub record IsRaisable (m : Manifest) (image : Image) : Type 0 where
   pub tree : TellsATree m image
   pub entries : AreRaisable (tree_told m image) image.entries image.next_number
 
--- what is restored: what the image tells, of which nothing is loaded yet
+-- what is restored from an image; nothing is loaded yet
 abbrev pub raised : Manifest → Image → ℕ → ServedState
 raised m image limit = served_of image.entries image.next_number limit (tree_told m image)
 
--- the first cause that holds, in their order; memory is wanted from the second on
+-- an image is not restored for this cause: the first that applies; or NoMemory, if the commit is right and no change is
+-- bad in itself
 abbrev pub IsRaiseRefusal : Manifest → Image → RaiseFault → Type 0
 IsRaiseRefusal m image OtherCommit = image.commit ≢ m.commit
 IsRaiseRefusal m image (BadChange place) = (image.commit ≡ m.commit) × IsBadChange m image.changes (Some place)
@@ -112,7 +113,7 @@ IsRaiseRefusal m image NoMemory = (image.commit ≡ m.commit) × (bad_itself m i
 IsRaiseRefusal m image fault =
     TellsATree m image × StandsAgainst (tree_told m image) image.entries image.next_number (Some fault)
 
--- a file that stands twice in a list
+-- a file stands in the list twice
 pub record IsTwice (files : List FileId) : Type 0 where
   pub one : ℕ
   pub other : ℕ
@@ -121,7 +122,7 @@ pub record IsTwice (files : List FileId) : Type 0 where
   pub one_stands : slice_get files one ≡ Some file
   pub other_stands : slice_get files other ≡ Some file
 
--- whether none does
+-- this is whether no file stands in the list twice
 abbrev pub TellsApart : List FileId → Bool → Type 0
 TellsApart files true = IsTwice files → ⊥
 TellsApart files false = IsTwice files

@@ -5,7 +5,8 @@ use Rattle.checkout.specs.Changes.{AreChanges}
 use Rattle.fuse_ops.specs.Served.{ServedState}
 use Rattle.map_image.specs.declared.image.Image.{Image}
 
--- all that is kept, with places and counts, the next number, and what tells the checkout from its manifest
+-- this is the image of what is served: all that is kept, with places and counts, the next number, and how the checkout
+-- differs from its manifest
 pub record IsImageOf (served : ServedState) (at : ℕ) (image : Image) : Type 0 where
   pub commit : image.commit ≡ served.tree.manifest.commit
   pub generation : image.generation ≡ at

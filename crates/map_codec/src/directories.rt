@@ -1,4 +1,4 @@
-//! Where the entries of an image stand among each other.
+//! The indices of the entries of an image in which their directories stand.
 ghost use Rattle.std.specs.Prelude.{◌≡◌, ◌<◌, None, true, false, IfOk, IfSome, MatchOption, length};
 ghost use Rattle.entry_table.specs.Entries.{entry_of};
 ghost use Rattle.map_image.specs.Fit.{rises, entry_follows};
@@ -9,7 +9,7 @@ use eden_base::{NoMemory, Number, Place};
 use inode_map::Kept;
 use std::alloc::Global;
 
-/// Returns where the entry of a number stands, if the number has one: at `near`, or where a search finds it.
+/// Returns the index of the entry of `number`, if there is one. Looks at index `near` first, and then searches.
 fn place_of(entries: &[Kept], near: usize, number: Number) -> Option<usize>
     requires rise { rises entry_follows None entries.now ≡ true }
     ensures place { MatchOption result (entry_of entries.now number.0 ≡ None) (IsPlaceOf entries.now number.0) }
@@ -24,13 +24,13 @@ fn place_of(entries: &[Kept], near: usize, number: Number) -> Option<usize>
 
 /// The index of the entry of a place's directory, if that directory needs an entry.
 pub(crate) enum DirectoryEntry {
-    /// The directory is the root, or the place is a mark and in none.
+    /// The directory is the root, or the place is a mark, which is in no directory.
     Unwanted,
     At(usize),
     Missing,
 }
 
-/// Returns the index of the entry of a place's directory. It looks at index `near` first, and then searches.
+/// Returns the index of the entry of the directory in which `place` is. Looks at index `near` first, and then searches.
 fn directory_of(entries: &[Kept], near: usize, place: &Place) -> DirectoryEntry
     requires rise { rises entry_follows None entries.now ≡ true }
     ensures { TellsDirectory entries.now place.now result }
@@ -49,8 +49,9 @@ fn directory_of(entries: &[Kept], near: usize, place: &Place) -> DirectoryEntry
     }
 }
 
-/// Returns where the directory of each entry has its own, or nowhere if it wants none; nothing where one is missing.
-/// Entries beside each other often stand in one directory, so it looks first where the last one was found.
+/// Returns, for each entry, the index of its directory's entry, or none if its directory needs no entry. Returns no
+/// list if such an entry is missing. Entries beside each other often stand in one directory, so the index that was
+/// found last is looked at first.
 pub(crate) fn directories(
     alloc: Global,
     entries: &[Kept],

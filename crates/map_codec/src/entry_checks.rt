@@ -1,4 +1,4 @@
-//! What stands against the entries of an image, once the tree is there that they are restored over.
+//! Checks of the entries of an image, over the tree in which they are to be served.
 ghost use Rattle.std.specs.Prelude.{◌≡◌};
 ghost use Rattle.map_codec.specs.Raising.{are_below, are_right_marks, is_next, is_right_mark, TellsApart};
 
@@ -6,7 +6,7 @@ use checkout::Tree;
 use eden_base::{END_OF_NUMBERS, FileId, Place};
 use inode_map::Kept;
 
-/// Returns whether a mark is of a file of the tree to which no name leads, and not of the root.
+/// Returns whether `place` is linked, or its mark names an unlinked file of `tree`.
 fn is_right_mark(tree: &Tree, place: &Place) -> bool
     ensures { result ≡ is_right_mark tree.now place.now }
 {
@@ -18,7 +18,7 @@ fn is_right_mark(tree: &Tree, place: &Place) -> bool
     }
 }
 
-/// Returns whether each mark is of a file of the tree to which no name leads, and not of the root.
+/// Returns whether each file that a mark names is an unlinked file of `tree`.
 pub(crate) fn are_right_marks(tree: &Tree, entries: &[Kept]) -> bool
     ensures { result ≡ are_right_marks tree.now entries.now }
 {
@@ -30,7 +30,7 @@ pub(crate) fn are_right_marks(tree: &Tree, entries: &[Kept]) -> bool
     true
 }
 
-/// Returns whether no file stands twice among these. It sorts them where they are.
+/// Returns whether no file is in `files` twice. Sorts the list in its own memory.
 pub(crate) fn are_apart(files: Vec<FileId>) -> bool
     ensures { TellsApart files.items result }
 {
@@ -44,14 +44,14 @@ pub(crate) fn are_apart(files: Vec<FileId>) -> bool
     true
 }
 
-/// Returns whether all entries are below a number.
+/// Returns whether the number of each entry is below `next`.
 fn are_below(next: u64, entries: &[Kept]) -> bool
     ensures { result ≡ are_below next entries.now }
 {
     entries.iter().all(|kept| kept.number.0 < next)
 }
 
-/// Returns whether a number may come next: it is above all entries, and not above the end of numbers.
+/// Returns whether `next` may be the next number: it is from 2 to the end of numbers, and above that of each entry.
 pub(crate) fn is_next(next: u64, entries: &[Kept]) -> bool
     ensures { result ≡ is_next next entries.now }
 {

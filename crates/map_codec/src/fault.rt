@@ -1,12 +1,14 @@
 //! What stops an image from being restored, and a handover.
 use thiserror::Error;
 
-/// Why nothing that a daemon could serve is restored from an image. The first that holds is told, in this order.
+/// Why nothing that a daemon could serve is restored from an image. If several variants apply, the first in this order
+/// is the fault.
 #[derive(Clone, Copy, Debug, PartialEq, Eq, Error)]
 pub enum RaiseFault {
     #[error("the image is of another commit")]
     OtherCommit,
-    /// Its place: 0 for the next file, and then the files that were made and the links that were changed, from 1.
+    /// The position of the change: 0 for the next file; from 1 on the files that were made and then the names that were
+    /// changed.
     #[error("change {0} is bad")]
     BadChange(usize),
     #[error("an entry's directory is not known")]

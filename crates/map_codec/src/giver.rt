@@ -11,7 +11,7 @@ use fuse_ops::Served;
 use map_image::{Image, WriteFault, is_version, write};
 use std::alloc::Global;
 
-/// Returns what is told where writing has this fault.
+/// Returns the fault of a handover for a fault of writing.
 fn write_told(fault: WriteFault) -> HandoverFault
     ensures { result ≡ told_of_write fault }
 {
@@ -21,7 +21,7 @@ fn write_told(fault: WriteFault) -> HandoverFault
     }
 }
 
-/// Writes an image in a version.
+/// Writes an image in this version.
 fn text_of(alloc: Global, image: &Image, version: u16) -> Result<Vec<u8>, HandoverFault>
     requires fit { IsFit image.now }
     ensures text { IfOk result (λ bytes. IsImageText image.now version bytes.items) }
@@ -34,8 +34,8 @@ fn text_of(alloc: Global, image: &Image, version: u16) -> Result<Vec<u8>, Handov
     }
 }
 
-/// Hands over what a daemon serves at a generation: returns the bytes of its image in a version. What is served stays
-/// as it is.
+/// Hands over what a daemon serves at a generation: returns the text of its image in this version. What is served is
+/// unchanged.
 pub fn hand_over(
     alloc: Global,
     served: &Served,

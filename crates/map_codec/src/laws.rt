@@ -1,7 +1,7 @@
-//! What holds of the definitions alone. A caller's proof that wants a law calls its function, which does nothing.
+//! Laws of the definitions alone. A caller whose proof needs a law calls its function, which does nothing.
 ghost use Rattle.map_codec.specs.Laws.{CanBeTaken, HandedIsNoLonger, TakenKnows};
 
-/// States that what is taken over of what was handed over knows the same, and that nothing stands against taking it.
+/// States that a daemon that takes over knows what the other one knew, and that nothing prevents the takeover.
 pub fn handover_keeps_what_is_known()
     ensures keeps { TakenKnows }
     ensures taken { CanBeTaken }

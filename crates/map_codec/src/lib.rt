@@ -1,5 +1,5 @@
-//! The image of what a daemon serves, and what is served restored from an image; and both as the bytes that one daemon
-//! hands to the next.
+//! The image of what a daemon serves, and the restoring of what is served from an image; both by way of the bytes that
+//! one daemon hands to the next.
 #![tactic(auto)]
 
 mod directories;

@@ -11,8 +11,9 @@ use eden_base::{FileId, NoMemory, Place};
 use inode_map::Kept;
 use std::alloc::Global;
 
-/// Climbs from the entry at a place to one whose file is known, keeps the places on the way, and returns that file. A
-/// way of more steps than there are entries goes in a circle.
+/// Climbs from the entry at index `place` to one whose file is known, and returns that file. `way` becomes the indices
+/// of the entries that were climbed. If the way has more steps than there are entries, it goes in a circle, and none is
+/// returned.
 fn climb(
     entries: &[Kept],
     directories: &[Option<usize>],
@@ -51,8 +52,8 @@ fn climb(
     }
 }
 
-/// Finds the file of the entry at a place: climbs to a known file, comes down again by the names on the way, and keeps
-/// each file that it comes to at its entry's place.
+/// Returns the file that the entry at index `place` names, if any. Climbs to a known file, comes down again by the
+/// names on the way, and keeps each file at its entry's index in `found`.
 fn locate(
     tree: &Tree,
     entries: &[Kept],
@@ -83,8 +84,8 @@ fn locate(
     Some(file)
 }
 
-/// Returns the file that each entry names in a tree; nothing where one names none. Takes its memory first, and climbs
-/// at most two steps for each entry.
+/// Returns the file that each entry names in `tree`, or no list if an entry names none. Takes its memory first, and
+/// climbs at most two steps for each entry.
 pub(crate) fn named_files(
     alloc: Global,
     tree: &Tree,

@@ -17,7 +17,7 @@ use manifest::Manifest;
 use map_image::Image;
 use std::alloc::Global;
 
-/// Returns what stands against entries and a next number over a tree, if anything does.
+/// Returns the first fault of entries and a next number over `tree`, if they have one.
 fn entry_fault(
     alloc: Global,
     tree: &Tree,
@@ -47,7 +47,7 @@ fn entry_fault(
     Ok(None)
 }
 
-/// Makes the tree that an image tells over a manifest.
+/// Makes the tree that `image` tells over `manifest`.
 fn tree_told(alloc: Global, image: &Image, manifest: &Manifest) -> Result<Tree, RaiseFault>
     ensures tree { IfOk result (λ tree. tree ≡ tree_told manifest.now image.now) }
     ensures is_tree { IfOk result IsTree }
@@ -64,7 +64,7 @@ fn tree_told(alloc: Global, image: &Image, manifest: &Manifest) -> Result<Tree, 
     }
 }
 
-/// Returns what stands against entries, where this was found; out of memory is a cause of its own.
+/// Returns the fault that was found in the entries, if any, or `NoMemory` if memory was refused.
 fn entries_told(found: Result<Option<RaiseFault>, NoMemory>) -> Option<RaiseFault>
     ensures { result ≡ entries_told found }
 {
@@ -74,7 +74,7 @@ fn entries_told(found: Result<Option<RaiseFault>, NoMemory>) -> Option<RaiseFaul
     }
 }
 
-/// Makes the tree that an image tells, where the image's entries may be served over it.
+/// Makes the tree that `image` tells, if the image's entries may be served over it.
 fn raisable_tree(alloc: Global, image: &Image, manifest: &Manifest) -> Result<Tree, RaiseFault>
     requires fit { IsFit image.now }
     ensures tree { IfOk result (λ tree. tree ≡ tree_told manifest.now image.now) }
@@ -93,7 +93,7 @@ fn raisable_tree(alloc: Global, image: &Image, manifest: &Manifest) -> Result<Tr
     }
 }
 
-/// Returns an image's entries, and lets the rest of it go.
+/// Returns the entries of `image`, and drops the rest.
 fn entries_of(image: Image) -> Vec<Kept>
     ensures { result.items ≡ image.entries }
 {
@@ -101,7 +101,7 @@ fn entries_of(image: Image) -> Vec<Kept>
 }
 
 /// Restores what a daemon serves from an image, over the manifest that the daemon was handed. At most `limit`
-/// attributes are loaded at once, or one if that is 0; none is at first.
+/// attributes are loaded at once, or 1 if `limit` is 0; none are loaded at first.
 pub fn raise(
     alloc: Global,
     image: Image,

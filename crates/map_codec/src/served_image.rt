@@ -10,7 +10,7 @@ use fuse_ops::Served;
 use map_image::{Entries, Image};
 use std::alloc::Global;
 
-/// Returns the entries of what is served.
+/// Returns a copy of the entries of what is served.
 fn entries_of(alloc: Global, served: &Served) -> Result<Entries, NoMemory>
     ensures entries { IfOk result (λ entries. entries ≡ served.now.map.entries) }
     ensures named { IfOk result (AllByRecursion IsNamedEntry) }
@@ -19,8 +19,8 @@ fn entries_of(alloc: Global, served: &Served) -> Result<Entries, NoMemory>
     Ok(Entries::of(kept))
 }
 
-/// Makes the image of what a daemon serves at a generation: every number that it keeps, whether it is loaded or not.
-/// Of the checkout it has what differs from its manifest.
+/// Makes the image of what a daemon serves at a generation. The image has every number that is kept, whether its
+/// attributes are loaded or not, and how the checkout differs from its manifest.
 pub fn image_of(alloc: Global, served: &Served, generation: u64) -> Result<Image, NoMemory>
     ensures image { IfOk result (IsImageOf served.now generation) }
     ensures fit { IfOk result IsFit }

@@ -13,7 +13,7 @@ use manifest::Manifest;
 use map_image::{Image, ImageFault, ImageReader, read, read_header};
 use std::alloc::Global;
 
-/// Returns whether the header of bytes is whole and right, of this generation and of the manifest's commit.
+/// Returns whether the header of `bytes` is whole and right, with this generation and the manifest's commit.
 fn has_right_header(bytes: &[u8], manifest: &Manifest, generation: u64) -> bool
     ensures { IsTrue result ↔ HasRightHeader manifest.now generation bytes.now }
 {
@@ -23,7 +23,7 @@ fn has_right_header(bytes: &[u8], manifest: &Manifest, generation: u64) -> bool
     }
 }
 
-/// Converts a fault of reading to the fault of the takeover.
+/// Returns the fault of a takeover for a fault of reading.
 fn read_told(fault: ImageFault) -> HandoverFault
     ensures { result ≡ told_of_read fault }
 {
@@ -33,7 +33,7 @@ fn read_told(fault: ImageFault) -> HandoverFault
     }
 }
 
-/// Reads an image from bytes that are all of it.
+/// Reads an image from `bytes`, which have to be all of it.
 fn image_told(alloc: Global, bytes: &[u8]) -> Result<Image, HandoverFault>
     ensures text { IfOk result (λ image. (version : ℕ) × IsImageText image version bytes.now) }
     ensures fit { IfOk result IsFit }
@@ -46,7 +46,7 @@ fn image_told(alloc: Global, bytes: &[u8]) -> Result<Image, HandoverFault>
     }
 }
 
-/// Returns the image that a reader took. Takes no memory, so what is told is never that it ran out.
+/// Returns the image that a reader took. Takes no memory, so that the fault is never `NoMemory`.
 fn image_fed(reader: ImageReader) -> Result<Image, HandoverFault>
     ensures text { IfOk result (λ image. (version : ℕ) × IsImageText image version reader) }
     ensures fit { IfOk result IsFit }
@@ -60,7 +60,7 @@ fn image_fed(reader: ImageReader) -> Result<Image, HandoverFault>
     }
 }
 
-/// Returns what is told where raising has this fault.
+/// Returns the fault of a takeover for a fault of restoring.
 fn raise_told(fault: RaiseFault) -> HandoverFault
     ensures { result ≡ told_of_raise fault }
 {
@@ -70,7 +70,7 @@ fn raise_told(fault: RaiseFault) -> HandoverFault
     }
 }
 
-/// Restores what is served from an image over a manifest.
+/// Restores what is served from `image`, over `manifest`.
 fn served_again(
     alloc: Global,
     image: Image,
@@ -90,8 +90,8 @@ fn served_again(
     }
 }
 
-/// Takes over what `bytes` tell, over a manifest, where they are an image of this generation. At most `limit`
-/// attributes are loaded at once, or one if that is 0; none is at first. The header is looked at before memory is taken.
+/// Takes over what `bytes` tell over `manifest`, if they are an image of this generation. At most `limit` attributes
+/// are loaded at once, or 1 if `limit` is 0; none are loaded at first. The header is read before memory is taken.
 pub fn take_over(
     alloc: Global,
     bytes: &[u8],
@@ -109,8 +109,8 @@ pub fn take_over(
     served_again(alloc, image, manifest, limit)
 }
 
-/// Takes over what the bytes tell that a reader took, as `take_over` does. Memory is taken once the image is whole and
-/// of this generation.
+/// Takes over from the bytes that a reader took, as `take_over` does. Memory is taken only if the image is whole and of
+/// this generation.
 pub fn take_over_read(
     alloc: Global,
     reader: ImageReader,

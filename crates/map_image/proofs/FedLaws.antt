@@ -97,7 +97,7 @@ not_whole (AtEntries form header left) b tail = refl
 not_whole (AtMade header left) b tail = refl
 not_whole (AtLinks header left) b tail = refl
 
--- with bytes behind them, those that were taken give this
+-- the bytes that were taken, with more after them, give this
 taken_gives : (r : Reading) (taken tail : List ℕ) → IsReading taken r tail → image_of_bytes taken ≡ resumed r tail
 taken_gives r taken tail is = ap image_of_bytes (sym (append-nil taken)) ∙ is.goes_on [] ∙ ap (resumed r) (append-nil tail)
 
@@ -135,7 +135,7 @@ stands_at taken faults.BadName is = one_stands taken faults.BadName is
 stands_at taken faults.BadMark is = one_stands taken faults.BadMark is
 stands_at taken faults.ZeroUse is = one_stands taken faults.ZeroUse is
 
--- a fault that lasts is no want of memory
+-- a fault that lasts is another than NoMemory
 pub is_other : (fault : ImageFault) → lasting fault ≡ Some fault → fault ≡ faults.NoMemory → ⊥
 is_other fault lasts is =
     let none : lasting faults.NoMemory ≡ Some faults.NoMemory = subst (λ (f : ImageFault). lasting f ≡ Some f) is lasts in
@@ -152,7 +152,7 @@ takes_at old piece new faults.BadName lasts is = is
 takes_at old piece new faults.BadMark lasts is = is
 takes_at old piece new faults.ZeroUse lasts is = is
 
--- a fault that stands is told again
+-- a fault that stands is returned again
 pub told_again : {X : Type 0} (taken : List ℕ) (fault other : ImageFault) → IsFailed taken fault → standing_fault taken ≡ Some other → (let told : Result X ImageFault = Err fault in told) ≡ Err other
 told_again {X = X} taken fault other is stands =
     let same : Some fault ≡ Some other = sym (one_stands taken fault is) ∙ stands in
@@ -164,7 +164,7 @@ none_told r taken tail fault is stands =
     let same : None ≡ Some fault = sym (none_stands r taken tail is) ∙ stands in
     absurd cc
 
--- a fault that is no want of memory
+-- a fault other than NoMemory
 pub fed_refused : (old new : Reading) (tail piece rest : List ℕ) (fault : ImageFault) → (fault ≡ faults.NoMemory → ⊥) → FeedsAt old tail piece new rest fault → IsRefused old (tail ++ piece) fault
 fed_refused old new tail piece rest faults.NoMemory other feeds = absurd (other refl)
 fed_refused old new tail piece rest faults.BadMagic other feeds = feeds

@@ -1,4 +1,4 @@
--- Marks and names: what is read is spelled so, and what is spelled so is read.
+-- Marks and names: what is read has these bytes as its text, and each text is read.
 use Rattle.std.proofs.Common.{◌≡◌, ℕ, ◌^◌, ◌<◌, ◌≤◌, Bool, true, false, cond, ltb, eqb, nat_le, List, length, Option, Some, None, Result, Ok, Err, refl, arith}
 use Rattle.std.specs.Prelude.{is_some}
 use Rattle.std.specs.Int.{w16, w32, w64}

@@ -16,7 +16,7 @@ pub record IsHeaded (bytes : List ℕ) (image : Image) : Type 0 where
   pub commit : header.commit ≡ image.commit
   pub generation : header.generation ≡ image.generation
 
--- the fields in front of the lists, one behind the other
+-- the fields in front of the lists, one after the other
 header_read : (bytes fields : List ℕ) (form : VersionForm × List ℕ) (header : Header × List ℕ) → magic_at bytes ≡ Ok fields → form_at fields ≡ Ok form → header_at form.1 ≡ Ok header → header_of_bytes bytes ≡ Ok header.0
 unfolding header_of_bytes
 header_read bytes fields form header first second third = rw (first, second, third) refl

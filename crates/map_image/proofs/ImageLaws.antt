@@ -170,7 +170,7 @@ record IsBody (h : Header) (entries : List Kept) (image : Image) : Type 0 where
   entries_are : image.entries ≡ entries
   changes : GoodChanges image.changes.next_file.0 image.changes
 
--- what stands behind the version, in a form
+-- what stands after the version, in a form
 abbrev behind_form : VersionForm → List ℕ → Result (Image × List ℕ) ImageFault
 behind_form form bytes = header_at bytes >>= λ header. list_at (entry_at form) header.1 >>= λ entries. changes_at header.0.next_file entries.1 >>= λ changes. Ok (image_with header.0 entries.0 changes.0, changes.1)
 

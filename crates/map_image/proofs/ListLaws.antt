@@ -1,4 +1,4 @@
--- Lists of members: what is read is spelled so, and what is spelled so is read.
+-- Lists of members: what is read has these bytes as its text, and each text is read.
 use Rattle.std.proofs.Common.{◌≡◌, ℕ, zero, suc, ◌<◌, Bool, true, List, [], ◌∷◌, ◌++◌, length, Option, Some, None, Ok, refl, sym, ap, ◌∙◌, append_assoc}
 use Rattle.std.specs.List.{flat_map, AllByRecursion}
 use Rattle.std.proofs.lemmas.Bool.{and_from, and_parts}
@@ -16,7 +16,7 @@ use Rattle.map_image.proofs.FieldLaws.{of_four}
 use Rattle.map_image.specs.Feeding.{Member}
 use Rattle.map_image.proofs.MemberLaws.{Next}
 
--- members are read and spelled, each behind the last one
+-- members are read and written, each after the last one
 abbrev pub AreCodecs : {X : Type 0} → Member X → (X → List ℕ) → (X → Type 0) → (Option X → X → Bool) → Type 0
 AreCodecs {X} member text Good follows = (last : Option X) → IsCodec text (Next Good follows last) (member last)
 

@@ -1,4 +1,4 @@
--- Entries, made files and changed names: what is read is spelled so, and what is spelled so is read.
+-- Entries, made files and changed names: what is read has these bytes as its text, and each text is read.
 use Rattle.std.proofs.Common.{◌≡◌, ℕ, ◌%◌, ◌^◌, ◌<◌, ◌≤◌, Bool, true, false, ltb, List, [], ◌++◌, Option, Some, None, Ok, refl, sym, ap, arith}
 use Rattle.std.specs.Int.{w16, w64}
 use Rattle.std.proofs.lemmas.Bool.{ltb-false}
@@ -28,7 +28,7 @@ use Rattle.map_image.specs.Versions.{IsForm, width_of}
 use Rattle.map_image.specs.declared.version.VersionForm.{VersionForm}
 use Rattle.map_image.proofs.Perms.{perm_seen, see_perm}
 
--- a good member behind the last one
+-- a good member after the last one
 pub record Next {X : Type 0} (Good : X → Type 0) (follows : Option X → X → Bool) (last : Option X) (x : X) : Type 0 where
   pub good : Good x
   pub rises : follows last x ≡ true
@@ -202,7 +202,7 @@ abbrev file_of : Option FileId → ℕ
 file_of None = 0
 file_of (Some file) = file.0
 
--- what stands behind the mark
+-- what stands after the mark
 abbrev behind_mark : Option FileId → List ℕ
 behind_mark None = []
 behind_mark (Some file) = number_bytes w64 file.0

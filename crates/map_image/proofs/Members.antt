@@ -1,4 +1,4 @@
--- Members of a list that were put one behind the other, and how long they are.
+-- Members of a list that were put one after the other, and how long they are.
 use Rattle.std.proofs.Common.{All, ◌≡◌, ℕ, ◌+◌, ◌<◌, ◌≤◌, List, [], ◌∷◌, ◌++◌, length, take, drop, get_or, sym, ap, subst, ◌∙◌, length-append, arith}
 use Rattle.std.proofs.lemmas.Grind.{common_steps}
 use Rattle.std.proofs.lemmas.List.{append-nil, take_all, take-append-drop}
@@ -23,13 +23,13 @@ front_is_short text xs i =
     let len : length (flat_map text xs) ≡ length (flat_map text (take i xs)) + length (flat_map text (drop i xs)) = ap length parts ∙ length-append (flat_map text (take i xs)) (flat_map text (drop i xs)) in
     omega (arith, len)
 
--- a member has room behind those before it
+-- a member has room after those before it
 pub has_room : {X : Type 0} (text : X → List ℕ) (xs : List X) (i : ℕ) (d : X) → i < length xs → length (flat_map text (take i xs)) + length (text (get_or xs i d)) ≤ length (flat_map text xs)
 has_room text xs i d lt =
     let len : length (flat_map text (take (i + 1) xs)) ≡ length (flat_map text (take i xs)) + length (text (get_or xs i d)) = ap length (one_more text xs i d lt) ∙ length-append (flat_map text (take i xs)) (text (get_or xs i d)) in
     omega (arith, len, front_is_short text xs (i + 1))
 
--- these members were put behind what was there
+-- these members were put after what was there
 pub record ArePut {X : Type 0} (text : X → List ℕ) (Fits : X → Type 0) (before now : Vec ℕ) (xs : List X) : Type 0 where
   pub lines : Puts before now (flat_map text xs)
   pub fit : All Fits xs
@@ -37,7 +37,7 @@ pub record ArePut {X : Type 0} (text : X → List ℕ) (Fits : X → Type 0) (be
 pub none_put : {X : Type 0} (text : X → List ℕ) (Fits : X → Type 0) (out : Vec ℕ) → ArePut text Fits out out []
 none_put text Fits out = record { lines = nothing_put out; fit = λ k d lt. absurd (omega arith) }
 
--- one more
+-- one more member was put after these
 pub one_put : {X : Type 0} (text : X → List ℕ) (Fits : X → Type 0) (before mid new : Vec ℕ) (xs : List X) (i : ℕ) (d : X) → i < length xs → ArePut text Fits before mid (take i xs)
     → Puts mid new (text (get_or xs i d)) → Fits (get_or xs i d) → ArePut text Fits before new (take (i + 1) xs)
 one_put text Fits before mid new xs i d lt were put fits =
@@ -48,7 +48,7 @@ one_put text Fits before mid new xs i d lt were put fits =
       fit = rw more (All-push Fits (take i xs) x were.fit fits);
     }
 
--- so it is for the member that stands at a place
+-- the member at an index has room after those before it
 pub room_for : {X : Type 0} (text : X → List ℕ) (xs : List X) (i : ℕ) (x : X) → i < length xs → x ≡ get_or xs i x → length (flat_map text (take i xs)) + length (text x) ≤ length (flat_map text xs)
 room_for {X = X} text xs i x lt is = subst (λ (y : X). length (flat_map text (take i xs)) + length (text y) ≤ length (flat_map text xs)) (sym is) (has_room text xs i x lt)
 

@@ -1,4 +1,4 @@
--- From stage to stage: what is resumed behind a step is what was resumed before it.
+-- From stage to stage: what is resumed after a step is what was resumed before it.
 use Rattle.std.proofs.Common.{◌≡◌, ℕ, ◌<◌, Bool, true, false, eqb, ltb, List, [], ◌++◌, length, Some, Result, Ok, Err, inl, inr, refl, sym, ap, ◌∙◌, length-append, arith}
 use Rattle.std.proofs.lemmas.Bool.Decides.{nat_tests}
 use Rattle.byte_codec.specs.Reading.{◌>>=◌, number_at}
@@ -221,7 +221,7 @@ links_stop old header count bytes fault was stops =
     stop_as link_at old.links.items count old bytes fault
     (λ f r. refused_at old (AtLinks header count) bytes f was r.lasts (λ more. list_fails link_at (behind_links header old.entries.items old.made.items) old.links.items count bytes more f r)) stops
 
--- bytes behind the last field
+-- bytes after the last field
 some_behind : (bytes more : List ℕ) → 0 < length bytes → ltb 0 (length (bytes ++ more)) ≡ true
 some_behind bytes more lt = let longer = length-append bytes more in grind (arith, nat_tests)
 

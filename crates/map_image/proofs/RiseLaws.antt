@@ -1,4 +1,4 @@
--- Members that are looked at one by one, each behind those before it.
+-- Members that are looked at one by one, each after those before it.
 use Rattle.std.proofs.Common.{All, ◌≡◌, ◌<◌, ◌≤◌, ℕ, suc, ◌+◌, Bool, true, false, ◌&&◌, List, [], ◌∷◌, ◌++◌, length, take, drop, get_or, Option, Some, None, sym, ap, subst, ◌∙◌, drop-cons, arith}
 use Rattle.std.proofs.lemmas.Grind.{common_steps}
 use Rattle.std.proofs.lemmas.List.{drop_all}
@@ -7,7 +7,7 @@ use Rattle.map_image.specs.Fit.{rises}
 use Rattle.map_image.specs.ImageReading.{last_of}
 use Rattle.map_image.proofs.Loop.{last_pushed}
 
--- the members from a place on rise behind those before it exactly where all rise
+-- the members from a place on rise after those before it exactly where all rise
 abbrev pub RisesFrom : {X : Type 0} → (Option X → X → Bool) → List X → ℕ → Type 0
 RisesFrom follows xs i = rises follows (last_of (take i xs)) (drop i xs) ≡ rises follows None xs
 
@@ -43,7 +43,7 @@ one_more_of P xs i x lt is all one =
     let more : take (i + 1) xs ≡ take i xs ++ get_or xs i x ∷ [] = grind (arith, common_steps) in
     rw more (All-push P (take i xs) (get_or xs i x) all (subst P is one))
 
--- so it is where the member at a place is looked at by value
+-- the members rise so far if the one at an index, looked at by value, follows the last one
 pub rises_at : {X : Type 0} (follows : Option X → X → Bool) (xs : List X) (i : ℕ) (d : X) → i < length xs → follows (last_of (take i xs)) (get_or xs i d) ≡ true → RisesFrom follows xs i → RisesFrom follows xs (i + 1)
 rises_at follows xs i d lt fact so_far =
     let one = step follows xs i d lt in

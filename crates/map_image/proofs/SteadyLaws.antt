@@ -1,4 +1,4 @@
--- Readers of a field: more bytes behind it change nothing of what was read, nor of a fault but `Short`.
+-- Readers of a field: more bytes after it change nothing of what was read, nor of a fault but `Short`.
 use Rattle.std.proofs.Common.{◌≡◌, ℕ, ◌≤◌, Bool, true, false, cond, ltb, List, [], ◌∷◌, ◌++◌, length, take, drop, Some, Result, Ok, Err, ◌⊎◌, inl, inr, refl, sym, ap, ◌∙◌, length-append, arith}
 use Rattle.std.specs.Int.{Width, byte_len}
 use Rattle.std.specs.Cmp.Lexicographic.{pointwise}
@@ -29,7 +29,7 @@ pub record IsSteady {X : Type 0} (read : Reader X) : Type 0 where
 
 -- ---- how readers are joined
 
--- a step that failed, or the one behind it
+-- a step that failed, or the one after it
 bind_err : {F A B : Type 0} (r : Result A F) (f : A → Result B F) (fault : F) → (r >>= f) ≡ Err fault → (r ≡ Err fault) ⊎ ((x : A) × (r ≡ Ok x) × (f x ≡ Err fault))
 bind_err (Ok x) f fault e = inr (x, refl, e)
 bind_err {F = F} (Err other) f fault e = let same : other ≡ fault = cc in inl (ap (λ (f : F). Err f) same)
@@ -52,7 +52,7 @@ steady_bind {A = A} {B = B} r f first then = record {
       ];
 }
 
--- nothing is read
+-- a reader that reads nothing is steady
 pub steady_ok : {X : Type 0} (x : X) → IsSteady (λ (bytes : List ℕ). Ok (x, bytes))
 steady_ok {X = X} x = record {
   stays = λ bytes y e more. let same : (x, bytes) ≡ y = ok_is {F = ImageFault} (x, bytes) y e in ap (λ (y : X × List ℕ). Ok (y.0, y.1 ++ more)) same;

@@ -1,4 +1,4 @@
--- Members and the header are steady: more bytes behind them change nothing.
+-- Members and the header are steady: more bytes after them change nothing.
 use Rattle.std.proofs.Common.{ℕ, ltb, eqb, nat_le, Bool, true, false, List, Option, Some, None, Err, refl}
 use Rattle.std.specs.Prelude.{is_some}
 use Rattle.std.specs.Int.{w16, w64}

@@ -37,7 +37,7 @@ second_row = record {
 
 -- ---- the table
 
--- it is this row, or one of those behind it
+-- it is this row, or one of those after it
 this_or : (is_it : Bool) (version known : ℕ) (this form : VersionForm) (others : Option VersionForm) → eqb version known ≡ is_it → IsRow known this → (others ≡ Some form → IsRow version form) → cond is_it (Some this) others ≡ Some form → IsRow version form
 this_or true version known this form others same row behind is =
     let one : this ≡ form = cc in

@@ -1,4 +1,4 @@
--- Bytes that were put one behind the other, and their lengths.
+-- Bytes that were put one after the other, and their lengths.
 use Rattle.byte_codec.proofs.WriteLemmas.{fields_written}
 use Rattle.map_image.proofs.Lengths.{lengths}
 

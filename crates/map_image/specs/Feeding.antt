@@ -1,4 +1,4 @@
--- An image that is fed to a reader in pieces: the answer to each, and from where reading goes on.
+-- An image that is fed to a reader in pieces: the answer to each piece, and where reading goes on.
 use Rattle.std.specs.Prelude.{◌≡◌, ◌≤◌, ℕ, Bool, false, ◌==◌, List, [], ◌++◌, length, Option, Some, None, Result, Ok, Err}
 use Rattle.byte_codec.specs.Field.{AreBytes}
 use Rattle.byte_codec.specs.Reading.{◌>>=◌, number_at}
@@ -21,8 +21,8 @@ use Rattle.map_image.specs.Versions.{length_width}
 
 -- ---- answers
 
--- the fault, where it stands whatever bytes follow: a field that is cut off may be completed, and entries of no use are
--- seen behind the last field alone. Bytes are no cause for want of memory.
+-- this fault, if it stays whatever bytes follow. A field that is cut off may be completed, and entries of no use are
+-- seen only after the last field. A lack of memory says nothing of the bytes.
 abbrev pub lasting : ImageFault → Option ImageFault
 lasting Short = None
 lasting ZeroUse = None
@@ -37,39 +37,39 @@ standing (Err fault) = lasting fault
 abbrev pub standing_fault : List ℕ → Option ImageFault
 standing_fault bytes = standing (image_of_bytes bytes)
 
--- a reader that told a fault took the piece; where memory ran out it is as it was
+-- a reader that returned this fault took the piece; if memory was refused, the reader is unchanged
 abbrev pub TakesAt : List ℕ → List ℕ → ImageFault → List ℕ → Type 0
 TakesAt old piece NoMemory new = new ≡ old
 TakesAt old piece fault new = new ≡ old ++ piece
 
--- a reader took a piece; where memory ran out it is as it was
+-- a reader took a piece; if memory was refused, the reader is unchanged
 abbrev pub Takes : {X : Type 0} → List ℕ → List ℕ → Result X ImageFault → List ℕ → Type 0
 Takes old piece (Ok done) new = new ≡ old ++ piece
 Takes old piece (Err fault) new = TakesAt old piece fault new
 
--- the fault that was told stands; memory may run out in its place
+-- the fault that was returned is that of every image that begins with these bytes, or it is NoMemory
 abbrev pub Stands : List ℕ → ImageFault → Type 0
 Stands bytes NoMemory = Unit {0}
 Stands bytes fault = standing_fault bytes ≡ Some fault
 
--- the answer to bytes tells the fault that stands, or that there is none yet
+-- the result for these bytes says the fault of every image that begins with them, or that none is known yet
 abbrev pub IsAnswer : {X : Type 0} → Result X ImageFault → List ℕ → Type 0
 IsAnswer (Ok done) bytes = standing_fault bytes ≡ None
 IsAnswer (Err fault) bytes = Stands bytes fault
 
--- ---- what is read behind a stage
+-- ---- what is read from a stage on
 
--- a member, read behind the last one
+-- how a member is read after the last one
 abbrev pub Member : Type 0 → Type 0
 Member X = Option X → List ℕ → Result (X × List ℕ) ImageFault
 
--- members behind those that were read
+-- the members that were read, followed by this count of members from the bytes; and the rest
 abbrev pub members_from : {X : Type 0} → Member X → List X → ℕ → List ℕ → Result (List X × List ℕ) ImageFault
 members_from member done count bytes = do
   others ← members_at member (last_of done) count bytes
   Ok (done ++ others.0, others.1)
 
--- a count of changed links, and the whole
+-- the image, with this count of changed names still to be read from the bytes; the whole is then checked
 abbrev pub links_on : Header → List Kept → List Made → List LinkChange → ℕ → List ℕ → Result Image ImageFault
 links_on header entries made links count bytes = do
   all ← members_from link_at links count bytes
@@ -78,14 +78,14 @@ links_on header entries made links count bytes = do
     all.1,
   )
 
--- a count of made files, and what follows
+-- the image, with this count of made files still to be read from the bytes, and what follows these
 abbrev pub made_on : Header → List Kept → List Made → List LinkChange → ℕ → List ℕ → Result Image ImageFault
 made_on header entries made links count bytes = do
   all ← members_from made_at made count bytes
   next ← number_at Short length_width all.1
   links_on header entries all.0 links next.0 next.1
 
--- a count of entries, and what follows
+-- the image, with this count of entries still to be read from the bytes, and what follows these
 abbrev pub entries_on : VersionForm → Header → List Kept → List Made → List LinkChange → ℕ → List ℕ
     → Result Image ImageFault
 entries_on form header entries made links count bytes = do
@@ -93,7 +93,7 @@ entries_on form header entries made links count bytes = do
   next ← number_at Short length_width all.1
   made_on header all.0 made links next.0 next.1
 
--- what stands in front of the first entry
+-- what stands before the first entry, and the rest
 unfoldable pub front_at : List ℕ → Result (Front × List ℕ) ImageFault
 front_at bytes = do
   fields ← magic_at bytes
@@ -102,7 +102,7 @@ front_at bytes = do
   count ← number_at Short length_width header.1
   Ok (record { form = form.0; header = header.0; count = count.0 }, count.1)
 
--- what bytes are behind those that were read
+-- the image, of which a front was read up to this stage and these bytes are the rest, or the first fault
 abbrev pub resumed_at : Stage → List Kept → List Made → List LinkChange → List ℕ → Result Image ImageFault
 resumed_at AtFront entries made links bytes = do
   front ← front_at bytes
@@ -116,7 +116,7 @@ resumed reading bytes = resumed_at reading.stage reading.entries.items reading.m
 
 -- ---- steps of a reader
 
--- nothing is left to read
+-- nothing is left to read of the image
 abbrev pub is_whole : Stage → List ℕ → Bool
 is_whole (AtLinks header left) [] = left == 0
 is_whole stage bytes = false
@@ -125,29 +125,29 @@ is_whole stage bytes = false
 abbrev pub IsCut : Reading → List ℕ → Type 0
 IsCut reading bytes = is_whole reading.stage bytes ≡ false → resumed reading bytes ≡ Err Short
 
--- how many stages were left behind
+-- how many stages reading has passed
 abbrev pub rank : Stage → ℕ
 rank AtFront = 0
 rank (AtEntries form header left) = 1
 rank (AtMade header left) = 2
 rank (AtLinks header left) = 3
 
--- so it is in the stages up to one of these
+-- in the stages up to this one, the next field is cut off, or nothing is left to read
 abbrev pub IsCutTo : ℕ → Reading → List ℕ → Type 0
 IsCutTo last reading bytes = rank reading.stage ≤ last → IsCut reading bytes
 
--- what was read stands in front of what is there now
+-- the new list begins with the old one
 abbrev pub Extends : {X : Type 0} → List X → List X → Type 0
 Extends {X = X} old new = (more : List X) × (new ≡ old ++ more)
 
--- reading only adds to its lists
+-- the new lists begin with the old ones
 pub record OnlyAdds (old new : Reading) : Type 0 where
   pub entries : Extends old.entries.items new.entries.items
   pub parents : Extends old.parents.items new.parents.items
   pub made : Extends old.made.items new.made.items
   pub links : Extends old.links.items new.links.items
 
--- both have read the same
+-- the two have read the same
 pub record IsSame (old new : Reading) : Type 0 where
   pub stage : new.stage ≡ old.stage
   pub entries : new.entries.items ≡ old.entries.items
@@ -155,7 +155,7 @@ pub record IsSame (old new : Reading) : Type 0 where
   pub made : new.made.items ≡ old.made.items
   pub links : new.links.items ≡ old.links.items
 
--- the mark says how far a reader came
+-- the mark says how far this reading has come
 pub record IsMark (reading : Reading) (mark : Mark) : Type 0 where
   pub stage : mark.stage ≡ reading.stage
   pub entries : mark.entries ≡ length reading.entries.items
@@ -163,7 +163,7 @@ pub record IsMark (reading : Reading) (mark : Mark) : Type 0 where
   pub made : mark.made ≡ length reading.made.items
   pub links : mark.links ≡ length reading.links.items
 
--- a reader came from bytes to the rest of them
+-- reading went on from these bytes to this rest of them
 abbrev pub GoesOn : Reading → List ℕ → Reading → List ℕ → Type 0
 GoesOn old bytes new rest = (more : List ℕ) → resumed old (bytes ++ more) ≡ resumed new (rest ++ more)
 
@@ -172,41 +172,41 @@ pub record IsRefused (old : Reading) (bytes : List ℕ) (fault : ImageFault) : T
   pub lasts : lasting fault ≡ Some fault
   pub fails : (more : List ℕ) → resumed old (bytes ++ more) ≡ Err fault
 
--- a fault that was told; memory may run out in its place
+-- the fault that was returned is that of the bytes, whatever follows, or it is NoMemory
 abbrev pub Stops : Reading → List ℕ → ImageFault → Type 0
 Stops old bytes NoMemory = Unit {0}
 Stops old bytes fault = IsRefused old bytes fault
 
--- a reader took what is whole in these bytes, and gave the rest, seen by a view
+-- reading took what is whole of these bytes, and returned the rest, seen by `view`, or a fault
 abbrev pub Reads : {R : Type 0} → (R → List ℕ) → Reading → List ℕ → Reading → Result R ImageFault → Type 0
 Reads view old bytes new (Ok rest) = GoesOn old bytes new (view rest)
 Reads view old bytes new (Err fault) = Stops old bytes fault
 
--- the parents of its entries are known
+-- the directories in which the entries stand are known
 abbrev pub KnowsParents : Reading → Type 0
 KnowsParents reading = HasParents reading.entries.items reading.parents.items
 
 -- ---- steps within a list
 
--- the reader came through some members to those that are left
+-- reading went on through some members, to those that are left
 pub record GoesOnIn {X : Type 0} (member : Member X) (old : List X) (count : ℕ) (bytes : List ℕ) (new : List X)
     (left : ℕ) (rest : List ℕ) : Type 0 where
   pub goes_on : (more : List ℕ)
       → members_from member old count (bytes ++ more) ≡ members_from member new left (rest ++ more)
   pub cut : (left ≡ 0 → ⊥) → members_from member new left rest ≡ Err Short
 
--- whatever follows, a member has this fault
+-- whatever follows these bytes, a member has this fault
 pub record IsRefusedIn {X : Type 0} (member : Member X) (old : List X) (count : ℕ) (bytes : List ℕ)
     (fault : ImageFault) : Type 0 where
   pub lasts : lasting fault ≡ Some fault
   pub fails : (more : List ℕ) → members_from member old count (bytes ++ more) ≡ Err fault
 
--- a fault that was told; memory may run out in its place
+-- the fault that was returned is that of a member, whatever follows, or it is NoMemory
 abbrev pub StopsIn : {X : Type 0} → Member X → List X → ℕ → List ℕ → ImageFault → Type 0
 StopsIn member old count bytes NoMemory = Unit {0}
 StopsIn member old count bytes fault = IsRefusedIn member old count bytes fault
 
--- members were taken as far as they are whole: how many are left, and the rest, seen by a view
+-- members were read as far as they are whole; how many are left, and the rest, are seen by `view`
 abbrev pub ReadsIn : {X R : Type 0} → (R → ℕ × List ℕ) → Member X → List X → ℕ → List ℕ → List X
     → Result R ImageFault → Type 0
 ReadsIn view member old count bytes new (Ok x) = GoesOnIn member old count bytes new (view x).0 (view x).1
@@ -214,14 +214,14 @@ ReadsIn view member old count bytes new (Err fault) = StopsIn member old count b
 
 -- ---- readers
 
--- what a reader keeps while no fault stands
+-- what holds of a reader that met no fault
 pub record IsReading (taken : List ℕ) (reading : Reading) (tail : List ℕ) : Type 0 where
   pub are : AreBytes taken
   pub goes_on : (more : List ℕ) → image_of_bytes (taken ++ more) ≡ resumed reading (tail ++ more)
   pub cut : IsCut reading tail
   pub parents : KnowsParents reading
 
--- what it keeps behind a fault
+-- what holds of a reader that met this fault
 pub record IsFailed (taken : List ℕ) (fault : ImageFault) : Type 0 where
   pub are : AreBytes taken
   pub lasts : lasting fault ≡ Some fault
@@ -231,12 +231,12 @@ abbrev pub IsReader : List ℕ → Reading → List ℕ → Option ImageFault �
 IsReader taken reading tail None = IsReading taken reading tail
 IsReader taken reading tail (Some fault) = IsFailed taken fault
 
--- a fault that a piece led to; where memory ran out all is as it was
+-- a piece led to this fault; if memory was refused, nothing changed
 abbrev pub FeedsAt : Reading → List ℕ → List ℕ → Reading → List ℕ → ImageFault → Type 0
 FeedsAt old tail piece new rest NoMemory = IsSame old new × (rest ≡ tail)
 FeedsAt old tail piece new rest fault = IsRefused old (tail ++ piece) fault
 
--- what a piece did to what was read and its tail
+-- how a piece changed what was read and the tail
 abbrev pub Feeds : {X : Type 0} → Reading → List ℕ → List ℕ → Reading → List ℕ → Result X ImageFault → Type 0
 Feeds old tail piece new rest (Ok done) = GoesOn old (tail ++ piece) new rest × IsCut new rest
 Feeds old tail piece new rest (Err fault) = FeedsAt old tail piece new rest fault

@@ -1,5 +1,5 @@
--- Which image the bytes are, and which fault is the first: fields from front to back, each whole before it is looked
--- at, and after the last field what can be seen of the whole alone.
+-- Which image the bytes are, or their first fault. Fields are read from front to back, each once it is whole. After the
+-- last field comes what can only be seen of the whole.
 use Rattle.std.specs.Prelude.{◌≡◌, ◌≢◌, ◌≤◌, ℕ, zero, suc, ◌-◌, ◌%◌, Bool, true, false, ◌==◌, nat_lt, nat_le, List, [], ◌∷◌, length, slice_get, nat_eq, Option, Some, None, is_some, Result, Ok, Err, if◌then◌else◌}
 use Rattle.std.proofs.Common.{arith}
 use Rattle.std.specs.Cmp.Lexicographic.{pointwise}
@@ -27,17 +27,17 @@ use Rattle.map_image.specs.ImageText.{magic}
 use Rattle.map_image.specs.Versions.{form_of, length_width, width_of}
 use Rattle.map_image.specs.declared.version.VersionForm.{VersionForm}
 
--- the fault that reading gives; memory may run out in its place
+-- reading gives this fault, or it is NoMemory, which may come instead of any result
 abbrev pub Fails : {Y : Type 0} → ImageFault → Result Y ImageFault → Type 0
 Fails NoMemory read = Unit {0}
 Fails fault read = read ≡ Err fault
 
--- what a call gave, seen by a view, is what reading gives
+-- a call returned what reading gives, seen by `view`, or NoMemory
 abbrev pub Gives : {X Y : Type 0} → (X → Y) → Result X ImageFault → Result Y ImageFault → Type 0
 Gives view (Ok x) read = read ≡ Ok (view x)
 Gives view (Err fault) read = Fails fault read
 
--- what a call that takes no memory gave, seen by a view, is what reading gives
+-- a call that takes no memory returned what reading gives, seen by `view`
 abbrev pub Tells : {X Y : Type 0} → (X → Y) → Result X ImageFault → Result Y ImageFault → Type 0
 Tells view (Ok x) read = read ≡ Ok (view x)
 Tells view (Err fault) read = (fault ≢ NoMemory) × (read ≡ Err fault)
@@ -48,29 +48,29 @@ last_of xs = slice_get xs (length xs - 1)
 
 -- ---- marks and names
 
--- a mark of two meanings: whether it is 1
+-- whether a mark, which is 0 or 1, is 1; and the rest
 unfoldable pub mark_at : List ℕ → Result (Bool × List ℕ) ImageFault
 mark_at bytes = do
   mark ← byte_at Short bytes
   if nat_lt 1 mark.0 then Err BadMark else Ok (mark.0 == 1, mark.1)
 
--- bytes behind their length
+-- as many bytes as a length before them says, and the rest
 unfoldable pub counted_at : List ℕ → Result (List ℕ × List ℕ) ImageFault
 counted_at bytes = do
   len ← byte_at Short bytes
   bytes_at Short len.0 len.1
 
--- the bytes are a name
+-- these bytes and the rest if they are a name, else BadName
 abbrev pub named : List ℕ × List ℕ → Result (List ℕ × List ℕ) ImageFault
 named field = if is_some (name_fault field.0) then Err BadName else Ok field
 
--- a name behind its length
+-- a name after its length, and the rest
 unfoldable pub name_at : List ℕ → Result (List ℕ × List ℕ) ImageFault
 name_at bytes = do
   field ← counted_at bytes
   named field
 
--- where an entry stands, by its mark
+-- the place of an entry, as its mark says, and the rest
 unfoldable pub place_at : Bool → List ℕ → Result (Place × List ℕ) ImageFault
 place_at true bytes = do
   file ← number_at Short w64 bytes
@@ -80,15 +80,15 @@ place_at false bytes = do
   name ← name_at parent.1
   Ok (Linked (record { 0 = parent.0 }) name.0, name.1)
 
--- a number that rises above the last entry's
+-- a number above that of the last entry, and the rest
 unfoldable pub rising_at : Option Kept → List ℕ → Result (ℕ × List ℕ) ImageFault
 rising_at last bytes = do
   n ← number_at Short w64 bytes
   if is_next_number last n.0 then Ok n else Err NotRising
 
--- ---- members of the three lists, each behind the last one
+-- ---- members of the three lists, each after the last one; and the rest
 
--- a count, at most the greatest of the version
+-- a count, at most the greatest one of the version, and the rest
 unfoldable pub count_at : VersionForm → List ℕ → Result (ℕ × List ℕ) ImageFault
 count_at form bytes = do
   count ← number_at Short (width_of form.count_width) bytes
@@ -102,18 +102,18 @@ entry_at form last bytes = do
   place ← place_at unlinked.0 count.1
   Ok (record { number = record { 0 = number.0 }; place = place.0; count = count.0 }, place.1)
 
--- a file that rises above the last made one
+-- a file's id above that of the last made one, and the rest
 unfoldable pub file_at : Option Made → List ℕ → Result (ℕ × List ℕ) ImageFault
 file_at last bytes = do
   n ← number_at Short w64 bytes
   if is_next_file last n.0 then Ok n else Err NotRising
 
--- the kind of a mark
+-- the kind that a mark says
 abbrev pub kind_of_mark : Bool → Kind
 kind_of_mark true = Dir
 kind_of_mark false = RegularFile
 
--- twelve bits are at most 4095
+-- the low twelve bits are at most 4095
 pub low_bits : (n : ℕ) → n % 4096 ≤ 4095
 low_bits n = omega arith
 
@@ -121,7 +121,7 @@ low_bits n = omega arith
 abbrev pub perm_of : ℕ → Perm
 perm_of bits = record { bits = bits % 4096; in_range = low_bits bits }
 
--- permissions, with no bit above the twelfth
+-- permissions, with no bit above the twelfth, and the rest
 unfoldable pub perm_at : List ℕ → Result (Perm × List ℕ) ImageFault
 perm_at bytes = do
   bits ← number_at Short w16 bytes
@@ -134,11 +134,12 @@ made_at last bytes = do
   perm ← perm_at is_dir.1
   Ok (record { file = record { 0 = file.0 }; kind = kind_of_mark is_dir.0; perm = perm.0 }, perm.1)
 
--- a name in a directory that rises above the last one: this is looked at before the name is
+-- a name in a directory that comes after the last one, and the rest; the order is checked before the bytes are as a
+-- name
 unfoldable pub rising_place : Option LinkChange → ℕ → List ℕ × List ℕ → Result (List ℕ × List ℕ) ImageFault
 rising_place last dir field = if is_next_place last dir field.0 then named field else Err NotRising
 
--- the file of a changed name, by its mark
+-- the file to which a changed name leads, if its mark says that there is one, and the rest
 unfoldable pub target_at : Bool → List ℕ → Result (Option FileId × List ℕ) ImageFault
 target_at false bytes = Ok (None, bytes)
 target_at true bytes = do
@@ -156,7 +157,7 @@ link_at last bytes = do
 
 -- ---- lists
 
--- a count of members, each behind the last one
+-- this count of members, each after the last one, and the rest
 unfoldable pub members_at : {X : Type 0} → (Option X → List ℕ → Result (X × List ℕ) ImageFault) → Option X → ℕ → List ℕ
     → Result (List X × List ℕ) ImageFault
 members_at member last zero bytes = Ok ([], bytes)
@@ -165,7 +166,7 @@ members_at member last (suc n) bytes = do
   others ← members_at member (Some first.0) n first.1
   Ok (first.0 ∷ others.0, others.1)
 
--- how many there are, and each in turn
+-- a list: how many members there are, and each in turn; and the rest
 unfoldable pub list_at : {X : Type 0} → (Option X → List ℕ → Result (X × List ℕ) ImageFault) → List ℕ
     → Result (List X × List ℕ) ImageFault
 list_at member bytes = do
@@ -174,24 +175,24 @@ list_at member bytes = do
 
 -- ---- the whole
 
--- what follows `EDTK`
+-- what follows `EDTK`, or the fault
 unfoldable pub magic_at : List ℕ → Result (List ℕ) ImageFault
 magic_at bytes = do
   field ← bytes_at Short 4 bytes
   if pointwise nat_eq field.0 magic then Ok field.1 else Err BadMagic
 
--- the form of a known version
+-- the form of a version, if there is such a version, else BadVersion
 abbrev pub known : Option VersionForm → List ℕ → Result (VersionForm × List ℕ) ImageFault
 known None bytes = Err BadVersion
 known (Some form) bytes = Ok (form, bytes)
 
--- the form of the version that comes next
+-- the form of the version that comes next, and the rest
 unfoldable pub form_at : List ℕ → Result (VersionForm × List ℕ) ImageFault
 form_at bytes = do
   version ← number_at Short w16 bytes
   known (form_of version.0) version.1
 
--- commit, generation, next number, next file
+-- a header: commit, generation, next number, next file; and the rest
 unfoldable pub header_at : List ℕ → Result (Header × List ℕ) ImageFault
 header_at bytes = do
   commit ← bytes_at Short 20 bytes
@@ -220,11 +221,11 @@ header_of_bytes bytes = do
 abbrev pub HasHeader : List ℕ → Type 0
 HasHeader bytes = (header : Header) × (header_of_bytes bytes ≡ Ok header)
 
--- a reader runs out of memory behind the header alone
+-- a reader returns NoMemory only for bytes whose header is whole and right
 abbrev pub IsLate : ImageFault → List ℕ → Type 0
 IsLate fault bytes = fault ≡ NoMemory → HasHeader bytes
 
--- made files and changed links
+-- made files and changed names, and the rest
 unfoldable pub changes_at : ℕ → List ℕ → Result (Changes × List ℕ) ImageFault
 changes_at next_file bytes = do
   made ← list_at made_at bytes
@@ -241,7 +242,7 @@ image_with header entries changes = record {
   changes = changes;
 }
 
--- every field, and what follows
+-- every field of an image, and the rest
 unfoldable pub fields_at : List ℕ → Result (Image × List ℕ) ImageFault
 fields_at bytes = do
   fields ← magic_at bytes
@@ -255,7 +256,7 @@ fields_at bytes = do
 abbrev pub are_of_use : List Kept → Bool
 are_of_use entries = list_all (is_of_use entries) entries
 
--- what can be seen of the whole alone
+-- the image, if no byte follows and each entry is of use, else the fault
 abbrev pub seen_whole : Image × List ℕ → Result Image ImageFault
 seen_whole image =
     if nat_lt 0 (length image.1) then Err Rest

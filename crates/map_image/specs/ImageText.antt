@@ -1,4 +1,4 @@
--- The one spelling of an image in a version: its fields from front to back, numbers with the highest byte first. (This
+-- The one text of an image in a version: its fields from front to back, numbers with the highest byte first. (This
 -- project's own; EdenFS serialises its inode map by Thrift.)
 use Rattle.std.specs.Prelude.{All, ◌≡◌, ℕ, ◌<◌, ◌≤◌, ◌^◌, List, [], ◌∷◌, ◌++◌, length, Option, Some, None}
 use Rattle.std.specs.Int.{w16, w64}
@@ -20,15 +20,15 @@ use Rattle.map_image.specs.declared.version.VersionForm.{VersionForm}
 
 -- ---- fields
 
--- `EDTK`
+-- the bytes `EDTK`
 unfoldable pub magic : List ℕ
 magic = 69 ∷ 68 ∷ 84 ∷ 75 ∷ []
 
--- the length in one byte, and the name
+-- a name: its length in one byte, and its bytes
 abbrev pub name_text : List ℕ → List ℕ
 name_text name = byte_text (length name) ++ name
 
--- whether a name leads to the entry
+-- the mark of a place: 0 if a name leads to the entry, else 1
 abbrev pub place_mark : Place → ℕ
 place_mark (Linked parent name) = 0
 place_mark (Unlinked file) = 1
@@ -41,45 +41,45 @@ abbrev pub kind_mark : Kind → ℕ
 kind_mark RegularFile = 0
 kind_mark Dir = 1
 
--- whether a changed name gives a file
+-- the file to which a changed name leads, after a mark: 1 if there is a file, else 0
 abbrev pub target_text : Option FileId → List ℕ
 target_text None = byte_text 0
 target_text (Some file) = byte_text 1 ++ number_bytes w64 file.0
 
 -- ---- members of the three lists
 
--- number, mark, count, place
+-- an entry: number, mark, count, place
 abbrev pub entry_text : CountWidth → Kept → List ℕ
 entry_text width kept =
     number_bytes w64 kept.number.0
     ++ (byte_text (place_mark kept.place) ++ (number_bytes (width_of width) kept.count ++ place_text kept.place))
 
--- file, kind, permissions
+-- a made file: id, kind, permissions
 abbrev pub made_text : Made → List ℕ
 made_text made =
     number_bytes w64 made.file.0 ++ (byte_text (kind_mark made.kind) ++ number_bytes w16 made.perm.bits)
 
--- directory, name, file
+-- a changed name: directory, name, file
 abbrev pub link_text : LinkChange → List ℕ
 link_text link = number_bytes w64 link.dir.0 ++ (name_text link.name ++ target_text link.target)
 
--- how many there are, and each in turn
+-- a list: how many members there are, and each in turn
 abbrev pub list_text : {X : Type 0} → (X → List ℕ) → List X → List ℕ
 list_text text xs = number_bytes length_width (length xs) ++ flat_map text xs
 
 -- ---- the whole
 
--- generation, next number, next file
+-- the numbers before the lists: generation, next number, next file
 abbrev pub numbers_text : Image → List ℕ
 numbers_text image =
     number_bytes w64 image.generation
     ++ (number_bytes w64 image.next_number ++ number_bytes w64 image.changes.next_file.0)
 
--- magic, version, commit, and these numbers
+-- what stands before the lists: magic, version, commit, and these numbers
 abbrev pub header_text : ℕ → Image → List ℕ
 header_text version image = magic ++ (number_bytes w16 version ++ (image.commit ++ numbers_text image))
 
--- entries, made files, changed links
+-- the lists: entries, made files, changed names
 abbrev pub lists_text : CountWidth → Image → List ℕ
 lists_text width image =
     list_text (entry_text width) image.entries
@@ -88,7 +88,7 @@ lists_text width image =
 abbrev pub image_text : CountWidth → ℕ → Image → List ℕ
 image_text width version image = header_text version image ++ lists_text width image
 
--- ---- numbers that their fields can hold
+-- ---- numbers that fit their fields
 
 abbrev pub FitsPlace : Place → Type 0
 FitsPlace (Linked parent name) = parent.0 < 2 ^ 64
@@ -110,13 +110,13 @@ pub record FitsLink (link : LinkChange) : Type 0 where
   pub dir : link.dir.0 < 2 ^ 64
   pub target : FitsTarget link.target
 
--- generation, next number and next file
+-- generation, next number and next file fit their fields
 pub record FitsNumbers (image : Image) : Type 0 where
   pub generation : image.generation < 2 ^ 64
   pub next_number : image.next_number < 2 ^ 64
   pub next_file : image.changes.next_file.0 < 2 ^ 64
 
--- lists that can be counted, with members that fit
+-- the lists can be counted, and their members fit their fields
 pub record FitsMembers (greatest : ℕ) (image : Image) : Type 0 where
   pub entries_few : length image.entries < length_limit
   pub entries : All (FitsEntry greatest) image.entries
@@ -127,7 +127,7 @@ pub record FitsMembers (greatest : ℕ) (image : Image) : Type 0 where
 
 -- ---- the relation
 
--- the bytes are the text of an image in a version
+-- the bytes are the text of an image in this version
 pub record IsImageText (image : Image) (version : ℕ) (bytes : List ℕ) : Type 0 where
   pub form : VersionForm
   pub known : form_of version ≡ Some form

@@ -1,4 +1,4 @@
--- The parts in which a text goes out where it isn't sent whole. (This project's own.)
+-- The parts in which a text is sent if it isn't sent whole. (This project's own.)
 use Rattle.std.specs.Prelude.{◌≡◌, ◌<◌, ◌≤◌, ℕ, ◌+◌, ◌*◌, List, [], ◌∷◌, length}
 use Rattle.std.specs.List.{concat}
 use Rattle.map_image.specs.ImageText.{IsImageText}
@@ -11,14 +11,14 @@ AreCut [] = ⊥
 AreCut (last ∷ []) = (1 ≤ length last) × (length last ≤ part_len)
 AreCut (part ∷ next ∷ rest) = (length part ≡ part_len) × AreCut (next ∷ rest)
 
--- the parts of a text, in order
+-- these are the parts of the text, in order
 pub record AreParts (text : List ℕ) (parts : List (List ℕ)) : Type 0 where
   pub joined : concat parts ≡ text
   pub cut : AreCut parts
 
--- ---- what holds of them
+-- ---- what holds of parts
 
--- so many full parts hold a text of this length, and one less doesn't
+-- this count of full parts is enough for a text of this length, and one less is not
 pub record CountsParts (len count : ℕ) : Type 0 where
   pub hold : len ≤ count * part_len
   pub least : count * part_len < len + part_len
@@ -27,12 +27,12 @@ pub record CountsParts (len count : ℕ) : Type 0 where
 abbrev pub TextsAreSome : Type 0
 TextsAreSome = (image : Image) (version : ℕ) (text : List ℕ) → IsImageText image version text → 1 ≤ length text
 
--- a text has its parts in one way
+-- a text is cut into parts in one way only
 abbrev pub HasOneCutting : Type 0
 HasOneCutting =
     (text : List ℕ) (parts others : List (List ℕ)) → AreParts text parts → AreParts text others → parts ≡ others
 
--- a text has as many parts as its length tells
+-- a text has as many parts as its length says
 abbrev pub PartsAreCounted : Type 0
 PartsAreCounted =
     (text : List ℕ) (parts : List (List ℕ)) → AreParts text parts → CountsParts (length text) (length parts)

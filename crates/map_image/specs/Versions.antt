@@ -1,4 +1,5 @@
--- The versions of an image: what a text differs in from one version to another, a row for each. (This project's own.)
+-- The versions of an image: how the texts of one version differ from those of another, a row for each. (This project's
+-- own.)
 use Rattle.std.specs.Prelude.{◌≡◌, ◌<◌, ◌≤◌, ℕ, ◌*◌, ◌-◌, ◌^◌, ◌==◌, List, length, Option, Some, None, if◌then◌else◌}
 use Rattle.std.specs.Int.{Width, w32, w64}
 use Rattle.eden_base.specs.Limits.{greatest_count as greatest_held}
@@ -13,32 +14,32 @@ abbrev pub width_of : CountWidth → Width
 width_of Four = w32
 width_of Eight = w64
 
--- the first number that has no room in them
+-- the first number that does not fit in such a count
 abbrev pub limit_of : CountWidth → ℕ
 limit_of Four = 2 ^ 32
 limit_of Eight = 2 ^ 64
 
--- ---- the parts of a text that doesn't go whole
+-- ---- the parts of a text that isn't sent whole
 
--- the bytes of each part but the last
+-- the length of each part but the last
 abbrev pub part_len : ℕ
 part_len = 4096
 
--- the most parts that a text goes in
+-- the greatest count of parts of a text
 abbrev pub most_parts : ℕ
 most_parts = 65536
 
 -- ---- the versions
 
--- counts of four bytes, and a text that goes in one message
+-- the form of version 1: counts of four bytes, and a text that is sent in one message
 abbrev pub first_form : VersionForm
 first_form = record { count_width = Four; greatest_count = 2 ^ 32 - 1; longest = 65000; sending = Whole }
 
--- the same counts, and a longer text, which goes in parts
+-- the form of version 2: the same counts, and a longer text, which is sent in parts
 abbrev pub second_form : VersionForm
 second_form = record first_form { longest = 268435456; sending = Parts }
 
--- the form of a version; where there is no row there is no such version
+-- the form of a version, if there is such a version: a row for each
 abbrev pub form_of : ℕ → Option VersionForm
 form_of version =
     if version == 1 then Some first_form
@@ -51,14 +52,14 @@ form_of version =
 abbrev pub length_width : Width
 length_width = width_of Four
 
--- the first length that has no room in it
+-- the first length that does not fit this width
 abbrev pub length_limit : ℕ
 length_limit = limit_of Four
 
--- ---- what each row keeps
+-- ---- what holds of each row
 
--- a count has room in its field and is one that the kernel may hold; a header with three empty lists is not too long,
--- a list of a text can be counted, and a text has few parts
+-- a count fits its field, and the kernel may hold it; a header with three empty lists is not too long; a list of a text
+-- can be counted; and a text has few parts
 pub record IsForm (form : VersionForm) : Type 0 where
   pub count_has_room : form.greatest_count < limit_of form.count_width
   pub count_is_held : form.greatest_count ≤ greatest_held
@@ -66,7 +67,7 @@ pub record IsForm (form : VersionForm) : Type 0 where
   pub lists_are_few : form.longest < length_limit
   pub parts_are_few : form.longest ≤ most_parts * part_len
 
--- bytes are no longer than the longest text of a version that there is
+-- there is this version, and the bytes are no longer than its longest text
 pub record IsNoLonger (version : ℕ) (bytes : List ℕ) : Type 0 where
   pub form : VersionForm
   pub known : form_of version ≡ Some form

@@ -1,4 +1,4 @@
--- Which image has no text that may be written, and the room that a text takes.
+-- Which images have no text that may be written, and the room that a text takes.
 use Rattle.std.specs.Prelude.{◌≡◌, ◌<◌, ◌≤◌, ℕ, ◌+◌, nat_lt, Bool, length, Option, Some, None, if◌then◌else◌}
 use Rattle.std.specs.List.{list_any}
 use Rattle.entry_table.specs.declared.kept.Kept.{Kept}
@@ -11,18 +11,18 @@ use Rattle.map_image.specs.declared.version.VersionForm.{VersionForm}
 
 -- ---- refusals
 
--- the count is above the greatest that is written
+-- the entry has a count above the greatest that is written
 abbrev pub is_too_large : ℕ → Kept → Bool
 is_too_large greatest kept = nat_lt greatest kept.count
 
--- why an image is not written in a form, memory apart
+-- why an image is not written in this form, if there is a cause other than memory
 abbrev pub form_fault : Image → ℕ → VersionForm → Option WriteFault
 form_fault image version form =
     if list_any (is_too_large form.greatest_count) image.entries then Some CountTooLarge
     else if nat_lt form.longest (length (image_text form.count_width version image)) then Some TooLong
     else None
 
--- the first refusal of an image in a version, memory apart
+-- why an image is not written in a version, by the version's form, if there is a cause other than memory
 abbrev pub write_fault : Image → ℕ → Option VersionForm → Option WriteFault
 write_fault image version None = Some NoSuchVersion
 write_fault image version (Some form) = form_fault image version form
@@ -30,19 +30,19 @@ write_fault image version (Some form) = form_fault image version form
 abbrev pub refusal : Image → ℕ → Option WriteFault
 refusal image version = write_fault image version (form_of version)
 
--- a refused writer tells the first refusal; out of memory comes where there is no other
+-- writing is refused with this fault: the first one, or NoMemory if there is no other
 abbrev pub IsWriteRefusal : Image → ℕ → WriteFault → Type 0
 IsWriteRefusal image version NoMemory = refusal image version ≡ None
 IsWriteRefusal image version fault = refusal image version ≡ Some fault
 
--- ---- room that is counted before anything is put
+-- ---- room that is counted before anything is written
 
--- what is left of a room behind a count of bytes, or none where they have no room
+-- this is what is left of a room after this count of bytes; None if they do not fit
 abbrev pub Leaves : ℕ → ℕ → Option ℕ → Type 0
 Leaves room used None = room < used
 Leaves room used (Some left) = left + used ≡ room
 
--- a length that is at most this, or nothing where it is more
+-- this is the length, if it is at most `longest`, else None
 abbrev pub IsLength : ℕ → ℕ → Option ℕ → Type 0
 IsLength longest len None = longest < len
 IsLength longest len (Some found) = (found ≡ len) × (found ≤ longest)

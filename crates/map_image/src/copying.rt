@@ -1,4 +1,4 @@
-//! Copies of what was read, in memory of their own.
+//! Copies of what was read.
 ghost use Rattle.std.specs.Prelude.{◌≡◌, IfOk};
 
 use checkout::Made;
@@ -7,7 +7,7 @@ use entry_table::Kept;
 use manifest::LinkChange;
 use std::alloc::Global;
 
-/// Returns the same bytes.
+/// Makes a copy of `bytes`.
 pub(crate) fn copied_bytes(alloc: Global, bytes: &[u8]) -> Result<Vec<u8>, NoMemory>
     ensures { IfOk result (λ copy. copy.items ≡ bytes.now) }
 {
@@ -16,7 +16,7 @@ pub(crate) fn copied_bytes(alloc: Global, bytes: &[u8]) -> Result<Vec<u8>, NoMem
     Ok(copy)
 }
 
-/// Returns the same numbers.
+/// Makes a copy of `numbers`.
 pub(crate) fn copied_numbers(alloc: Global, numbers: &[u64]) -> Result<Vec<u64>, NoMemory>
     ensures { IfOk result (λ copy. copy.items ≡ numbers.now) }
 {
@@ -25,7 +25,7 @@ pub(crate) fn copied_numbers(alloc: Global, numbers: &[u64]) -> Result<Vec<u64>,
     Ok(copy)
 }
 
-/// Returns the same made files.
+/// Makes a copy of `files`.
 pub(crate) fn copied_made(alloc: Global, files: &[Made]) -> Result<Vec<Made>, NoMemory>
     ensures { IfOk result (λ copy. copy.items ≡ files.now) }
 {
@@ -34,7 +34,7 @@ pub(crate) fn copied_made(alloc: Global, files: &[Made]) -> Result<Vec<Made>, No
     Ok(copy)
 }
 
-/// Returns the same place.
+/// Makes a copy of `place`.
 fn copied_place(alloc: Global, place: &Place) -> Result<Place, NoMemory>
     ensures { IfOk result (λ copy. copy ≡ place.now) }
 {
@@ -50,7 +50,7 @@ fn copied_place(alloc: Global, place: &Place) -> Result<Place, NoMemory>
     }
 }
 
-/// Returns the same entry.
+/// Makes a copy of the entry `kept`.
 fn copied_entry(alloc: Global, kept: &Kept) -> Result<Kept, NoMemory>
     ensures { IfOk result (λ copy. copy ≡ kept.now) }
 {
@@ -62,7 +62,7 @@ fn copied_entry(alloc: Global, kept: &Kept) -> Result<Kept, NoMemory>
     })
 }
 
-/// Returns the same entries.
+/// Makes a copy of `entries`.
 pub(crate) fn copied_entries(alloc: Global, entries: &[Kept]) -> Result<Vec<Kept>, NoMemory>
     ensures { IfOk result (λ copy. copy.items ≡ entries.now) }
 {
@@ -73,7 +73,7 @@ pub(crate) fn copied_entries(alloc: Global, entries: &[Kept]) -> Result<Vec<Kept
     Ok(copy)
 }
 
-/// Returns the same changed name.
+/// Makes a copy of the changed name `link`.
 fn copied_link(alloc: Global, link: &LinkChange) -> Result<LinkChange, NoMemory>
     ensures { IfOk result (λ copy. copy ≡ link.now) }
 {
@@ -85,7 +85,7 @@ fn copied_link(alloc: Global, link: &LinkChange) -> Result<LinkChange, NoMemory>
     })
 }
 
-/// Returns the same changed names.
+/// Makes a copy of the changed names `links`.
 pub(crate) fn copied_links(alloc: Global, links: &[LinkChange]) -> Result<Vec<LinkChange>, NoMemory>
     ensures { IfOk result (λ copy. copy.items ≡ links.now) }
 {

@@ -1,7 +1,7 @@
 //! Why an image could not be written or read.
 use thiserror::Error;
 
-/// Why an image has no text that may be written. The first that holds is told, in this order.
+/// Why an image has no text that may be written. If several variants apply, the first in this order is the fault.
 #[derive(Clone, Copy, Debug, PartialEq, Eq, Error)]
 pub enum WriteFault {
     #[error("no such version")]
@@ -14,7 +14,7 @@ pub enum WriteFault {
     NoMemory,
 }
 
-/// Why bytes are no image. They are read from the front to the back, and the first fault that is met is told.
+/// Why bytes are no image. They are read from the front to the back, and the first fault that is met is returned.
 #[derive(Clone, Copy, Debug, PartialEq, Eq, Error)]
 pub enum ImageFault {
     #[error("the bytes do not begin as an image")]

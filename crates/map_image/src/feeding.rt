@@ -1,4 +1,4 @@
-//! A piece of an image, taken behind the rest of the pieces before it.
+//! A piece of an image, read after the rest of the pieces before it.
 ghost use Rattle.std.specs.Prelude.{◌≡◌, ◌++◌, IfOk, OnOk};
 ghost use Rattle.map_image.specs.Feeding.{Feeds, IsCut, KnowsParents, OnlyAdds, Reads};
 
@@ -8,7 +8,7 @@ use crate::reading::Reading;
 use eden_base::NoMemory;
 use std::alloc::Global;
 
-/// Returns bytes and those that follow them, in memory of their own.
+/// Makes one list of `first` and then `second`.
 fn joined(alloc: Global, first: &[u8], second: &[u8]) -> Result<Vec<u8>, NoMemory>
     ensures { IfOk result (λ both. both.items ≡ first.now ++ second.now) }
 {
@@ -17,7 +17,7 @@ fn joined(alloc: Global, first: &[u8], second: &[u8]) -> Result<Vec<u8>, NoMemor
     Ok(both)
 }
 
-/// Takes what is whole of the bytes that come next. Returns the rest, in memory of its own.
+/// Reads what is whole of `bytes`, which come next, and returns a copy of the rest.
 fn take(reading: &mut Reading, bytes: &[u8]) -> Result<Vec<u8>, ImageFault>
     ensures reads { Reads (λ rest. rest.items) reading.old bytes.now reading.new result }
     ensures cut { IfOk result (λ rest. IsCut reading.new rest.items) }
@@ -32,8 +32,8 @@ fn take(reading: &mut Reading, bytes: &[u8]) -> Result<Vec<u8>, ImageFault>
     }
 }
 
-/// Takes what is whole of a tail and the piece behind it. Returns the rest, in memory of its own. Behind no tail, the
-/// piece is read where it stands.
+/// Reads what is whole of `tail` and then `piece`, and returns a copy of the rest. If `tail` is empty, `piece` is read
+/// without being copied first.
 fn take_behind(reading: &mut Reading, tail: &[u8], piece: &[u8]) -> Result<Vec<u8>, ImageFault>
     ensures reads { Reads (λ rest. rest.items) reading.old (tail.now ++ piece.now) reading.new result }
     ensures cut { IfOk result (λ rest. IsCut reading.new rest.items) }
@@ -49,7 +49,8 @@ fn take_behind(reading: &mut Reading, tail: &[u8], piece: &[u8]) -> Result<Vec<u
     take(reading, both.as_slice())
 }
 
-/// Takes a piece behind a tail, which becomes the rest of both. Where memory runs out, both are as they were.
+/// Reads what is whole of `tail` and then `piece`, and makes the rest the new `tail`. If memory is refused, `reading`
+/// and `tail` are unchanged.
 pub(crate) fn feed(
     reading: &mut Reading,
     tail: &mut Vec<u8>,

@@ -1,4 +1,4 @@
-//! Whether an image is one that has a text.
+//! Whether an image can have a text.
 ghost use Rattle.std.specs.Prelude.{All, ◌≡◌, ◌↔◌, IfOk, IsTrue, None};
 ghost use Rattle.entry_table.specs.EntryPlaces.{HasName, IsNamedEntry};
 ghost use Rattle.map_image.specs.Fit.{rises, entry_follows, made_follows, link_follows, IsFit, IsNamedLink};
@@ -13,7 +13,7 @@ use entry_table::Kept;
 use manifest::LinkChange;
 use std::alloc::Global;
 
-/// Returns whether an entry may follow others. Its name, where it has one, is a name.
+/// Returns whether the entry `kept` may follow those in `done`, by its number. The name of an entry is always valid.
 fn entry_follows(done: &[Kept], kept: &Kept) -> bool
     ensures follows { result ≡ entry_follows (last_of done.now) kept.now }
     ensures named { IsNamedEntry kept.now }
@@ -24,7 +24,7 @@ fn entry_follows(done: &[Kept], kept: &Kept) -> bool
     is_next_number(done, kept.number.0)
 }
 
-/// Returns whether the numbers of entries rise.
+/// Returns whether the numbers of `entries` rise.
 fn entries_rise(entries: &[Kept]) -> bool
     ensures rise { result ≡ rises entry_follows None entries.now }
     ensures named { IsTrue result → All IsNamedEntry entries.now }
@@ -51,7 +51,7 @@ fn made_rise(files: &[Made]) -> bool
     true
 }
 
-/// Returns whether a changed link may follow others. Its name is a name.
+/// Returns whether the changed name `link` may follow those in `done`. The name of a change is always valid.
 fn link_follows(done: &[LinkChange], link: &LinkChange) -> bool
     ensures follows { result ≡ link_follows (last_of done.now) link.now }
     ensures named { IsNamedLink link.now }
@@ -59,7 +59,7 @@ fn link_follows(done: &[LinkChange], link: &LinkChange) -> bool
     is_next_place(done, link.dir.0, link.name.bytes())
 }
 
-/// Returns whether changed links rise by directory and name.
+/// Returns whether changed names rise by directory and name.
 fn links_rise(links: &[LinkChange]) -> bool
     ensures rise { result ≡ rises link_follows None links.now }
     ensures named { IsTrue result → All IsNamedLink links.now }
@@ -74,8 +74,8 @@ fn links_rise(links: &[LinkChange]) -> bool
 }
 
 impl Image {
-    /// Returns whether the image has a text, how large its counts and how long its lists are apart. It takes memory for
-    /// the directories in which entries stand, which it sorts.
+    /// Returns whether the image has a text, if its counts and its lists are not too large. Takes memory for the
+    /// directories in which entries stand, which are sorted.
     pub fn is_fit(&self, alloc: Global) -> Result<bool, NoMemory>
         ensures fit { IfOk result (λ fit. IsTrue fit ↔ IsFit self.now) }
     {

@@ -12,7 +12,7 @@ use byte_codec::{u16_at, u64_at};
 pub struct Header {
     /// The manifest's commit.
     pub commit: [u8; 20],
-    /// The generation at which the daemon has the seat.
+    /// The generation at which the daemon that wrote the image has the seat.
     pub generation: u64,
     /// The number that is given next.
     pub next_number: u64,
@@ -20,7 +20,7 @@ pub struct Header {
     pub next_file: u64,
 }
 
-/// Takes `EDTK`.
+/// Reads `EDTK`, and returns the rest.
 #[tactic(auto, unfolding(crate::specs::ImageReading::magic_at, byte_codec::specs::Reading::bytes_at, crate::specs::ImageText::magic))]
 pub(crate) fn magic_at(bytes: &[u8]) -> Result<&[u8], ImageFault>
     ensures { Tells (λ rest. rest.now) result (magic_at bytes.now) }
@@ -35,7 +35,7 @@ pub(crate) fn magic_at(bytes: &[u8]) -> Result<&[u8], ImageFault>
     Ok(rest)
 }
 
-/// Takes the version, and returns its form.
+/// Reads the version, and returns its form and the rest.
 #[tactic(auto, unfolding(crate::specs::ImageReading::form_at))]
 pub(crate) fn form_at(bytes: &[u8]) -> Result<(VersionForm, &[u8]), ImageFault>
     ensures { Tells (λ x. (x.0, x.1.now)) result (form_at bytes.now) }
@@ -47,7 +47,7 @@ pub(crate) fn form_at(bytes: &[u8]) -> Result<(VersionForm, &[u8]), ImageFault>
     }
 }
 
-/// Takes a commit.
+/// Reads a commit, and returns it and the rest.
 #[tactic(auto, unfolding(byte_codec::specs::Reading::bytes_at))]
 fn commit_at(bytes: &[u8]) -> Result<([u8; 20], &[u8]), ImageFault>
     ensures { Tells (λ x. (x.0, x.1.now)) result (bytes_at Short 20 bytes.now) }
@@ -61,7 +61,7 @@ fn commit_at(bytes: &[u8]) -> Result<([u8; 20], &[u8]), ImageFault>
     Ok((commit, rest))
 }
 
-/// Takes the commit, the generation, the next number and the next file.
+/// Reads the commit, the generation, the next number and the next file, and returns these and the rest.
 #[tactic(auto, unfolding(crate::specs::ImageReading::header_at))]
 pub(crate) fn header_at(bytes: &[u8]) -> Result<(Header, &[u8]), ImageFault>
     ensures { Tells (λ x. (x.0, x.1.now)) result (header_at bytes.now) }
@@ -79,7 +79,7 @@ pub(crate) fn header_at(bytes: &[u8]) -> Result<(Header, &[u8]), ImageFault>
     Ok((header, rest))
 }
 
-/// Reads what stands before the lists of the image that begins the bytes. Takes no memory, and looks at nothing behind.
+/// Reads what stands before the lists of the image with which `bytes` begin. Takes no memory, and ignores what follows.
 #[tactic(auto, unfolding(crate::specs::ImageReading::header_of_bytes))]
 pub fn read_header(bytes: &[u8]) -> Result<Header, ImageFault>
     ensures exact { Tells (λ header. header) result (header_of_bytes bytes.now) }

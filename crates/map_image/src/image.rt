@@ -21,7 +21,7 @@ impl Model for Entries {
 }
 
 impl Entries {
-    /// Returns the list of these entries. Takes no memory.
+    /// Makes a list of these entries. Takes no memory.
     pub fn of(kept: Vec<Kept>) -> Entries
         ensures entries { result ≡ kept.items }
     {
@@ -35,7 +35,7 @@ impl Entries {
         self.kept.as_slice()
     }
 
-    /// Gives the entries back. Takes no memory.
+    /// Returns the entries as a `Vec`. Takes no memory.
     pub fn into_vec(self) -> Vec<Kept>
         ensures entries { result.items ≡ self }
     {
@@ -43,7 +43,7 @@ impl Entries {
     }
 }
 
-/// All that a daemon knows of its mount, as it travels to the next one.
+/// All that a daemon knows of its mount, as it is handed to the next daemon.
 #[derive(Drop)]
 pub struct Image {
     /// The manifest's commit.
@@ -52,8 +52,8 @@ pub struct Image {
     pub generation: u64,
     /// The number that is given next.
     pub next_number: u64,
-    /// The numbers that are kept, by rising number.
+    /// The entries of the numbers that are kept, by rising number.
     pub entries: Entries,
-    /// What tells the checkout from its manifest.
+    /// How the checkout differs from its manifest.
     pub changes: Changes,
 }

@@ -17,8 +17,8 @@ use eden_base::NoMemory;
 use std::alloc::Global;
 use std::marker::Model;
 
-/// Reads an image whose bytes come in pieces. Contracts see the bytes that it took. What is whole of them is kept as
-/// lists, and what is cut off waits for the next piece.
+/// Reads an image whose bytes come in pieces. What is whole of the bytes is kept as lists, and what is cut off waits
+/// for the next piece. Contracts see the bytes that the reader took.
 #[derive(Drop)]
 pub struct ImageReader {
     taken: Taken,
@@ -39,7 +39,7 @@ impl Model for ImageReader {
 }
 
 impl ImageReader {
-    /// Returns a reader that took nothing.
+    /// Makes a reader that took nothing.
     pub fn new(alloc: Global) -> Result<ImageReader, NoMemory>
         ensures nothing { IfOk result (λ reader. reader ≡ []) }
     {
@@ -51,8 +51,8 @@ impl ImageReader {
         })
     }
 
-    /// Takes a piece, and tells the fault of what it took as soon as the field is whole. Such a fault stands. Where
-    /// memory runs out, the reader is as it was.
+    /// Takes a piece. Returns a fault of the bytes as soon as the faulty field is whole, and again at each later call.
+    /// If memory is refused, the reader is unchanged.
     pub fn feed(&mut self, piece: &[u8]) -> Result<(), ImageFault>
         ensures takes { Takes self.old piece.now result self.new }
         ensures exact { IsAnswer result (self.old ++ piece.now) }
@@ -78,7 +78,7 @@ impl ImageReader {
         }
     }
 
-    /// Returns a reader that took the same bytes, in memory of its own.
+    /// Makes a copy of the reader, which took the same bytes.
     pub fn copy(&self) -> Result<ImageReader, NoMemory>
         ensures copy { IfOk result (λ copy. copy ≡ self.now) }
     {
@@ -94,14 +94,14 @@ impl ImageReader {
 
     /// Returns the image that the bytes are, or their first fault. Takes no memory.
     pub fn finish(self) -> Result<Image, ImageFault>
-        // What was read is spelled so, in a version.
+        // The bytes are a text of the image that is returned, in some version.
         ensures text { IfOk result (λ image. (version : ℕ) × IsImageText image version self) }
         ensures fit { IfOk result IsFit }
         ensures counts { IfOk result (λ image. CountsFit image.entries) }
-        // What is spelled so is read.
+        // If the bytes are a text of an image, then that image is returned.
         ensures only { (image : Image) (version : ℕ) → IsImageText image version self
             → Tells (λ image. image) result (Ok image) }
-        // Which fault it is; it is never that memory ran out.
+        // The result for any bytes, with the exact fault, which is never `NoMemory`.
         ensures exact { Tells (λ image. image) result (image_of_bytes self) }
     {
         self.into_image()
@@ -128,7 +128,7 @@ impl ImageReader {
     }
 }
 
-/// Reads the image that the bytes are, as one piece. Takes no memory before the header was looked at.
+/// Reads an image from its bytes, as one piece. Takes no memory before the header was read.
 fn read_image(alloc: Global, bytes: &[u8]) -> Result<Image, ImageFault>
     ensures gives { Gives (λ image. image) result (image_of_bytes bytes.now) }
     ensures late { IfErr result (λ fault. IsLate fault bytes.now) }
@@ -141,19 +141,18 @@ fn read_image(alloc: Global, bytes: &[u8]) -> Result<Image, ImageFault>
     reader.finish()
 }
 
-/// Reads the image that the bytes are, from front to back. Its lists grow as their members come, and a name takes
-/// memory once.
+/// Reads an image from its bytes, from front to back. The lists grow as members are read, and a name takes memory once.
 pub fn read(alloc: Global, bytes: &[u8]) -> Result<Image, ImageFault>
-    // What is read is spelled so, in a version.
+    // The bytes are a text of the image that is returned, in some version.
     ensures text { IfOk result (λ image. (version : ℕ) × IsImageText image version bytes.now) }
     ensures fit { IfOk result IsFit }
     ensures counts { IfOk result (λ image. CountsFit image.entries) }
-    // What is spelled so is read, unless memory runs out.
+    // If the bytes are a text of an image, then that image is returned, unless memory is refused.
     ensures only { (image : Image) (version : ℕ) → IsImageText image version bytes.now
         → Gives (λ image. image) result (Ok image) }
-    // Which fault it is.
+    // The result for any bytes, with the exact fault.
     ensures exact { Gives (λ image. image) result (image_of_bytes bytes.now) }
-    // Memory is first taken behind the header.
+    // Memory is first taken after the header was read.
     ensures late { IfErr result (λ fault. IsLate fault bytes.now) }
 {
     read_image(alloc, bytes)

@@ -15,14 +15,14 @@ use byte_codec::{put_slice, put_u16, put_u64};
 use entry_table::Kept;
 use std::alloc::Global;
 
-/// Returns whether a count is greater than the greatest that is written.
+/// Returns whether an entry has a count above `greatest`.
 fn has_large_count(entries: &[Kept], greatest: u64) -> bool
     ensures { result ≡ list_any (is_too_large greatest) entries.now }
 {
     entries.iter().any(|kept| greatest < kept.count)
 }
 
-/// Puts `EDTK`.
+/// Appends `EDTK` to `out`.
 #[tactic(auto, unfolding(crate::specs::ImageText::magic))]
 fn put_magic(out: &mut Vec<u8>)
     requires { HasRoom out.old 4 }
@@ -31,7 +31,7 @@ fn put_magic(out: &mut Vec<u8>)
     put_slice(out, b"EDTK");
 }
 
-/// Puts generation, next number and next file.
+/// Appends the generation, the next number and the next file to `out`.
 #[tactic(auto, using(crate::proofs::Written::written))]
 fn put_numbers(out: &mut Vec<u8>, image: &Image)
     requires { HasRoom out.old (length (numbers_text image.now)) }
@@ -43,7 +43,7 @@ fn put_numbers(out: &mut Vec<u8>, image: &Image)
     put_u64(out, image.changes.next_file.0);
 }
 
-/// Puts what stands before the lists.
+/// Appends what stands before the lists to `out`.
 #[tactic(auto, using(crate::proofs::Written::written))]
 fn put_header(out: &mut Vec<u8>, version: u16, image: &Image)
     requires { HasRoom out.old (length (header_text version image.now)) }
@@ -57,7 +57,7 @@ fn put_header(out: &mut Vec<u8>, version: u16, image: &Image)
     put_numbers(out, image);
 }
 
-/// Puts entries, made files and changed names.
+/// Appends the entries, the made files and the changed names to `out`.
 #[tactic(auto, using(crate::proofs::Written::written))]
 fn put_lists(out: &mut Vec<u8>, form: VersionForm, image: &Image)
     requires form { IsForm form }
@@ -72,7 +72,7 @@ fn put_lists(out: &mut Vec<u8>, form: VersionForm, image: &Image)
     put_links(out, image.changes.links.as_slice());
 }
 
-/// Puts the whole text.
+/// Appends the whole text of `image` to `out`.
 #[tactic(auto, using(crate::proofs::Written::written))]
 fn put_image(out: &mut Vec<u8>, version: u16, form: VersionForm, image: &Image)
     requires form { IsForm form }
@@ -88,7 +88,7 @@ fn put_image(out: &mut Vec<u8>, version: u16, form: VersionForm, image: &Image)
     put_lists(out, form, image);
 }
 
-/// Writes an image in a version. The bytes are all the memory that it takes, at once.
+/// Writes an image in this version. Memory is taken once, only for the bytes that are returned.
 pub fn write(alloc: Global, image: &Image, version: u16) -> Result<Vec<u8>, WriteFault>
     requires { IsFit image.now }
     ensures text { IfOk result (λ bytes. IsImageText image.now version bytes.items) }

@@ -1,4 +1,4 @@
-//! The image of what a daemon knows of its mount, and its one spelling as bytes.
+//! The image of what a daemon knows of its mount, and its text as bytes.
 #![tactic(auto)]
 
 mod copying;

@@ -1,4 +1,4 @@
-//! The lists of an image, taken off the front of bytes. They grow as members come.
+//! The lists of an image, read from the front of bytes. They grow as members are read.
 ghost use Rattle.std.specs.Prelude.{◌≡◌, [], ◌∷◌, ◌++◌, OnOk};
 ghost use Rattle.map_image.specs.Feeding.{Extends, ReadsIn};
 ghost use Rattle.map_image.specs.ImageReading.{entry_at, made_at, link_at};
@@ -13,7 +13,7 @@ use entry_table::Kept;
 use manifest::LinkChange;
 use std::alloc::Global;
 
-/// Adds an entry, and its directory.
+/// Appends `entry` to `entries`, and its directory, if it has one, to `parents`.
 fn add_entry(entries: &mut Vec<Kept>, parents: &mut Vec<u64>, entry: Kept) -> Result<(), NoMemory>
     ensures entries { OnOk result (entries.new.items ≡ entries.old.items ++ entry ∷ []) }
     ensures parents { HasParents entries.old.items parents.old.items
@@ -27,7 +27,7 @@ fn add_entry(entries: &mut Vec<Kept>, parents: &mut Vec<u64>, entry: Kept) -> Re
     }
 }
 
-/// Takes entries, of which `left` are left, as far as they are whole. Returns how many are left then, and the rest.
+/// Reads up to `left` entries, as far as they are whole. Returns how many of these are left then, and the rest.
 pub(crate) fn more_entries<'a>(
     alloc: Global,
     form: VersionForm,
@@ -60,7 +60,7 @@ pub(crate) fn more_entries<'a>(
     Ok((0, rest))
 }
 
-/// Takes made files, of which `left` are left, as far as they are whole. Returns how many are left then, and the rest.
+/// Reads up to `left` made files, as far as they are whole. Returns how many of these are left then, and the rest.
 pub(crate) fn more_made<'a>(
     left: u32,
     files: &mut Vec<Made>,
@@ -87,8 +87,7 @@ pub(crate) fn more_made<'a>(
     Ok((0, rest))
 }
 
-/// Takes changed names, of which `left` are left, as far as they are whole. Returns how many are left then, and the
-/// rest.
+/// Reads up to `left` changed names, as far as they are whole. Returns how many of these are left then, and the rest.
 pub(crate) fn more_links<'a>(
     alloc: Global,
     left: u32,

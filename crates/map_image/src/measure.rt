@@ -1,4 +1,4 @@
-//! How long a text will be, counted before anything is put.
+//! How long a text will be, counted before it is written.
 ghost use Rattle.std.specs.Prelude.{◌≡◌, ◌≤◌, ◌+◌, ℕ, length, IfSome};
 ghost use Rattle.std.specs.List.{flat_map};
 ghost use Rattle.map_image.specs.ImageText.{name_text, place_text, entry_text, made_text, target_text, link_text, image_text};
@@ -11,19 +11,19 @@ use eden_base::{FileId, Name, Place};
 use entry_table::Kept;
 use manifest::LinkChange;
 
-/// The fields before the lists, and a count before each of the three, in bytes.
+/// The length of the fields before the lists, and of the count before each of the three lists, in bytes.
 const FIXED_LEN: usize = 62;
 
-/// Number and mark of an entry, in bytes.
+/// The length of an entry's number and mark, in bytes.
 const ENTRY_FIXED: usize = 9;
 
-/// A made file, in bytes.
+/// The length of a made file, in bytes.
 const MADE_LEN: usize = 11;
 
-/// A number or a file, in bytes.
+/// The length of a number or of a file's id, in bytes.
 const NUMBER_LEN: usize = 8;
 
-/// Returns the length of a name behind its length.
+/// Returns the length of the text of a name: its length in one byte, and the name.
 #[tactic(auto, using(crate::proofs::Lengths::name_is_short, crate::proofs::Lengths::lengths))]
 fn name_len(name: &Name) -> usize
     ensures len { result ≡ length (name_text name.now) }
@@ -32,7 +32,7 @@ fn name_len(name: &Name) -> usize
     name.bytes().len() + 1
 }
 
-/// Returns the length of a place.
+/// Returns the length of the text of a place.
 #[tactic(auto, using(crate::proofs::Lengths::lengths))]
 fn place_len(place: &Place) -> usize
     ensures len { result ≡ length (place_text place.now) }
@@ -44,7 +44,7 @@ fn place_len(place: &Place) -> usize
     }
 }
 
-/// Returns the length of an entry.
+/// Returns the length of the text of an entry.
 #[tactic(auto, using(crate::proofs::Lengths::lengths))]
 fn entry_len(width: CountWidth, kept: &Kept) -> usize
     ensures len { result ≡ length (entry_text width kept.now) }
@@ -53,7 +53,7 @@ fn entry_len(width: CountWidth, kept: &Kept) -> usize
     ENTRY_FIXED + width.len() + place_len(&kept.place)
 }
 
-/// Returns the length of the file that a changed name gives.
+/// Returns the length of the text of the file to which a changed name leads, if any.
 #[tactic(auto, using(crate::proofs::Lengths::lengths))]
 fn target_len(target: Option<FileId>) -> usize
     ensures len { result ≡ length (target_text target) }
@@ -65,7 +65,7 @@ fn target_len(target: Option<FileId>) -> usize
     }
 }
 
-/// Returns the length of a changed name.
+/// Returns the length of the text of a changed name.
 #[tactic(auto, using(crate::proofs::Lengths::lengths))]
 fn link_len(link: &LinkChange) -> usize
     ensures len { result ≡ length (link_text link.now) }
@@ -74,7 +74,7 @@ fn link_len(link: &LinkChange) -> usize
     NUMBER_LEN + name_len(&link.name) + target_len(link.target)
 }
 
-/// Returns what is left of a room behind entries, unless they are too long for it.
+/// Returns what is left of `room` after the text of `entries`, or none if that is too long for it.
 fn left_by_entries(width: CountWidth, entries: &[Kept], room: usize) -> Option<usize>
     ensures left { Leaves room (length (flat_map (entry_text width) entries.now)) result }
     ensures few { IfSome result (λ left. length entries.now + left ≤ room) }
@@ -89,7 +89,7 @@ fn left_by_entries(width: CountWidth, entries: &[Kept], room: usize) -> Option<u
     Some(left)
 }
 
-/// Returns what is left of a room behind made files, unless they are too long for it.
+/// Returns what is left of `room` after the text of these made files, or none if that is too long for it.
 #[tactic(auto, using(crate::proofs::Lengths::made_files_len))]
 fn left_by_made(files: &[Made], room: usize) -> Option<usize>
     ensures left { Leaves room (length (flat_map made_text files.now)) result }
@@ -101,7 +101,7 @@ fn left_by_made(files: &[Made], room: usize) -> Option<usize>
     Some(room - MADE_LEN * files.len())
 }
 
-/// Returns what is left of a room behind changed names, unless they are too long for it.
+/// Returns what is left of `room` after the text of these changed names, or none if that is too long for it.
 fn left_by_links(links: &[LinkChange], room: usize) -> Option<usize>
     ensures left { Leaves room (length (flat_map link_text links.now)) result }
     ensures few { IfSome result (λ left. length links.now + left ≤ room) }
@@ -116,8 +116,8 @@ fn left_by_links(links: &[LinkChange], room: usize) -> Option<usize>
     Some(left)
 }
 
-/// Returns the length of an image's text in a version of this form, unless it is longer than the longest one that is
-/// written.
+/// Returns the length of an image's text in a version of this form, or none if the text is longer than the longest one
+/// that is written.
 #[tactic(auto, using(crate::proofs::Lengths::lengths))]
 pub(crate) fn text_len(form: VersionForm, image: &Image) -> Option<usize>
     requires form { IsForm form }

@@ -1,4 +1,4 @@
-//! The members of an image's lists, taken off the front of bytes, each behind those that were taken before.
+//! The members of an image's lists, read from the front of bytes. A member is compared with the last one before it.
 ghost use Rattle.std.specs.Prelude.{◌≡◌};
 ghost use Rattle.map_image.specs.Fit.{is_next_number, is_next_file, is_next_place};
 ghost use Rattle.map_image.specs.ImageReading.{Gives, last_of, name_at, place_at, rising_at, count_at, entry_at, file_at, kind_of_mark, perm_at, made_at, rising_place, target_at, link_at};
@@ -12,7 +12,7 @@ use entry_table::Kept;
 use manifest::LinkChange;
 use std::alloc::Global;
 
-/// Takes a name behind its length.
+/// Reads a name after its length, and returns it and the rest.
 #[tactic(auto, unfolding(crate::specs::ImageReading::name_at))]
 fn name_at(alloc: Global, bytes: &[u8]) -> Result<(Name, &[u8]), ImageFault>
     ensures { Gives (λ x. (x.0, x.1.now)) result (name_at bytes.now) }
@@ -21,7 +21,7 @@ fn name_at(alloc: Global, bytes: &[u8]) -> Result<(Name, &[u8]), ImageFault>
     named(alloc, field, rest)
 }
 
-/// Takes where an entry stands, by its mark.
+/// Reads the place of an entry, as its mark says, and returns it and the rest.
 #[tactic(auto, unfolding(crate::specs::ImageReading::place_at))]
 fn place_at(alloc: Global, unlinked: bool, bytes: &[u8]) -> Result<(Place, &[u8]), ImageFault>
     ensures { Gives (λ x. (x.0, x.1.now)) result (place_at unlinked bytes.now) }
@@ -36,7 +36,7 @@ fn place_at(alloc: Global, unlinked: bool, bytes: &[u8]) -> Result<(Place, &[u8]
     Ok((Place::Linked { parent, name }, rest))
 }
 
-/// Returns whether a number rises above the last entry's.
+/// Returns whether `number` is above that of the last entry in `done`, or is at least 2 if there is none.
 pub(crate) fn is_next_number(done: &[Kept], number: u64) -> bool
     ensures { result ≡ is_next_number (last_of done.now) number }
 {
@@ -46,7 +46,7 @@ pub(crate) fn is_next_number(done: &[Kept], number: u64) -> bool
     }
 }
 
-/// Takes a number that rises.
+/// Reads a number above that of the last entry in `done`, and returns it and the rest.
 #[tactic(auto, unfolding(crate::specs::ImageReading::rising_at))]
 fn rising_at<'a>(done: &[Kept], bytes: &'a [u8]) -> Result<(u64, &'a [u8]), ImageFault>
     ensures { Gives (λ x. (x.0, x.1.now)) result (rising_at (last_of done.now) bytes.now) }
@@ -58,7 +58,7 @@ fn rising_at<'a>(done: &[Kept], bytes: &'a [u8]) -> Result<(u64, &'a [u8]), Imag
     Ok((number, rest))
 }
 
-/// Takes a count, unless it is greater than the greatest of its version.
+/// Reads a count, and returns it and the rest. Refuses a count above the greatest one of the version.
 #[tactic(auto, unfolding(crate::specs::ImageReading::count_at))]
 fn count_at(form: VersionForm, bytes: &[u8]) -> Result<(u64, &[u8]), ImageFault>
     ensures { Gives (λ x. (x.0, x.1.now)) result (count_at form bytes.now) }
@@ -70,7 +70,7 @@ fn count_at(form: VersionForm, bytes: &[u8]) -> Result<(u64, &[u8]), ImageFault>
     Ok((count, rest))
 }
 
-/// Takes an entry.
+/// Reads an entry that follows those in `done`, and returns it and the rest.
 #[tactic(auto, unfolding(crate::specs::ImageReading::entry_at))]
 pub(crate) fn entry_at<'a>(
     alloc: Global,
@@ -102,7 +102,7 @@ pub(crate) fn is_next_file(done: &[Made], file: u64) -> bool
     }
 }
 
-/// Takes a file that rises.
+/// Reads a file's id above that of the last file in `done`, and returns it and the rest.
 #[tactic(auto, unfolding(crate::specs::ImageReading::file_at))]
 fn file_at<'a>(done: &[Made], bytes: &'a [u8]) -> Result<(u64, &'a [u8]), ImageFault>
     ensures { Gives (λ x. (x.0, x.1.now)) result (file_at (last_of done.now) bytes.now) }
@@ -114,7 +114,7 @@ fn file_at<'a>(done: &[Made], bytes: &'a [u8]) -> Result<(u64, &'a [u8]), ImageF
     Ok((file, rest))
 }
 
-/// Takes permissions.
+/// Reads permissions, and returns them and the rest.
 #[tactic(auto, unfolding(crate::specs::ImageReading::perm_at))]
 fn perm_at(bytes: &[u8]) -> Result<(Perm, &[u8]), ImageFault>
     ensures { Gives (λ x. (x.0, x.1.now)) result (perm_at bytes.now) }
@@ -126,14 +126,14 @@ fn perm_at(bytes: &[u8]) -> Result<(Perm, &[u8]), ImageFault>
     }
 }
 
-/// Returns the kind of a mark.
+/// Returns the kind that a mark says.
 fn kind_of_mark(is_dir: bool) -> Kind
     ensures { result ≡ kind_of_mark is_dir }
 {
     if is_dir { Kind::Dir } else { Kind::File }
 }
 
-/// Takes a made file.
+/// Reads a made file that follows those in `done`, and returns it and the rest.
 #[tactic(auto, unfolding(crate::specs::ImageReading::made_at))]
 pub(crate) fn made_at<'a>(done: &[Made], bytes: &'a [u8]) -> Result<(Made, &'a [u8]), ImageFault>
     ensures { Gives (λ x. (x.0, x.1.now)) result (made_at (last_of done.now) bytes.now) }
@@ -149,7 +149,7 @@ pub(crate) fn made_at<'a>(done: &[Made], bytes: &'a [u8]) -> Result<(Made, &'a [
     Ok((made, rest))
 }
 
-/// Returns whether a name in a directory rises above the last one.
+/// Returns whether a name comes after the last one in `done`, by directory and then by bytes.
 pub(crate) fn is_next_place(done: &[LinkChange], dir: u64, name: &[u8]) -> bool
     ensures { result ≡ is_next_place (last_of done.now) dir name.now }
 {
@@ -161,7 +161,7 @@ pub(crate) fn is_next_place(done: &[LinkChange], dir: u64, name: &[u8]) -> bool
     }
 }
 
-/// Makes a name of bytes that were taken, where it rises in its directory.
+/// Makes the name that `field` has. Refuses a name in `dir` that does not come after the last one in `done`.
 #[tactic(auto, unfolding(crate::specs::ImageReading::rising_place))]
 fn rising_place<'a>(
     alloc: Global,
@@ -178,7 +178,7 @@ fn rising_place<'a>(
     named(alloc, field, rest)
 }
 
-/// Takes the file of a changed name, by its mark.
+/// Reads the file to which a changed name leads, if its mark says that there is one, and returns it and the rest.
 #[tactic(auto, unfolding(crate::specs::ImageReading::target_at))]
 fn target_at(there: bool, bytes: &[u8]) -> Result<(Option<FileId>, &[u8]), ImageFault>
     ensures { Gives (λ x. (x.0, x.1.now)) result (target_at there bytes.now) }
@@ -190,7 +190,7 @@ fn target_at(there: bool, bytes: &[u8]) -> Result<(Option<FileId>, &[u8]), Image
     Ok((Some(FileId(file)), rest))
 }
 
-/// Takes a changed name.
+/// Reads a changed name that follows those in `done`, and returns it and the rest.
 #[tactic(auto, unfolding(crate::specs::ImageReading::link_at))]
 pub(crate) fn link_at<'a>(
     alloc: Global,

@@ -1,4 +1,4 @@
-//! The members of an image's lists, put into a buffer.
+//! The members of an image's lists, appended to a buffer.
 ghost use Rattle.std.specs.Prelude.{All, ◌≡◌, ◌<◌, ◌≤◌, false, length};
 ghost use Rattle.std.specs.List.{flat_map, list_any};
 ghost use Rattle.byte_codec.specs.Field.{number_bytes};
@@ -14,7 +14,7 @@ use eden_base::{FileId, Kind, Name, Place};
 use entry_table::Kept;
 use manifest::LinkChange;
 
-/// Puts a name behind its length.
+/// Appends the length of a name in one byte, and the name, to `out`.
 #[tactic(auto, using(crate::proofs::Written::written))]
 fn put_name(out: &mut Vec<u8>, name: &Name)
     requires { HasRoom out.old (length (name_text name.now)) }
@@ -25,7 +25,7 @@ fn put_name(out: &mut Vec<u8>, name: &Name)
     put_slice(out, bytes);
 }
 
-/// Returns the mark of a place.
+/// Returns the mark of a place: 0 if the place is linked, else 1.
 fn place_mark(place: &Place) -> u8
     ensures { result ≡ place_mark place.now }
 {
@@ -35,7 +35,7 @@ fn place_mark(place: &Place) -> u8
     }
 }
 
-/// Puts where an entry stands.
+/// Appends the place of an entry to `out`.
 #[tactic(auto, using(crate::proofs::Written::written))]
 fn put_place(out: &mut Vec<u8>, place: &Place)
     requires { HasRoom out.old (length (place_text place.now)) }
@@ -51,7 +51,7 @@ fn put_place(out: &mut Vec<u8>, place: &Place)
     }
 }
 
-/// Puts a count of a width.
+/// Appends a count to `out`, in as many bytes as `width` says.
 #[tactic(auto, using(crate::proofs::Written::written))]
 fn put_count(out: &mut Vec<u8>, width: CountWidth, count: u64)
     requires room { HasRoom out.old (length (number_bytes (width_of width) count)) }
@@ -64,7 +64,7 @@ fn put_count(out: &mut Vec<u8>, width: CountWidth, count: u64)
     }
 }
 
-/// Puts an entry.
+/// Appends an entry to `out`.
 #[tactic(auto, using(crate::proofs::Written::written))]
 fn put_entry(out: &mut Vec<u8>, form: VersionForm, kept: &Kept)
     requires form { IsForm form }
@@ -79,7 +79,7 @@ fn put_entry(out: &mut Vec<u8>, form: VersionForm, kept: &Kept)
     put_place(out, &kept.place);
 }
 
-/// Returns the mark of a kind.
+/// Returns the mark of a kind: 0 for a file, 1 for a directory.
 fn kind_mark(kind: Kind) -> u8
     ensures { result ≡ kind_mark kind }
 {
@@ -89,7 +89,7 @@ fn kind_mark(kind: Kind) -> u8
     }
 }
 
-/// Puts a made file.
+/// Appends a made file to `out`.
 #[tactic(auto, using(crate::proofs::Written::written))]
 fn put_made(out: &mut Vec<u8>, made: Made)
     requires { HasRoom out.old (length (made_text made)) }
@@ -101,7 +101,7 @@ fn put_made(out: &mut Vec<u8>, made: Made)
     put_u16(out, made.perm.bits());
 }
 
-/// Puts the file that a changed name gives, if any.
+/// Appends the file to which a changed name leads, if any, to `out`, after a mark that says whether there is one.
 #[tactic(auto, using(crate::proofs::Written::written))]
 fn put_target(out: &mut Vec<u8>, target: Option<FileId>)
     requires { HasRoom out.old (length (target_text target)) }
@@ -117,7 +117,7 @@ fn put_target(out: &mut Vec<u8>, target: Option<FileId>)
     }
 }
 
-/// Puts a changed name.
+/// Appends a changed name to `out`.
 #[tactic(auto, using(crate::proofs::Written::written))]
 fn put_link(out: &mut Vec<u8>, link: &LinkChange)
     requires { HasRoom out.old (length (link_text link.now)) }
@@ -129,7 +129,7 @@ fn put_link(out: &mut Vec<u8>, link: &LinkChange)
     put_target(out, link.target);
 }
 
-/// Puts entries, in their order.
+/// Appends entries to `out`, in their order.
 #[tactic(auto, using(crate::proofs::Written::written))]
 fn put_each_entry(out: &mut Vec<u8>, form: VersionForm, entries: &[Kept])
     requires form { IsForm form }
@@ -143,7 +143,7 @@ fn put_each_entry(out: &mut Vec<u8>, form: VersionForm, entries: &[Kept])
     }
 }
 
-/// Puts how many entries there are, and each.
+/// Appends to `out` how many entries there are, and each entry.
 #[tactic(auto, using(crate::proofs::Written::written))]
 pub(crate) fn put_entries(out: &mut Vec<u8>, form: VersionForm, entries: &[Kept])
     requires form { IsForm form }
@@ -157,7 +157,7 @@ pub(crate) fn put_entries(out: &mut Vec<u8>, form: VersionForm, entries: &[Kept]
     put_each_entry(out, form, entries);
 }
 
-/// Puts made files, in their order.
+/// Appends made files to `out`, in their order.
 #[tactic(auto, using(crate::proofs::Written::written))]
 fn put_each_made(out: &mut Vec<u8>, files: &[Made])
     requires { HasRoom out.old (length (flat_map made_text files.now)) }
@@ -169,7 +169,7 @@ fn put_each_made(out: &mut Vec<u8>, files: &[Made])
     }
 }
 
-/// Puts how many made files there are, and each.
+/// Appends to `out` how many made files there are, and each made file.
 #[tactic(auto, using(crate::proofs::Written::written))]
 pub(crate) fn put_made_files(out: &mut Vec<u8>, files: &[Made])
     requires few { length files.now < length_limit }
@@ -181,7 +181,7 @@ pub(crate) fn put_made_files(out: &mut Vec<u8>, files: &[Made])
     put_each_made(out, files);
 }
 
-/// Puts changed names, in their order.
+/// Appends changed names to `out`, in their order.
 #[tactic(auto, using(crate::proofs::Written::written))]
 fn put_each_link(out: &mut Vec<u8>, links: &[LinkChange])
     requires { HasRoom out.old (length (flat_map link_text links.now)) }
@@ -193,7 +193,7 @@ fn put_each_link(out: &mut Vec<u8>, links: &[LinkChange])
     }
 }
 
-/// Puts how many changed names there are, and each.
+/// Appends to `out` how many changed names there are, and each changed name.
 #[tactic(auto, using(crate::proofs::Written::written))]
 pub(crate) fn put_links(out: &mut Vec<u8>, links: &[LinkChange])
     requires few { length links.now < length_limit }

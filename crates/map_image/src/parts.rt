@@ -1,4 +1,4 @@
-//! The parts in which a text goes out where it isn't sent whole.
+//! The parts in which a text is sent if it isn't sent whole.
 ghost use Rattle.std.specs.Prelude.{◌≡◌, ◌≤◌, length, IfOk};
 ghost use Rattle.map_image.specs.Parts.{AreParts};
 
@@ -6,7 +6,7 @@ use byte_codec::Bytes;
 use eden_base::NoMemory;
 use std::alloc::Global;
 
-/// The bytes of each part but the last.
+/// The length of each part but the last.
 pub const PART_LEN: usize = 4_096;
 
 /// Copies a part of a text.
@@ -19,7 +19,7 @@ fn copied(alloc: Global, part: &[u8]) -> Result<Bytes, NoMemory>
     }
 }
 
-/// Cuts a text into parts of 4,096 bytes, of which the last may be shorter. The room for the list is taken first, and
+/// Cuts a text into parts of 4,096 bytes, of which the last may be shorter. Memory for the list is taken first, and
 /// then each part is copied once.
 pub fn cut(alloc: Global, text: &[u8]) -> Result<Vec<Bytes>, NoMemory>
     requires some { 1 ≤ length text.now }

@@ -1,4 +1,4 @@
-//! Marks and names taken off the front of bytes: a value, and what follows it.
+//! Marks and names read from the front of bytes: a value, and what follows it.
 ghost use Rattle.std.specs.Prelude.{◌≡◌};
 ghost use Rattle.byte_codec.specs.Reading.{number_at};
 ghost use Rattle.map_image.specs.ImageReading.{Gives, counted_at, mark_at, named};
@@ -10,7 +10,7 @@ use byte_codec::{byte_at, bytes_at, u32_at, u64_at};
 use eden_base::{Name, NoMemory};
 use std::alloc::Global;
 
-/// Takes a mark, which is 0 or 1, and returns whether it is 1.
+/// Reads a mark, which is 0 or 1, and returns whether it is 1, and the rest.
 #[tactic(auto, unfolding(crate::specs::ImageReading::mark_at))]
 pub(crate) fn mark_at(bytes: &[u8]) -> Result<(bool, &[u8]), ImageFault>
     ensures { Gives (λ x. (x.0, x.1.now)) result (mark_at bytes.now) }
@@ -22,7 +22,7 @@ pub(crate) fn mark_at(bytes: &[u8]) -> Result<(bool, &[u8]), ImageFault>
     Ok((mark == 1, rest))
 }
 
-/// Takes a number of a width.
+/// Reads a number of this width, and returns it and the rest.
 pub(crate) fn number_at(width: CountWidth, bytes: &[u8]) -> Result<(u64, &[u8]), ImageFault>
     ensures { Gives (λ x. (x.0, x.1.now)) result (number_at Short (width_of width) bytes.now) }
 {
@@ -38,7 +38,7 @@ pub(crate) fn number_at(width: CountWidth, bytes: &[u8]) -> Result<(u64, &[u8]),
     }
 }
 
-/// Takes bytes behind their length.
+/// Reads a length in one byte, and returns as many bytes after it, and the rest.
 #[tactic(auto, unfolding(crate::specs::ImageReading::counted_at))]
 pub(crate) fn counted_at(bytes: &[u8]) -> Result<(&[u8], &[u8]), ImageFault>
     ensures { Gives (λ x. (x.0.now, x.1.now)) result (counted_at bytes.now) }
@@ -48,7 +48,7 @@ pub(crate) fn counted_at(bytes: &[u8]) -> Result<(&[u8], &[u8]), ImageFault>
     Ok((field, rest))
 }
 
-/// Makes a name of bytes that were taken.
+/// Makes a name of `field`, and returns it and `rest`.
 pub(crate) fn named<'a>(
     alloc: Global,
     field: &[u8],

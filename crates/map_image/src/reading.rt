@@ -1,4 +1,4 @@
-//! What was read of an image, and from where reading goes on.
+//! What was read of an image, and where reading goes on.
 ghost use Rattle.std.specs.Prelude.{◌≡◌, [], IfOk, OnOk};
 ghost use Rattle.map_image.specs.ImageReading.{Tells};
 ghost use Rattle.map_image.specs.Feeding.{IsCut, IsCutTo, IsMark, IsSame, KnowsParents, OnlyAdds, Reads, front_at, resumed};
@@ -16,7 +16,7 @@ use entry_table::Kept;
 use manifest::LinkChange;
 use std::alloc::Global;
 
-/// What stands in front of the first entry.
+/// What stands before the first entry.
 #[derive(Clone, Copy)]
 pub(crate) struct Front {
     pub(crate) form: VersionForm,
@@ -25,7 +25,7 @@ pub(crate) struct Front {
     pub(crate) count: u32,
 }
 
-/// Where reading goes on: in front of the first entry, or in a list of which some members are left.
+/// Where reading goes on: before the first entry, or in a list of which `left` members are left.
 #[derive(Clone, Copy)]
 pub(crate) enum Stage {
     AtFront,
@@ -56,7 +56,7 @@ pub(crate) struct Reading {
     pub(crate) links: Vec<LinkChange>,
 }
 
-/// How far reading had come.
+/// How far reading had come, at a call of `mark`.
 #[derive(Clone, Copy)]
 pub(crate) struct Mark {
     stage: Stage,
@@ -66,7 +66,7 @@ pub(crate) struct Mark {
     links: usize,
 }
 
-/// Takes what stands in front of the first entry.
+/// Reads what stands before the first entry, and returns it and the rest.
 #[tactic(auto, unfolding(crate::specs::Feeding::front_at))]
 fn front_at(bytes: &[u8]) -> Result<(Front, &[u8]), ImageFault>
     ensures { Tells (λ x. (x.0, x.1.now)) result (front_at bytes.now) }
@@ -84,7 +84,7 @@ fn front_at(bytes: &[u8]) -> Result<(Front, &[u8]), ImageFault>
 }
 
 impl Reading {
-    /// Returns what is read of an image before its first byte. Takes no memory.
+    /// Makes a `Reading` that read nothing. Takes no memory.
     pub(crate) fn new(alloc: Global) -> Reading
         ensures stage { result.stage ≡ Stage.AtFront }
         ensures lists { (result.entries.items ≡ []) × (result.made.items ≡ []) × (result.links.items ≡ []) }
@@ -100,7 +100,7 @@ impl Reading {
         }
     }
 
-    /// Takes what stands in front of the first entry, unless it was taken or is cut off. Returns the rest.
+    /// Reads what stands before the first entry, unless that was read before or is cut off. Returns the rest.
     fn take_front<'a>(&mut self, bytes: &'a [u8]) -> Result<&'a [u8], ImageFault>
         ensures reads { Reads (λ rest. rest.now) self.old bytes.now self.new result }
         ensures cut { IfOk result (λ rest. IsCutTo 0 self.new rest.now) }
@@ -126,7 +126,7 @@ impl Reading {
         }
     }
 
-    /// Takes entries, and the count of made files behind the last, as far as they are whole. Returns the rest.
+    /// Reads entries, and the count of made files after the last, as far as they are whole. Returns the rest.
     fn take_entries<'a>(&mut self, bytes: &'a [u8]) -> Result<&'a [u8], ImageFault>
         requires { IsCutTo 0 self.old bytes.now }
         ensures reads { Reads (λ rest. rest.now) self.old bytes.now self.new result }
@@ -161,7 +161,7 @@ impl Reading {
         }
     }
 
-    /// Takes made files, and the count of changed names behind the last, as far as they are whole. Returns the rest.
+    /// Reads made files, and the count of changed names after the last, as far as they are whole. Returns the rest.
     fn take_made<'a>(&mut self, bytes: &'a [u8]) -> Result<&'a [u8], ImageFault>
         requires { IsCutTo 1 self.old bytes.now }
         ensures reads { Reads (λ rest. rest.now) self.old bytes.now self.new result }
@@ -189,7 +189,7 @@ impl Reading {
         }
     }
 
-    /// Takes changed names, as far as they are whole. Returns the rest, unless it is behind the last of them.
+    /// Reads changed names, as far as they are whole. Returns the rest; bytes after the last changed name are a fault.
     fn take_links<'a>(&mut self, bytes: &'a [u8]) -> Result<&'a [u8], ImageFault>
         requires { IsCutTo 2 self.old bytes.now }
         ensures reads { Reads (λ rest. rest.now) self.old bytes.now self.new result }
@@ -211,7 +211,7 @@ impl Reading {
         Ok(rest)
     }
 
-    /// Takes what is whole of the bytes that come next, and returns the rest.
+    /// Reads what is whole of the bytes that come next, and returns the rest.
     pub(crate) fn take<'a>(&mut self, bytes: &'a [u8]) -> Result<&'a [u8], ImageFault>
         ensures reads { Reads (λ rest. rest.now) self.old bytes.now self.new result }
         ensures cut { IfOk result (λ rest. IsCut self.new rest.now) }
@@ -224,7 +224,7 @@ impl Reading {
         self.take_links(rest)
     }
 
-    /// Returns how far reading came.
+    /// Returns how far reading has come.
     pub(crate) fn mark(&self) -> Mark
         ensures { IsMark self.now result }
     {
@@ -237,7 +237,7 @@ impl Reading {
         }
     }
 
-    /// Forgets what was read behind a mark.
+    /// Drops what was read since `mark` was made.
     pub(crate) fn back_to(&mut self, mark: Mark)
         ensures { (start : Reading) → IsMark start mark → OnlyAdds start self.old → IsSame start self.new }
     {
@@ -248,7 +248,7 @@ impl Reading {
         self.links.truncate(mark.links);
     }
 
-    /// Returns what was read, in memory of its own.
+    /// Makes a copy of what was read.
     pub(crate) fn copy(&self) -> Result<Reading, NoMemory>
         ensures copy { IfOk result (λ copy. IsSame self.now copy) }
     {
@@ -267,7 +267,7 @@ impl Reading {
         })
     }
 
-    /// Returns the image that was read, or its fault where no byte follows. Takes no memory.
+    /// Returns the image that was read, if no byte follows, or its fault. Takes no memory.
     pub(crate) fn finish(self) -> Result<Image, ImageFault>
         requires cut { IsCut self [] }
         requires parents { KnowsParents self }

@@ -1,10 +1,10 @@
-//! The bytes that a reader took, which clauses alone read.
+//! The bytes that a reader took, which contracts alone see.
 ghost use Rattle.std.specs.Prelude.{◌≡◌, ℕ, List, [], ◌++◌};
 ghost use Rattle.std.specs.Borrow.{ftrue};
 
 use std::marker::{Model, PhantomData, Send};
 
-/// The bytes that were taken, in their order. They are kept nowhere: contracts name them, and no code runs for them.
+/// The bytes that were taken, in their order. They are stored nowhere: contracts name them, and no code runs for them.
 #[derive(Drop)]
 pub struct Taken {
     mark: PhantomData<u8>,
@@ -18,19 +18,19 @@ impl Model for Taken {
 unsafe impl Send for Taken {}
 
 impl Taken {
-    /// Returns no bytes.
+    /// Makes a list of no bytes.
     pub(crate) fn new() -> Taken
         ensures { result.bytes ≡ [] }
     {
         Taken { mark: PhantomData }
     }
 
-    /// Adds a piece.
+    /// Appends a piece.
     pub(crate) fn add(&mut self, _piece: &[u8])
         ensures { self.new.bytes ≡ self.old.bytes ++ _piece.now }
     {}
 
-    /// Returns the same bytes.
+    /// Makes a copy of the list.
     pub(crate) fn copy(&self) -> Taken
         ensures { result.bytes ≡ self.now.bytes }
     {

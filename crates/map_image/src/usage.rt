@@ -11,7 +11,7 @@ use eden_base::{NoMemory, Place};
 use entry_table::Kept;
 use std::alloc::Global;
 
-/// Adds the directory of a place that has one.
+/// Appends the directory of `place` to `parents`, if the place has one.
 pub(crate) fn add_parent(parents: &mut Vec<u64>, place: &Place) -> Result<(), NoMemory>
     ensures has { OnOk result ((n : ℕ) → list_any (is_number n) parents.new.items
         ≡ (list_any (is_number n) parents.old.items || is_in n place.now)) }
@@ -26,7 +26,7 @@ pub(crate) fn add_parent(parents: &mut Vec<u64>, place: &Place) -> Result<(), No
     }
 }
 
-/// Returns the directories in which entries stand, one for each.
+/// Returns the directory of each linked entry, in the order of the entries.
 fn parents_in_turn(alloc: Global, entries: &[Kept]) -> Result<Vec<u64>, NoMemory>
     ensures { IfOk result (λ parents. HasParents entries.now parents.items) }
 {
@@ -37,7 +37,7 @@ fn parents_in_turn(alloc: Global, entries: &[Kept]) -> Result<Vec<u64>, NoMemory
     Ok(parents)
 }
 
-/// Returns the directories in which entries stand, so that they can be searched. Takes no memory.
+/// Sorts the directories in which entries stand, so that they can be searched. Takes no memory.
 pub(crate) fn sorted(parents: Vec<u64>) -> Vec<u64>
     ensures { (entries : List Kept) → HasParents entries parents.items → AreParents entries result.items }
 {
@@ -46,7 +46,7 @@ pub(crate) fn sorted(parents: Vec<u64>) -> Vec<u64>
     sorted
 }
 
-/// Returns whether an entry is of use, by the directories in which entries stand.
+/// Returns whether the entry `kept` is of use. `parents` are the directories in which entries stand, sorted.
 fn is_of_use(kept: &Kept, parents: &[u64]) -> bool
     ensures { (entries : List Kept) → AreParents entries parents.now → result ≡ is_of_use entries kept.now }
 {
@@ -59,7 +59,7 @@ fn is_of_use(kept: &Kept, parents: &[u64]) -> bool
     }
 }
 
-/// Returns whether each entry is of use.
+/// Returns whether each entry is of use. `parents` are the directories in which entries stand, sorted.
 pub(crate) fn all_of_use(entries: &[Kept], parents: &[u64]) -> bool
     requires { AreParents entries.now parents.now }
     ensures { result ≡ are_of_use entries.now }
@@ -72,7 +72,7 @@ pub(crate) fn all_of_use(entries: &[Kept], parents: &[u64]) -> bool
     true
 }
 
-/// Returns whether each entry is of use. It sorts the directories in which entries stand.
+/// Returns whether each entry is of use. Sorts the directories in which entries stand.
 pub(crate) fn are_of_use(alloc: Global, entries: &[Kept]) -> Result<bool, NoMemory>
     ensures { IfOk result (λ all. all ≡ are_of_use entries.now) }
 {

@@ -10,7 +10,7 @@ pub enum CountWidth {
     Eight,
 }
 
-/// How a text goes to the next daemon.
+/// How a text is sent to the next daemon.
 #[derive(Clone, Copy)]
 pub enum Sending {
     /// In one message.
@@ -19,7 +19,7 @@ pub enum Sending {
     Parts,
 }
 
-/// What a text of one version differs in from another's.
+/// How the texts of one version differ from those of another.
 #[derive(Clone, Copy)]
 pub struct VersionForm {
     pub count_width: CountWidth,
@@ -38,7 +38,7 @@ const FIRST: VersionForm = VersionForm {
     sending: Sending::Whole,
 };
 
-/// The form of version 2: a longer text, which doesn't go whole.
+/// The form of version 2: a longer text, which isn't sent whole.
 const SECOND: VersionForm = VersionForm {
     longest: 268_435_456,
     sending: Sending::Parts,
@@ -57,7 +57,7 @@ pub fn form_of(version: u16) -> Option<VersionForm>
     }
 }
 
-/// Returns whether there is such a version.
+/// Returns whether `version` is a version of an image.
 pub fn is_version(version: u16) -> bool
     ensures is { result ≡ is_some (form_of version) }
 {

@@ -35,7 +35,7 @@ has_later k x xs h = elim (cases_Bool (eqb k x)) [
 pub has_in_rest : (k x : ℕ) (xs : List ℕ) → eqb k x ≡ false → has k (x ∷ xs) ≡ true → has k xs ≡ true
 has_in_rest k x xs e h = let on : has k (x ∷ xs) ≡ has k xs = rw e refl in sym on ∙ h
 
--- one is in the list and the other is not
+-- two indexes differ if one is in the list and the other is not
 pub differ : (k m : ℕ) (xs : List ℕ) → has k xs ≡ true → has m xs ≡ false → eqb k m ≡ false
 differ k m xs h g = elim (cases_Bool (eqb k m)) [
   | inl e ↦ absurd (both_ways (has m xs) g (subst (λ (q : ℕ). has q xs ≡ true) (eqb-true k m e) h))

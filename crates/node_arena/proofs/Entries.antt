@@ -23,7 +23,7 @@ pub last-chain : (next prev : ℕ → ℕ) (a x : ℕ) (xs : List ℕ) (z : ℕ)
 last-chain next prev a x [] z c = ap (λ (k : ℕ). Some (slot_at k)) (sym c.2.1)
 last-chain next prev a x (y ∷ ys) z c = last-chain next prev x y ys z c.2
 
--- the same of a list that is not empty
+-- the last index of a chain that is not empty is the one before its end
 pub last_slot-chain : (next prev : ℕ → ℕ) (a : ℕ) (xs : List ℕ) (z : ℕ) → IsChain next prev a xs z → (length xs ≡ 0 → ⊥) → slice_get (map slot_at xs) (length xs - 1) ≡ Some (slot_at (prev z))
 last_slot-chain next prev a [] z c h = absurd (h refl)
 last_slot-chain next prev a (x ∷ xs) z c h =

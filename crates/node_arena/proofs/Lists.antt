@@ -62,7 +62,7 @@ module _ (next prev : ℕ → ℕ) (order : List ℕ) (head : ℕ) (spare : List
       ];
     }
 
-    -- it becomes the first spare one
+    -- the removed node becomes the first spare one
     pub lists-removed : AreApart (updated n1 x head) p1 (strike x order) x (x ∷ spare)
     lists-removed = record {
       chain = chain_stays n1 p1 x head 0 (strike x order) 0 struck_chain (has_not_from x 0 (strike x order) not_start gone);

@@ -9,7 +9,7 @@ module _ {T : Type 0} where
   index_in (Vacant i) = i
   index_in (Held i x) = i
 
-  -- its value
+  -- the value of the node, if it holds one
   abbrev pub value_in : Item T → Option T
   value_in (Vacant i) = None
   value_in (Held i x) = Some x

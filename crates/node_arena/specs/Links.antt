@@ -1,7 +1,7 @@
 -- Lists of nodes by their indexes, and the links that make them.
 use Rattle.std.specs.Prelude.{◌≡◌, ℕ, Bool, true, false, ◌==◌, if◌then◌else◌, List, [], ◌∷◌}
 
--- f, but v at i
+-- the function f, but with v at i
 abbrev pub updated : {X : Type 0} → (ℕ → X) → ℕ → X → ℕ → X
 updated f i v k = if i == k then v else f k
 
@@ -10,7 +10,7 @@ abbrev pub has : ℕ → List ℕ → Bool
 has k [] = false
 has k (x ∷ xs) = if k == x then true else has k xs
 
--- no index comes twice
+-- no index is in the list twice
 abbrev pub IsApart : List ℕ → Type 0
 IsApart [] = Unit {0}
 IsApart (x ∷ xs) = (has x xs ≡ false) × IsApart xs
@@ -30,18 +30,18 @@ abbrev pub IsRun : (ℕ → ℕ) → ℕ → List ℕ → Type 0
 IsRun next k [] = Unit {0}
 IsRun next k (x ∷ xs) = (k ≡ x) × IsRun next (next x) xs
 
--- the next links once x is taken out of its list
+-- the next links after x was taken out of its list
 abbrev pub next_without : (ℕ → ℕ) → (ℕ → ℕ) → ℕ → ℕ → ℕ
 next_without next prev x = updated next (prev x) (next x)
 
--- and the previous ones
+-- the previous links after x was taken out of its list
 abbrev pub prev_without : (ℕ → ℕ) → (ℕ → ℕ) → ℕ → ℕ → ℕ
 prev_without next prev x = updated prev (next x) (prev x)
 
--- the next links once x stands right after a
+-- the next links after x was put right after a
 abbrev pub next_with : (ℕ → ℕ) → ℕ → ℕ → ℕ → ℕ
 next_with next a x = updated (updated next x (next a)) a x
 
--- and the previous ones
+-- the previous links after x was put right after a
 abbrev pub prev_with : (ℕ → ℕ) → (ℕ → ℕ) → ℕ → ℕ → ℕ → ℕ
 prev_with next prev a x = updated (updated prev x a) (next a) x

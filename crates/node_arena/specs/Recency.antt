@@ -7,12 +7,12 @@ use Rattle.node_arena.specs.declared.links.Link.{Link}
 use Rattle.node_arena.specs.declared.region.Region.{Region}
 use Rattle.node_arena.specs.declared.slot.Slot.{Slot}
 
--- the indexes that the next links lead to, a count of them from k on
+-- the indexes to which the next links lead, this count of them from k on
 abbrev pub walked : (ℕ → ℕ) → ℕ → ℕ → List ℕ
 walked next zero k = []
 walked next (suc n) k = k ∷ walked next n (next k)
 
--- a list in use goes in a circle from node 0, a spare one starts at the head, and they have no node in common
+-- the list in use goes in a circle from node 0, the spare list starts at the head, and they have no node in common
 pub record AreApart (next prev : ℕ → ℕ) (order : List ℕ) (head : ℕ) (spare : List ℕ) : Type 0 where
   pub chain : IsChain next prev 0 order 0
   pub run : IsRun next head spare
@@ -21,12 +21,12 @@ pub record AreApart (next prev : ℕ → ℕ) (order : List ℕ) (head : ℕ) (s
   pub disjoint : (k : ℕ) → has k order ≡ true → has k spare ≡ false
 
 module _ {T : Type 0} where
-  -- an entry, where there is a value
+  -- these entries, with one for this index in front if there is a value
   abbrev pub entry_at : ℕ → Option T → List (Slot × T) → List (Slot × T)
   entry_at k None es = es
   entry_at k (Some x) es = (record { index = k }, x) ∷ es
 
-  -- the values at the indexes, with their slots
+  -- the values at the indexes, with their slots, as entries
   abbrev pub entries_at : (ℕ → Option T) → List ℕ → List (Slot × T)
   entries_at values [] = []
   entries_at values (k ∷ ks) = entry_at k (values k) (entries_at values ks)
@@ -35,7 +35,7 @@ module _ {T : Type 0} where
   abbrev pub shown : Region T → ℕ → ℕ → Arena T
   shown r capacity len = arena (entries_at (value_of r) (walked (next_of r) len (next_of r 0))) capacity
 
-  -- each node but node 0 stands in one of the two lists, and just those of the first have values
+  -- each node but node 0 stands in one of the two lists, and exactly those of the list in use have values
   pub record IsKept (next prev : ℕ → ℕ) (values : ℕ → Option T) (head capacity len : ℕ)
       (order spare : List ℕ) : Type 0 where
     pub lists : AreApart next prev order head spare

@@ -16,11 +16,11 @@ module _ {T : Type 0} (r : Region T) where
   abbrev pub place_of : Link → ℕ
   place_of link = index_of (vec_ptr r.nodes) r.stride.bytes link.to
 
-  -- it leads to a node
+  -- the link leads to a node
   abbrev pub IsPlaced : Link → Type 0
   IsPlaced link = LeadsIn r.nodes r.stride.bytes link.to
 
-  -- the index of the node after this one, of the one before it, and its value
+  -- of a node: the index of the node after it, that of the node before it, and its value
   abbrev pub next_in : Option (Node T) → ℕ
   next_in None = 0
   next_in (Some n) = place_of n.next
@@ -37,7 +37,7 @@ module _ {T : Type 0} (r : Region T) where
   abbrev pub node_at : ℕ → Option (Node T)
   node_at k = slice_get r.nodes.items k
 
-  -- the index of the node after it, of the one before it, and its value
+  -- of the node at an index: the index of the node after it, that of the node before it, and its value
   abbrev pub next_of : ℕ → ℕ
   next_of k = next_in (node_at k)
 
@@ -47,20 +47,20 @@ module _ {T : Type 0} (r : Region T) where
   abbrev pub value_of : ℕ → Option T
   value_of k = held_in (node_at k)
 
-  -- each link leads to a node, and each node has its index
+  -- each link of a node leads to a node, and each node has its index
   pub record IsLaidOut : Type 0 where
     pub positive : 1 ≤ r.stride.bytes
     pub placed : (k : ℕ) (n : Node T) → node_at k ≡ Some n → IsPlaced n.prev × IsPlaced n.next
     pub named : (k : ℕ) (n : Node T) → node_at k ≡ Some n → index_in n.item ≡ k
 
-  -- each node leads back to the first and on to the one before it, and holds no value
+  -- each node leads back to the first and on to the node before it, and holds no value
   pub record IsBlank : Type 0 where
     pub next : (k : ℕ) → k < count_of → next_of k ≡ k - 1
     pub prev : (k : ℕ) → k < count_of → prev_of k ≡ 0
     pub value : (k : ℕ) → value_of k ≡ None
 
 module _ {T : Type 0} (old new : Region T) where
-  -- the same block
+  -- the two regions are the same block
   pub record IsSameBlock : Type 0 where
     pub count : count_of new ≡ count_of old
     pub start : vec_ptr new.nodes ≡ vec_ptr old.nodes

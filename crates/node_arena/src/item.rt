@@ -5,8 +5,7 @@ ghost use Rattle.node_arena.specs.Item.{index_in, value_in};
 
 use std::mem::replace;
 
-/// The index of a node, and its value where it holds one. The index and the flag that tells which take eight bytes
-/// together.
+/// The index of a node, and its value if it holds one. The index and the flag of the variant take eight bytes together.
 #[derive(Drop)]
 pub enum Item<T> {
     Vacant { index: u32 },
@@ -26,7 +25,7 @@ impl<T> Item<T> {
         }
     }
 
-    /// Returns whether there is a value.
+    /// Returns whether the node holds a value.
     pub(crate) fn is_held(&self) -> bool
         ensures { result ≡ is_some (value_in self.now) }
     {
@@ -36,7 +35,7 @@ impl<T> Item<T> {
         }
     }
 
-    /// Returns the value.
+    /// Returns the value, which the node has to hold.
     pub(crate) fn value(&self) -> &T
         requires { IsSome (value_in self.now) }
         ensures { value_in self.now ≡ Some result.now }
@@ -73,7 +72,7 @@ impl<T> Item<T> {
         }
     }
 
-    /// Moves a value in, where there is none.
+    /// Moves a value in. The node has to hold none.
     pub(crate) fn put(&mut self, value: T)
         requires { value_in self.old ≡ None }
         ensures index { index_in self.new ≡ index_in self.old }

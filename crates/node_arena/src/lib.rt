@@ -1,4 +1,4 @@
-//! Nodes of a fixed number in one region of memory, each named by a slot, with the order of their last use.
+//! A fixed count of nodes in one region of memory, each named by a slot, in the order of their last use.
 #![tactic(auto)]
 
 mod item;

@@ -1,4 +1,4 @@
-//! Links: the addresses of the nodes of a `Vec`. They are made and followed here alone.
+//! Links: the addresses of the nodes of a `Vec`. Only this file makes and follows them.
 ghost use Rattle.std.specs.Prelude.{◌≡◌, ℕ, ◌<◌, slice_get, Some, ⊤};
 ghost use Rattle.std.specs.Borrow.{sem};
 ghost use Rattle.std.specs.Mem.{type_size};
@@ -11,7 +11,7 @@ ghost use Rattle.node_arena.specs.Addresses.{address_of, index_of, LeadsIn};
 use std::alloc::{AllocError, Allocator};
 use std::marker::{Model, PhantomData, Send, Sync};
 
-/// The address of a node. It owns nothing, and has no type, so that a node may hold that of another node.
+/// The address of a node. A link owns nothing and has no type, so that a node may hold a link to another node.
 pub struct Link {
     pub(crate) to: *mut u8,
 }
@@ -32,7 +32,7 @@ unsafe impl Send for Link {}
 
 unsafe impl Sync for Link {}
 
-/// The size of an `N`, which an invariant may name. It takes no space.
+/// A value that stands for the size of an `N` in invariants. It takes no space.
 #[derive(Drop)]
 pub struct Stride<N> {
     mark: PhantomData<N>,
@@ -48,20 +48,20 @@ impl<N> Model for Stride<N> {
 unsafe impl<N> Send for Stride<N> {}
 
 impl<N> Stride<N> {
-    /// Returns the size of an `N`.
+    /// Makes the stride of `N`.
     pub(crate) fn new() -> Stride<N>
         ensures { result.bytes ≡ type_size N.row }
     {
         Stride { mark: PhantomData }
     }
 
-    /// Says that it is the size of an `N`. It does nothing.
+    /// Shows that the stride is the size of an `N`. Does nothing.
     pub(crate) fn measures(&self)
         ensures { self.now.bytes ≡ type_size N.row }
     {}
 }
 
-/// Returns the address of the node at `index`, for which there is room. The first node is at `first`.
+/// Returns the address of the node at `index`, which is within the capacity of `nodes`. The first node is at `first`.
 pub(crate) fn address<N, A: Allocator>(nodes: &Vec<N, A>, first: *const N, index: usize) -> *mut u8
     requires { (first ≡ vec_ptr nodes.now) × (index < vec_capacity nodes.now) }
     ensures value { result ≡ address_of (vec_ptr nodes.now) (type_size N.row) index }
@@ -71,7 +71,7 @@ pub(crate) fn address<N, A: Allocator>(nodes: &Vec<N, A>, first: *const N, index
     node as *mut u8
 }
 
-/// Returns the node that is at the address.
+/// Returns the node at the address `to`.
 pub(crate) fn follow<N, A: Allocator>(nodes: &Vec<N, A>, to: *mut u8) -> &N
     requires { LeadsIn nodes.now (type_size N.row) to }
     ensures { slice_get nodes.now.items (index_of (vec_ptr nodes.now) (type_size N.row) to)
@@ -81,7 +81,7 @@ pub(crate) fn follow<N, A: Allocator>(nodes: &Vec<N, A>, to: *mut u8) -> &N
     unsafe { &*node }
 }
 
-/// Returns the node that is at the address, to write to.
+/// Returns the node at the address `to`, to write to.
 pub(crate) fn follow_mut<N, A: Allocator>(nodes: &mut Vec<N, A>, to: *mut u8) -> &mut N
     requires { LeadsIn nodes.old (type_size N.row) to }
     ensures* writes_back { sem 𝓛 (vec_follows_item N.row A.row A.Allocator nodes.entry

@@ -1,4 +1,4 @@
-//! The arena. A clause sees it as its `entries`, the most recently used first, and its `capacity`.
+//! The arena. Contracts see its `entries`, the most recently used first, and its `capacity`.
 ghost use Rattle.std.specs.Prelude.{◌≡◌, ◌≤◌, ◌<◌, ◌↔◌, [], length, Some, None, IfOk, IfErr, IsOk, IsErr, IsTrue, IfSome, ◌≢◌};
 ghost use Rattle.std.specs.Borrow.{sem};
 ghost use Rattle.node_arena.specs.declared.slot.Slot.{Slot};
@@ -10,14 +10,14 @@ use crate::slot::Slot;
 use std::alloc::{AllocError, Global};
 use std::marker::Model;
 
-/// The index of the node where the list of the nodes in use starts and ends. It holds no value.
+/// The index of the node where the list of the nodes in use starts and ends. That node holds no value.
 const START: usize = 0;
 
-/// At most `capacity` values, each in a node of its own under a slot, in the order of their last use.
+/// At most `capacity` values, each in its own node with a slot, in the order of their last use.
 #[derive(Drop)]
 pub struct Nodes<T> {
     region: Region<T>,
-    /// Leads to the first spare node, where there is one. Each spare node leads on to the next.
+    /// Leads to the first spare node, if there is one. Each spare node leads on to the next.
     spare: Link,
     capacity: u32,
     len: u32,
@@ -40,7 +40,7 @@ impl<T> Model for Nodes<T> {
 impl<T> Nodes<T> {
     ghost use Rattle.node_arena.specs.NodesLends.{lends_value};
 
-    /// Takes the memory for `capacity` values. No other call takes any.
+    /// Makes an arena with memory for `capacity` values. No other call takes memory.
     pub fn new(alloc: Global, capacity: usize) -> Result<Nodes<T>, AllocError>
         requires least { 1 ≤ capacity }
         requires most { capacity ≤ 65536 }
@@ -63,8 +63,8 @@ impl<T> Nodes<T> {
         self.len as usize
     }
 
-    /// Shows what holds of every arena: no slot is listed twice, and there are no more than the capacity. It does
-    /// nothing, and is there for a caller's proof.
+    /// Shows what holds of every arena: no slot is listed twice, and there are at most `capacity` slots. Does nothing,
+    /// and is there for a caller's proof.
     pub fn slots_are_apart(&self)
         ensures sound { IsSound self.now }
     {
@@ -78,7 +78,7 @@ impl<T> Nodes<T> {
         self.capacity as usize
     }
 
-    /// Returns whether the slot is of a value that is there.
+    /// Returns whether `slot` has a value.
     pub fn is_held(&self, slot: Slot) -> bool
         ensures held { IsTrue result ↔ IsHeld self.now slot }
     {
@@ -88,7 +88,7 @@ impl<T> Nodes<T> {
         self.region.is_held(self.region.link(slot.index as usize))
     }
 
-    /// Returns the value of the slot.
+    /// Returns the value of `slot`.
     pub fn get(&self, slot: Slot) -> &T
         requires { IsHeld self.now slot }
         ensures value { value_at self.now slot ≡ Some result.now }
@@ -96,7 +96,7 @@ impl<T> Nodes<T> {
         self.region.value(self.region.link(slot.index as usize))
     }
 
-    /// Returns the value of the slot, to write to. The order stays.
+    /// Returns the value of `slot`, to write to. The order is unchanged.
     pub fn get_mut(&mut self, slot: Slot) -> &mut T
         requires { IsHeld self.old slot }
         ensures* writes_back { sem 𝓛 (lends_value T.row self.entry slot result) }
@@ -106,7 +106,7 @@ impl<T> Nodes<T> {
         self.region.value_mut(lent)
     }
 
-    /// Returns the slot whose value was added or touched the longest time ago.
+    /// Returns the slot whose value was added or touched the longest time ago, if there is one.
     pub fn oldest(&self) -> Option<Slot>
         ensures last { result ≡ oldest_of self.now }
         ensures held { IfSome result (λ slot. IsHeld self.now slot) }
@@ -120,7 +120,7 @@ impl<T> Nodes<T> {
         })
     }
 
-    /// Makes the slot the most recently used.
+    /// Makes `slot` the most recently used.
     pub fn touch(&mut self, slot: Slot)
         requires { IsHeld self.old slot }
         ensures first { self.new ≡ touched self.old slot }
@@ -132,7 +132,7 @@ impl<T> Nodes<T> {
         self.region.link_after(start, node);
     }
 
-    /// Takes the value of the slot out. The slot may be given out again.
+    /// Removes `slot`, and returns its value. The slot may be given out again.
     pub fn remove(&mut self, slot: Slot) -> T
         requires { IsHeld self.old slot }
         ensures value { value_at self.old slot ≡ Some result }
@@ -148,7 +148,7 @@ impl<T> Nodes<T> {
         self.region.take(node)
     }
 
-    /// Adds a value, as the most recently used. Where the arena is full, the value comes back.
+    /// Adds a value as the most recently used, and returns its slot. If the arena is full, returns the value.
     pub fn add(&mut self, item: T) -> Result<Slot, T>
         ensures full { IsErr result ↔ (length self.old.entries ≡ self.old.capacity) }
         ensures refused { IfErr result (λ x. (x ≡ item) × (self.new ≡ self.old)) }

@@ -8,7 +8,7 @@ use crate::links::{Link, Stride, address, follow, follow_mut};
 use std::alloc::{AllocError, Global};
 use std::mem::size_of;
 
-/// A node: its two neighbours in the list that it stands in, and the value that it holds.
+/// A node: its two neighbours in the list in which it stands, and the value that it holds, if any.
 #[derive(Drop)]
 pub struct Node<T> {
     prev: Link,
@@ -19,7 +19,7 @@ pub struct Node<T> {
 /// A node takes 24 bytes beside its value.
 const _: () = prove!(size_of::<Node<u64>>() == 24 + 8);
 
-/// The nodes, side by side in one block. A link to one of them stays good, since none is added later.
+/// The nodes, side by side in one block. A link to a node stays valid, since no node is added later.
 #[derive(Drop)]
 pub struct Region<T> {
     nodes: Vec<Node<T>>,
@@ -30,7 +30,7 @@ impl<T> Region<T> {
     ghost use Rattle.node_arena.specs.RegionLends.{lends_node, lends_value};
     ghost use Rattle.node_arena.specs.Region.{IsLaidOut, IsBlank, IsPlaced, Becomes, count_of, place_of, node_at, next_of, prev_of, value_of};
 
-    /// Takes a block of `count` nodes with no value. Each leads back to the first, and on to the one before it.
+    /// Makes a block of `count` nodes without values. Each node leads back to the first, and on to the node before it.
     pub(crate) fn new(alloc: Global, count: usize) -> Result<Region<T>, AllocError>
         requires { (1 ≤ count) × (count < 2 ^ 32) }
         ensures { IfOk result (λ r. IsLaidOut r × (count_of r ≡ count) × IsBlank r) }
@@ -107,7 +107,7 @@ impl<T> Region<T> {
         self.node(link).next
     }
 
-    /// Returns a link to the node before it.
+    /// Returns a link to the node before the one that `link` leads to.
     pub(crate) fn prev(&self, link: Link) -> Link
         requires { IsLaidOut self.now × IsPlaced self.now link }
         ensures { IsPlaced self.now result
@@ -116,7 +116,7 @@ impl<T> Region<T> {
         self.node(link).prev
     }
 
-    /// Lets the node lead on to the one that `to` leads to.
+    /// Makes the node at `link` lead on to the node at `to`.
     pub(crate) fn set_next(&mut self, link: Link, to: Link)
         requires { IsLaidOut self.old × IsPlaced self.old link × IsPlaced self.old to }
         ensures { Becomes self.old self.new
@@ -126,7 +126,7 @@ impl<T> Region<T> {
         self.node_mut(link).next = to;
     }
 
-    /// Lets the node lead back to the one that `to` leads to.
+    /// Makes the node at `link` lead back to the node at `to`.
     fn set_prev(&mut self, link: Link, to: Link)
         requires { IsLaidOut self.old × IsPlaced self.old link × IsPlaced self.old to }
         ensures { Becomes self.old self.new
@@ -136,7 +136,7 @@ impl<T> Region<T> {
         self.node_mut(link).prev = to;
     }
 
-    /// Takes the node out of the list that it stands in. Its own links stay.
+    /// Takes the node at `link` out of the list in which it stands. The node's own links are unchanged.
     pub(crate) fn unlink(&mut self, link: Link)
         requires { IsLaidOut self.old × IsPlaced self.old link }
         ensures { let n = next_of self.old in let p = prev_of self.old in let k = place_of self.old link in
@@ -148,7 +148,7 @@ impl<T> Region<T> {
         self.set_prev(next, prev);
     }
 
-    /// Puts the node, which stands in no list, right after the one that `at` leads to.
+    /// Puts the node at `link`, which stands in no list, right after the node at `at`.
     pub(crate) fn link_after(&mut self, at: Link, link: Link)
         requires { IsLaidOut self.old × IsPlaced self.old at × IsPlaced self.old link }
         ensures { let n = next_of self.old in let p = prev_of self.old in
@@ -162,7 +162,7 @@ impl<T> Region<T> {
         self.set_next(at, link);
     }
 
-    /// Returns whether the node holds a value.
+    /// Returns whether the node at `link` holds a value.
     pub(crate) fn is_held(&self, link: Link) -> bool
         requires { IsLaidOut self.now × IsPlaced self.now link }
         ensures { result ≡ is_some (value_of self.now (place_of self.now link)) }
@@ -170,7 +170,7 @@ impl<T> Region<T> {
         self.node(link).item.is_held()
     }
 
-    /// Returns the value that the node holds.
+    /// Returns the value that the node at `link` holds.
     pub(crate) fn value(&self, link: Link) -> &T
         requires { IsLaidOut self.now × IsPlaced self.now link
             × IsSome (value_of self.now (place_of self.now link)) }
@@ -179,7 +179,7 @@ impl<T> Region<T> {
         self.node(link).item.value()
     }
 
-    /// Returns the value that the node holds, to write to.
+    /// Returns the value that the node at `link` holds, to write to.
     pub(crate) fn value_mut(&mut self, link: Link) -> &mut T
         requires { IsLaidOut self.old × IsPlaced self.old link
             × IsSome (value_of self.old (place_of self.old link)) }
@@ -189,7 +189,7 @@ impl<T> Region<T> {
         self.node_mut(link).item.value_mut()
     }
 
-    /// Moves the value out of the node.
+    /// Moves the value out of the node at `link`.
     pub(crate) fn take(&mut self, link: Link) -> T
         requires { IsLaidOut self.old × IsPlaced self.old link
             × IsSome (value_of self.old (place_of self.old link)) }
@@ -201,7 +201,7 @@ impl<T> Region<T> {
         self.node_mut(link).item.take()
     }
 
-    /// Moves a value into the node, which holds none.
+    /// Moves a value into the node at `link`, which holds none.
     pub(crate) fn put(&mut self, link: Link, value: T)
         requires { IsLaidOut self.old × IsPlaced self.old link
             × (value_of self.old (place_of self.old link) ≡ None) }

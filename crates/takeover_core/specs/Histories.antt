@@ -9,32 +9,32 @@ use Rattle.takeover_core.specs.declared.phase.Phase.TheVariants.{Serving, Draini
 use Rattle.takeover_core.specs.Node.{NodeState}
 use Rattle.takeover_core.specs.Phases.{Event, Mounted, Claimed, PartsMade, goes_in_parts, after, heard}
 
--- the daemon after all of them
+-- the daemon after all of these events
 abbrev pub after_all : NodeState → List Event → NodeState
 after_all node [] = node
 after_all node (event ∷ events) = after_all (after node event) events
 
--- the session whose data an answer is
+-- the session whose data is in an answer, if any
 abbrev pub data_of : Answer → Option ℕ
 data_of (Say (Data s g bytes)) = Some s
 data_of answer = None
 
--- the session whose data is made in parts
+-- the session whose data a daemon in this phase makes in parts, if any
 abbrev pub parts_of : Phase → Option ℕ
 parts_of (Making g s v) = if goes_in_parts v then Some s else None
 parts_of phase = None
 
--- the session whose data an event hands over: in one message, which is the answer, or in parts
+-- the session whose data an event hands over, if any: in one message, which is the answer, or in parts
 abbrev pub handover_of : NodeState → Event → Option ℕ
 handover_of node PartsMade = parts_of node.phase
 handover_of node event = data_of (heard node event)
 
--- the sessions whose data they hand over, each event's in its turn
+-- for each event, one after the other, the session whose data it hands over, if any
 abbrev pub handovers : NodeState → List Event → List (Option ℕ)
 handovers node [] = []
 handovers node (event ∷ events) = handover_of node event ∷ handovers (after node event) events
 
--- the generation at which it has the seat, as far as it knows
+-- the generation at which a daemon in this phase has the seat, as far as it knows
 abbrev pub seat_of : Phase → Option ℕ
 seat_of (Serving g) = Some g
 seat_of (Draining g s v) = Some g
@@ -43,7 +43,7 @@ seat_of (Making g s v) = Some g
 seat_of (Handed g s) = Some g
 seat_of phase = None
 
--- the session that it has begun and that has not ended
+-- the session that a daemon in this phase has begun and that has not ended, if any
 abbrev pub open_session : Phase → Option ℕ
 open_session (Draining g s v) = Some s
 open_session (Pinged g s v) = Some s
@@ -51,30 +51,30 @@ open_session (Making g s v) = Some s
 open_session (Handed g s) = Some s
 open_session phase = None
 
--- it has begun this session, and is in it no more
+-- the daemon has begun this session, and is no longer in it
 pub record HasEnded (session : ℕ) (node : NodeState) : Type 0 where
   pub begun : session ≤ node.sessions
   pub closed : open_session node.phase ≢ Some session
 
--- its data is out, it may claim, or it is no more
+-- a daemon in this phase has handed its data over, may claim, or is gone
 abbrev pub is_out : Phase → Bool
 is_out (Handed g s) = true
 is_out (Holding g) = true
 is_out Gone = true
 is_out phase = false
 
--- the broker gave it the seat at this generation: by a mount, or by a claim
+-- by this event the broker gave the daemon the seat at this generation: by a mount, or by a claim
 abbrev pub is_given : ℕ → Event → Bool
 is_given g (Mounted h) = h == g
 is_given g (Claimed (Ok h)) = h == g
 is_given g event = false
 
--- a claim succeeded
+-- by this event a claim succeeded
 abbrev pub is_claim : Event → Bool
 is_claim (Claimed (Ok g)) = true
 is_claim event = false
 
--- the data of this session is handed over
+-- this session's data is handed over
 abbrev pub is_handover_of : ℕ → Option ℕ → Bool
 is_handover_of session (Some s) = s == session
 is_handover_of session None = false

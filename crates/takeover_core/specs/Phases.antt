@@ -36,7 +36,7 @@ goes_whole version = version == 1
 abbrev pub goes_in_parts : ℕ → Bool
 goes_in_parts version = nat_le 2 version
 
--- the most parts of a text
+-- the greatest count of parts of a text
 abbrev pub most_parts : ℕ
 most_parts = 65536
 
@@ -50,11 +50,11 @@ pub data Row : Type 0 where
   Goes : Phase → Answer → Row
   Begins : (session : ℕ) → Phase → Answer → Row
 
--- where all else is ignored and changes nothing
+-- the row for all that is ignored and changes nothing
 abbrev pub ignored : Row
 ignored = Stays Ignored
 
--- a row that holds under a condition
+-- this row if the condition holds, else the row for what is ignored
 abbrev pub provided : Bool → Row → Row
 provided condition line = if condition then line else ignored
 
@@ -62,15 +62,15 @@ provided condition line = if condition then line else ignored
 abbrev pub is_used_up : NodeState → ℕ → Bool
 is_used_up node g = node.sessions == last_session || g == last_generation
 
--- a new session, with the offer's answer
+-- the row of a new session at this generation with this version, whose answer is a Choice
 abbrev pub begins : ℕ → ℕ → ℕ → Row
 begins s g v = Begins s (Draining g s v) (Say (Choice s v))
 
--- the phase behind a part that was read: it waits for the next one, or has the data
+-- the phase after a part was read: Reading for the next part, or Raising after the last
 abbrev pub behind_part : ℕ → ℕ → ℕ → ℕ → ℕ → Phase
 behind_part s g v i n = if nat_lt i n then Reading s g v (i + 1) n else Raising s g
 
--- the table: what an event makes of a phase, and what the daemon answers. The first row that fits decides
+-- the table: the next phase after an event, and the daemon's answer; the first row that fits decides
 abbrev pub row : NodeState → Phase → Event → Row
 row node Waiting (Mounted g) = Goes (Serving g) Heard
 row node Waiting (Hear (Choice t v)) = provided (is_among node.versions v) (Goes (Chosen t v) Heard)
@@ -136,62 +136,62 @@ answer_of (Begins session phase answer) = answer
 abbrev pub after : NodeState → Event → NodeState
 after node event = after_row node (row node node.phase event)
 
--- its phase after an event
+-- the phase of a daemon after an event
 abbrev pub phase_after : NodeState → Event → Phase
 phase_after node event = (after node event).phase
 
--- what it makes of an event
+-- the answer of a daemon to an event
 abbrev pub heard : NodeState → Event → Answer
 heard node event = answer_of (row node node.phase event)
 
--- what it says, if anything
+-- the message that is said, if any
 abbrev pub said : Answer → Option Message
 said (Say message) = Some message
 said answer = None
 
--- why it is not drained, if it is not
+-- why a daemon in this phase is not drained, if it is not
 abbrev pub drain_fault : Phase → ℕ → ℕ → Option DrainFault
 drain_fault (Draining g s v) hand unposted =
     if hand == 0 && unposted == 0 then None else Some (Undrained hand unposted)
 drain_fault phase hand unposted = Some WrongPhase
 
--- it has the data, and reads and raises it
+-- a daemon in this phase has all the data, and reads and restores it
 abbrev pub is_raising : Phase → Bool
 is_raising (Raising s g) = true
 is_raising phase = false
 
--- it reads a part
+-- a daemon in this phase reads a part
 abbrev pub is_taking : Phase → Bool
 is_taking (Taking s g v i n) = true
 is_taking phase = false
 
--- it makes the data
+-- a daemon in this phase makes the data
 abbrev pub is_making : Phase → Bool
 is_making (Making g s v) = true
 is_making phase = false
 
--- it makes data that goes in one message
+-- a daemon in this phase makes data that goes in one message
 abbrev pub is_making_whole : Phase → Bool
 is_making_whole (Making g s v) = goes_whole v
 is_making_whole phase = false
 
--- it makes data that goes in parts
+-- a daemon in this phase makes data that goes in parts
 abbrev pub is_making_parts : Phase → Bool
 is_making_parts (Making g s v) = goes_in_parts v
 is_making_parts phase = false
 
--- it may claim the seat
+-- a daemon in this phase may claim the seat
 abbrev pub is_holding : Phase → Bool
 is_holding (Holding g) = true
 is_holding phase = false
 
--- it may take requests
+-- a daemon in this phase may take requests
 abbrev pub may_take : Phase → Bool
 may_take (Serving g) = true
 may_take (Draining g s v) = true
 may_take phase = false
 
--- the generation that it wants to claim the seat from
+-- the generation from which a daemon in this phase wants to claim the seat, if it wants to
 abbrev pub claim_wanted : Phase → Option ℕ
 claim_wanted (Holding g) = Some g
 claim_wanted phase = None

@@ -1,14 +1,14 @@
 //! The answer to a message.
 use crate::Message;
 
-/// What a daemon makes of a message that it hears.
+/// What a daemon does with a message that it hears.
 #[derive(Drop, PartialEq, Eq)]
 pub enum Heard {
-    /// It is not for this phase or session, and changes nothing.
+    /// The message is not for this phase or session, and changes nothing.
     Ignored,
-    /// It is taken, and has no answer.
+    /// The message is taken, and has no answer.
     Heard,
-    /// This is to be said.
+    /// This message is to be said.
     Say(Message),
     /// The data is to be made: `Node::data_made`, `Node::parts_made` or `Node::data_failed` follows.
     MakeData {

@@ -1,8 +1,8 @@
-//! What the table of phases promises of every history: any messages and calls, in any order, any number of times.
-//! Each law is the contract of a function that does nothing, over the definitions that the contracts of `Node` cite.
+//! The laws of the table of phases, for every history: any messages and calls, in any order, any number of times. Each
+//! law is the contract of a function that does nothing, over the definitions that the contracts of `Node` cite.
 ghost use Rattle.takeover_core.specs.Laws.{ServesOnlyWhereGiven, EndedStaysEnded, ServesAgainOnlyByClaim, MakesDataOnce, TakesWhileServing, ClaimsWhileHolding, CanBeLeft, GoneForGood, ChoosesGreatestCommon};
 
-/// States that a daemon that has the seat at a generation mounted or claimed it at that generation.
+/// States that a daemon has the seat only at a generation at which it mounted or which it claimed.
 pub fn serves_only_where_given()
     ensures law { ServesOnlyWhereGiven }
 {}
@@ -12,7 +12,7 @@ pub fn ended_stays_ended()
     ensures law { EndedStaysEnded }
 {}
 
-/// States that a daemon whose data is out serves again only once a claim succeeded.
+/// States that a daemon that handed its data over serves again only after a claim succeeded.
 pub fn serves_again_only_by_claim()
     ensures law { ServesAgainOnlyByClaim }
 {}
@@ -22,18 +22,18 @@ pub fn makes_data_once()
     ensures law { MakesDataOnce }
 {}
 
-/// States that a daemon takes requests in Serving and Draining alone.
+/// States that a daemon takes requests in Serving and Draining only.
 pub fn takes_while_serving()
     ensures law { TakesWhileServing }
 {}
 
-/// States that a daemon wants to claim in Holding alone.
+/// States that a daemon wants to claim in Holding only.
 pub fn claims_while_holding()
     ensures law { ClaimsWhileHolding }
 {}
 
-/// States that some event but a crash leads out of each phase but Gone: out of Serving an offer, unless sessions or
-/// generations are used up.
+/// States that each phase but Gone is left by some event other than a crash. Serving is left by an offer, if the daemon
+/// has a version, and neither sessions nor generations are used up.
 pub fn can_be_left()
     ensures law { CanBeLeft }
 {}

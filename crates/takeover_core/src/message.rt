@@ -2,7 +2,7 @@
 use crate::Versions;
 use byte_codec::Bytes;
 
-/// A message of a takeover. A session is one attempt at it, numbered from 1 by the daemon that serves.
+/// A message of a takeover. A session is one try of a takeover, numbered from 1 by the daemon that serves.
 #[derive(Drop, PartialEq, Eq)]
 pub enum Message {
     /// A new daemon can read images of these versions.
@@ -14,9 +14,9 @@ pub enum Message {
     },
     /// None of the offered versions is one that the serving daemon writes.
     NoCommon,
-    /// The serving daemon takes no offer now.
+    /// The serving daemon begins no session now.
     Busy,
-    /// The serving daemon has nothing in hand and nothing unposted any more.
+    /// The serving daemon has no request in hand and no reply unposted any more.
     Ready {
         session: u32,
         generation: u64,
@@ -25,13 +25,13 @@ pub enum Message {
     Pong {
         session: u32,
     },
-    /// The inode map at this generation.
+    /// The data, in one message: what the serving daemon knows, at this generation.
     Data {
         session: u32,
         generation: u64,
         bytes: Bytes,
     },
-    /// One of the numbered parts of a text: the part of this position, counted from 1, of this count.
+    /// One part of the data: the part at `position`, counted from 1, of `count` parts.
     Part {
         session: u32,
         generation: u64,

@@ -11,19 +11,19 @@ use thiserror::Error;
 
 mod hearing;
 
-/// Why a daemon is not drained: the first that holds, in this order, in the words of a printed refusal.
+/// Why a daemon is not drained. The text of a fault is that of a printed refusal.
 #[derive(Clone, Copy, Debug, PartialEq, Eq, Error)]
 pub enum DrainFault {
-    /// It is not draining.
+    /// The daemon is in another phase than Draining.
     #[error("WrongPhase")]
     WrongPhase,
-    /// Asks and items are in hand, or replies are not posted: these counts of them.
+    /// `in_hand` asks and items are in hand, or `unposted` replies are not posted.
     #[error("Undrained {in_hand} {unposted}")]
     Undrained { in_hand: usize, unposted: usize },
 }
 
-/// A daemon's part in takeovers: its phase, the image versions that it reads and writes, and the sessions that it has
-/// begun. Clauses see it as a `NodeState`. No call takes memory.
+/// A daemon's part in takeovers: its phase, the image versions that it reads and writes, and how many sessions it has
+/// begun. Contracts see a `NodeState`. No call takes memory.
 #[derive(Drop)]
 pub struct Node {
     phase: Phase,
@@ -46,7 +46,7 @@ impl Model for Node {
 }
 
 impl Node {
-    /// Returns a daemon that was just started.
+    /// Makes the node of a daemon that was just started.
     pub fn waiting(versions: Versions) -> Node
         ensures node { result ≡ new_node versions }
     {
@@ -57,21 +57,21 @@ impl Node {
         }
     }
 
-    /// Returns how far it is.
+    /// Returns the phase of the daemon.
     pub fn phase(&self) -> Phase
         ensures phase { result ≡ self.now.phase }
     {
         self.phase
     }
 
-    /// Returns what a new daemon says first.
+    /// Returns the offer, which a new daemon says first.
     pub fn offer(&self) -> Message
         ensures offer { result ≡ Message.Offer self.now.versions }
     {
         Message::Offer(self.versions.copy())
     }
 
-    /// Returns the same daemon once more.
+    /// Makes a copy of the node.
     pub fn copy(&self) -> Node
         ensures copy { result ≡ self.now }
     {
@@ -82,7 +82,7 @@ impl Node {
         }
     }
 
-    /// Begins to serve, where the broker gave this daemon the seat.
+    /// Begins to serve, after the broker gave this daemon the seat at `generation`.
     pub fn mounted(&mut self, generation: u64)
         requires waiting { self.old.phase ≡ Phase.Waiting }
         ensures after { self.new ≡ after self.old (Mounted generation) }
@@ -121,8 +121,8 @@ impl Node {
         }
     }
 
-    /// Takes in whether the part was read, and returns the message that is to be said, if there is one. It waits for the
-    /// next part then, or has the data.
+    /// Notes whether the part was read. If so, the daemon waits for the next part, or has all the data. If not, the
+    /// daemon is gone, and the message that is to be said is returned.
     pub fn fed(&mut self, succeeded: bool) -> Option<Message>
         requires taking { IsTrue (is_taking self.old.phase) }
         ensures message { result ≡ said (heard self.old (Fed succeeded)) }
@@ -164,7 +164,8 @@ impl Node {
         }
     }
 
-    /// Takes in whether the data was read and restored, and returns the message that is to be said, if there is one.
+    /// Notes whether the data was read and restored. If so, the daemon may claim the seat. If not, the daemon is gone,
+    /// and the message that is to be said is returned.
     pub fn raised(&mut self, succeeded: bool) -> Option<Message>
         requires raising { IsTrue (is_raising self.old.phase) }
         ensures message { result ≡ said (heard self.old (Raised succeeded)) }
@@ -183,8 +184,8 @@ impl Node {
         }
     }
 
-    /// Says that the daemon is ready to hand over, where it drains and has nothing left: no ask or item of `in_hand`,
-    /// and no reply of `unposted`.
+    /// Returns the message that the daemon is ready to hand over, if it drains and has nothing left. `in_hand` counts
+    /// its asks and items in hand, and `unposted` its unposted replies.
     pub fn drained(&mut self, in_hand: usize, unposted: usize) -> Result<Message, DrainFault>
         ensures ready { IfOk result (λ message.
             heard self.old (Drained in_hand unposted) ≡ Heard.Say message) }
@@ -217,8 +218,8 @@ impl Node {
         }
     }
 
-    /// Hands the data over in one message, in the bytes' own memory, and returns the message that is to be said. From
-    /// here on the daemon does not serve without a claim.
+    /// Hands the data over in one message, which is returned and keeps the memory of `bytes`. From then on the daemon
+    /// serves only after a claim.
     pub fn data_made(&mut self, bytes: Bytes) -> Message
         requires making { IsTrue (is_making_whole self.old.phase) }
         ensures message { Some result ≡ said (heard self.old (DataMade bytes)) }
@@ -244,7 +245,7 @@ impl Node {
         }
     }
 
-    /// Hands the data over in parts, which the caller says. From here on the daemon does not serve without a claim.
+    /// Notes that the data goes in parts, which the caller says. From then on the daemon serves only after a claim.
     pub fn parts_made(&mut self)
         requires making { IsTrue (is_making_parts self.old.phase) }
         ensures after { self.new ≡ after self.old PartsMade }
@@ -262,7 +263,7 @@ impl Node {
         }
     }
 
-    /// Takes in that the data could not be made, and returns the message that is to be said. The daemon serves on.
+    /// Notes that the data could not be made, and returns the message that is to be said. The daemon serves on.
     pub fn data_failed(&mut self) -> Message
         requires making { IsTrue (is_making self.old.phase) }
         ensures message { Some result ≡ said (heard self.old DataFailed) }
@@ -281,7 +282,8 @@ impl Node {
         }
     }
 
-    /// Ends the daemon's part in a takeover, as where the other daemon cannot be reached any more.
+    /// Ends the daemon's part in a takeover, as when the other daemon cannot be reached any more. Returns what is to be
+    /// done.
     pub fn give_up(&mut self) -> Heard
         ensures heard { result ≡ heard self.old GiveUp }
         ensures after { self.new ≡ after self.old GiveUp }
@@ -320,15 +322,15 @@ impl Node {
         }
     }
 
-    /// Returns whether the daemon may take requests: while it serves, and while it drains, since a round of its workers
-    /// takes until it sees that it is to stop.
+    /// Returns whether the daemon may take requests: while it serves, and while it drains. In Draining, a round of its
+    /// workers takes requests until it sees that it is to stop.
     pub fn may_take(&self) -> bool
         ensures may_take { result ≡ may_take self.now.phase }
     {
         matches!(&self.phase, Phase::Serving { .. } | Phase::Draining { .. })
     }
 
-    /// Returns the generation that the daemon wants to claim the seat from, if it does.
+    /// Returns the generation from which the daemon wants to claim the seat, if it wants to.
     pub fn claim_wanted(&self) -> Option<u64>
         ensures generation { result ≡ claim_wanted self.now.phase }
     {
@@ -338,8 +340,8 @@ impl Node {
         }
     }
 
-    /// Takes in the answer to the claim: the generation at which the daemon serves from here on, or why it may not. It
-    /// may claim once more only where asks were unanswered.
+    /// Notes the answer to the claim: the generation at which the daemon serves from then on, or why it may not. If
+    /// asks were unanswered, the daemon may claim again; after any other fault it is gone.
     pub fn claimed(&mut self, answer: Result<u64, ClaimFault>)
         requires holding { IsTrue (is_holding self.old.phase) }
         ensures after { self.new ≡ after self.old (Claimed answer) }

@@ -1,6 +1,7 @@
-//! How far a daemon is.
+//! How far a daemon is in a takeover.
 
-/// The phase of a daemon: first those of a new daemon up to the claim, then those of one that serves and hands over.
+/// The phase of a daemon: first those of a new daemon up to the claim, then those of a daemon that serves and hands
+/// over.
 #[derive(Clone, Copy, PartialEq, Eq)]
 pub enum Phase {
     /// It was started. It may mount, or its offer may be taken.
@@ -10,7 +11,7 @@ pub enum Phase {
         session: u32,
         version: u16,
     },
-    /// It reads the part of this position.
+    /// It reads the part at this position.
     Taking {
         session: u32,
         generation: u64,
@@ -18,7 +19,7 @@ pub enum Phase {
         position: u32,
         count: u32,
     },
-    /// It waits for the part of this position.
+    /// It waits for the part at this position.
     Reading {
         session: u32,
         generation: u64,
@@ -26,12 +27,12 @@ pub enum Phase {
         position: u32,
         count: u32,
     },
-    /// It has the data, and reads and raises it.
+    /// It has all the data, and reads and restores it.
     Raising {
         session: u32,
         generation: u64,
     },
-    /// It knows all that a daemon knows that serves at this generation, and claims the seat from there.
+    /// It knows all that the serving daemon knows at this generation, and claims the seat from this generation.
     Holding {
         generation: u64,
     },
@@ -39,7 +40,7 @@ pub enum Phase {
     Serving {
         generation: u64,
     },
-    /// It has taken an offer, and works off what it has in hand.
+    /// It has taken an offer, and works on what it has in hand.
     Draining {
         generation: u64,
         session: u32,
@@ -57,7 +58,7 @@ pub enum Phase {
         session: u32,
         version: u16,
     },
-    /// The data is out, so that it may not serve without a claim.
+    /// It has handed the data over, and so may serve only after a claim.
     Handed {
         generation: u64,
         session: u32,

@@ -22,10 +22,10 @@ impl Model for Versions {
 }
 
 impl Versions {
-    /// This project's own limit.
+    /// The greatest count of versions. The limit is this project's own.
     pub const MAX_LEN: usize = 8;
 
-    /// Returns these versions.
+    /// Makes a list of `versions`.
     pub fn of(versions: &[u16]) -> Versions
         requires at_most { length versions.now ≤ 8 }
         ensures versions { result ≡ versions.now }
@@ -43,21 +43,21 @@ impl Versions {
         self.versions.as_slice()
     }
 
-    /// Returns the same versions once more. It takes no memory.
+    /// Makes a copy of the list. Takes no memory.
     pub fn copy(&self) -> Versions
         ensures copy { result ≡ self.now }
     {
         Versions::of(self.as_slice())
     }
 
-    /// Returns whether a version is among them.
+    /// Returns whether `version` is in the list.
     pub(crate) fn contains(&self, version: u16) -> bool
         ensures among { result ≡ is_among self.now version }
     {
         self.as_slice().iter().any(|own| *own == version)
     }
 
-    /// Returns the greatest version that is among both.
+    /// Returns the greatest version that is in both lists, if there is one.
     pub(crate) fn greatest_common(&self, offered: &Versions) -> Option<u16>
         ensures greatest { result ≡ greatest_common self.now offered.now }
     {

@@ -29,7 +29,7 @@ well_by Done spare is not = ap ending_by (sym is)
 well_by OutOfRoom spare is not = ap ending_by (sym is)
 well_by Broken spare is not = absurd (not refl)
 
--- one channel more is served behind the others
+-- one channel more is served after the others
 served_more :
     {C : Type 0} (takes : C → Taken → C → Type 0) (posts : C → Reply → Posted → C → Type 0)
     (tells : Bool) (told : C → Told) (turns : ℕ) (befores afters : List C) (kept : List ReceiptsState)
@@ -62,7 +62,7 @@ served_with {C} takes posts tells told turns all left afters more_afters kept mo
     (subst (λ (ks : List ReceiptsState). AreServed takes posts tells told turns (left ++ before ∷ []) (afters ++ after ∷ []) ks)
     (sym kept_are) (served_more takes posts tells told turns left afters kept before after one done by_spare)))
 
--- what holds of a member holds of one where another stands behind
+-- if one member of a list has a property, so has one of the list with another member after it
 any_before : {X : Type 0} (P : X → Type 0) (xs : List X) (last : X) → Any P xs → Any P (xs ++ last ∷ [])
 any_before P xs last (place, one, within, there, holds) =
     let longer = length_push xs last in

@@ -13,7 +13,7 @@ taken_more [] count x is = absurd (let none : ⊥ = cc in none)
 taken_more (first ∷ rest) zero x is = let same : first ≡ x = cc in ap (λ (y : _). y ∷ []) same
 taken_more (first ∷ rest) (suc count) x is = ap (λ (ys : List _). first ∷ ys) (taken_more rest count x is)
 
--- an ask that was taken is told behind those before
+-- an ask that was taken is told after those before
 pub told_more :
     (old new : MemoryState) (taken : Taken) (ask : Ask) → Takes old taken new → taken ≡ TheAsk ask →
     told_of new ≡ with_ask (told_of old) ask

@@ -14,31 +14,31 @@ pub record Told : Type 0 where
   pub taken : List Ask
   pub posted : List Reply
 
--- one more ask was taken
+-- what is told after one more ask was taken
 abbrev pub with_ask : Told → Ask → Told
 with_ask told ask = record { taken = told.taken ++ ask ∷ []; posted = told.posted }
 
--- these replies were posted
+-- what is told after these replies were posted
 abbrev pub with_replies : Told → List Reply → Told
 with_replies told replies = record { taken = told.taken; posted = told.posted ++ replies }
 
--- the asks of these receipts were taken, and their answers posted
+-- what is told after the asks of these receipts were taken, and their answers posted
 abbrev pub grown : Told → List Receipt → Told
 grown told receipts =
     record { taken = told.taken ++ asks_of receipts; posted = told.posted ++ replies_of receipts }
 
--- a channel in memory: its asks, how many of them were taken, and the replies
+-- a channel in memory: its asks, how many of them were taken, and the replies that were posted
 pub record MemoryState : Type 0 where
   pub asks : List Ask
   pub taken : ℕ
   pub replies : List Reply
 
--- what it tells
+-- what a channel in memory tells
 abbrev pub told_of : MemoryState → Told
 told_of channel = record { taken = take channel.taken channel.asks; posted = channel.replies }
 
--- the result of a look for an ask in memory: the next one, or none where all were taken; Broken where no copy of it
--- could be made, and then it is still there
+-- the result of taking from a channel in memory: the next ask; or Empty if all were taken; or Broken if no copy of the
+-- ask could be made, which then is not taken
 abbrev pub Takes : MemoryState → Taken → MemoryState → Type 0
 Takes old (took.Ask ask) new =
     (slice_get old.asks old.taken ≡ Some ask)
@@ -47,7 +47,7 @@ Takes old took.Empty new = (old.taken ≡ length old.asks) × (new ≡ old)
 Takes old took.Stopped new = ⊥
 Takes old took.Broken new = (old.taken < length old.asks) × (new ≡ old)
 
--- the result of a reply: it joins the others, or is Broken where there are as many as asks
+-- the result of posting a reply: it is appended; or it is Broken if there are as many replies as asks
 abbrev pub Posts : MemoryState → Reply → Posted → MemoryState → Type 0
 Posts old reply post.Done new =
     (length old.replies < length old.asks)

@@ -1,4 +1,4 @@
--- Why a round gives nothing, and what it gives back. (This project's own.)
+-- Why a round fails, and what is given back then. (This project's own.)
 use Rattle.std.specs.Prelude.{◌≡◌, ℕ, List, codes, ⊤}
 use Rattle.fuse_ops.specs.Served.{ServedState}
 use Rattle.fuse_wire.specs.declared.reply.Reply.{Reply}
@@ -12,20 +12,20 @@ use Rattle.workers.specs.declared.channel.Posted.{Posted}
 use Rattle.workers.specs.declared.fault.RoundFault.{RoundFault}
 use Rattle.workers.specs.declared.fault.RoundFault.TheVariants.{Broken, Unsettled, NoMemory}
 
--- the words that a fault is told by
+-- the words for a fault
 abbrev pub fault_text : {B C : Type 0} → RoundFault B C → List ℕ
 fault_text Broken = codes "the mount is over"
 fault_text Unsettled = codes "the receipts of the workers are not those of the journal"
 fault_text (NoMemory back) = codes "out of memory"
 
--- all that the round was handed, where memory was refused
+-- if memory was refused, this served state, this backing and these channels are given back
 abbrev pub GivesBack : {B C : Type 0} → ServedState → B → List C → RoundFault B C → Type 0
 GivesBack served backing channels (NoMemory back) =
     (back.served ≡ served) × (back.backing ≡ backing) × (back.channels.items ≡ channels)
 GivesBack served backing channels Broken = ⊤
 GivesBack served backing channels Unsettled = ⊤
 
--- why a round is not served: one of its workers found its channel broken, or memory was refused; never Unsettled
+-- a round is not served for this cause: one of its workers found its channel broken, or memory was refused
 abbrev pub IsUnserved :
     {B C : Type 0} → (C → Taken → C → Type 0) → (C → Reply → Posted → C → Type 0) → ℕ → List C
     → RoundFault B C → Type 0
@@ -33,17 +33,17 @@ IsUnserved takes posts turns channels Broken = OneBreaks takes posts turns chann
 IsUnserved takes posts turns channels Unsettled = ⊥
 IsUnserved takes posts turns channels (NoMemory back) = ⊤
 
--- where memory was refused for a round of these channels and turns, its rooms lacked some
+-- if memory was refused for a round of these channels and turns, then its rooms lacked memory
 abbrev pub WasNeeded : {B C : Type 0} → ℕ → ℕ → RoomsState → RoundFault B C → Type 0
 WasNeeded channels turns rooms (NoMemory back) = Fit channels turns rooms → ⊥
 WasNeeded channels turns rooms why = ⊤
 
--- where memory was refused, the rooms of the round are given back empty
+-- if memory was refused, the rooms of the round are given back empty
 abbrev pub GivesRooms : {B C : Type 0} → RoomsState → RoundFault B C → Type 0
 GivesRooms rooms (NoMemory back) = AreEmptied rooms back.rooms
 GivesRooms rooms why = ⊤
 
--- why a round is not drained: its receipts are not its journal, or memory was refused
+-- a round is not drained for this cause: its receipts are not its journal, or memory was refused
 abbrev pub IsUndrained : {B C : Type 0} → List Record → List ReceiptsState → RoundFault B C → Type 0
 IsUndrained records workers Unsettled = IsSettled records workers → ⊥
 IsUndrained records workers (NoMemory back) = ⊤

@@ -1,4 +1,5 @@
--- A history of what was served: each record is a legal step where it stands. (This project's own.)
+-- A history of what was served: each record is a legal step from what the records before it led to. (This project's
+-- own.)
 use Rattle.std.specs.Prelude.{◌≡◌, List, [], ◌∷◌}
 use Rattle.fuse_ops.specs.Served.{ServedState, Replay}
 use Rattle.journal.specs.declared.journal.Record.{Record}

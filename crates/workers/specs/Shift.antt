@@ -1,4 +1,4 @@
--- What a worker makes of its channel, and how it ends. (This project's own.)
+-- What a worker does to its channel, and how the worker ends. (This project's own.)
 use Rattle.std.specs.Prelude.{◌≡◌, ◌≤◌, ◌⊎◌, ℕ, Bool, true, false, List, [], ◌∷◌, ◌++◌, length, Option, Some, None, ⊤}
 use Rattle.fuse_wire.specs.declared.reply.Answer.{Answer}
 use Rattle.fuse_wire.specs.declared.reply.Reply.{Reply}
@@ -12,30 +12,30 @@ use Rattle.workers.specs.declared.channel.Posted.TheVariants as post
 use Rattle.workers.specs.declared.worker.Ending.{Ending}
 use Rattle.workers.specs.declared.worker.Ending.TheVariants.{Done, OutOfRoom, Broken}
 
--- Below, `takes` is what a look for an ask makes of a channel, and `posts` what a reply makes of it.
+-- Below, `takes` is what taking an ask does to a channel, and `posts` what posting a reply does to it.
 
--- the result of the reply to an ask, where it has one: without an answer there is nothing to post
+-- the result of posting the reply to an ask, if there is an answer; without an answer nothing is posted
 abbrev pub Replies : {C : Type 0} → (C → Reply → Posted → C → Type 0) → C → ℕ → Option Answer → Posted → C → Type 0
 Replies posts before unique (Some answer) posted after =
     posts before (record { unique = unique; answer = answer }) posted after
 Replies posts before unique None post.Done after = after ≡ before
 Replies posts before unique None post.Broken after = ⊥
 
--- one turn: the receipt's ask was taken, and this came of its reply
+-- one turn: the receipt's ask was taken, and this is the result of posting its reply
 abbrev pub Turns :
     {C : Type 0} → (C → Taken → C → Type 0) → (C → Reply → Posted → C → Type 0) → C → Receipt → Posted → C → Type 0
 Turns {C} takes posts before receipt posted after =
     (held : C) × takes before (took.Ask receipt.ask) held
     × Replies posts held receipt.ask.unique receipt.answer posted after
 
--- turns one after another, each with its reply posted
+-- turns one after another, each of which took the receipt's ask and posted its reply
 abbrev pub Goes :
     {C : Type 0} → (C → Taken → C → Type 0) → (C → Reply → Posted → C → Type 0) → C → List Receipt → C → Type 0
 Goes takes posts before [] after = after ≡ before
 Goes {C} takes posts before (first ∷ rest) after =
     (next : C) × Turns takes posts before first post.Done next × Goes takes posts next rest after
 
--- such turns, and then a look that finds this
+-- such turns, and then a `take` with this result
 abbrev pub Finds :
     {C : Type 0} → (C → Taken → C → Type 0) → (C → Reply → Posted → C → Type 0) → C → List Receipt → Taken → C → Type 0
 Finds {C} takes posts before receipts taken after =
@@ -48,9 +48,9 @@ Fails {C} takes posts before receipts after =
     (front : List Receipt) × (final : Receipt) × (last : C) × (receipts ≡ front ++ final ∷ [])
     × Goes takes posts before front last × Turns takes posts last final post.Broken after
 
--- How a worker ends. Done: each reply was posted, and then it looked no more, or found that there is no ask now, or
--- that there will be none. OutOfRoom: each reply was posted, and its spare room is used. Broken: its channel was, where
--- it looked for an ask or where it posted a reply.
+-- How a worker ends. Done: each reply was posted, and then the worker took no more, or found that there is no ask now,
+-- or that there will be none. OutOfRoom: each reply was posted, and the spare room is used. Broken: the channel was,
+-- when an ask was to be taken or a reply to be posted.
 abbrev pub Ends :
     {C : Type 0} → (C → Taken → C → Type 0) → (C → Reply → Posted → C → Type 0)
     → C → List Receipt → Ending → C → Type 0
@@ -61,42 +61,42 @@ Ends takes posts before receipts OutOfRoom after = Goes takes posts before recei
 Ends takes posts before receipts Broken after =
     Finds takes posts before receipts took.Broken after ⊎ Fails takes posts before receipts after
 
--- a worker goes on, or ends so
+-- a worker goes on, or ends in this way
 abbrev pub GoesOrEnds :
     {C : Type 0} → (C → Taken → C → Type 0) → (C → Reply → Posted → C → Type 0)
     → C → List Receipt → Option Ending → C → Type 0
 GoesOrEnds takes posts before receipts None after = Goes takes posts before receipts after
 GoesOrEnds takes posts before receipts (Some ending) after = Ends takes posts before receipts ending after
 
--- the worker goes on, or has taken and posted all that it has receipts of
+-- a worker goes on, or ended without finding its channel broken: it took and posted all that its receipts say
 abbrev pub is_well : Option Ending → Bool
 is_well (Some Broken) = false
 is_well ending = true
 
--- whether the spare room is there, of a worker that goes on or ended so: it is used exactly where the worker is
--- OutOfRoom, and may be either way where its channel is Broken
+-- whether the spare room is there, after a worker went on or ended in this way; it is used exactly if the worker is
+-- OutOfRoom, and may be used or not if its channel is Broken
 abbrev pub LeavesSpare : Option Ending → Bool → Type 0
 LeavesSpare (Some Broken) spare = ⊤
 LeavesSpare (Some OutOfRoom) spare = spare ≡ false
 LeavesSpare ending spare = spare ≡ true
 
--- what a worker does after a turn whose reply was posted, by whether its spare room is there: it goes on, or ends
+-- what a worker does after a turn whose reply was posted: it goes on if its spare room is there, else it ends
 abbrev pub after_turn : Bool → Option Ending
 after_turn true = None
 after_turn false = Some OutOfRoom
 
--- how a worker ended well that left its spare room so
+-- the ending of a worker that ended well, by whether its spare room is there
 abbrev pub ending_by : Bool → Ending
 ending_by true = Done
 ending_by false = OutOfRoom
 
--- where a channel tells its lists and its worker ended well, they grew by the worker's receipts
+-- if a channel tells its lists and its worker ended well, then they grew by the worker's receipts
 abbrev pub Tells : Bool → Ending → Told → Told → List Receipt → Type 0
 Tells tells ending before after receipts =
     tells ≡ true → is_well (Some ending) ≡ true → after ≡ grown before receipts
 
--- what a worker makes of its channel: how it ended, what the channel tells, how many turns it made at most, and whether
--- its spare room is there
+-- what a worker did: how it ended, what its channel tells, how many turns it had at most, and whether its spare room is
+-- there
 pub record IsShift
     {C : Type 0} (takes : C → Taken → C → Type 0) (posts : C → Reply → Posted → C → Type 0)
     (tells : Bool) (told : C → Told) (turns : ℕ)

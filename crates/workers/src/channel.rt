@@ -1,4 +1,4 @@
-//! What a worker takes asks from, and posts replies to.
+//! Where a worker takes asks, and posts replies.
 ghost use Rattle.std.specs.Prelude.{◌≡◌, ◌∷◌, [], Bool, true};
 ghost use Rattle.fuse_wire.specs.declared.request.Ask.{Ask as AskValue};
 ghost use Rattle.fuse_wire.specs.declared.reply.Reply.{Reply as ReplyValue};
@@ -14,9 +14,9 @@ use fuse_wire::{Ask, Reply};
 #[derive(Drop)]
 pub enum Taken {
     Ask(Ask),
-    /// There is none now.
+    /// There is no ask now.
     Empty,
-    /// There will be none.
+    /// There will be no ask.
     Stopped,
     /// The mount is over.
     Broken,
@@ -30,19 +30,19 @@ pub enum Posted {
     Broken,
 }
 
-/// The kernel's side of one worker. Each implementation says by `takes` and `posts` what its calls do, so also what led
-/// to Broken. One that tells its lists also says which asks were taken and which replies posted.
+/// The kernel's side for one worker. Each implementation says by `takes` and `posts` what its calls do, also what makes
+/// a result Broken. If `tells` is true, `told` says which asks were taken and which replies were posted.
 pub trait Channel {
-    /// The channel before a `take`, the result, and the channel after it.
+    /// Relates the channel before a `take`, the result, and the channel after the call.
     ghost takes: { Self → TakenValue → Self → Type 0 };
 
-    /// The channel before a `post`, the reply, the result, and the channel after it.
+    /// Relates the channel before a `post`, the reply, the result, and the channel after the call.
     ghost posts: { Self → ReplyValue → PostedValue → Self → Type 0 };
 
-    /// Whether it tells its lists.
+    /// Whether `told` says which asks were taken and which replies were posted.
     ghost tells: { Bool };
 
-    /// The asks that were taken from it, and the replies posted to it.
+    /// The asks that were taken from the channel, and the replies that were posted to it.
     ghost told: { Self → Told };
 
     /// Takes the next ask.

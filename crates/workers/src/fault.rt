@@ -6,7 +6,8 @@ use crate::rooms::Rooms;
 use fuse_ops::Served;
 use std::fmt;
 
-/// All that was handed to a round, given back where memory was refused. No request was taken.
+/// What `serve_round` was handed, or what `drain` would leave, given back if memory was refused. `serve_round` then
+/// took no request.
 #[derive(Drop)]
 pub struct Returned<B: Drop, C: Drop> {
     pub rooms: Rooms,
@@ -15,7 +16,7 @@ pub struct Returned<B: Drop, C: Drop> {
     pub channels: Vec<C>,
 }
 
-/// Why a round failed. Only `NoMemory` gives back what may be served on. Its texts are written by hand: a derived
+/// Why a round failed. Only `NoMemory` gives back what may be served on. The texts are written by hand, since a derived
 /// `Error` asks for `Debug` of all that is given back.
 #[derive(Drop)]
 pub enum RoundFault<B: Drop, C: Drop> {

@@ -1,6 +1,6 @@
 //! Calls before and after a worker's turn.
 
-/// Is called by each worker around each turn, with the ask's unique. A test holds workers here to order their turns.
+/// What each worker calls around each of its turns, with the ask's unique. A test holds workers here to order turns.
 pub trait Hook {
     /// Is called before the lock is taken.
     fn before(&self, unique: u64);

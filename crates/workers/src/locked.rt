@@ -1,4 +1,4 @@
-//! What stands under the map's lock.
+//! What the map's lock protects.
 ghost use Rattle.std.specs.Prelude.{◌≡◌, ◌+◌, ◌<◌, ◌≤◌, ◌++◌, ◌∷◌, [], length};
 ghost use Rattle.fuse_ops.specs.Loading.{Backs};
 ghost use Rattle.journal.specs.Journal.{applied};
@@ -14,7 +14,8 @@ use std::marker::{Brand, Model};
 use std::sync::Mutex;
 use std::sync::ledger::{Blank, Book, Ledger, Share};
 
-/// The name of a round: the ledger of its records, its opening state, and the most turns of a worker.
+/// A type that names a round. It says the ledger of the round's records, the opening state, and the greatest count of a
+/// worker's turns.
 pub trait Opening: Ledger {
     ghost use Rattle.std.specs.Prelude.{ℕ};
     ghost use Rattle.fuse_ops.specs.Served.{ServedState};
@@ -22,7 +23,7 @@ pub trait Opening: Ledger {
     /// What was served when the round opened.
     ghost opening: { ServedState };
 
-    /// The most turns of each worker.
+    /// The greatest count of turns of each worker.
     ghost turns: { ℕ };
 }
 
@@ -38,9 +39,10 @@ impl Opening for Brand {
 /// The map's lock, which the workers of a round share.
 pub type Shared<N, B> = Mutex<LockedMap<N, B>>;
 
-/// The served state, its backing, the journal, and the total of the round's ledger. Its invariant: the served state is
-/// the replay of the journal from the opening state. Each turn leaves one part of the ledger here, and the journal has
-/// room for the others, so no turn finds it full. Contracts see it as the journal's records.
+/// The served state, its backing, the journal, and the total of the round's ledger. Contracts see the journal's
+/// records. By the invariant, the served state is the replay of the journal from the opening state. Each turn leaves
+/// one part of the ledger here, and the journal has room for a record of each other part but one, so no turn finds the
+/// journal full.
 #[derive(Drop)]
 pub struct LockedMap<N: Opening, B: Backing + Drop> {
     alloc: Global,
@@ -70,14 +72,14 @@ impl<N: Opening, B: Backing + Drop> Model for LockedMap<N, B> {
         × (N.parts ≤ length locked.journal.records + locked.journal.room + 1) };
 }
 
-/// The lock of a round that opens, and the share of its ledger with every part, to be split among its workers.
+/// The lock of a round that opens, and the share of its ledger with every part, which is split among the workers.
 #[derive(Drop)]
 pub struct Opened<N: Opening, B: Backing + Drop> {
     pub shared: Shared<N, B>,
     pub share: Share<N>,
 }
 
-/// What a round leaves behind its lock: also the total of its ledger, and the parts that its turns left there.
+/// What a round leaves under its lock, with the total of its ledger, and the parts that its turns left there.
 #[derive(Drop)]
 pub struct Parts<N: Opening, B: Backing + Drop> {
     pub served: Served,
@@ -88,8 +90,8 @@ pub struct Parts<N: Opening, B: Backing + Drop> {
 }
 
 impl<N: Opening, B: Backing + Drop> LockedMap<N, B> {
-    /// Opens a round over what is served, under a ledger that nobody used. The journal has room for a record for each
-    /// part but one.
+    /// Opens a round over what is served, under a ledger that nobody used. The journal has to have room for a record of
+    /// each part of the ledger but one.
     pub fn open(
         alloc: Global,
         blank: Blank,
@@ -119,7 +121,7 @@ impl<N: Opening, B: Backing + Drop> LockedMap<N, B> {
         Opened { shared, share }
     }
 
-    /// Serves one ask, and counts it in a worker's share, of which one part stays here.
+    /// Serves `ask`, and counts it in `share`, of which one part stays under the lock.
     pub(crate) fn turn(&mut self, ask: Ask, share: &mut Share<N>) -> Turn
         requires parts { 1 < share.old.parts }
         ensures parts { share.new.parts + 1 ≡ share.old.parts }
@@ -139,7 +141,7 @@ impl<N: Opening, B: Backing + Drop> LockedMap<N, B> {
         turn
     }
 
-    /// Returns what the round leaves.
+    /// Returns what the round leaves under the lock.
     pub fn into_parts(self) -> Parts<N, B>
         ensures records { result.journal.records ≡ self }
         ensures replays { Replays N.opening result.journal.records result.served }

@@ -11,7 +11,7 @@ use fuse_wire::{Ask, Reply};
 use std::alloc::Global;
 use std::marker::Model;
 
-/// Asks in memory, and the replies that were posted, one for each ask at most. Contracts see it as a `MemoryState`.
+/// Asks in memory, and the replies that were posted, one for each ask at most. Contracts see a `MemoryState`.
 #[derive(Drop)]
 pub struct MemoryChannel {
     alloc: Global,
@@ -37,7 +37,7 @@ impl Model for MemoryChannel {
 }
 
 impl MemoryChannel {
-    /// Returns a channel of these asks, with room for one reply to each. The asks are lost where memory is refused.
+    /// Makes a channel of these asks, with room for one reply to each. If memory is refused, the asks are dropped.
     pub fn new(alloc: Global, asks: Vec<Ask>) -> Result<MemoryChannel, NoMemory>
         ensures asks { IfOk result (λ channel. channel.asks ≡ asks.items) }
         ensures taken { IfOk result (λ channel. channel.taken ≡ 0) }
@@ -66,14 +66,14 @@ impl MemoryChannel {
         self.taken
     }
 
-    /// Returns the replies, first posted first.
+    /// Returns the replies, in the order in which they were posted.
     pub fn replies(&self) -> &[Reply]
         ensures replies { result.now ≡ self.now.replies }
     {
         self.replies.as_slice()
     }
 
-    /// Takes a copy of the next ask. It is Broken where memory is refused for the copy.
+    /// Takes a copy of the next ask. Returns Broken if memory is refused for the copy.
     pub fn take(&mut self) -> Taken
         ensures takes { Takes self.old result self.new }
     {
@@ -91,7 +91,7 @@ impl MemoryChannel {
         }
     }
 
-    /// Keeps the reply. It is Broken where there are as many replies as asks.
+    /// Keeps the reply. Returns Broken if there are as many replies as asks.
     pub fn post(&mut self, reply: Reply) -> Posted
         ensures posts { Posts self.old reply result self.new }
     {

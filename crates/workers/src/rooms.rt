@@ -9,8 +9,8 @@ use journal::{Journal, Receipts};
 use std::alloc::Global;
 use std::marker::Model;
 
-/// Memory for the journal of a round and for its workers' receipts, handed on from one round to the next: a round takes
-/// what lacks, and gives all back. Contracts see it as a `RoomsState`.
+/// Memory for the journal of a round and for its workers' receipts, handed on from one round to the next. A round takes
+/// the memory that is lacking, and gives all back. Contracts see a `RoomsState`.
 #[derive(Drop)]
 pub struct Rooms {
     journal: Journal,
@@ -30,7 +30,7 @@ impl Model for Rooms {
     } };
 }
 
-/// Returns how many records there is room for in a round: one for each part of its ledger but one.
+/// Returns how many records a round needs room for: one for each part of its ledger but one.
 fn records_of(channels: usize, turns: usize) -> usize
     requires channels { (1 ≤ channels) × (channels ≤ 16) }
     requires turns { turns ≤ 4096 }
@@ -51,7 +51,7 @@ fn are_fresh(receipts: &[Receipts], turns: usize) -> bool
     true
 }
 
-/// Drops all receipts, and keeps their places for others.
+/// Drops all receipts, and keeps their memory for others.
 fn clear_all(receipts: &mut [Receipts])
     ensures len { length receipts.new ≡ length receipts.old }
     ensures none { All HasNone receipts.new }
@@ -62,7 +62,7 @@ fn clear_all(receipts: &mut [Receipts])
     }
 }
 
-/// Takes what each worker's receipts lack for `turns` turns.
+/// Takes the memory that each worker's receipts lack for `turns` turns.
 fn refill_all(receipts: &mut [Receipts], turns: usize) -> Result<(), NoMemory>
     ensures fresh { OnOk result (All (IsFresh turns) receipts.new) }
 {
@@ -72,7 +72,7 @@ fn refill_all(receipts: &mut [Receipts], turns: usize) -> Result<(), NoMemory>
     Ok(())
 }
 
-/// Takes memory for the receipts of more workers, up to `channels`.
+/// Takes memory for the receipts of more workers, so that there are `channels` workers.
 fn add_workers(
     receipts: &mut Vec<Receipts>,
     alloc: Global,
@@ -92,7 +92,7 @@ fn add_workers(
 }
 
 impl Rooms {
-    /// Returns rooms for no turn, which take no memory. The first round takes what it needs.
+    /// Makes rooms for no turn, which take no memory. The first round takes what it needs.
     pub fn new(alloc: Global) -> Rooms
         ensures records { result.journal.records ≡ [] }
         ensures workers { result.workers ≡ 0 }
@@ -103,7 +103,7 @@ impl Rooms {
         }
     }
 
-    /// Returns whether a round of these channels and turns takes no memory for itself.
+    /// Returns whether a round of these channels and turns needs no more memory than these rooms.
     pub fn fit(&self, channels: usize, turns: usize) -> bool
         requires channels { (1 ≤ channels) × (channels ≤ 16) }
         requires turns { turns ≤ 4096 }
@@ -121,7 +121,7 @@ impl Rooms {
         are_fresh(self.receipts.as_slice(), turns)
     }
 
-    /// Takes what a round of these channels and turns lacks.
+    /// Takes the memory that a round of these channels and turns lacks.
     pub(crate) fn refill(
         &mut self,
         alloc: Global,
@@ -142,7 +142,7 @@ impl Rooms {
         add_workers(&mut self.receipts, alloc, channels, turns)
     }
 
-    /// Returns the rooms that a round worked in, and drops what it wrote there.
+    /// Makes rooms of the memory that a round worked in, and drops what the round wrote there.
     pub(crate) fn emptied(journal: Journal, receipts: Vec<Receipts>) -> Rooms
         ensures emptied { AreEmptied
             (rooms_of journal receipts.items (vec_len receipts)) result }

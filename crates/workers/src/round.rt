@@ -26,10 +26,10 @@ use std::sync::ledger::Blank;
 use std::thread;
 use std::thread::Threads;
 
-/// The most channels that a round serves.
+/// The greatest count of channels that a round serves.
 pub const MAX_CHANNELS: usize = 16;
 
-/// The most requests that a round serves of one channel.
+/// The greatest count of requests that a round serves of one channel.
 pub const MAX_TURNS: usize = 4096;
 
 /// What a round leaves: what is served, its backing and the journal; and the channels in their order, each with its
@@ -43,7 +43,7 @@ pub struct Round<B: Backing + Drop, C: Channel + Drop> {
     pub receipts: Vec<Receipts>,
 }
 
-/// Runs a worker for each channel, in threads that end before it returns.
+/// Runs a worker for each channel, in threads that end before this call returns.
 fn serve_all<
     N: Opening + Send + Sync,
     B: Backing + Drop + Send,
@@ -76,8 +76,9 @@ fn serve_all<
     )
 }
 
-/// Returns what a round leaves whose workers are done, and compares the journal with their shares of the ledger. Their
-/// amount is at most the total, and with the parts under the lock they are at most the ledger.
+/// Makes what a round leaves, after its workers are done. Their shares of the ledger show that there are as many
+/// records as receipts: their amount is at most the total, and their parts with those under the lock are at most the
+/// ledger's.
 fn closed<N: Opening, B: Backing + Drop, C: Channel + Drop>(
     parts: Parts<N, B>,
     joined: Joined<N, C>,
@@ -118,7 +119,7 @@ fn closed<N: Opening, B: Backing + Drop, C: Channel + Drop>(
     }
 }
 
-/// Returns what a round leaves, where each of its workers ended well. Else it is Broken.
+/// Returns what a round leaves, if each of its workers ended well, else Broken.
 fn left_by<N: Opening, B: Backing + Drop, C: Channel + Drop>(
     parts: Parts<N, B>,
     joined: Joined<N, C>,
@@ -151,7 +152,7 @@ fn left_by<N: Opening, B: Backing + Drop, C: Channel + Drop>(
     Ok(closed(parts, joined))
 }
 
-/// Serves a round under the name of its ledger and of its opening state.
+/// Serves a round under its name `N`, which says its ledger and its opening state.
 fn round_of<
     N: Opening + Send + Sync,
     B: Backing + Drop + Send,
@@ -201,9 +202,9 @@ fn round_of<
     left_by(shared.into_inner().into_parts(), joined)
 }
 
-/// Serves the channels, each by a worker of its own that takes at most `turns` requests. It ends where none of them has
-/// an ask, a stop is asked for, or memory is refused for a copy. It first takes what `rooms` lack. Where that is
-/// refused, no ask was taken and all is given back. `drain` gives the rooms back for the next round.
+/// Serves the channels, each by its own worker. A worker ends after `turns` requests, when its channel has no ask, when
+/// a stop is asked for, or after memory was refused for a copy. The memory that `rooms` lack is taken first. If it is
+/// refused, no ask was taken, and all is given back. `drain` gives the rooms back for the next round.
 pub fn serve_round<
     B: Backing + Drop + Send,
     C: Channel + Drop + Send,
@@ -225,7 +226,7 @@ pub fn serve_round<
     requires turns { (1 ≤ turns) × (turns ≤ 4096) }
     // The records lead from what was served to what is served, each by a legal step.
     ensures replays { IfOk result (λ round. Replays served round.journal.records round.served) }
-    // Another round may follow.
+    // Another round may follow: the manifest is the same, and the backing still holds its files.
     ensures same_manifest { IfOk result (λ round. round.served.tree.manifest ≡ served.tree.manifest) }
     ensures backs { IfOk result (λ round. Backs (B.content round.backing) round.served.tree) }
     ensures counted { IfOk result (λ round. length round.journal.records ≡ receipts_in round.receipts.items) }
@@ -235,7 +236,7 @@ pub fn serve_round<
     // The room for such a round is still there.
     ensures room { IfOk result (λ round. HaveRoom (vec_len channels) turns
         (rooms_of round.journal round.receipts.items (vec_len round.receipts))) }
-    // It is Broken exactly where a worker found its channel broken, and never Unsettled.
+    // The fault is Broken exactly if a worker found its channel broken, and it is never Unsettled.
     ensures broken { IfErr result (IsUnserved C.takes C.posts turns channels.items) }
     // Rooms that fit need no memory.
     ensures needed { IfErr result (WasNeeded (vec_len channels) turns rooms) }

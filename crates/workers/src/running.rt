@@ -1,4 +1,4 @@
-//! The workers of a round while they run, each in a thread of its own where one can be made.
+//! The workers of a round while they run, each in its own thread if one can be made.
 ghost use Rattle.std.specs.Prelude.{◌≡◌, ◌+◌, ◌*◌, ◌<◌, ◌≤◌, ◌++◌, ◌∷◌, ◌⊎◌, [], true, false, length, vec_len, vec_capacity};
 ghost use Rattle.std.specs.List.{All};
 ghost use Rattle.journal.specs.Receipts.{IsFresh};
@@ -21,7 +21,8 @@ use std::sync::Wait;
 use std::sync::ledger::Share;
 use std::thread::{Promise, PromisedHandle, Scope, Threads};
 
-/// What each worker is started with: it serves the channel that it is handed, and counts its receipts in its share.
+/// What a worker promises when it starts: it serves the channel that it is handed, and counts its receipts in its
+/// share.
 #[derive(Drop)]
 pub(crate) struct Serves<N: Opening, C: Channel + Drop> {
     channel: Snapshot<C>,
@@ -40,8 +41,8 @@ impl<N: Opening, C: Channel + Drop> Promise<Shift<N, C>> for Serves<N, C> {
         promise.channel.value shift.receipts shift.ending shift.channel };
 }
 
-/// A worker in a thread, or what it left, where no thread could be made. Contracts see it as the channel that it was
-/// handed.
+/// A worker in a thread, or what the worker left if no thread was made for it. Contracts see the channel that the
+/// worker was handed.
 #[derive(Drop)]
 pub(crate) struct Running<N: Opening, C: Channel + Drop> {
     channel: Snapshot<C>,
@@ -75,7 +76,8 @@ pub(crate) struct Joined<N: Opening, C: Channel + Drop> {
     pub is_broken: bool,
 }
 
-/// Starts a worker in a thread of its own. It is run in its caller's where it stands `alone` or none can be made.
+/// Starts a worker in its own thread. If the worker is `alone`, or no thread can be made, it runs in the caller's
+/// thread.
 fn start<
     's,
     'e: 's,
@@ -157,7 +159,7 @@ impl<N: Opening, C: Channel + Drop> Running<N, C> {
 }
 
 impl<N: Opening, C: Channel + Drop> Joined<N, C> {
-    /// Returns what the workers left, with what one more left whose channel stands behind theirs.
+    /// Returns what the workers left, together with what one more worker left, whose channel comes after theirs.
     fn and(self, shift: Shift<N, C>) -> Joined<N, C>
         requires channels { vec_len self.channels < vec_capacity self.channels }
         requires receipts { vec_len self.receipts < vec_capacity self.receipts }
@@ -191,8 +193,8 @@ impl<N: Opening, C: Channel + Drop> Joined<N, C> {
     }
 }
 
-/// What the workers of a round begin with: their channels and receipts, how much each may take, and the share of the
-/// ledger that theirs are split off.
+/// What the workers of a round begin with: their channels and receipts, how many turns each may have, and the share of
+/// the ledger from which their shares are split off.
 #[derive(Drop)]
 pub(crate) struct Crew<N: Opening, C: Channel + Drop> {
     pub channels: Vec<C>,
@@ -207,8 +209,8 @@ pub(crate) struct Crew<N: Opening, C: Channel + Drop> {
     ghost fresh: { All (IsFresh turns) receipts.items },
 }
 
-/// Runs a worker for each channel, side by side, and waits until all are done. The first channel's runs in the caller's
-/// thread. It takes no memory: each list is filled again in the order in which it was emptied.
+/// Runs a worker for each channel, side by side, and waits until all are done. The worker of the first channel runs in
+/// the caller's thread. Takes no memory: each list is emptied from its end, and filled again in the same memory.
 pub(crate) fn serve_each<
     's,
     'e: 's,

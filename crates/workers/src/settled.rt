@@ -13,7 +13,7 @@ use fuse_ops::Served;
 use journal::is_settled;
 use std::alloc::Global;
 
-/// What may be served on after a round: the hands are empty, and every reply is posted.
+/// What may be served on after a settled round: no worker has an ask in hand, and every reply is posted.
 #[derive(Drop)]
 pub struct Settled<B: Backing + Drop, C: Channel + Drop> {
     pub rooms: Rooms,
@@ -22,8 +22,8 @@ pub struct Settled<B: Backing + Drop, C: Channel + Drop> {
     pub channels: Vec<C>,
 }
 
-/// Compares the workers' receipts with the journal. If the round is settled, it gives back the served state, the
-/// backing, the channels and the emptied rooms. Unsettled gives nothing back.
+/// Compares the workers' receipts with the journal. If the round is settled, returns the served state, the backing, the
+/// channels and the emptied rooms. If it is not, returns Unsettled, and all is dropped.
 pub fn drain<B: Backing + Drop, C: Channel + Drop>(
     alloc: Global,
     round: Round<B, C>,

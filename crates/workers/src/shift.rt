@@ -1,4 +1,4 @@
-//! The turns of a worker, one after another. It is public for its contract.
+//! The turns of a worker, one after another. `serve_channel` is public for its contract.
 ghost use Rattle.std.specs.Prelude.{◌≡◌, ◌+◌, ◌<◌, ◌≤◌, true, Some, [], length};
 ghost use Rattle.workers.specs.Shift.{Ends, LeavesSpare, Tells};
 
@@ -21,9 +21,9 @@ pub struct Shift<N: Opening, C: Channel + Drop> {
     pub ending: Ending,
 }
 
-/// Takes asks from a channel, at most `turns`, serves each under the map's lock and posts its reply. It ends where
-/// there is none, a stop is asked for, or the spare room of `room` is used. Each turn leaves one part of `share` under
-/// the lock, and needs one more. The contract leaves the state under the lock open.
+/// Takes asks from a channel, at most `turns`, serves each under the map's lock and posts its reply. Ends if there is
+/// no ask, a stop is asked for, or the spare room of `room` is used. Each turn leaves one part of `share` under the
+/// lock, and needs one more. The contract says nothing of the state under the lock.
 pub fn serve_channel<N: Opening, B: Backing + Drop, C: Channel + Drop, G: Hook, R: Wait>(
     rt: &R,
     shared: &Shared<N, B>,
@@ -42,11 +42,11 @@ pub fn serve_channel<N: Opening, B: Backing + Drop, C: Channel + Drop, G: Hook, 
     ensures most { length result.receipts.list ≤ turns }
     ensures counted { result.share.amount ≡ share.amount + length result.receipts.list }
     ensures places { result.receipts.places + length result.receipts.list ≡ room.places }
-    // It ends OutOfRoom exactly where its spare room is used and its channel is not Broken.
+    // The ending is OutOfRoom exactly if the spare room is used and the channel is not Broken.
     ensures spare { LeavesSpare (Some result.ending) result.receipts.spare }
-    // It ends Broken exactly where its channel was.
+    // The ending is Broken exactly if the channel was.
     ensures ends { Ends C.takes C.posts channel result.receipts.list result.ending result.channel }
-    // Where it ends well, the asks that it took are those of its receipts in order, and what it posted are their
+    // If the worker ends well, the asks that it took are those of its receipts in order, and what it posted are their
     // answers.
     ensures told { Tells C.tells result.ending (C.told channel) (C.told result.channel) result.receipts.list }
 {

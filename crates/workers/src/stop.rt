@@ -1,8 +1,8 @@
 //! A flag that asks a round to end.
 use std::sync::atomic::{AtomicBool, Ordering};
 
-/// A flag that asks the workers of a round to take nothing more. Its calls promise to return, and nothing of what
-/// `asked` answers or when a worker sees it.
+/// A flag that asks the workers of a round to take nothing more. Its contracts say only that the calls return: not what
+/// `asked` answers, nor when a worker sees the flag.
 #[derive(Drop)]
 pub struct Stop {
     asked: AtomicBool,
@@ -21,7 +21,7 @@ impl Stop {
         self.asked.store(true, Ordering::SeqCst)
     }
 
-    /// Returns whether they were asked.
+    /// Returns whether the workers were asked to stop.
     pub fn asked(&self) -> bool {
         self.asked.load(Ordering::SeqCst)
     }

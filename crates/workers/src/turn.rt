@@ -1,4 +1,4 @@
-//! One request served under the map's lock. It is public for its contract.
+//! One request served under the map's lock. `serve_one` is public for its contract.
 ghost use Rattle.std.specs.Prelude.{◌≡◌, ◌+◌, ◌<◌, ◌++◌, ◌∷◌, [], length};
 ghost use Rattle.eden_base.specs.declared.number.FileId.{FileId};
 ghost use Rattle.fuse_ops.specs.Loading.{AsksAs, Backs, FailsAs, Loads};
@@ -11,14 +11,14 @@ use fuse_wire::{Answer, Ask};
 use journal::{Journal, Record};
 use std::alloc::Global;
 
-/// What a turn gives: the position of its record in the journal, and the answer. A forget has no answer.
+/// The result of a turn: the index of its record in the journal, and the answer. A forget has no answer.
 #[derive(Drop)]
 pub struct Turn {
     pub position: usize,
     pub answer: Option<Answer>,
 }
 
-/// Serves one ask, and journals its request with the answer.
+/// Serves one ask, and appends its request and the answer to the journal.
 pub fn serve_one<B: Backing>(
     alloc: Global,
     served: &mut Served,

@@ -37,7 +37,7 @@ pub(crate) struct Worker<N: Opening, C: Channel + Drop> {
     pub share: Share<N>,
 }
 
-/// Posts the reply to an ask, if it has an answer.
+/// Posts the reply to an ask, if the ask has an answer.
 fn post<C: Channel>(channel: &mut C, unique: u64, answer: Option<Answer>) -> Posted
     ensures replies { Replies C.posts channel.old unique answer result channel.new }
     ensures told { C.tells ≡ true → result ≡ post.Done
@@ -49,7 +49,7 @@ fn post<C: Channel>(channel: &mut C, unique: u64, answer: Option<Answer>) -> Pos
     }
 }
 
-/// Serves an ask under the map's lock, and counts it in a worker's share, of which one part goes to the lock.
+/// Serves an ask under the map's lock, and counts it in `share`, of which one part goes to the lock.
 fn turn_alone<N: Opening, B: Backing + Drop, R: Wait>(
     rt: &R,
     shared: &Shared<N, B>,
@@ -82,10 +82,10 @@ impl<N: Opening, C: Channel + Drop> Worker<N, C> {
         ensures spare { LeavesSpare result self.new.receipts.spare }
         ensures counted { self.new.share.amount + length self.old.receipts.list
             ≡ self.old.share.amount + length self.new.receipts.list }
-        // From wherever it began.
+        // This holds for any channel from which the worker may have begun.
         ensures ends { (start : C) → Goes C.takes C.posts start self.old.receipts.list self.old.channel
             → GoesOrEnds C.takes C.posts start self.new.receipts.list result self.new.channel }
-        // Whatever was told before.
+        // This holds for whatever the channel told before.
         ensures told { C.tells ≡ true → is_well result ≡ true → (start : Told)
             → C.told self.old.channel ≡ grown start self.old.receipts.list
             → C.told self.new.channel ≡ grown start self.new.receipts.list }
@@ -98,7 +98,7 @@ impl<N: Opening, C: Channel + Drop> Worker<N, C> {
         }
     }
 
-    /// Serves an ask that was taken, and posts its reply.
+    /// Serves an ask that was taken, and posts its reply. Returns why the worker ends, if it does.
     #[tactic(auto, using(crate::proofs::Growing::grown_more, crate::proofs::Turning::turned_broken))]
     fn serve<B: Backing + Drop, G: Hook, R: Wait>(
         &mut self,
@@ -139,7 +139,7 @@ impl<N: Opening, C: Channel + Drop> Worker<N, C> {
         }
     }
 
-    /// Returns why the worker ends after a turn whose reply was posted, if it does: its spare room is used.
+    /// Returns why the worker ends after a turn whose reply was posted: its spare room is used. Else returns none.
     fn after_turn(&self) -> Option<Ending>
         ensures after_turn { result ≡ after_turn self.now.receipts.spare }
     {
@@ -150,7 +150,7 @@ impl<N: Opening, C: Channel + Drop> Worker<N, C> {
         }
     }
 
-    /// Returns what the worker leaves.
+    /// Makes what the worker leaves.
     pub(crate) fn end(self, ending: Ending) -> Shift<N, C>
         ensures channel { result.channel ≡ self.channel }
         ensures receipts { result.receipts ≡ self.receipts }

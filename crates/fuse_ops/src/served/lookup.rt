@@ -21,7 +21,7 @@ use inode_map::GiveFault;
 use std::alloc::Global;
 
 impl Served {
-    /// Answers a lookup. A name that has a number gives that number's file, so its directory isn't looked at.
+    /// Answers a LOOKUP. If the name has a number, the file is that of the number, and the directory isn't looked at.
     pub(super) fn look_up<B: Backing>(
         &mut self,
         alloc: Global,
@@ -45,8 +45,8 @@ impl Served {
         }
     }
 
-    /// Answers with the entry of a name that has a number, which counts once more. The count is raised first, and
-    /// lowered again where the backing fails.
+    /// Answers with the entry of a name that has a number. The count of the number is raised first, and lowered again
+    /// if the backing fails.
     fn enter_again<B: Backing>(
         &mut self,
         backing: &mut B,
@@ -81,8 +81,8 @@ impl Served {
         }
     }
 
-    /// Answers with the entry of a file under a name without a number, which is given the next. Refusals are looked for
-    /// before the backing is asked.
+    /// Answers with the entry of a file under a name without a number, which is given the next one. The backing is
+    /// asked after every refusal but that of memory is excluded.
     fn enter_next<B: Backing>(
         &mut self,
         alloc: Global,
@@ -116,7 +116,7 @@ impl Served {
         }
     }
 
-    /// Answers a GETATTR. It takes no memory.
+    /// Answers a GETATTR. Takes no memory.
     pub(super) fn get_attr<B: Backing>(&mut self, backing: &mut B, node: Number) -> Answer
         requires backs { Backs (B.content backing.old) self.old.tree }
         ensures answer { Shows self.old node result }
@@ -135,7 +135,7 @@ impl Served {
         }
     }
 
-    /// Returns the attributes of a number's file. The root's are never loaded.
+    /// Returns the attributes of a number's file, and loads them if they aren't loaded. The root's are never loaded.
     fn load<B: Backing>(
         &mut self,
         backing: &mut B,
@@ -165,7 +165,7 @@ impl Served {
         self.load_asked(backing, number, located.file)
     }
 
-    /// Returns the loaded attributes of a number, which become the most recent. The count of names comes from
+    /// Returns the loaded attributes of `number`, if any, and makes them the most recent. The link count comes from
     /// `linkage`, since names come and go.
     fn loaded(&mut self, number: Number, linkage: Linkage) -> Option<Attr>
         requires other { number.0 ≡ 1 → ⊥ }
@@ -186,7 +186,7 @@ impl Served {
         })
     }
 
-    /// Asks for the attributes of a number's file, of which none are loaded, and loads them.
+    /// Asks for the attributes of `file`, which `number` names and for which none are loaded, and loads them.
     fn load_asked<B: Backing>(
         &mut self,
         backing: &mut B,
@@ -214,7 +214,7 @@ impl Served {
     }
 }
 
-/// Asks the backing for a file of a tree, if it is a regular one of the manifest. The tree itself knows the others.
+/// Returns the attributes of `file`. The backing is asked for a regular file of the manifest; the tree knows any other.
 fn ask<B: Backing>(tree: &Tree, backing: &mut B, file: FileId) -> Result<Attr, BackingFault>
     requires is_tree { IsTree tree.now }
     requires there { IsSome (tree_file tree.now file) }
@@ -245,7 +245,7 @@ fn ask<B: Backing>(tree: &Tree, backing: &mut B, file: FileId) -> Result<Attr, B
     })
 }
 
-/// Converts the cause why no number could be given to an error.
+/// Returns the error for the cause why no number could be given.
 fn errno_of(fault: GiveFault) -> Errno
     ensures { result ≡ errno_of fault }
 {

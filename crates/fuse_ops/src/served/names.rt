@@ -15,8 +15,8 @@ use inode_map::InodeMap;
 use std::alloc::Global;
 
 impl Served {
-    /// Makes a file under a name in the directory of a number, and gives its number. All memory is taken before
-    /// anything changes.
+    /// Makes a file under a name in the directory that `dir` names, and gives the next number for it. All memory is
+    /// taken before any number, name or file changes.
     pub(super) fn make(
         &mut self,
         alloc: Global,
@@ -48,7 +48,7 @@ impl Served {
         Ok((number, attr))
     }
 
-    /// Finds the directory of a number, where a name is free in it and a file may be made.
+    /// Returns the directory that `dir` names, if `name` is free in it and a file may be made, else the error.
     fn free_place(&mut self, dir: Number, name: &Name) -> Result<FileId, Errno>
         ensures free { IsFree self.old dir.0 name.now result }
         ensures unchanged { self.new ≡ self.old }
@@ -69,7 +69,8 @@ impl Served {
         Ok(dir)
     }
 
-    /// Takes a name out of the directory of a number. The number of its file, where it has one, keeps the file.
+    /// Takes a name out of the directory that `number` names. If the file has a number, that number still names the
+    /// file.
     pub(super) fn take_name(&mut self, number: Number, dir: FileId, name: &Name)
         requires dir { IsFileOf self.old.tree self.old.map.entries number.0 dir }
         requires there { IsSome (child_of self.old.tree dir name.now) }
@@ -84,7 +85,8 @@ impl Served {
     }
 }
 
-/// Takes the memory for the next number under a name, and returns the name to give it for.
+/// Takes the memory for the next number and for its name, and returns a copy of `name` to which the number can be
+/// given.
 fn ready(map: &mut InodeMap, alloc: Global, name: &Name) -> Result<Name, Errno>
     ensures name { IfOk result (λ own. own ≡ name.now) }
     ensures room { OnOk result (map.new ≡ record map.old { spare = 1 }) }

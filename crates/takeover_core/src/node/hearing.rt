@@ -1,4 +1,4 @@
-//! What a daemon makes of each message of another.
+//! How a daemon hears each message of another daemon.
 ghost use Rattle.std.specs.Prelude.{◌≡◌, ℕ, List};
 ghost use Rattle.takeover_core.specs.Phases.{after, heard, goes_whole, goes_in_parts, is_part_count, Hear};
 
@@ -45,7 +45,7 @@ impl Node {
         }
     }
 
-    /// Begins the next session, unless there is no version for it, or no number.
+    /// Answers an offer. Begins the next session, unless no version is common, or sessions or generations are used up.
     pub(super) fn take_offer(&mut self, generation: u64, offered: &Versions) -> Message
         requires serving { self.old.phase ≡ Phase.Serving generation }
         ensures heard { heard self.old (Hear (Message.Offer offered.now)) ≡ Heard.Say result }
@@ -80,7 +80,7 @@ impl Node {
         }
     }
 
-    /// Hears that the offer was not taken.
+    /// Hears that the offer was refused.
     pub(super) fn hear_refusal(&mut self) -> Heard
         ensures heard_no_common { result ≡ heard self.old (Hear Message.NoCommon) }
         ensures heard_busy { result ≡ heard self.old (Hear Message.Busy) }
@@ -133,7 +133,7 @@ impl Node {
         }
     }
 
-    /// Hears the data, whatever its bytes are: they are read by whoever has the message.
+    /// Hears a `Data` message. Its bytes play no part here: the caller reads them.
     pub(super) fn hear_data(&mut self, handed: u32, generation: u64) -> Heard
         ensures heard { (bytes : List ℕ) →
             result ≡ heard self.old (Hear (Message.Data handed generation bytes)) }
@@ -156,7 +156,7 @@ impl Node {
         }
     }
 
-    /// Hears a part, whatever its bytes are: they are read by whoever has the message.
+    /// Hears a `Part` message. Its bytes play no part here: the caller reads them.
     pub(super) fn hear_part(
         &mut self,
         handed: u32,

@@ -1,4 +1,4 @@
-//! Each pair of a phase and a call, once. The rows are those of the table of phases, written out by hand.
+//! Tests each call in each phase, once, against the rows of the table of phases, which are written out by hand.
 use self::rows::{Answer, CALLS, Call, PHASES, ROWS};
 use super::Node;
 use super::tests::is;
@@ -9,7 +9,7 @@ use std::alloc::Global;
 
 mod rows;
 
-/// Returns the next phase and the answer.
+/// Returns the next phase and the answer that the rows have for a call in a phase.
 fn row_of(phase: Phase, call: Call) -> (Phase, Answer) {
     for row in &ROWS {
         if row.0 == phase && row.1 == call {
@@ -19,7 +19,7 @@ fn row_of(phase: Phase, call: Call) -> (Phase, Answer) {
     (phase, Answer::Ignored)
 }
 
-/// Returns the answer in full.
+/// Returns the answer with all its fields.
 fn in_full(alloc: Global, answer: Answer) -> Heard {
     match answer {
         Answer::Ignored => Heard::Ignored,
@@ -130,7 +130,7 @@ fn claim_answer(call: Call) -> Option<Result<u64, ClaimFault>> {
     }
 }
 
-/// Makes a call. One whose condition does not hold cannot be made, and is left out.
+/// Makes a call, and returns its answer. A call whose precondition does not hold is not made, and counts as ignored.
 fn make(alloc: Global, node: &mut Node, call: Call) -> Heard {
     if let Some(message) = message(alloc, call) {
         let heard = node.hear(&message);
@@ -206,8 +206,8 @@ fn drain(node: &mut Node, in_hand: usize, unposted: usize) -> Heard {
     }
 }
 
-/// Makes a call in a phase, of a daemon that reads and writes versions 1 and 2 and has begun two sessions, and returns
-/// whether it goes by its row.
+/// Makes a call on a daemon in this phase, which reads and writes versions 1 and 2 and has begun two sessions. Returns
+/// whether the next phase and the answer are those of the row.
 fn goes_by_row(alloc: Global, phase: Phase, call: Call) -> bool {
     let (next, answer) = row_of(phase, call);
     let mut node = Node {
@@ -221,7 +221,7 @@ fn goes_by_row(alloc: Global, phase: Phase, call: Call) -> bool {
     is(heard, in_full(alloc, answer)) && reached == next
 }
 
-/// Returns the first call in a phase that does not go by its row.
+/// Returns the first call in this phase whose next phase or answer is not that of the row, if there is one.
 fn first_other_call(alloc: Global, phase: Phase) -> Option<Call> {
     for call in &CALLS {
         if !goes_by_row(alloc, phase, *call) {

@@ -16,7 +16,7 @@ fn offer(versions: &[u16]) -> Message
     Message::Offer(Versions::of(versions))
 }
 
-/// Returns whether what came of a message is this.
+/// Returns whether `heard` and `expected` are the same.
 pub(super) fn is(heard: Heard, expected: Heard) -> bool {
     let same = heard == expected;
     drop(heard);
@@ -24,7 +24,7 @@ pub(super) fn is(heard: Heard, expected: Heard) -> bool {
     same
 }
 
-/// Returns whether this comes of a message.
+/// Returns whether `node` answers `message` with `expected`.
 fn comes(node: &mut Node, message: Message, expected: Heard) -> bool {
     let heard = node.hear(&message);
     drop(message);
@@ -40,14 +40,15 @@ fn serving(generation: u64, sessions: u32) -> Node {
     }
 }
 
-/// Returns whether this comes of an offer of these versions.
+/// Returns whether `node` answers an offer of these versions with `expected`.
 fn offers(node: &mut Node, versions: &[u16], expected: Message) -> bool
     requires { length versions.now ≤ 8 }
 {
     comes(node, offer(versions), Heard::Say(expected))
 }
 
-/// Returns whether a daemon that serves at generation 1 chooses the version that both know, and says so once.
+/// Returns whether a daemon that serves at generation 1 answers an offer without its version NoCommon, and then begins
+/// a session at an offer with its version.
 fn chooses(node: &mut Node) -> bool {
     let choice = Message::Choice {
         session: 1,
@@ -67,7 +68,7 @@ fn chooses_a_common_version_once(rt: HostRuntime) {
     assert!(rt; so);
 }
 
-/// Returns the greatest version that a daemon of these and an offer have.
+/// Returns the greatest version that is in both `own` and `offered`, if there is one.
 fn greatest(own: &[u16], offered: &[u16]) -> Option<u16>
     requires own { length own.now ≤ 8 }
     requires offered { length offered.now ≤ 8 }
@@ -109,7 +110,7 @@ static BUSY: [Phase; 4] = [
     },
 ];
 
-/// Returns whether a daemon in a phase is busy for an offer of these versions, and stays in it.
+/// Returns whether a daemon in this phase answers an offer of these versions Busy, and stays in the phase.
 fn is_busy_for(phase: Phase, versions: &[u16]) -> bool
     requires { length versions.now ≤ 8 }
 {
@@ -124,7 +125,7 @@ fn is_busy_for(phase: Phase, versions: &[u16]) -> bool
     is_busy && reached == phase
 }
 
-/// Returns whether a daemon is so in each of these phases, whether it knows a version that is offered or not.
+/// Returns whether a daemon answers Busy in each of these phases, whether or not it knows a version that is offered.
 fn is_busy_in_each(phases: &[Phase]) -> bool {
     for phase in phases {
         if !is_busy_for(*phase, &[9, 1])
@@ -164,7 +165,7 @@ fn begins_the_last_session_and_none_after_it(rt: HostRuntime) {
     assert!(rt; so);
 }
 
-/// Returns whether a daemon begins no session, whether it knows the version that is offered or not.
+/// Returns whether a daemon begins no session: it answers Busy to an offer of its version, and NoCommon to another.
 fn begins_nothing(node: &mut Node) -> bool {
     offers(node, &[1], Message::Busy) && offers(node, &[9], Message::NoCommon)
 }
@@ -192,7 +193,7 @@ const READY: Message = Message::Ready {
 
 const PONG: Message = Message::Pong { session: 1 };
 
-/// Returns whether a daemon that has drained says this.
+/// Returns whether a daemon that has drained says `expected`.
 fn drains(node: &mut Node, expected: Message) -> bool {
     match node.drained(0, 0) {
         Ok(message) => is(Heard::Say(message), Heard::Say(expected)),
@@ -200,7 +201,7 @@ fn drains(node: &mut Node, expected: Message) -> bool {
     }
 }
 
-/// Returns whether this comes of the data, of no bytes, that one daemon makes and the other hears.
+/// Returns whether `new` answers the data that `old` makes, which has no bytes, with `expected`.
 fn hands_data(alloc: Global, old: &mut Node, new: &mut Node, expected: Heard) -> bool {
     match old.phase() {
         Phase::Making { version: 1, .. } => {
@@ -211,7 +212,8 @@ fn hands_data(alloc: Global, old: &mut Node, new: &mut Node, expected: Heard) ->
     }
 }
 
-/// Returns whether the data goes from the one daemon to the other.
+/// Returns whether each message from the offer to the data is answered as it should be, and `new` gets the data of
+/// `old`.
 fn hands_over(alloc: Global, old: &mut Node, new: &mut Node) -> bool {
     let (session, generation, version) = (1, 1, 1);
     let make = Heard::MakeData {
@@ -242,7 +244,7 @@ fn hands_the_data_over(rt: HostRuntime) {
     assert!(rt; so);
 }
 
-/// Returns whether a daemon that reads the part of this position of two is then in this phase.
+/// Returns whether a daemon takes the part at this position of two, reads it, and is then in the phase `reached`.
 fn reads_part(alloc: Global, node: &mut Node, position: u32, reached: Phase) -> bool {
     let (session, generation, version, count) = (1, 1, 2, 2);
     let part = Message::Part {
@@ -297,7 +299,7 @@ fn reads_the_data_in_parts(rt: HostRuntime) {
     assert!(rt; so);
 }
 
-/// Returns whether a daemon that was raised claims, and takes once its claim was granted.
+/// Returns whether a daemon whose data was restored wants to claim, and may take requests after its claim was granted.
 fn claims(node: &mut Node) -> bool {
     let Phase::Raising { .. } = node.phase() else {
         return false;
@@ -328,7 +330,7 @@ fn claims_what_it_raised(rt: HostRuntime) {
     assert!(rt; so);
 }
 
-/// Returns why a daemon cannot be drained.
+/// Returns why a daemon is not drained, if it is not.
 fn drain_fault(node: &mut Node, in_hand: usize, unposted: usize) -> Option<DrainFault> {
     match node.drained(in_hand, unposted) {
         Ok(message) => {
@@ -339,7 +341,7 @@ fn drain_fault(node: &mut Node, in_hand: usize, unposted: usize) -> Option<Drain
     }
 }
 
-/// Returns whether a daemon tells that so much is left.
+/// Returns whether a daemon refuses to be drained with these counts.
 fn tells_what_is_left(node: &mut Node, in_hand: usize, unposted: usize) -> bool {
     drain_fault(node, in_hand, unposted) == Some(DrainFault::Undrained { in_hand, unposted })
 }

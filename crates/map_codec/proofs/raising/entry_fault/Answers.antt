@@ -1,4 +1,4 @@
--- Each rule that was found broken, behind those that hold.
+-- Each rule that was found broken, after those that hold.
 use Rattle.std.proofs.Common.{◌≡◌, ℕ, true, false, List, Option, Vec, Global, sym, subst}
 use Rattle.std.specs.Prelude.{MatchOption}
 use Rattle.eden_base.specs.declared.number.FileId.{FileId}

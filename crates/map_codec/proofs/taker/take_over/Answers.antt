@@ -19,7 +19,7 @@ none_read : (m : Manifest) (at : ℕ) (bytes : List ℕ) → HasRightHeader m at
 none_read m at bytes right Refused refused = λ image version is same may. refused image version is
 none_read m at bytes right NoMemory refused = right
 
--- an image was read behind a right header
+-- an image was read after a right header
 is_read : (m : Manifest) (at : ℕ) (bytes : List ℕ) (image : Image) → HasRightHeader m at bytes → (version : ℕ) × IsImageText image version bytes → IsRead at bytes image
 is_read m at bytes image right text = record { text = text; generation = generation_is m at bytes image text.0 text.1 right }
 

@@ -1,7 +1,7 @@
 //! The calls, the phases, and the rows of the table of phases, written out by hand.
 use crate::Phase;
 
-/// A call, or a message that is heard: of session 3, generation 5 and version 1 unless it says otherwise.
+/// A call, or a message that is heard. Session, generation and version are 3, 5 and 1, unless the name says otherwise.
 #[derive(Clone, Copy, PartialEq, Eq)]
 pub(super) enum Call {
     Mounted,
@@ -169,7 +169,7 @@ pub(super) static CALLS: [Call; 44] = [
     Call::Crash,
 ];
 
-/// What is said, or is to be done. A message that is taken in silence is `Heard`.
+/// What a call answers: what is said, or is to be done. A message that is taken without an answer is `Heard`.
 #[derive(Clone, Copy)]
 pub(super) enum Answer {
     Ignored,
@@ -183,7 +183,7 @@ pub(super) enum Answer {
     SayFailed,
     MakeData,
     GotData,
-    /// Of session 3 and version 2.
+    /// The session is 3, and the version 2.
     GotPart {
         generation: u64,
         position: u32,
