@@ -5,8 +5,8 @@ use Rattle.frames.specs.declared.frame.Frame.TheVariants.{Ask, Posted, Claimed, 
 use Rattle.broker_process.specs.declared.hall.Waiting.{Waiting}
 use Rattle.broker_process.specs.declared.hall.Waiting.TheVariants.{Reply, Seat, Idle}
 
--- a script that waits for this is woken where a daemon is told that: by a posted reply, another seat, or forgets that
--- were taken
+-- whether a script that waits for this is woken by what a daemon is told: a posted reply, a seat that was mounted or
+-- claimed, or an ask or a forget that was taken
 abbrev pub wakes : Waiting → Frame → Bool
 wakes Reply Posted = true
 wakes Seat (Mounted generation) = true

@@ -1,7 +1,7 @@
 //! Why a broker ended before its script did.
 use std::io;
 
-/// Why a broker ended before its script did, with the system's error behind it.
+/// Why a broker ended before its script did, with the system's error that caused it.
 #[derive(Clone, Copy)]
 pub enum BrokerFault {
     /// The socket can't be listened at.

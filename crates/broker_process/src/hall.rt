@@ -19,10 +19,10 @@ use std::sync::{Condvar, Mutex, Wait};
 use std::thread;
 use std::time::{Duration, Instant};
 
-/// How long a Take is held that finds nothing while the kernel is busy, in milliseconds.
+/// How long a Take that finds nothing is held while the kernel is busy, in milliseconds.
 const BUSY_HOLD: u64 = 1;
 
-/// The same while the kernel is idle, in milliseconds.
+/// How long a Take that finds nothing is held while the kernel is idle, in milliseconds.
 const IDLE_HOLD: u64 = 20;
 
 /// How long the kernel counts as busy after an ask, in milliseconds.
@@ -40,13 +40,13 @@ pub(crate) enum Waiting {
     Nothing,
     /// A reply, or the end of the mount.
     Reply,
-    /// Another seat.
+    /// A daemon that mounts, or that claims the seat.
     Seat,
-    /// Fewer forgets.
+    /// A daemon that takes an ask or a forget.
     Idle,
 }
 
-/// What stands under the lock.
+/// What the lock protects.
 #[derive(Drop)]
 struct State {
     desk: Desk,
@@ -71,7 +71,7 @@ impl Visit {
     }
 }
 
-/// The desk and the connections, under a lock; what wakes a held Take, and what wakes the script.
+/// The desk and the connections, under a lock. `asks` wakes a held Take, and `events` wakes the script.
 #[derive(Drop)]
 pub(crate) struct Hall {
     state: Mutex<State>,
@@ -80,7 +80,7 @@ pub(crate) struct Hall {
 }
 
 impl State {
-    /// Answers a frame of a connection, and says whether the script waits for that.
+    /// Answers a frame of a connection, and returns whether the answer wakes the script.
     fn answer(&mut self, visit: &mut Visit, frame: &Frame) -> (Response, bool) {
         if visit.is_strange() && !self.has_place(frame) {
             return (Response::Closes, false);
@@ -116,7 +116,7 @@ impl State {
         begun
     }
 
-    /// Returns how many daemons have their first connection open, the holder of the seat apart.
+    /// Returns how many daemons other than the holder of the seat have their first connection open.
     fn others(&self) -> usize {
         let running = self.desk.running();
         match self.desk.broker().seat() {
@@ -184,7 +184,7 @@ impl Hall {
         })
     }
 
-    /// Lets a connection in, by a handle of it. Returns none where no more may come.
+    /// Lets a connection in, by a handle of it. Returns none if no more connections may come.
     pub(crate) fn enter<R: Wait>(&self, rt: &R, stream: UnixStream) -> Option<Visit> {
         let mut state = self.state.lock(rt);
         if state.is_over {
@@ -278,7 +278,7 @@ impl Hall {
         begun
     }
 
-    /// Waits until what a line waits for has come.
+    /// Waits until something came of `awaited`, and returns what came.
     pub(crate) fn wait_for<R: Wait + Clock>(&self, rt: &R, awaited: &Awaited) -> Came {
         for _ in rt.forever() {
             let seen = self.events.notifications();
@@ -308,7 +308,7 @@ impl Hall {
         print_begun(out, self.state.lock(rt).desk.broker(), begun)
     }
 
-    /// Waits until no daemon has its first connection open but the one of the seat, if one has it.
+    /// Waits until no daemon but the holder of the seat has its first connection open.
     pub(crate) fn wait_for_others<R: Wait>(&self, rt: &R) {
         for _ in rt.forever() {
             let seen = self.events.notifications();

@@ -47,8 +47,8 @@ fn receive<'s, 'e: 's, R: Threads + Wait + Clock + Sync + 's>(
     }
 }
 
-/// Lets a connection in, and attends to it in a thread of its own. It is closed where no more may come, or no thread
-/// can be made.
+/// Lets a connection in, and attends to it in a thread of its own. The connection is closed if no more may come, or if
+/// no thread can be made.
 fn admit<'s, 'e: 's, R: Threads + Wait + Clock + Sync + 's>(
     scope: &Scope<'s, &'e ()>,
     rt: &'e R,
@@ -87,7 +87,8 @@ fn attend<R: Wait + Clock>(rt: &R, alloc: Global, hall: &Hall, visit: Visit, str
     hall.leave(rt, visit);
 }
 
-/// Answers the next frame of a connection, which has to attach by a deadline. Returns whether it goes on.
+/// Answers the next frame of a connection. A connection that did not attach yet has to send it by `deadline`. Returns
+/// whether the connection goes on.
 fn answer_one<R: Wait + Clock>(
     rt: &R,
     hall: &Hall,

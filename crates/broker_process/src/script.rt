@@ -8,8 +8,8 @@ use std::io::{self, Write};
 use std::rt::Clock;
 use std::sync::Wait;
 
-/// Does what a script says, and writes out each line that it prints at once. At its end it waits for all daemons but
-/// the one of the seat, tells that the mount is over, and waits until each daemon left.
+/// Does what `script` says, and writes out at once each line that it prints. At the end it waits until every daemon but
+/// the holder of the seat left, tells daemons that the mount is over, and waits until each daemon left.
 pub(crate) fn play<R: Wait + Clock, W: Write>(
     rt: &R,
     hall: &Hall,

@@ -30,7 +30,7 @@ impl Visitor {
         matches!(self.peer, Peer::Stranger)
     }
 
-    /// Returns whether it is the connection of a daemon's worker.
+    /// Returns whether this is the connection of a worker of `daemon`.
     fn works_for(&self, daemon: DaemonId) -> bool
         ensures works { result ≡ works_for daemon self.now }
     {
@@ -41,7 +41,7 @@ impl Visitor {
     }
 }
 
-/// The connections that are open, by numbers.
+/// The connections that are open, each with a number of its own.
 #[derive(Drop)]
 pub(crate) struct Visitors {
     list: Vec<Visitor>,
@@ -98,7 +98,7 @@ impl Visitors {
         there < MAX_WORKERS
     }
 
-    /// Notes who the visitor of a number is.
+    /// Notes that visitor `number` is `peer`.
     pub(crate) fn name(&mut self, number: u64, peer: Peer) {
         for visitor in self.list.iter_mut() {
             if visitor.number == number {
@@ -107,7 +107,7 @@ impl Visitors {
         }
     }
 
-    /// Strikes the visitor of a number, whose connection ended.
+    /// Removes visitor `number`, whose connection ended.
     pub(crate) fn leave(&mut self, number: u64) {
         let found = self
             .list

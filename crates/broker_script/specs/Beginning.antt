@@ -1,4 +1,4 @@
--- What each line of a broker's script comes to at once. (This project's own.)
+-- What each line of a broker's script does at once. (This project's own.)
 use Rattle.std.specs.Prelude.{◌≡◌, ℕ, Option, Some, None}
 use Rattle.broker_core.specs.Broker.{issue_fault, issued, unique_of, IsIssueRefusal}
 use Rattle.broker_core.specs.declared.broker.IssueFault.{IssueFault}
@@ -11,33 +11,33 @@ use Rattle.broker_script.specs.declared.awaited.Awaited.TheVariants as awaited
 use Rattle.broker_script.specs.declared.line.Begun.{Begun}
 use Rattle.broker_script.specs.declared.line.Begun.TheVariants.{Waits, Forgot, Refused, Tells}
 
--- an ask waits for the reply to its unique, and a forget for nothing
+-- the result of an issued request: an ask waits for the reply to its unique, and a forget for nothing
 abbrev pub begun_by : Option ℕ → Begun
 begun_by (Some unique) = Waits (awaited.Reply unique)
 begun_by None = Forgot
 
--- the kernel's request waits for a daemon
+-- the kernel's request is issued, and waits for a daemon
 pub record IsTaken (old : DeskState) (request : Request) (begun : Begun) (new : DeskState) : Type 0 where
   pub accepted : issue_fault old.broker request ≡ None
   pub begun_is : begun ≡ begun_by (unique_of old.broker request)
   pub desk : new ≡ record old { broker = issued old.broker request }
 
--- the kernel's request was refused, and nothing changed
+-- the kernel's request is refused, and nothing changes
 pub record IsRefused (old : DeskState) (request : Request) (fault : IssueFault) (new : DeskState) : Type 0 where
   pub refusal : IsIssueRefusal old.broker request fault
   pub unchanged : new ≡ old
 
--- the kernel asks or forgets
+-- the kernel's request is issued or refused
 abbrev pub Issues : DeskState → Request → Begun → DeskState → Type 0
 Issues old request (Refused fault) new = IsRefused old request fault new
 Issues old request begun new = IsTaken old request begun new
 
--- it is this that was begun, and nothing changed
+-- the result is the expected one, and nothing changes
 pub record Stands (old : DeskState) (expected begun : Begun) (new : DeskState) : Type 0 where
   pub begun_is : begun ≡ expected
   pub unchanged : new ≡ old
 
--- what each line comes to, with the desk after it
+-- a line begins, with this result and this desk after it
 abbrev pub Begins : DeskState → BrokerLine → Begun → DeskState → Type 0
 Begins old (Ask request) begun new = Issues old request begun new
 Begins old (Forget item) begun new = Issues old (request.Forget item) begun new

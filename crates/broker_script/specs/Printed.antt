@@ -12,12 +12,12 @@ use Rattle.broker_script.specs.declared.awaited.Came.TheVariants.{Answered, Lost
 use Rattle.broker_script.specs.declared.line.Begun.{Begun}
 use Rattle.broker_script.specs.declared.line.Begun.TheVariants.{Waits, Forgot, Refused, Tells}
 
--- the numbers above one that the kernel holds, all of them, by rising number
+-- these are all numbers above `n` that the kernel holds, the least first
 abbrev pub AreHeldAbove : HeldMap → ℕ → List Number → Type 0
 AreHeldAbove held n [] = IsLeastHeldAfter held n None
 AreHeldAbove held n (next ∷ more) = IsLeastHeldAfter held n (Some next) × AreHeldAbove held next.0 more
 
--- `held N K`
+-- the line of a number that the kernel holds: `held N K`
 abbrev pub held_line : HeldMap → Number → List ℕ
 held_line held number =
     line (codes "held" ∷ decimal number.0 ∷ decimal (held_count held number.0) ∷ [])
@@ -27,20 +27,20 @@ abbrev pub held_lines : HeldMap → List Number → List ℕ
 held_lines held [] = []
 held_lines held (number ∷ more) = held_line held number ++ held_lines held more
 
--- a line for each number that the kernel holds was written; number 0 is none
+-- a line for each number that the kernel holds was written; there is no number 0
 pub record PrintsHeld (held : HeldMap) (old new : Option (List ℕ)) : Type 0 where
   pub numbers : List Number
   pub are_held : AreHeldAbove held 0 numbers
   pub written : Appends old new (held_lines held numbers)
 
--- what a line that was begun prints: nothing, where it waits
+-- what the immediate result of a line prints: nothing if the line waits
 abbrev pub PrintsBegun : BrokerState → Begun → Option (List ℕ) → Option (List ℕ) → Type 0
 PrintsBegun broker (Waits awaited) old new = Appends old new []
 PrintsBegun broker Forgot old new = Appends old new (line (asked_words None))
 PrintsBegun broker (Refused fault) old new = Appends old new (refusal_line (refusal_of_issue fault))
 PrintsBegun broker Tells old new = PrintsHeld broker.held old new
 
--- what each thing that came prints: nothing, where memory was refused
+-- the lines of what came of a wait: none if memory was refused
 abbrev pub came_lines : Came → List ℕ
 came_lines (Answered reply) = reply_line (codes "answer") reply
 came_lines (Lost unique) = line (codes "lost" ∷ decimal unique ∷ [])

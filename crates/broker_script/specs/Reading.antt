@@ -7,11 +7,11 @@ use Rattle.script_lines.specs.declared.broker_line.BrokerLine.{BrokerLine}
 use Rattle.broker_script.specs.declared.fault.BrokerScriptFault.{BrokerScriptFault}
 use Rattle.broker_script.specs.declared.fault.BrokerScriptFault.TheVariants.{BadLine, NoMemory}
 
--- what the lines of a text say, each of them and in their order
+-- this is what the lines of a text say, in order
 abbrev pub Says : List ℕ → List BrokerLine → Type 0
 Says text said = map Some said ≡ map broker_line_of (lines_of text)
 
--- the number of the first line that says nothing; lines are counted from 1
+-- the number of the first line that says nothing, if there is one; the first line is line 1
 abbrev pub first_bad : List (List ℕ) → Option ℕ
 first_bad lines = position_from is_none 1 (map broker_line_of lines)
 

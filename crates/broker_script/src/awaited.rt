@@ -1,4 +1,4 @@
-//! What a line waits for, and what came.
+//! What a line of a broker's script waits for, and what came of the wait.
 ghost use Rattle.std.specs.Prelude.{◌≡◌};
 ghost use Rattle.broker_script.specs.Looking.{idle_come, seat_come, Looks};
 ghost use Rattle.broker_script.specs.declared.awaited.Awaited.TheVariants.{Reply as AReply};
@@ -10,7 +10,7 @@ use fuse_wire::Reply;
 /// What a line waits for.
 #[derive(Clone, Copy, PartialEq, Eq)]
 pub enum Awaited {
-    /// The reply to the ask of this unique.
+    /// The reply to the ask with this unique.
     Reply(u64),
     /// A seat at this generation or a later one.
     Seat(u64),
@@ -18,23 +18,23 @@ pub enum Awaited {
     Idle,
 }
 
-/// What came.
+/// What came of a wait.
 #[derive(Clone, Copy)]
 pub enum Came {
-    /// The reply, which reached the kernel.
+    /// The awaited reply, which reached the kernel.
     Answered(Reply),
-    /// The end of the mount: the ask of this unique gets no reply.
+    /// The end of the mount: the ask with this unique gets no reply.
     Lost(u64),
     /// A seat at this generation.
     Seat(u64),
-    /// The last forget was taken.
+    /// Every forget was taken.
     Idle,
-    /// The reply came, but memory for its number was refused. It stays, and a later look may take it.
+    /// The reply came, but memory to hold its number was refused. The reply stays posted, and a later look may take it.
     Lacks,
 }
 
-/// Returns what is awaited, if it came. A reply is delivered to the kernel; all else changes nothing. A reply behind
-/// another posted one did not come yet.
+/// Returns what came of `awaited`, if anything did. A reply that came is delivered to the kernel; else nothing changes.
+/// A reply does not come while another posted one is before it.
 pub fn look(desk: &mut Desk, awaited: &Awaited) -> Option<Came>
     ensures looks { Looks desk.old awaited.now result desk.new }
 {
@@ -45,7 +45,8 @@ pub fn look(desk: &mut Desk, awaited: &Awaited) -> Option<Came>
     }
 }
 
-/// Hands the first posted reply to the kernel, if it is the one to this unique.
+/// Delivers the first posted reply to the kernel, if it is the reply to the ask with this unique. An ask that is not
+/// under way any more is lost.
 fn look_for_reply(desk: &mut Desk, unique: u64) -> Option<Came>
     ensures { Looks desk.old (AReply unique) result desk.new }
 {
@@ -63,7 +64,7 @@ fn look_for_reply(desk: &mut Desk, unique: u64) -> Option<Came>
     }
 }
 
-/// Returns the seat's generation, if it is this one or a later one.
+/// Returns the seat's generation, if it is `generation` or a later one.
 fn look_at_seat(broker: &Broker, generation: u64) -> Option<Came>
     ensures { result ≡ seat_come broker.now.seat generation }
 {
@@ -73,7 +74,7 @@ fn look_at_seat(broker: &Broker, generation: u64) -> Option<Came>
     }
 }
 
-/// Returns whether no forget waits.
+/// Returns `Idle` if no forget waits for a daemon.
 fn look_at_forgets(broker: &Broker) -> Option<Came>
     ensures { result ≡ idle_come broker.now.traffic }
 {

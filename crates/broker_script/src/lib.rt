@@ -1,4 +1,4 @@
-//! A broker's script: its lines as they are read, begun at the broker's desk, awaited and printed.
+//! A broker's script: how its lines are read, begun at the broker's desk, waited for and printed.
 #![tactic(auto)]
 
 mod awaited;

@@ -1,4 +1,4 @@
-//! How a line of a broker's script begins.
+//! What a line of a broker's script does at once.
 ghost use Rattle.fuse_wire.specs.Request.{IsSendable};
 ghost use Rattle.script_lines.specs.BrokerLine.{IsSendableLine};
 ghost use Rattle.broker_script.specs.Beginning.{Begins, Issues};
@@ -18,7 +18,7 @@ pub enum Begun {
     Forgot,
     /// The request was not taken.
     Refused(IssueFault),
-    /// The line tells what the kernel holds.
+    /// The line prints which numbers the kernel holds, and how often.
     Tells,
 }
 
@@ -36,7 +36,7 @@ pub fn begin(desk: &mut Desk, line: &BrokerLine) -> Begun
     }
 }
 
-/// Asks or forgets.
+/// Issues the kernel's ask or forget.
 fn issue(desk: &mut Desk, request: &Request) -> Begun
     requires { IsSendable request.now }
     ensures { Issues desk.old request.now result desk.new }

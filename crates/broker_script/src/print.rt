@@ -10,7 +10,7 @@ use eden_base::Number;
 use script_lines::{print_asked, print_numbered, print_refusal, print_reply};
 use std::io::{self, Write};
 
-/// Prints the immediate result of a line. Where the line tells the numbers held, it prints those of `broker`.
+/// Prints the immediate result of a line. If the line asks for the held numbers, prints those of `broker`.
 pub fn print_begun<W: Write>(out: &mut W, broker: &Broker, begun: &Begun) -> io::Result<()>
     ensures printed { OnOk result (PrintsBegun broker.now begun.now
         (W.contents out.old) (W.contents out.new)) }
@@ -23,7 +23,7 @@ pub fn print_begun<W: Write>(out: &mut W, broker: &Broker, begun: &Begun) -> io:
     }
 }
 
-/// Prints what came.
+/// Prints the line of what came of a wait. There is none if memory was refused.
 pub fn print_came<W: Write>(out: &mut W, came: &Came) -> io::Result<()>
     ensures printed { OnOk result (Appends (W.contents out.old) (W.contents out.new)
         (came_lines came.now)) }
@@ -37,7 +37,7 @@ pub fn print_came<W: Write>(out: &mut W, came: &Came) -> io::Result<()>
     }
 }
 
-/// Prints each number that `broker` holds, and how often, by rising number.
+/// Prints each number that the kernel holds at `broker`, and how often, the least number first.
 pub fn print_held<W: Write>(out: &mut W, broker: &Broker) -> io::Result<()>
     ensures printed { OnOk result (PrintsHeld broker.now.held
         (W.contents out.old) (W.contents out.new)) }

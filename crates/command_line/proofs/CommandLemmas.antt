@@ -17,11 +17,11 @@ made name command app own = (app, own)
 pub with_about : (app : App) (old told : Command) (about : Bor Text) → out-Command told ≡ record (out-Command old) { about = Some about } → IsReadAs app old → IsReadAs app told
 with_about app old told about is read = (ap app_of_fields is ∙ read.0, ap (λ fields. fields.has_globals) is ∙ read.1)
 
--- nor does a text at its end
+-- a text at the end of the help changes nothing that is read
 pub with_after_help : (app : App) (old told : Command) (text : Bor Text) → out-Command told ≡ record (out-Command old) { after_help = Some text } → IsReadAs app old → IsReadAs app told
 with_after_help app old told text is read = (ap app_of_fields is ∙ read.0, ap (λ fields. fields.has_globals) is ∙ read.1)
 
--- nor a usage that is shown in place of `clap`'s own
+-- a usage that is shown in place of `clap`'s own changes nothing that is read
 pub with_usage : (app : App) (old told : Command) (text : Bor Text) → out-Command told ≡ record (out-Command old) { usage_str = Some text } → IsReadAs app old → IsReadAs app told
 with_usage app old told text is read = (ap app_of_fields is ∙ read.0, ap (λ fields. fields.has_globals) is ∙ read.1)
 
@@ -91,7 +91,7 @@ limit_in-other (Some sub) other = go (bytes_eq sub.0 (codes "world")) refl
     go true is = absurd (other (ap (λ (t : Text). Some t) ((bytes_eq-Decides sub.0 (codes "world")).0 is)))
     go false is = limit_or_none false sub is
 
--- two maps of an option are one
+-- two maps of an option, one after the other, are one map
 pub option_map_twice : {A B C : Type 0} (f : B → C) (g : A → B) (o : Option A) → option_map f (option_map g o) ≡ option_map (λ x. f (g x)) o
 option_map_twice f g None = refl
 option_map_twice f g (Some x) = refl
@@ -120,7 +120,7 @@ is_errand-other (Some sub) no_broker no_daemon = go (bytes_eq sub.0 (codes "brok
     go false true is other = absurd (no_daemon (ap (λ (t : Text). Some t) ((bytes_eq-Decides sub.0 (codes "daemon")).0 other)))
     go false false is other = ap₂ (λ (a b : Bool). a || b) is other
 
--- and nothing is wrong with how it starts
+-- nothing is wrong with the start of a command that is no errand
 pub start_fault-other : (sub : Option (Text × List Row)) → is_errand sub ≡ false → start_fault_in sub ≡ []
 start_fault-other None apart = refl
 start_fault-other (Some sub) apart = go (bytes_eq sub.0 (codes "broker")) (bytes_eq sub.0 (codes "daemon")) refl refl

@@ -9,12 +9,12 @@ use Rattle.command_line.specs.declared.errand.DaemonWords.{DaemonWords}
 use Rattle.command_line.specs.declared.errand.Errand.{Errand}
 use Rattle.command_line.specs.declared.errand.Errand.TheVariants.{Broker, Daemon}
 
--- each word of `broker` is the one at its place
+-- each word of `broker` is that of its argument
 pub record IsBroker (rows : List Row) (broker : BrokerWords) : Type 0 where
   pub socket : broker.socket.now ≡ word_in (codes "SOCKET") rows
   pub script : broker.script.now ≡ word_in (codes "SCRIPT") rows
 
--- each word of `daemon` is the one at its place, and each number the one of its option
+-- each word of `daemon` is that of its argument, and each number is that of its option
 pub record IsDaemon (rows : List Row) (daemon : DaemonWords) : Type 0 where
   pub start : daemon.start ≡ start_by (has_flag (codes "mount") rows)
   pub broker : daemon.broker.now ≡ word_in (codes "BROKER") rows
@@ -37,7 +37,7 @@ IsAsked command (World world) =
     (is_errand command ≡ false) × (world.script.now ≡ script_in command) × (world.limit ≡ limit_in command)
 IsAsked command (Serve errand) = IsErrand command errand
 
--- this script is asked for
+-- what is asked for is this script
 abbrev pub IsScript : Text → Asked → Type 0
 IsScript script (World world) = world.script.now ≡ script
 IsScript script (Serve errand) = ⊥

@@ -17,15 +17,15 @@ use Rattle.command_line.specs.declared.errand.Start.TheVariants.{Mount, Takeover
 abbrev pub IsReadAs : App → Command → Type 0
 IsReadAs app command = (app_of command ≡ app) × ((out-Command command).has_globals ≡ false)
 
--- a word that a command can't be without
+-- the rule of a word that a command has to have
 abbrev pub word_rule : Text → Rule
 word_rule name = record (new_rule name) { action = Some Set; required = true }
 
--- an option without a value
+-- the rule of an option without a value
 abbrev pub flag_rule : Text → Rule
 flag_rule name = record (new_rule name) { long = Some name; action = Some SetTrue }
 
--- an option whose value is a number between these, with the word that stands for none
+-- the rule of an option whose value is a number from `least` to `greatest`, and `default` if the option is not there
 abbrev pub number_rule : Text → ℕ → ℕ → Text → Rule
 number_rule name least greatest default = record (new_rule name) {
   long = Some name;
@@ -35,47 +35,47 @@ number_rule name least greatest default = record (new_rule name) {
   parser = Some (parser.Unsigned least greatest);
 }
 
--- how many files a daemon keeps loaded
+-- the rule of the option that says how many files a daemon keeps loaded
 abbrev pub limit_rule : Rule
 limit_rule = number_rule (codes "limit") 1 65536 (codes "1024")
 
--- how many threads serve
+-- the rule of the option that says how many threads serve
 abbrev pub workers_rule : Rule
 workers_rule = number_rule (codes "workers") 1 16 (codes "2")
 
--- for how many milliseconds a peer may be silent
+-- the rule of the option that says for how many milliseconds a peer may be silent
 abbrev pub patience_rule : Rule
 patience_rule = number_rule (codes "patience") 1 600000 (codes "2000")
 
--- a command with these words and options
+-- the command `app` with these words and options
 abbrev pub with_rules : App → List Rule → App
 with_rules app [] = app
 with_rules app (rule ∷ rules) = with_rules (with_rule app rule) rules
 
--- `world SCRIPT`
+-- the command `world SCRIPT`
 abbrev pub world_app : App
 world_app = with_rules (new_app (codes "world")) (word_rule (codes "SCRIPT") ∷ limit_rule ∷ [])
 
--- `broker SOCKET SCRIPT`
+-- the command `broker SOCKET SCRIPT`
 abbrev pub broker_app : App
 broker_app =
     with_rules (new_app (codes "broker")) (word_rule (codes "SOCKET") ∷ word_rule (codes "SCRIPT") ∷ [])
 
--- `daemon BROKER TAKEOVER MANIFEST`, with `--mount` or `--takeover`
+-- the command `daemon BROKER TAKEOVER MANIFEST`, with `--mount` or `--takeover`
 abbrev pub daemon_app : App
 daemon_app = with_rules (new_app (codes "daemon")) (
     flag_rule (codes "mount") ∷ flag_rule (codes "takeover")
     ∷ word_rule (codes "BROKER") ∷ word_rule (codes "TAKEOVER") ∷ word_rule (codes "MANIFEST")
     ∷ workers_rule ∷ limit_rule ∷ patience_rule ∷ [])
 
--- the program, which has a version and those commands
+-- the program, which has a version and these three commands
 abbrev pub edend_app : App
 edend_app =
     with_subcommand (with_subcommand (with_subcommand
     (record { top = record (new_shape (codes "edend")) { has_version = true }; subs = [] })
     world_app.top) broker_app.top) daemon_app.top
 
--- the command that the words have, the first of which is the program's name, and what it was given
+-- the command that the words have, and what it was given; the first word is the program's name
 abbrev pub command_of : List Text → Option (Text × List Row)
 command_of words = subcommand_of edend_app words
 
@@ -83,7 +83,7 @@ command_of words = subcommand_of edend_app words
 abbrev pub standard_input : Text
 standard_input = codes "-"
 
--- the script of a command's words
+-- the script that a command's words name, or standard input
 abbrev pub script_in : Option (Text × List Row) → Text
 script_in None = standard_input
 script_in (Some command) =
@@ -94,12 +94,12 @@ script_in (Some command) =
 abbrev pub script_named : List Text → Text
 script_named words = script_in (command_of words)
 
--- the number that an option's word writes, or another where there is none
+-- the number that an option's word writes, or `other` if there is no word or no number
 abbrev pub number_or : ℕ → Option Text → ℕ
 number_or other None = other
 number_or other (Some word) = unwrap_or (number_of (without_leading_plus word)) other
 
--- the limit of a command's words
+-- the limit that a command's words name, or 1024
 abbrev pub limit_in : Option (Text × List Row) → ℕ
 limit_in None = 1024
 limit_in (Some command) =
@@ -109,24 +109,24 @@ limit_in (Some command) =
 abbrev pub limit_named : List Text → ℕ
 limit_named words = limit_in (command_of words)
 
--- the word would be read as an option: `-` stands before more
+-- whether the word would be read as an option: it begins with `-` and is longer
 abbrev pub is_option : Text → Bool
 is_option [] = false
 is_option (byte ∷ []) = false
 is_option (byte ∷ next ∷ rest) = byte == 45
 
--- the words as anyone would write them: the program's name alone, or with `world` and a script behind it
+-- the words as anyone would write them: the program's name alone, or followed by `world` and a script
 abbrev pub NamesPlainly : List Text → Text → Type 0
 NamesPlainly (program ∷ []) script = script ≡ standard_input
 NamesPlainly (program ∷ command ∷ word ∷ []) script =
     (command ≡ codes "world") × (word ≡ script) × (is_option word ≡ false)
 NamesPlainly _ script = ⊥
 
--- the word at a place of a command
+-- the word that a command has for the argument `place`, and an empty word if it has none
 abbrev pub word_in : Text → List Row → Text
 word_in place rows = unwrap_or (first_of place rows) []
 
--- the flag is there: `clap` keeps the word `true` for it
+-- whether the flag is there; `clap` keeps the word `true` for a flag that is
 abbrev pub has_flag : Text → List Row → Bool
 has_flag flag rows = bytes_eq (word_in flag rows) (codes "true")
 
@@ -134,7 +134,7 @@ has_flag flag rows = bytes_eq (word_in flag rows) (codes "true")
 abbrev pub start_by : Bool → Start
 start_by mounts = if mounts then Mount else Takeover
 
--- what is wrong with a daemon's start, by whether it mounts and whether it takes over: it does just one
+-- what is wrong with a daemon's start, by whether it mounts and whether it takes over: it has to do exactly one
 abbrev pub start_fault_by : Bool → Bool → Kinds
 start_fault_by true true = kind.ArgumentConflict ∷ []
 start_fault_by true false = []
@@ -144,7 +144,7 @@ start_fault_by false false = kind.MissingRequiredArgument ∷ []
 abbrev pub start_fault : List Row → Kinds
 start_fault rows = start_fault_by (has_flag (codes "mount") rows) (has_flag (codes "takeover") rows)
 
--- the same of a command's words
+-- what is wrong with the start that a command's words name, if the command is `daemon`
 abbrev pub start_fault_in : Option (Text × List Row) → Kinds
 start_fault_in None = []
 start_fault_in (Some command) =
@@ -154,7 +154,7 @@ start_fault_in (Some command) =
 abbrev pub wrong_of : List Text → Kinds
 wrong_of words = or_else (fault_of edend_app words) (start_fault_in (command_of words))
 
--- the command is one of a process that serves over sockets
+-- whether the command is one of a process that serves over sockets
 abbrev pub is_errand : Option (Text × List Row) → Bool
 is_errand None = false
 is_errand (Some command) =

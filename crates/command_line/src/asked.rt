@@ -42,7 +42,7 @@ pub struct WorldWords<'a> {
     pub limit: usize,
 }
 
-/// Returns what the words ask for: the script of standard input where they have no command. The first word is the
+/// Returns what `words` ask for. Without a command they ask for the script of standard input. The first word is the
 /// program's name.
 pub fn asked_of<'a>(alloc: Global, words: &'a [String]) -> Result<Asked<'a>, Error>
     ensures asked { IfOk result (IsAsked (command_of (map string_bytes words.now))) }
@@ -70,7 +70,7 @@ fn asked_in<'a>(alloc: Global, matches: &ArgMatches<'a>) -> Result<Asked<'a>, Er
     }
 }
 
-/// Returns the words of `world`, or those that stand for no command.
+/// Returns the words of `world`, or the default ones if the command is not `world`.
 fn world_in<'a>(matches: &ArgMatches<'a>) -> WorldWords<'a>
     ensures script { result.script.now ≡ script_in (subcommand_rows_of matches.now) }
     ensures limit { result.limit ≡ limit_in (subcommand_rows_of matches.now) }
@@ -81,7 +81,7 @@ fn world_in<'a>(matches: &ArgMatches<'a>) -> WorldWords<'a>
     }
 }
 
-/// Returns the script of the command that the words have.
+/// Returns the script that the words of `world` name, or `-` if the command is not `world`.
 fn script_in<'a>(matches: &ArgMatches<'a>) -> &'a str
     ensures { result.now ≡ script_in (subcommand_rows_of matches.now) }
 {
@@ -91,7 +91,7 @@ fn script_in<'a>(matches: &ArgMatches<'a>) -> &'a str
     }
 }
 
-/// Returns the limit of the command that the words have.
+/// Returns the limit that the words of `world` name, or the default one if the command is not `world`.
 fn limit_in(matches: &ArgMatches<'_>) -> usize
     ensures { result ≡ limit_in (subcommand_rows_of matches.now) }
 {
@@ -111,7 +111,7 @@ fn broker_in<'a>(broker: &ArgMatches<'a>) -> BrokerWords<'a>
     }
 }
 
-/// Returns the words of `daemon`. They are refused unless they say one start.
+/// Returns the words of `daemon`. They are refused unless they name exactly one way to start.
 fn daemon_in<'a>(alloc: Global, daemon: &ArgMatches<'a>) -> Result<DaemonWords<'a>, Error>
     ensures words { IfOk result (IsDaemon (rows_of (found_of daemon.now))) }
     ensures refused { FailsBy (start_fault (rows_of (found_of daemon.now))) result }
@@ -128,7 +128,7 @@ fn daemon_in<'a>(alloc: Global, daemon: &ArgMatches<'a>) -> Result<DaemonWords<'
     })
 }
 
-/// Returns how a daemon comes to serve, where just one way is named.
+/// Returns how a daemon comes to serve. Words that name both ways or none are refused.
 fn start_in(alloc: Global, daemon: &ArgMatches<'_>) -> Result<Start, Error>
     ensures start { IfOk result (λ start.
         start ≡ start_by (has_flag (codes "mount") (rows_of (found_of daemon.now)))) }
@@ -149,7 +149,7 @@ const BOTH_STARTS: &str = "the argument '--mount' cannot be used with '--takeove
 const NO_START: &str =
     "the following required arguments were not provided:\n  <--mount|--takeover>";
 
-/// Returns the refusal of a daemon's words, with its usage.
+/// Returns the error of `kind` that refuses a daemon's words with `text` and the usage of `daemon`.
 fn refusal(alloc: Global, kind: ErrorKind, text: &str) -> Result<Error, AllocError>
     ensures kind { IfOk result (λ error. kind_of error ≡ kind) }
 {
@@ -159,22 +159,22 @@ fn refusal(alloc: Global, kind: ErrorKind, text: &str) -> Result<Error, AllocErr
     refusal
 }
 
-/// Returns the word that a command has for an argument.
+/// Returns the word that a command has for the argument `place`, and an empty word if it has none.
 fn word_in<'a>(matches: &ArgMatches<'a>, place: &str) -> &'a str
     ensures { result.now ≡ word_in place.now (rows_of (found_of matches.now)) }
 {
     matches.get_str(place).unwrap_or("")
 }
 
-/// Returns whether a flag is there. `clap` keeps the word `true` for one that is.
+/// Returns whether a command has `flag`. `clap` keeps the word `true` for a flag that is there.
 fn has_flag(matches: &ArgMatches<'_>, flag: &str) -> bool
     ensures { result ≡ has_flag flag.now (rows_of (found_of matches.now)) }
 {
     word_in(matches, flag) == "true"
 }
 
-/// Returns the number that an option's word writes, or another where there is none. A sign may stand in front, as
-/// `clap` has it.
+/// Returns the number that an option's word writes, or `other` if there is no word or no number. A plus sign may come
+/// first, as `clap` has it.
 fn number_or(other: u64, word: Option<&str>) -> u64
     ensures { result ≡ number_or other (option_map (λ w. w.now) word.entry) }
 {
@@ -188,10 +188,10 @@ fn number_or(other: u64, word: Option<&str>) -> u64
     number(digits).unwrap_or(other)
 }
 
-/// The error text for words that are no text.
+/// The error text for words that are not UTF-8.
 const NOT_TEXT: &str = "a word of the command line is not UTF-8";
 
-/// Returns the refusal of words that are no text, with the program's usage.
+/// Returns the refusal of words that are not UTF-8, with the program's usage.
 pub fn not_text(alloc: Global) -> Result<Error, AllocError>
     ensures kind { IfOk result (λ error. kind_of error ≡ ErrorKind.InvalidValue) }
 {

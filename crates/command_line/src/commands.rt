@@ -21,10 +21,10 @@ pub const MOUNT: &str = "mount";
 
 pub const TAKEOVER: &str = "takeover";
 
-/// The socket of the broker that a daemon reaches.
+/// The name of an argument: the socket by which a daemon reaches the broker.
 pub const BROKER_SOCKET: &str = "BROKER";
 
-/// The socket at which a daemon listens for the next one.
+/// The name of an argument: the socket at which a daemon listens for the next daemon.
 pub const LISTEN_SOCKET: &str = "TAKEOVER";
 
 pub const MANIFEST: &str = "MANIFEST";
@@ -55,7 +55,7 @@ Exit status:
   1  a fault, told by a line 'fault: TEXT' on standard output
   2  the command line was refused";
 
-/// The words that `daemon` takes.
+/// The usage of `daemon`.
 const DAEMON_USAGE: &str =
     "edend daemon [OPTIONS] <--mount|--takeover> <BROKER> <TAKEOVER> <MANIFEST>";
 
@@ -71,7 +71,7 @@ Exit status:
   1  a fault, told by a line 'fault: TEXT' on standard output
   2  the command line was refused";
 
-/// Returns the words that the program takes.
+/// Returns the program's command, with its three subcommands.
 pub fn edend_command<'a>(alloc: Global) -> Result<Command<'a>, AllocError>
     ensures { IfOk result (λ command. app_of command ≡ edend_app) }
 {
@@ -88,7 +88,7 @@ pub fn edend_command<'a>(alloc: Global) -> Result<Command<'a>, AllocError>
         .subcommand(daemon)
 }
 
-/// Returns the command that runs a script.
+/// Returns the command `world`, which runs a script.
 fn world_command<'a>(alloc: Global) -> Result<Command<'a>, AllocError>
     ensures { IfOk result (IsReadAs world_app) }
 {
@@ -99,7 +99,7 @@ fn world_command<'a>(alloc: Global) -> Result<Command<'a>, AllocError>
         .arg(limit_arg(alloc))
 }
 
-/// Returns the command that is the kernel's side.
+/// Returns the command `broker`, which runs the kernel's side of a mount.
 fn broker_command<'a>(alloc: Global) -> Result<Command<'a>, AllocError>
     ensures { IfOk result (IsReadAs broker_app) }
 {
@@ -110,7 +110,7 @@ fn broker_command<'a>(alloc: Global) -> Result<Command<'a>, AllocError>
         .arg(word_arg(alloc, SCRIPT, SCRIPT_HELP))
 }
 
-/// Returns the command that serves a mount.
+/// Returns the command `daemon`, which serves a mount.
 pub fn daemon_command<'a>(alloc: Global) -> Result<Command<'a>, AllocError>
     ensures { IfOk result (IsReadAs daemon_app) }
 {
@@ -136,7 +136,7 @@ const LISTEN_HELP: &str = "The socket at which a daemon listens for the next one
 
 const MANIFEST_HELP: &str = "The manifest, or - for standard input";
 
-/// Returns a word that a command can't be without.
+/// Returns the argument `name`, a word that a command has to have.
 fn word_arg<'a>(alloc: Global, name: &'a str, help: &'a str) -> Arg<'a>
     ensures rule { rule_of result ≡ word_rule name.now }
     ensures own { result.global ≡ false }
@@ -147,7 +147,7 @@ fn word_arg<'a>(alloc: Global, name: &'a str, help: &'a str) -> Arg<'a>
         .action(ArgAction::Set)
 }
 
-/// Returns an option without a value.
+/// Returns the option `name`, which has no value.
 fn flag_arg<'a>(alloc: Global, name: &'a str, help: &'a str) -> Arg<'a>
     ensures rule { rule_of result ≡ flag_rule name.now }
     ensures own { result.global ≡ false }
@@ -158,7 +158,7 @@ fn flag_arg<'a>(alloc: Global, name: &'a str, help: &'a str) -> Arg<'a>
         .action(ArgAction::SetTrue)
 }
 
-/// Returns the option of how many files are loaded.
+/// Returns the option that says how many files are kept loaded.
 fn limit_arg<'a>(alloc: Global) -> Arg<'a>
     ensures rule { rule_of result ≡ limit_rule }
     ensures own { result.global ≡ false }
@@ -172,7 +172,7 @@ fn limit_arg<'a>(alloc: Global) -> Arg<'a>
         .action(ArgAction::Set)
 }
 
-/// Returns the option of how many threads serve.
+/// Returns the option that says how many threads serve.
 fn workers_arg<'a>(alloc: Global) -> Arg<'a>
     ensures rule { rule_of result ≡ workers_rule }
     ensures own { result.global ≡ false }
@@ -186,7 +186,7 @@ fn workers_arg<'a>(alloc: Global) -> Arg<'a>
         .action(ArgAction::Set)
 }
 
-/// Returns the option of how long a peer may be silent.
+/// Returns the option that says how long a peer may be silent.
 fn patience_arg<'a>(alloc: Global) -> Arg<'a>
     ensures rule { rule_of result ≡ patience_rule }
     ensures own { result.global ≡ false }

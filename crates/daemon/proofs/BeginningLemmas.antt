@@ -26,7 +26,7 @@ use Rattle.daemon.proofs.ServingLemmas.{hand-single}
 
 -- ---- a take with room
 
--- it is a take
+-- what a take with room did is what a take does
 takes-put : (f : Option TakeFault) (old : ServerState) (broker left : BrokerState) (told : Happened) (hand : List Ask) →
     PutsBy f old.hand broker told hand left → TakesBy f old broker told (record old { hand = hand }) left
 takes-put (Some f) old broker left told hand puts =
@@ -39,7 +39,7 @@ takes-put None old broker left told hand puts = inl (record {
   leaves = puts.leaves;
 })
 
--- so are a daemon's fields after it, whose room was made before
+-- the fields of a server after a take, whose room was made before
 pub fields-taken : (f : Option TakeFault) (old : ServerState) (broker left : BrokerState) (told : Happened) (before hand : List Ask) (unposted : List Reply) →
     before ≡ old.hand → unposted ≡ old.unposted → PutsBy f before broker told hand left → TakesBy f old broker told (record old { hand = hand; unposted = unposted }) left
 fields-taken f old broker left told before hand unposted same_hand same_replies puts =
@@ -52,20 +52,20 @@ fault-room fault.Ended e = (let none : ⊥ = cc in none)
 fault-room (fault.Stale now) e = (let none : ⊥ = cc in none)
 fault-room fault.Empty e = (let none : ⊥ = cc in none)
 
--- and what is told of a take is none
+-- what is told of a take that was made is not want of memory
 told-room : (ask : Ask) → told_taken ask ≢ Refused NoMemory
 told-room ask = by_kind (is_ask ask.what) where
   by_kind : (b : Bool) → (if b then Took ask.unique else TookForgets (length (items_of ask.what))) ≢ Refused NoMemory
   by_kind true e = (let none : ⊥ = cc in none)
   by_kind false e = (let none : ⊥ = cc in none)
 
--- so it is not refused for want of memory
+-- a take with room is not refused for want of memory
 pub put-has-room : (f : Option TakeFault) (hand : List Ask) (broker left : BrokerState) (told : Happened) (now : List Ask) →
     PutsBy f hand broker told now left → told ≢ Refused NoMemory
 put-has-room (Some f) hand broker left told now puts e = fault-room f (sym puts.tells ∙ e)
 put-has-room None hand broker left told now puts e = told-room puts.ask (sym puts.tells ∙ e)
 
--- the hand has asks and single items still
+-- after a take with room the hand still has asks and single items alone
 pub put-single : (f : Option TakeFault) (old hand : List Ask) (broker left : BrokerState) (told : Happened) (now : List Ask) →
     hand ≡ old → PutsBy f hand broker told now left → AllByRecursion (λ task. is_single task ≡ true) old →
     AllByRecursion (λ task. is_single task ≡ true) now
@@ -75,7 +75,7 @@ put-single None old hand broker left told now same puts all = hand-single old ha
 
 -- ---- a daemon begins
 
--- by what it serves
+-- a daemon begins as what it serves begins
 pub begins-with : (broker left : BrokerState) (daemon : DaemonId) (request : Request) (result : Begun) (was : DaemonState) (server now : ServerState) →
     true ≡ may_take was.node.phase → was.server ≡ Some server → ServerBegins broker daemon request result left server now →
     DaemonBegins broker daemon request result left was (with_server was now)

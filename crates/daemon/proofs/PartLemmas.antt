@@ -37,7 +37,7 @@ phase_fed node fits phase = (table.after_row node (table.row node phase (table.F
 abbrev said_fed : NodeState → Bool → Phase → Option Message
 said_fed node fits phase = table.said (table.answer_of (table.row node phase (table.Fed fits)))
 
--- a part that others follow
+-- a daemon that read a part that others follow
 pub takes_part : (manifest : Manifest) (limit : ℕ) (old : DaemonState) (node : NodeState) (read : List ℕ) (s g v i n : ℕ) (fits : Bool) → node.phase ≡ Taking s g v i n → nat_lt i n ≡ true → fits ≡ is_none (standing_fault read) →
     TakesPart manifest limit old read node g i n (of_said (table.said (table.heard node (table.Fed fits)))) (turned_to (record old { reading = Some read }) (table.after node (table.Fed fits)))
 takes_part manifest limit old node read s g v i n true at follow is = inl (record {
@@ -60,23 +60,23 @@ takes_part manifest limit old node read s g v i n false at follow is = inr (reco
 
 -- ---- a message that brings it
 
--- the daemon takes it then
+-- a daemon that got a part is in the phase in which it takes it
 pub is_taking_part : (copy node : NodeState) (said : Message) (s g v i n : ℕ) → answer.GotPart s g v i n ≡ table.heard copy (table.Hear said) → node ≡ table.after copy (table.Hear said) → table.is_taking node.phase ≡ true
 is_taking_part copy node said s g v i n is after =
     ap table.is_taking (phase_heard copy node said (answer.GotPart s g v i n) is after)
 
--- and has all of it behind the last one
+-- a daemon that read the last part is in the phase in which it restores the data
 pub is_raising_behind : (was copy node : NodeState) (said : Message) (s g v i n : ℕ) → copy ≡ was → answer.GotPart s g v i n ≡ table.heard copy (table.Hear said) → node ≡ table.after copy (table.Hear said) → brings_part (table.heard was (table.Hear said)) ≡ false → table.is_raising (table.phase_after node (table.Fed true)) ≡ true
 is_raising_behind was copy node said s g v i n same is after last =
     let at : node.phase ≡ Taking s g v i n = phase_heard copy node said (answer.GotPart s g v i n) is after in
     let none : nat_lt i n ≡ false = ap brings_part (is ∙ ap (λ (m : NodeState). table.heard m (table.Hear said)) same) ∙ last in
     ap (λ (p : Phase). table.is_raising (phase_fed node true p)) at ∙ ap (λ (b : Bool). table.is_raising (if b then Reading s g v (i + 1) n else Raising s g)) none
 
--- data that comes whole is there
+-- a daemon that got data whole is in the phase in which it restores the data
 pub is_raising_data : (copy node : NodeState) (said : Message) (s g v : ℕ) → answer.GotData s g v ≡ table.heard copy (table.Hear said) → node ≡ table.after copy (table.Hear said) → table.is_raising node.phase ≡ true
 is_raising_data copy node said s g v is after = ap table.is_raising (phase_heard copy node said (answer.GotData s g v) is after)
 
--- what came of it, by what each call did
+-- what came of a part that others follow, by what each call did
 pub record ReadsAPart (old : DaemonState) (said : Message) (s g v i n : ℕ) (fits : Bool) (reaction : Reaction)
     (new : DaemonState) : Type 0 where
   pub read : DaemonState
@@ -126,7 +126,7 @@ fed_badly node false phase said taking is = refl
 fed_badly node true (Taking s g v i n) said taking is = (let no : ⊥ = cc in absurd no)
 fed_badly node true phase said taking is = (let no : ⊥ = cc in absurd no)
 
--- what was read is taken over
+-- what was read with the last part is taken over
 pub last_taken : (manifest : Manifest) (limit : ℕ) (old new : DaemonState) (node fed : NodeState) (bytes reader : List ℕ) (g i n : ℕ) (fits : Bool) (reaction : Reaction) → table.is_taking node.phase ≡ true → nat_lt i n ≡ false →
     fits ≡ is_none (standing_fault bytes) → None ≡ table.said (table.heard node (table.Fed fits)) → fed ≡ table.after node (table.Fed fits) → reader ≡ bytes →
     TakesData manifest limit old reader fed g reaction new → TakesPart manifest limit old bytes node g i n reaction new
@@ -140,7 +140,7 @@ last_taken manifest limit old new node fed bytes reader g i n fits reaction taki
       reads = subst (λ (b : Bool). ReadsBy b manifest limit old bytes node g reaction new) (sym last) by_node;
     })
 
--- no image begins with what was read
+-- no image begins with what was read with the last part
 pub last_lost : (manifest : Manifest) (limit : ℕ) (old : DaemonState) (node fed : NodeState) (bytes : List ℕ) (g i n : ℕ) (fits : Bool) (said : Message) (turn : TurnState) → table.is_taking node.phase ≡ true →
     fits ≡ is_none (standing_fault bytes) → Some said ≡ table.said (table.heard node (table.Fed fits)) → fed ≡ table.after node (table.Fed fits) →
     turn ≡ record { node = fed; held = None; reaction = Says said [] } → TakesPart manifest limit old bytes node g i n turn.reaction (turned old turn)

@@ -11,7 +11,7 @@ use Rattle.takeover_core.specs.declared.message.Message.TheVariants.{Offer, Choi
 use Rattle.takeover_core.specs.declared.phase.Phase.{Phase}
 use Rattle.takeover_core.specs.declared.phase.Phase.TheVariants.{Waiting, Chosen, Taking, Reading, Raising, Holding, Serving, Draining, Pinged, Making, Handed, Gone}
 
--- the phase in which data is made or taken, where it is to be
+-- the phase of a daemon that is to do what the table answers, if that makes or takes data
 abbrev pub IsPhaseFor : Answer → Phase → Type 0
 IsPhaseFor (MakeData session generation version) phase = phase ≡ Making generation session version
 IsPhaseFor (GotData session generation version) phase = phase ≡ Raising session generation
@@ -22,7 +22,7 @@ IsPhaseFor answer phase = Unit {0}
 abbrev IsRowFor : NodeState → Row → Type 0
 IsRowFor node line = IsPhaseFor (answer_of line) (after_row node line).phase
 
--- where the row doesn't hold, the message is ignored
+-- if the condition of a row does not hold, the message is ignored
 by_condition : (node : NodeState) (condition : Bool) (phase : Phase) (answer : Answer) → IsPhaseFor answer phase → IsRowFor node (provided condition (Goes phase answer))
 by_condition node true phase answer is = is
 by_condition node false phase answer is = tt
@@ -55,11 +55,11 @@ row_for node (Making g s v) (Failed t) = by_condition node (t == s) (Serving g) 
 row_for node (Handed g s) (Failed t) = by_condition node (t == s) (Holding g) Heard tt
 row_for node phase said = tt
 
--- so it is in that phase behind the message
+-- after a message the phase is the one for the table's answer
 pub phase_for : (node : NodeState) (said : Message) (answer : Answer) → heard node (Hear said) ≡ answer → IsPhaseFor answer (phase_after node (Hear said))
 phase_for node said answer is = subst (λ (a : Answer). IsPhaseFor a (phase_after node (Hear said))) is (row_for node node.phase said)
 
--- and so it is, once it heard the message
+-- a daemon that heard a message is in the phase for the table's answer
 pub phase_heard : (copy node : NodeState) (said : Message) (answer : Answer) → answer ≡ heard copy (Hear said) → node ≡ after copy (Hear said) → IsPhaseFor answer node.phase
 phase_heard copy node said answer is is_after =
     subst (λ (n : NodeState). IsPhaseFor answer n.phase) (sym is_after) (phase_for copy said answer (sym is))

@@ -21,7 +21,7 @@ use Rattle.daemon.specs.declared.happened.Happened.TheVariants.{Refused, Made}
 use Rattle.daemon.specs.declared.happened.Refusal.TheVariants.{NoSuch}
 use Rattle.daemon.proofs.Positions.{at-none, at-index}
 
--- what was read at an index stands at its position
+-- a member that was read at an index is at the index's position
 pub at-read : {X : Type 0} (xs : List X) (position index : ℕ) (x : X) → IsIndex (length xs) position index → x ≡ get_or xs index x → at_position xs position ≡ Some x
 at-read xs position index x at read = at-index xs position index at ∙ slice_get_read xs (length xs) index x refl at.within read
 
@@ -29,24 +29,24 @@ at-read xs position index x at read = at-index xs position index at ∙ slice_ge
 pub without-index : {X : Type 0} (xs : List X) (count position index : ℕ) → IsIndex count position index → remove xs index ≡ without_position xs position
 without-index xs count position index at = ap (λ (i : ℕ). remove xs i) at.is
 
--- nothing of that position is in hand
+-- no member of the hand is at the position, so the work is refused
 pub WorksBy-none : (s : ServerState) (position : ℕ) (fails : Bool) (told : Happened) → HasNone (length s.hand) position → told ≡ Refused NoSuch →
     WorksBy (at_position s.hand position) s position fails told s
 WorksBy-none s position fails told none tells = subst (λ (o : Option Ask). WorksBy o s position fails told s) (sym (at-none s.hand position none)) (record { tells = tells; same = refl })
 
--- a member of the hand was worked
+-- the member of the hand at the position was worked
 pub WorksBy-some : (s n : ServerState) (position : ℕ) (fails : Bool) (index : ℕ) (task : Ask) (told : Happened) → IsIndex (length s.hand) position index → task ≡ get_or s.hand index task →
     WorksOff s position fails task told n → WorksBy (at_position s.hand position) s position fails told n
 WorksBy-some s n position fails index task told at read works =
     subst (λ (o : Option Ask). WorksBy o s position fails told n) (sym (at-read s.hand position index task at read)) works
 
--- no reply of that position is unposted
+-- no unposted reply is at the position, so the post is refused
 pub PostsBy-none : (s : ServerState) (broker : BrokerState) (d : DaemonId) (position : ℕ) (told : Happened) → HasNone (length s.unposted) position → told ≡ Refused NoSuch →
     PostsBy (at_position s.unposted position) s broker d position told s broker
 PostsBy-none s broker d position told none tells =
     subst (λ (o : Option Reply). PostsBy o s broker d position told s broker) (sym (at-none s.unposted position none)) (record { tells = tells; same = refl; same_broker = refl })
 
--- a reply was posted, or refused
+-- the unposted reply at the position was posted, or refused
 pub PostsBy-some : (s n : ServerState) (broker left : BrokerState) (d : DaemonId) (position index : ℕ) (reply : Reply) (told : Happened) →
     IsIndex (length s.unposted) position index → reply ≡ get_or s.unposted index reply → PostsReply (post_fault broker d s.generation reply) s broker position reply told n left →
     PostsBy (at_position s.unposted position) s broker d position told n left
@@ -68,7 +68,7 @@ forget_fails served fails request answer later none replay = (
   λ so. absurd (let ask : is_ask request ≡ true = asks-ask served request so.1 in let forget : is_ask request ≡ false = (subst (λ (o : Option Answer). Replay served request o later) none replay).0 in let no : ⊥ = cc in no),
 )
 
--- a request without an answer
+-- a request that has no answer was worked
 pub WorksOff-forgets : (old : ServerState) (count position index : ℕ) (fails : Bool) (task : Ask) (item : Option Item) (told : Happened) (answer : Option Answer) (later : ServedState) (hand : List Ask) (unposted : List Reply) →
     IsIndex count position index → answer ≡ None → Replay old.served task.what answer later → told ≡ told_item old.served item → item ≡ item_of task.what →
     hand ≡ remove old.hand index → unposted ≡ old.unposted → WorksOff old position fails task told (record old { served = later; hand = hand; unposted = unposted })
@@ -81,7 +81,7 @@ WorksOff-forgets old count position index fails task item told answer later hand
   makes = worked-fields old later hand _ unposted _ (left ∙ without-index old.hand count position index at) (same ∙ sym (append-nil old.unposted));
 }
 
--- a request with one
+-- a request that has an answer was worked
 pub WorksOff-answers : (old : ServerState) (count position index : ℕ) (fails : Bool) (task : Ask) (answer : Answer) (given : Option Answer) (later : ServedState) (hand : List Ask) (before unposted : List Reply) →
     IsIndex count position index → given ≡ Some answer → Replay old.served task.what given later → FailsSo fails old.served task.what given →
     hand ≡ remove old.hand index → before ≡ old.unposted → unposted ≡ before ++ record { unique = task.unique; answer = answer } ∷ [] →
@@ -95,18 +95,18 @@ WorksOff-answers old count position index fails task answer given later hand bef
   makes = worked-fields old later hand _ unposted _ (left ∙ without-index old.hand count position index at) (pushed ∙ ap (λ (rs : List Reply). rs ++ record { unique = task.unique; answer = answer } ∷ []) same);
 }
 
--- one item more, each by itself
+-- the first items, each by itself, with one item more
 pub singles-more : (items : List Item) (i : ℕ) (d : Item) → i < length items → map single (take (i + 1) items) ≡ map single (take i items) ++ single (get_or items i d) ∷ []
 singles-more items i d within = ap (map single) (take_more items i d within) ∙ map-append single (take i items) (get_or items i d ∷ [])
 
 -- ---- what is in hand
 
--- items by themselves
+-- items that each stand by themselves are single
 singles : (items : List Item) → AllByRecursion (λ task. is_single task ≡ true) (map single items)
 singles [] = tt
 singles (item ∷ items) = (refl, singles items)
 
--- what a take brings
+-- what a take adds to the hand is an ask or single items
 handed-single : (ask : Ask) → AllByRecursion (λ task. is_single task ≡ true) (handed ask)
 handed-single ask = by_kind (is_ask ask.what) refl where
   by_kind : (b : Bool) → is_ask ask.what ≡ b → AllByRecursion (λ task. is_single task ≡ true) (if b then ask ∷ [] else map single (items_of ask.what))
@@ -117,7 +117,7 @@ both-single : (xs ys : List Ask) → AllByRecursion (λ task. is_single task ≡
 both-single [] ys h k = k
 both-single (x ∷ xs) ys h k = (h.0, both-single xs ys h.1 k)
 
--- a hand after a take
+-- after a take the hand still has asks and single items alone
 pub hand-single : (old before new : List Ask) (ask : Ask) → before ≡ old → new ≡ before ++ handed ask → AllByRecursion (λ task. is_single task ≡ true) old →
     AllByRecursion (λ task. is_single task ≡ true) new
 hand-single old before new ask same put single_before =

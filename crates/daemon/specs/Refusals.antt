@@ -1,5 +1,5 @@
--- Why an event is refused: the words that printed lines have for it, and the cause that each fault is. (This project's
--- own.)
+-- Why an event is refused: the word that a printed line has for each refusal, and the refusal of each fault. (This
+-- project's own.)
 use Rattle.std.specs.Prelude.{ℕ, Bool, true, false, List, [], ◌∷◌, codes}
 use Rattle.eden_base.specs.declared.claim.ClaimFault.{ClaimFault}
 use Rattle.eden_base.specs.declared.claim.ClaimFault.TheVariants as claim
@@ -20,7 +20,7 @@ use Rattle.daemon.specs.declared.happened.Happened.TheVariants as happened
 use Rattle.daemon.specs.declared.happened.Refusal.{Refusal}
 use Rattle.daemon.specs.declared.happened.Refusal.TheVariants as refusal
 
--- why an event was refused
+-- the word that a printed line has for a refusal
 abbrev pub refusal_name : Refusal → List ℕ
 refusal_name refusal.NoDaemon = codes "NoDaemon"
 refusal_name refusal.WrongPhase = codes "WrongPhase"
@@ -41,12 +41,12 @@ refusal_name refusal.NoMemory = codes "NoMemory"
 
 -- ---- causes
 
--- the broker's faults keep their names
+-- the refusal of a mount, with the name of the broker's fault
 abbrev pub refusal_of_mount : MountFault → Refusal
 refusal_of_mount mount.Seated = refusal.Seated
 refusal_of_mount mount.LastGeneration = refusal.LastGeneration
 
--- so do those of a request
+-- the refusal of a request that is not issued, with the name of the broker's fault
 abbrev pub refusal_of_issue : IssueFault → Refusal
 refusal_of_issue issue.NotMounted = refusal.NotMounted
 refusal_of_issue issue.NotHeld = refusal.NotHeld
@@ -54,24 +54,24 @@ refusal_of_issue issue.BadForget = refusal.BadForget
 refusal_of_issue issue.Full = refusal.Full
 refusal_of_issue issue.NoMemory = refusal.NoMemory
 
--- those of a take
+-- the refusal of a take, with the name of the broker's fault
 abbrev pub refusal_of_take : TakeFault → Refusal
 refusal_of_take take.Ended = refusal.Ended
 refusal_of_take (take.Stale now) = refusal.Stale now
 refusal_of_take take.Empty = refusal.Empty
 
--- and those of a reply
+-- the refusal of a reply that is not posted, with the name of the broker's fault
 abbrev pub refusal_of_post : PostFault → Refusal
 refusal_of_post post.Ended = refusal.Ended
 refusal_of_post (post.Stale now) = refusal.Stale now
 refusal_of_post post.NotAsked = refusal.NotAsked
 
--- those of a daemon that is not drained
+-- the refusal of a daemon that is not drained, with the name of the fault
 abbrev pub refusal_of_drain : DrainFault → Refusal
 refusal_of_drain drain.WrongPhase = refusal.WrongPhase
 refusal_of_drain (drain.Undrained in_hand unposted) = refusal.Undrained in_hand unposted
 
--- those of a claim
+-- the refusal of a claim, with the name of the broker's fault
 abbrev pub refusal_of_claim : ClaimFault → Refusal
 refusal_of_claim claim.Ended = refusal.Ended
 refusal_of_claim (claim.Stale now) = refusal.Stale now
@@ -80,17 +80,17 @@ refusal_of_claim claim.LastGeneration = refusal.LastGeneration
 
 -- ---- what was made
 
--- an event was made
+-- whether an event was made
 abbrev pub is_made : Happened → Bool
 is_made (happened.Refused refusal) = false
 is_made told = true
 
--- a request was issued, and taken
+-- whether a request was issued and taken
 abbrev pub is_begun : Begun → Bool
 is_begun (begun.Refused refusal) = false
 is_begun (begun.Issued unique taken) = is_made taken
 
--- what is told of it: of the issue, and then of the take
+-- what is told of a request that a daemon takes at once: of the issue, and then of the take
 abbrev pub told_begun : Begun → List Happened
 told_begun (begun.Refused refusal) = happened.Refused refusal ∷ []
 told_begun (begun.Issued unique taken) = happened.Asked unique ∷ taken ∷ []

@@ -1,6 +1,6 @@
--- What a daemon makes of a message that it hears, and of its own program's calls in a takeover. What it says and
--- becomes is the table's (`takeover_core`); what is added here is the data, which is made of what the daemon serves,
--- and what is restored from it. (EdenFS's documents on takeover; the table is this project's own.)
+-- What a daemon makes of a message that it hears, and of its own program's calls in a takeover. What the daemon says
+-- and becomes is in the table (`takeover_core`). Added here are the data, made of what the daemon serves, and what is
+-- restored from data. (EdenFS's documents on takeover; the table is this project's own.)
 use Rattle.std.specs.Prelude.{◌≡◌, ℕ, ◌+◌, ◌==◌, nat_lt, ◌⊎◌, Bool, true, false, List, [], ◌∷◌, ◌++◌, length, Option, Some, None, unwrap_or, IsSome, Result, Ok, Err, if◌then◌else◌}
 use Rattle.std.specs.Option.{option_map}
 use Rattle.eden_base.specs.declared.claim.ClaimFault.{ClaimFault}
@@ -26,17 +26,17 @@ use Rattle.daemon.specs.declared.turn.Reaction.TheVariants.{Ignores, Heeds, Says
 
 -- ---- the data is made
 
--- the bytes are what is handed over: the text of the image of what is served, which its version accepts
+-- the bytes are the image of what a daemon serves, in a form that the version accepts
 abbrev pub HasData : Option ServerState → ℕ → ℕ → List ℕ → Type 0
 HasData None generation version bytes = ⊥
 HasData (Some server) generation version bytes = IsHandedOver server.served generation version bytes
 
--- nothing is served, or what is served has no text that this version accepts
+-- a daemon serves nothing, or what it serves has no image that the version accepts
 abbrev pub HasNoData : Option ServerState → ℕ → ℕ → Type 0
 HasNoData None generation version = Unit {0}
 HasNoData (Some server) generation version = CannotBeHandedOver server.served generation version
 
--- what a daemon serves is handed over in one message; from here on it does not serve without a claim
+-- what a daemon serves is handed over in one message; from then on the daemon serves only if it claims
 pub record HandsOver (old : DaemonState) (node : NodeState) (generation version : ℕ) (reaction : Reaction)
     (new : DaemonState) : Type 0 where
   pub bytes : List ℕ
@@ -47,14 +47,15 @@ pub record HandsOver (old : DaemonState) (node : NodeState) (generation version 
   pub reacts : reaction ≡ Says said []
   pub becomes : new ≡ turned_to old (table.after node (table.DataMade bytes))
 
--- parts as messages of a session at a generation: each with its position, from this one on, and with how many there are
+-- parts as messages of a session at a generation: the first has this position, each next one the next position, and all
+-- tell how many parts there are
 abbrev pub numbered : (session generation count position : ℕ) → List (List ℕ) → List Message
 numbered session generation count position [] = []
 numbered session generation count position (part ∷ parts) =
     message.Part session generation position count part
     ∷ numbered session generation count (position + 1) parts
 
--- the messages in which a text goes in parts
+-- the messages that carry all parts of a text, from position 1 on
 abbrev pub in_parts : (session generation : ℕ) → List (List ℕ) → List Message
 in_parts session generation parts = numbered session generation (length parts) 1 parts
 
@@ -77,7 +78,7 @@ pub record HandsOverInParts (old : DaemonState) (node : NodeState) (session gene
   pub says : what_is_said reaction ≡ in_parts session generation parts
   pub becomes : new ≡ turned_to old (table.after node table.PartsMade)
 
--- a daemon that has no data to hand over serves on
+-- a daemon that has no data to hand over says so, and serves on
 pub record ServesOn (old : DaemonState) (node : NodeState) (generation version : ℕ) (reaction : Reaction)
     (new : DaemonState) : Type 0 where
   pub said : Message
@@ -88,13 +89,13 @@ pub record ServesOn (old : DaemonState) (node : NodeState) (generation version :
 
 -- ---- the data is taken
 
--- the bytes that a message carries
+-- the bytes of data that a message carries
 abbrev pub bytes_of : Message → List ℕ
 bytes_of (message.Data session generation bytes) = bytes
 bytes_of (message.Part session generation position count bytes) = bytes
 bytes_of other = []
 
--- what is restored from the data is held, until the seat is claimed
+-- a daemon restores the data, and holds the result until it claims the seat
 pub record TakesOver (old : DaemonState) (manifest : Manifest) (limit : ℕ) (bytes : List ℕ) (node : NodeState)
     (generation : ℕ) (reaction : Reaction) (new : DaemonState) : Type 0 where
   pub served : ServedState
@@ -106,20 +107,20 @@ pub record TakesOver (old : DaemonState) (manifest : Manifest) (limit : ℕ) (by
     reading = read_in (table.after node (table.Raised true)).phase old.reading;
   }
 
--- a daemon that restored nothing is gone
+-- a daemon that restored nothing says so, and is gone
 pub record Loses (old : DaemonState) (node : NodeState) (reaction : Reaction) (new : DaemonState) : Type 0 where
   pub said : Message
   pub says : table.said (table.heard node (table.Raised false)) ≡ Some said
   pub reacts : reaction ≡ Says said []
   pub becomes : new ≡ turned_to old (table.after node (table.Raised false))
 
--- nothing is restored from the data
+-- the data cannot be restored, and the daemon is gone
 pub record CannotTakeOver (old : DaemonState) (manifest : Manifest) (text : List ℕ) (node : NodeState) (generation : ℕ)
     (reaction : Reaction) (new : DaemonState) : Type 0 where
   pub cannot : CannotBeTakenOver manifest generation text
   pub loses : Loses old node reaction new
 
--- it is restored, or nothing is
+-- a daemon restores the data and holds the result, or is gone if the data cannot be restored
 abbrev pub TakesData : Manifest → ℕ → DaemonState → List ℕ → NodeState → ℕ → Reaction → DaemonState → Type 0
 TakesData manifest limit old bytes node generation reaction new =
     TakesOver old manifest limit bytes node generation reaction new
@@ -127,11 +128,11 @@ TakesData manifest limit old bytes node generation reaction new =
 
 -- ---- a part is taken
 
--- what was read of the parts before the one of a position
+-- what a daemon read of the parts before the one at this position
 abbrev pub read_before : ℕ → DaemonState → List ℕ
 read_before position old = if position == 1 then [] else unwrap_or old.reading []
 
--- what was read is kept, and the next part is waited for
+-- a daemon keeps what it read, and waits for the next part
 pub record ReadsOn (old : DaemonState) (node : NodeState) (read : List ℕ) (reaction : Reaction)
     (new : DaemonState) : Type 0 where
   pub reacts : reaction ≡ Heeds
@@ -146,13 +147,13 @@ pub record LosesPart (old : DaemonState) (node : NodeState) (read : List ℕ) (r
   pub reacts : reaction ≡ Says said []
   pub becomes : new ≡ turned_to old (table.after node (table.Fed false))
 
--- whether others follow; behind the last the data is whole
+-- a daemon keeps what it read if other parts follow, and else restores what it read
 abbrev pub ReadsBy : Bool → Manifest → ℕ → DaemonState → List ℕ → NodeState → ℕ → Reaction → DaemonState → Type 0
 ReadsBy true manifest limit old read node generation reaction new = ReadsOn old node read reaction new
 ReadsBy false manifest limit old read node generation reaction new =
     TakesData manifest limit old read (table.after node (table.Fed true)) generation reaction new
 
--- a part is read behind those before it
+-- a daemon read a part after the parts before, and an image may begin with all that it read
 pub record ReadsPart (manifest : Manifest) (limit : ℕ) (old : DaemonState) (read : List ℕ) (node : NodeState)
     (generation position count : ℕ) (reaction : Reaction) (new : DaemonState) : Type 0 where
   pub no_fault : standing_fault read ≡ None
@@ -166,19 +167,19 @@ TakesPart manifest limit old read node generation position count reaction new =
 
 -- ---- by what the table answers
 
--- nothing but the part in takeovers changes
+-- a daemon turns to `node` as its part in takeovers, and serves what it served
 pub record Turns (old : DaemonState) (node : NodeState) (is reaction : Reaction) (new : DaemonState) : Type 0 where
   pub reacts : reaction ≡ is
   pub becomes : new ≡ turned_to old node
 
--- what a daemon makes of an answer that brings no data
+-- what a daemon makes of a table's answer that brings no data
 abbrev pub TurnsBy : DaemonState → NodeState → Answer → Reaction → DaemonState → Type 0
 TurnsBy old node answer.Ignored reaction new = Turns old node Ignores reaction new
 TurnsBy old node answer.Heard reaction new = Turns old node Heeds reaction new
 TurnsBy old node (answer.Say said) reaction new = Turns old node (Says said []) reaction new
 TurnsBy old node other reaction new = ⊥
 
--- what it makes of any answer
+-- what a daemon makes of any answer of the table
 abbrev pub ReactsBy : Manifest → ℕ → List ℕ → DaemonState → NodeState → Answer → Reaction → DaemonState → Type 0
 ReactsBy manifest limit bytes old node (answer.MakeData session generation version) reaction new =
     HandsOver old node generation version reaction new
@@ -190,48 +191,48 @@ ReactsBy manifest limit bytes old node (answer.GotPart session generation versio
     TakesPart manifest limit old (read_before position old ++ bytes) node generation position count reaction new
 ReactsBy manifest limit bytes old node other reaction new = TurnsBy old node other reaction new
 
--- an answer that wants memory: data is to be made, or to be read and restored
+-- whether an answer of the table wants memory: data is to be made, or to be read and restored
 abbrev pub brings_data : Answer → Bool
 brings_data (answer.MakeData session generation version) = true
 brings_data (answer.GotData session generation version) = true
 brings_data (answer.GotPart session generation version position count) = true
 brings_data other = false
 
--- data is to be made that goes in parts
+-- whether an answer of the table asks for data that goes in parts
 abbrev pub makes_parts : Answer → Bool
 makes_parts (answer.MakeData session generation version) = table.goes_in_parts version
 makes_parts other = false
 
--- a part that others follow is to be read
+-- whether an answer of the table brings a part that other parts follow
 abbrev pub brings_part : Answer → Bool
 brings_part (answer.GotPart session generation version position count) = nat_lt position count
 brings_part other = false
 
--- a daemon hears a message
+-- a daemon hears a message, and does what the table answers
 abbrev pub HearsSo : Manifest → ℕ → DaemonState → Message → Reaction → DaemonState → Type 0
 HearsSo manifest limit old said reaction new =
     ReactsBy manifest limit (bytes_of said) old (table.after old.node (table.Hear said))
     (table.heard old.node (table.Hear said)) reaction new
 
--- a daemon gives its takeover up
+-- a daemon gives its takeover up, and does what the table answers
 abbrev pub GivesUpSo : DaemonState → Reaction → DaemonState → Type 0
 GivesUpSo old reaction new =
     TurnsBy old (table.after old.node table.GiveUp) (table.heard old.node table.GiveUp) reaction new
 
 -- ---- draining
 
--- the call of a daemon that wants to be drained
+-- the table's event for a daemon that asks to be drained
 abbrev pub drained : DaemonState → table.Event
 drained daemon = table.Drained (in_hand daemon) (unposted daemon)
 
--- it says that it is ready
+-- a daemon says that it is ready to hand over
 pub record IsReady (old : DaemonState) (reaction : Reaction) (new : DaemonState) : Type 0 where
   pub said : Message
   pub says : table.heard old.node (drained old) ≡ answer.Say said
   pub reacts : reaction ≡ Says said []
   pub becomes : new ≡ with_node old (table.after old.node (drained old))
 
--- it is ready, or is refused by the first cause, and then nothing changes
+-- a daemon says that it is ready to hand over, or is refused for the first cause and does not change
 abbrev pub DrainsBy : Option DrainFault → DaemonState → Result Reaction DrainFault → DaemonState → Type 0
 DrainsBy None old (Ok reaction) new = IsReady old reaction new
 DrainsBy (Some fault) old (Err told) new = (told ≡ fault) × (new ≡ old)
@@ -242,23 +243,23 @@ DrainsSo old result new = DrainsBy (table.drain_fault old.node.phase (in_hand ol
 
 -- ---- the seat
 
--- it serves from here on
+-- a daemon takes the seat at a generation, and serves `server` from then on
 abbrev pub MountsSo : ℕ → ServerState → DaemonState → DaemonState → Type 0
 MountsSo generation server old new =
     new ≡ record old { node = table.after old.node (table.Mounted generation); server = Some server }
 
--- it is gone
+-- a daemon ends, and loses all that it had
 abbrev pub EndsSo : DaemonState → DaemonState → Type 0
 EndsSo old new = new ≡ record { node = table.after old.node table.Crash; server = None; reading = None }
 
 -- ---- a claim
 
--- what is served, at another generation
+-- the server, moved to another generation
 abbrev pub at_generation : ℕ → ServerState → ServerState
 at_generation generation server = record server { generation = generation }
 
--- the daemon after the answer to its claim: it serves at the next generation; or may claim once more, where asks were
--- unanswered; or is gone with all that it had
+-- the daemon after the answer to its claim: it serves at the next generation; or may claim once more, if asks were
+-- unanswered; or is gone with all that it served
 abbrev pub after_claim : DaemonState → Result ℕ ClaimFault → DaemonState
 after_claim old (Ok next) = record old {
   node = table.after old.node (table.Claimed (Ok next));

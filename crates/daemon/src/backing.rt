@@ -1,4 +1,4 @@
-//! The backing of a daemon: the manifest, which fails where an event says so.
+//! The backing of a daemon: the manifest, which fails if an event says so.
 ghost use Rattle.std.specs.Prelude.{◌≡◌, Some, if◌then◌else◌};
 ghost use Rattle.manifest.specs.Tree.{file_of, tree_of};
 ghost use Rattle.daemon.specs.Serving.{FailsSo};
@@ -11,7 +11,7 @@ use fuse_wire::{Answer, Request};
 use manifest::{Content, Manifest};
 use std::alloc::Global;
 
-/// The manifest as a backing that fails the first time it is asked.
+/// The manifest as a backing whose first `attr` fails.
 #[derive(Drop)]
 struct FailingBacking<'a> {
     manifest: ManifestBacking<'a>,
@@ -38,7 +38,7 @@ impl Backing for FailingBacking<'_> {
     }
 }
 
-/// Answers an ask, or applies the items of a forget, over a manifest that may fail.
+/// Answers an ask, or applies the items of a forget, over `manifest`. If `fails`, the first call of the backing fails.
 pub(crate) fn apply(
     served: &mut Served,
     alloc: Global,

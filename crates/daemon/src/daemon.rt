@@ -1,4 +1,4 @@
-//! One daemon of the world.
+//! One daemon: its part in takeovers, what it serves, and its calls.
 ghost use Rattle.std.specs.Option.{option_copied, option_map};
 ghost use Rattle.std.specs.Prelude.{◌≡◌, ◌≤◌, ◌⊎◌, ◌++◌, ℕ, true, false, Some, None, is_none, length, IsTrue, IfOk, OnErr, OnOk};
 ghost use Rattle.manifest.specs.Manifest.{Manifest};
@@ -26,8 +26,8 @@ use std::alloc::Global;
 use std::marker::Model;
 use takeover_core::{DrainFault, Heard, Message, Node, Phase, Versions};
 
-/// A daemon's part in takeovers, what it serves, if it does, and the parts that it read, while it waits for others.
-/// Clauses see it as a `DaemonState`.
+/// A daemon. `node` is its part in takeovers, and `server` is what it serves, if it serves. `reading` has the parts of
+/// an image that it read, while it waits for another part. Clauses see a daemon as a `DaemonState`.
 #[derive(Drop)]
 pub struct Daemon {
     node: Node,
@@ -53,7 +53,7 @@ impl Model for Daemon {
 }
 
 impl Daemon {
-    /// Returns a daemon that was just started, with these versions of the image.
+    /// Returns a daemon that just started, and that has `versions` of the image.
     pub fn new(versions: Versions) -> Daemon
         ensures new { result ≡ new_daemon versions }
     {
@@ -64,43 +64,44 @@ impl Daemon {
         }
     }
 
-    /// Returns what it offers when it is started.
+    /// Returns the message in which the daemon offers its versions when it is started.
     pub fn offer(&self) -> Message
         ensures offer { result ≡ Message.Offer self.now.node.versions }
     {
         self.node.offer()
     }
 
-    /// Returns how far it is in a takeover.
+    /// Returns the daemon's phase: how far it is in a takeover.
     pub fn phase(&self) -> Phase
         ensures phase { result ≡ self.now.node.phase }
     {
         self.node.phase()
     }
 
-    /// Returns whether it has started and not yet mounted, nor taken part in a takeover.
+    /// Returns whether the daemon has started, and has neither mounted nor taken part in a takeover.
     pub fn is_waiting(&self) -> bool
         ensures waiting { result ≡ is_waiting self.now }
     {
         matches!(self.node.phase(), Phase::Waiting)
     }
 
-    /// Returns what it serves and has in hand, if it does.
+    /// Returns what the daemon serves and has in hand, if it serves.
     pub fn server(&self) -> Option<&Server>
         ensures server { option_copied result ≡ self.now.server }
     {
         self.server.as_ref()
     }
 
-    /// Returns what it read of the parts before the next one, if it waits for one.
+    /// Returns the reader of the parts that came before the next one, if the daemon waits for another part.
     pub(crate) fn reading(&self) -> Option<&ImageReader>
         ensures reading { option_copied result ≡ self.now.reading }
     {
         self.reading.as_ref()
     }
 
-    /// Lends what it serves, with its share of the manifest, where nothing is in hand and everything is posted. It
-    /// serves nothing until this is taken back, in this phase or another.
+    /// Lends what the daemon serves, with its share of the manifest, if its hand is empty and every reply is posted.
+    /// Else returns none. The daemon serves nothing until `take_back` returns the lease to it, in this phase or
+    /// another.
     pub fn lend(&mut self) -> Option<Lease>
         ensures lent { option_map lent_server result ≡ lendable self.old.server }
         ensures becomes { self.new ≡ with_lent self.old }
@@ -112,7 +113,7 @@ impl Daemon {
         Some(server.into_lease())
     }
 
-    /// Takes back what was lent, and serves it on. It drops what it serves, if it does.
+    /// Serves on what `lease` lent. What the daemon serves in the meantime, if anything, is dropped.
     pub fn take_back(&mut self, alloc: Global, lease: Lease)
         ensures back { self.new ≡ with_server self.old (beginning lease.generation lease.served) }
     {
@@ -126,7 +127,7 @@ impl Daemon {
         drop(before);
     }
 
-    /// Takes what waits first at the broker.
+    /// Takes what waits first at the broker into the daemon's hand.
     pub fn take(&mut self, broker: &mut Broker, daemon: DaemonId) -> Happened
         ensures takes { DaemonTakes broker.old daemon result broker.new self.old self.new }
     {
@@ -139,7 +140,7 @@ impl Daemon {
         server.take(broker, daemon)
     }
 
-    /// Works what stands at a position of its hand.
+    /// Works the request at `position` of the daemon's hand. If `fails`, the backing fails the first time it is asked.
     pub fn work(&mut self, position: u64, fails: bool) -> Happened
         ensures works { DaemonWorks position fails result self.old self.new }
     {
@@ -149,7 +150,7 @@ impl Daemon {
         server.work(position, fails)
     }
 
-    /// Posts the reply at a position of those that it did not post yet.
+    /// Posts the reply at `position` of the replies that the daemon did not post yet.
     pub fn post(&mut self, broker: &mut Broker, daemon: DaemonId, position: u64) -> Happened
         ensures posts { DaemonPosts broker.old daemon position result broker.new self.old self.new }
     {
@@ -159,7 +160,8 @@ impl Daemon {
         server.post(broker, daemon, position)
     }
 
-    /// Issues a request, and takes what waits first then. The room that it needs for the take comes before the issue.
+    /// Issues `request`, and then takes what waits first at the broker. Memory for the take is reserved before the
+    /// issue.
     pub fn begin(&mut self, broker: &mut Broker, daemon: DaemonId, request: &Request) -> Begun
         ensures begins { DaemonBegins broker.old daemon request.now result broker.new self.old self.new }
     {
@@ -172,7 +174,7 @@ impl Daemon {
         issue_untaken(broker, request)
     }
 
-    /// Begins to serve at a generation, where the broker gave this daemon the seat.
+    /// Begins to serve `server` at `generation`, at which the broker gave this daemon the seat.
     pub fn mount(&mut self, generation: u64, server: Server)
         requires waiting { IsTrue (is_waiting self.old) }
         ensures mounts { MountsSo generation server self.old self.new }
@@ -181,7 +183,7 @@ impl Daemon {
         drop(self.server.replace(server));
     }
 
-    /// Ends it, and drops all that it had.
+    /// Ends the daemon, and drops all that it had.
     pub fn crash(&mut self)
         ensures gone { EndsSo self.old self.new }
     {
@@ -190,7 +192,7 @@ impl Daemon {
         drop(self.reading.take());
     }
 
-    /// Returns whether a message is to it a part that others follow, as `hear_part` takes it.
+    /// Returns whether `message` brings this daemon a part that other parts follow. `hear_part` hears such a message.
     pub fn is_fed_by(&self, message: &Message) -> bool
         ensures part { result ≡ brings_part (heard self.now.node (Hear message.now)) }
     {
@@ -204,9 +206,10 @@ impl Daemon {
         }
     }
 
-    /// Returns what it is to become of a message of another daemon, other than a part that others follow. Data that it
-    /// is to hand over is made of what it serves, and data that is handed to it is read and restored over the manifest.
-    /// The last part is read by a copy of what read the others. So it may be heard again where memory is refused.
+    /// Returns the `Turn` that a message of another daemon leads to. The message is no part that others follow:
+    /// `hear_part` takes those. Data to hand over is made of what the daemon serves. Data handed to the daemon is read,
+    /// and restored over `manifest`. The last part is read by a copy of the reader of the parts before. So the same
+    /// part may be heard again where memory is refused.
     pub fn hear(
         &self,
         alloc: Global,
@@ -259,7 +262,7 @@ impl Daemon {
         }
     }
 
-    /// Becomes what it is to become, and returns what it makes of the message. It takes no memory.
+    /// Makes the daemon what `turn` says that it becomes, and returns the reaction of `turn`. Takes no memory.
     pub fn turn(&mut self, turn: Turn) -> Reaction
         ensures reacts { result ≡ turn.reaction }
         ensures becomes { self.new ≡ turned self.old turn }
@@ -273,7 +276,8 @@ impl Daemon {
         reaction
     }
 
-    /// Hears a part that others follow. It is read behind those before it, where they were read, and is not copied.
+    /// Hears a part that other parts follow, and returns the reaction. The first part gets a new reader, which reads
+    /// each later part in place: no reader is copied.
     pub fn hear_part(&mut self, alloc: Global, message: &Message) -> Result<Reaction, NoMemory>
         requires part { IsTrue (brings_part (heard self.old.node (Hear message.now))) }
         ensures hears { IfOk result (λ reaction. (manifest : Manifest) (limit : ℕ) →
@@ -291,7 +295,8 @@ impl Daemon {
         Ok(Reaction::saying(said))
     }
 
-    /// Reads the bytes of a part behind those before it, and returns whether an image may begin so.
+    /// Reads `bytes`, the part at `position`, after the parts before. Returns whether an image may begin with all that
+    /// was read.
     fn read(&mut self, alloc: Global, position: u32, bytes: &[u8]) -> Result<bool, NoMemory>
         ensures reads { OnOk result (self.new ≡ record self.old {
           reading = Some (read_before position self.old ++ bytes.now);
@@ -310,7 +315,7 @@ impl Daemon {
         Ok(fits)
     }
 
-    /// Turns to this part in takeovers. What was read is dropped, unless another part is waited for.
+    /// Makes `node` the daemon's part in takeovers. What was read is dropped, unless the daemon waits for another part.
     fn turn_to(&mut self, node: Node)
         ensures turns { self.new ≡ turned_to self.old node }
     {
@@ -320,7 +325,8 @@ impl Daemon {
         self.node = node;
     }
 
-    /// Returns what stops the daemon from handing over: it does not drain, or has something left.
+    /// Returns what stops the daemon from handing over, if anything does: its phase, or requests in hand and replies
+    /// that are not posted.
     pub fn drain_refusal(&self) -> Option<DrainFault>
         ensures refusal { result ≡ drain_fault self.now.node.phase (in_hand self.now) (unposted self.now) }
     {
@@ -328,7 +334,8 @@ impl Daemon {
         self.node.copy().drained(in_hand, unposted).err()
     }
 
-    /// Says that it is ready to hand over, where it drains and has nothing left.
+    /// Says that the daemon is ready to hand over, if it drains, its hand is empty and every reply is posted. Else
+    /// returns what stops it.
     pub fn drain(&mut self) -> Result<Reaction, DrainFault>
         ensures drains { DrainsSo self.old result self.new }
         ensures at_most_one { IfOk result (λ reaction. length (what_is_said reaction) ≤ 1) }
@@ -338,14 +345,14 @@ impl Daemon {
         Ok(Reaction::Says(said, Messages::none()))
     }
 
-    /// Returns the generation that it wants to claim the seat from, if it does.
+    /// Returns the generation from which the daemon wants to claim the seat, if it wants to claim.
     pub fn claim_wanted(&self) -> Option<u64>
         ensures wanted { result ≡ claim_wanted self.now.node.phase }
     {
         self.node.claim_wanted()
     }
 
-    /// Takes in the answer to its claim. Where the claim cannot succeed any more it drops all that it had.
+    /// Takes in the answer to the daemon's claim. If the claim can never succeed, the daemon drops what it serves.
     pub fn take_answer(&mut self, answer: Result<u64, ClaimFault>)
         requires holding { IsTrue (is_holding self.old.node.phase) }
         ensures claims { ClaimsSo answer self.old self.new }
@@ -358,7 +365,7 @@ impl Daemon {
         }
     }
 
-    /// Lets what it serves be served at a generation.
+    /// Moves what the daemon serves, if it serves, to `generation`.
     fn serve_at(&mut self, generation: u64)
         ensures at { self.new ≡ record self.old {
           server = option_map (at_generation generation) self.old.server;
@@ -369,7 +376,7 @@ impl Daemon {
         }
     }
 
-    /// Returns how many requests it has in hand, and how many replies it did not post.
+    /// Returns how many requests the daemon has in hand, and how many replies it did not post.
     fn left(&self) -> (usize, usize)
         ensures in_hand { result.0 ≡ in_hand self.now }
         ensures unposted { result.1 ≡ unposted self.now }
@@ -380,7 +387,7 @@ impl Daemon {
         }
     }
 
-    /// Ends its part in a takeover, as where the other daemon cannot be reached any more.
+    /// Gives up the daemon's part in a takeover, for example when the other daemon cannot be reached any more.
     pub fn give_up(&mut self) -> Reaction
         ensures gives_up { GivesUpSo self.old result self.new }
         ensures at_most_one { length (what_is_said result) ≤ 1 }
@@ -396,7 +403,7 @@ impl Daemon {
     }
 }
 
-/// Issues a request, where the daemon is in no phase in which it takes one.
+/// Issues `request`, and refuses the take as `WrongPhase`: the daemon's phase is one in which it takes nothing.
 fn issue_untaken(broker: &mut Broker, request: &Request) -> Begun
     ensures begins { NobodyBegins broker.old request.now result broker.new }
 {

@@ -16,7 +16,8 @@ use map_image::{Sending, cut, form_of};
 use std::alloc::Global;
 use takeover_core::{Message, Node, Phase};
 
-/// Hands over what a daemon serves, or serves on where that cannot be written in this version.
+/// Returns the turn in which `daemon` hands over what it serves, written in `version`. If that cannot be written in
+/// `version`, the daemon says Failed and serves on.
 pub(crate) fn make_data(
     alloc: Global,
     daemon: &Daemon,
@@ -44,7 +45,8 @@ pub(crate) fn make_data(
     }
 }
 
-/// Returns the text of the image of what a daemon serves.
+/// Returns the bytes of the image of what `daemon` serves, written in `version`. Returns `Refused` if the daemon serves
+/// nothing, or if `version` has no such bytes.
 fn data(
     alloc: Global,
     daemon: &Daemon,
@@ -61,7 +63,7 @@ fn data(
     }
 }
 
-/// Hands a text over, as one of its version goes.
+/// Returns the turn in which `daemon` hands `text` over: whole or in parts, as `version` has it.
 fn hand(
     alloc: Global,
     daemon: &Daemon,
@@ -92,7 +94,7 @@ fn hand(
     }
 }
 
-/// Hands a text over in parts.
+/// Returns the turn in which a daemon hands `text` over in parts.
 fn hand_parts(
     alloc: Global,
     node: Node,
@@ -113,7 +115,7 @@ fn hand_parts(
     Ok(Turn::to(node, Reaction::Says(first, others)))
 }
 
-/// Makes a message of each part, and returns the first one and the others.
+/// Makes a message of each part, and returns the first message and the other messages.
 fn messages_of(
     alloc: Global,
     session: u32,

@@ -14,7 +14,7 @@ use takeover_core::DrainFault;
 pub enum Refusal {
     NoDaemon,
     WrongPhase,
-    /// There is no such position in the list.
+    /// The list has no member at the position.
     NoSuch,
     Seated,
     LastGeneration,
@@ -23,11 +23,11 @@ pub enum Refusal {
     BadForget,
     Full,
     Ended,
-    /// The seat is at this generation.
+    /// The seat is at this generation, which is not the daemon's.
     Stale(u64),
     Empty,
     NotAsked,
-    /// Asks that were taken have no reply yet: their count.
+    /// This many asks were taken and have no reply yet.
     Unanswered(u64),
     /// The daemon has requests in hand, or replies that it did not post.
     Undrained { in_hand: usize, unposted: usize },
@@ -35,7 +35,7 @@ pub enum Refusal {
 }
 
 impl Refusal {
-    /// Returns the word that a printed line has for it.
+    /// Returns the word that a printed line has for this refusal.
     pub fn name(self) -> &'static str
         ensures name { result.now ≡ refusal_name self }
     {
@@ -64,23 +64,23 @@ impl Refusal {
 #[derive(Clone, Copy, PartialEq, Eq)]
 pub enum Happened {
     Started(DaemonId),
-    /// At this generation.
+    /// A daemon took the seat, at this generation.
     Mounted(u64),
-    /// The kernel's ask waits under this unique, or its forget waits without one.
+    /// The kernel's request waits: an ask under this unique, a forget without one.
     Asked(Option<u64>),
     /// The ask with this unique is in the daemon's hand.
     Took(u64),
-    /// The items of a forget joined the daemon's hand: their count.
+    /// This many items of a forget joined the daemon's hand.
     TookForgets(usize),
-    /// The daemon answered.
+    /// The daemon answered an ask with this reply, and did not post the reply yet.
     Made(Reply),
-    /// The daemon applied the item.
+    /// The daemon applied `item`, and `forgot` is what became of it.
     Forgot { item: Item, forgot: Forgot },
     /// The reply with this unique waits for the kernel.
     Posted(u64),
-    /// The reply reached the kernel.
+    /// This reply reached the kernel.
     Answered(Reply),
-    /// The daemon said the message at this position.
+    /// The daemon said a message, which is at this position of the messages.
     Said(usize),
     /// The daemon took the message in, or gave up, and said nothing.
     Heard,
@@ -98,7 +98,7 @@ pub enum Happened {
 pub enum Begun {
     /// The request was not issued.
     Refused(Refusal),
-    /// The request was issued: `unique` is an ask's, and `taken` is the result of the take.
+    /// The request was issued. `unique` is the unique of an ask; a forget has none. `taken` is the result of the take.
     Issued {
         unique: Option<u64>,
         taken: Happened,
@@ -106,7 +106,7 @@ pub enum Begun {
 }
 
 impl Begun {
-    /// Returns whether it was issued and taken.
+    /// Returns whether the request was issued and taken.
     pub fn is_made(&self) -> bool
         ensures made { result ≡ is_begun self.now }
     {
@@ -199,7 +199,7 @@ impl From<DrainFault> for Refusal {
     }
 }
 
-/// The value in the unused part of an outcome.
+/// The value that fills the unused rest of an outcome's array.
 impl Default for Happened {
     fn default() -> Happened {
         Happened::Refused(Refusal::NoMemory)

@@ -1,4 +1,4 @@
-//! What a daemon serves, in the hands of its workers.
+//! What a daemon lends to its workers.
 ghost use Rattle.std.specs.Prelude.{◌≡◌};
 
 use fuse_ops::Served;

@@ -1,11 +1,11 @@
-//! Messages one behind another.
+//! A list of messages, which is consumed from the front.
 ghost use Rattle.std.specs.Prelude.{◌≡◌, ◌+◌, ◌^◌, ◌<◌, ◌≤◌, [], ◌∷◌, ◌++◌, length, vec_len, vec_capacity, MatchOption};
 
 use std::collections::VecDeque;
 use std::marker::Model;
 use takeover_core::Message;
 
-/// Messages in their order. Clauses see them as a list.
+/// Messages in the order in which they are said. Clauses see them as a list.
 #[derive(Drop)]
 pub struct Messages {
     list: Option<VecDeque<Message>>,
@@ -22,14 +22,14 @@ impl Model for Messages {
 }
 
 impl Messages {
-    /// Makes an empty list. It takes no memory.
+    /// Makes an empty list of messages. It takes no memory.
     pub fn none() -> Messages
         ensures none { result ≡ [] }
     {
         Messages { list: None }
     }
 
-    /// Makes messages of a list, in the same memory.
+    /// Makes messages of `list`, in the memory of `list`.
     pub fn of(list: Vec<Message>) -> Messages
         ensures of { result ≡ list.items }
     {
@@ -38,7 +38,7 @@ impl Messages {
         }
     }
 
-    /// Returns how many there are.
+    /// Returns how many messages there are.
     pub fn len(&self) -> usize
         ensures len { result ≡ length self.now }
         ensures fits { result < 2 ^ 63 }
@@ -49,7 +49,7 @@ impl Messages {
         }
     }
 
-    /// Takes the first message off, if there is one.
+    /// Removes the first message and returns it, if there is one.
     pub fn next(&mut self) -> Option<Message>
         ensures next { MatchOption result ((self.old ≡ []) × (self.new ≡ []))
             (λ message. self.old ≡ message ∷ self.new) }

@@ -1,8 +1,8 @@
-//! Positions of a list, of which the first is 1.
+//! Positions in a list. The first position is 1.
 ghost use Rattle.std.specs.Prelude.{MatchOption};
 ghost use Rattle.daemon.specs.Serving.{IsIndex, HasNone};
 
-/// Converts a position, counted from 1, to an index in a list of `count`.
+/// Returns the index of `position` in a list of `count` members. Returns none if the list has no such position.
 pub fn index_of(position: u64, count: usize) -> Option<usize>
     ensures index { MatchOption result (HasNone count position) (IsIndex count position) }
 {

@@ -1,4 +1,4 @@
-//! A daemon that mounted.
+//! What a daemon serves, with its hand and the replies that it did not post yet.
 ghost use Rattle.std.specs.Prelude.{◌≡◌, ◌++◌, ◌+◌, ◌≤◌, ◌<◌, ◌↔◌, map, length, remove, slice_index_or, IfOk, IfSome, IsSome, OnOk, OnSome};
 ghost use Rattle.std.specs.VecDeque.{deque_len, deque_capacity};
 ghost use Rattle.broker_core.specs.Broker.{take_fault};
@@ -21,8 +21,8 @@ use std::alloc::Global;
 use std::collections::VecDeque;
 use std::marker::Model;
 
-/// What a daemon serves, what it took and did not work yet, and what it answered and did not post yet. Clauses see it
-/// as a `ServerState`.
+/// What a daemon serves. `hand` has what the daemon took and did not work yet, `unposted` the replies that it did not
+/// post yet. Clauses see a server as a `ServerState`.
 #[derive(Drop)]
 pub struct Server {
     alloc: Global,
@@ -55,7 +55,7 @@ impl Model for Server {
 }
 
 impl Server {
-    /// Returns a daemon that mounts at a generation. It takes no memory.
+    /// Returns a server that begins to serve `served` at `generation`. Its hand is empty. It takes no memory.
     pub fn new(alloc: Global, generation: u64, manifest: Manifest, served: Served) -> Server
         requires over { served.tree.manifest ≡ manifest }
         ensures new { result ≡ beginning generation served }
@@ -70,7 +70,8 @@ impl Server {
         }
     }
 
-    /// Returns what it serves, with its share of the manifest, and drops what is in hand and what is not posted.
+    /// Returns what is served, with its share of the manifest. The hand and the replies that are not posted are
+    /// dropped.
     pub(crate) fn into_lease(self) -> Lease
         ensures generation { result.generation ≡ self.generation }
         ensures served { result.served ≡ self.served }
@@ -88,7 +89,7 @@ impl Server {
         }
     }
 
-    /// Goes on at a generation, at which the daemon claimed the seat.
+    /// Serves on at `generation`, at which the daemon claimed the seat.
     pub(crate) fn serve_at(&mut self, generation: u64)
         ensures at { self.new ≡ at_generation generation self.old }
     {
@@ -116,8 +117,8 @@ impl Server {
         &self.unposted
     }
 
-    /// Takes what waits first at the broker. It looks for the broker's refusals, then makes room for the ask and its
-    /// reply, then takes.
+    /// Takes what waits first at the broker into the hand. Memory for the hand and the replies is reserved before the
+    /// take. If memory is refused, the broker's refusal is returned, and `NoMemory` only if the broker has none.
     pub(crate) fn take(&mut self, broker: &mut Broker, daemon: DaemonId) -> Happened
         ensures takes { TakesBy (take_fault broker.old daemon self.old.generation)
             self.old broker.old result self.new broker.new }
@@ -131,7 +132,8 @@ impl Server {
         take_into(&mut self.hand, broker, daemon, self.generation)
     }
 
-    /// Issues a request, and takes what waits first then. The room for the take comes before the issue.
+    /// Issues `request`, and then takes what waits first at the broker. Memory for the take is reserved before the
+    /// issue.
     pub(crate) fn begin(
         &mut self,
         broker: &mut Broker,
@@ -155,7 +157,8 @@ impl Server {
         }
     }
 
-    /// Answers the ask, or applies the item, at a position of the hand, from 1. The room for the reply is there.
+    /// Answers the ask, or applies the item, at `position` of the hand. The first position is 1. The take reserved the
+    /// memory for the reply.
     pub(crate) fn work(&mut self, position: u64, fails: bool) -> Happened
         ensures works { WorksBy (at_position self.old.hand position) self.old position fails result self.new }
     {
@@ -183,7 +186,7 @@ impl Server {
         Happened::Made(reply)
     }
 
-    /// Posts the reply at a position of those that are not posted, counted from 1. It takes no memory.
+    /// Posts the reply at `position` of the replies that are not posted. The first position is 1. It takes no memory.
     pub(crate) fn post(&mut self, broker: &mut Broker, daemon: DaemonId, position: u64) -> Happened
         ensures posts { PostsBy (at_position self.old.unposted position)
             self.old broker.old daemon position result self.new broker.new }
@@ -200,7 +203,7 @@ impl Server {
     }
 }
 
-/// Makes the served state of a daemon that mounts, and its share of the manifest.
+/// Makes what a daemon that mounts needs to serve: a share of `manifest`, and a new served state.
 pub fn opening(
     alloc: Global,
     manifest: &Manifest,
@@ -214,7 +217,7 @@ pub fn opening(
     Ok((shared, served))
 }
 
-/// Returns the outcome of an item. Without one it is a refusal.
+/// Returns the outcome of applying `item`. Without an item the outcome is the refusal `NoSuch`.
 fn told_of_item(served: &Served, item: Option<Item>) -> Happened
     ensures { result ≡ told_item served.now item }
 {
@@ -227,7 +230,7 @@ fn told_of_item(served: &Served, item: Option<Item>) -> Happened
     }
 }
 
-/// Takes what stands at an index out of a queue, if anything does. For the most part that is the first.
+/// Removes the member at `index` from `queue` and returns it, if there is one. For the most part `index` is 0.
 fn take_out<T>(queue: &mut VecDeque<T>, index: usize) -> Option<T>
     ensures value { IfSome result (λ taken. taken ≡ slice_index_or queue.old.items index taken) }
     ensures items { OnSome result (queue.new.items ≡ remove queue.old.items index) }
@@ -241,7 +244,7 @@ fn take_out<T>(queue: &mut VecDeque<T>, index: usize) -> Option<T>
     queue.remove(index)
 }
 
-/// Makes room for what a take may bring: a whole batch in the hand, and a reply to each member of the hand.
+/// Reserves memory for what a take may bring: for a whole batch in `hand`, and for a reply to each member of `hand`.
 fn make_room(hand: &mut VecDeque<Ask>, unposted: &mut VecDeque<Reply>) -> Result<(), NoMemory>
     ensures same_hand { hand.new.items ≡ hand.old.items }
     ensures same_replies { unposted.new.items ≡ unposted.old.items }
@@ -255,7 +258,7 @@ fn make_room(hand: &mut VecDeque<Ask>, unposted: &mut VecDeque<Reply>) -> Result
     Ok(())
 }
 
-/// Takes what waits first at the broker into a hand that has room for it.
+/// Takes what waits first at the broker into `hand`, which has room for it.
 fn take_into(
     hand: &mut VecDeque<Ask>,
     broker: &mut Broker,
@@ -273,7 +276,7 @@ fn take_into(
     }
 }
 
-/// Puts what was taken into the hand: an ask as it is, each item of a forget by itself.
+/// Appends what was taken to `hand`: an ask as it is, each item of a forget by itself. Returns what happened.
 fn put_in_hand(hand: &mut VecDeque<Ask>, taken: Ask) -> Happened
     requires room { deque_len hand.old + 256 ≤ deque_capacity hand.old }
     ensures hand { hand.new.items ≡ hand.old.items ++ handed taken }
@@ -290,7 +293,7 @@ fn put_in_hand(hand: &mut VecDeque<Ask>, taken: Ask) -> Happened
     Happened::Took(unique)
 }
 
-/// Puts each item into the hand by itself, and returns how many there are.
+/// Appends each item to `hand` as a forget of its own, and returns how many items there are.
 fn put_each(hand: &mut VecDeque<Ask>, items: &[Item]) -> usize
     requires room { deque_len hand.old + length items.now ≤ deque_capacity hand.old }
     ensures hand { hand.new.items ≡ hand.old.items ++ map single items.now }

@@ -1,4 +1,4 @@
-//! What a daemon takes over: data that comes whole, or part by part, is read and restored.
+//! How a daemon takes over: it reads data that comes whole or part by part, and restores what the data tells.
 ghost use Rattle.std.specs.Prelude.{◌≡◌, ◌≤◌, ◌++◌, ℕ, nat_lt, false, true, Some, is_none, length, IsTrue, IfOk, OnErr, OnOk};
 ghost use Rattle.map_image.specs.Feeding.{standing_fault};
 ghost use Rattle.takeover_core.specs.Phases.{after, is_raising, is_taking, phase_after, Fed, Raised};
@@ -16,7 +16,7 @@ use map_image::{ImageFault, ImageReader};
 use std::alloc::Global;
 use takeover_core::{Message, Node};
 
-/// Returns the bytes that a message carries: none, where it is no data.
+/// Returns the bytes of data that `message` carries, and no bytes if it carries no data.
 pub(crate) fn bytes_of(message: &Message) -> &[u8]
     ensures bytes { result.now ≡ bytes_of message.now }
 {
@@ -27,7 +27,7 @@ pub(crate) fn bytes_of(message: &Message) -> &[u8]
     }
 }
 
-/// Reads bytes behind those that were read, and returns whether an image may begin so.
+/// Reads `bytes` after all that `reader` read before, and returns whether an image may begin with the whole.
 pub(crate) fn feed(reader: &mut ImageReader, bytes: &[u8]) -> Result<bool, NoMemory>
     ensures reads { OnOk result (reader.new ≡ reader.old ++ bytes.now) }
     ensures fits { IfOk result (λ fits. fits ≡ is_none (standing_fault (reader.old ++ bytes.now))) }
@@ -40,7 +40,7 @@ pub(crate) fn feed(reader: &mut ImageReader, bytes: &[u8]) -> Result<bool, NoMem
     }
 }
 
-/// Reads the bytes of a first part, and returns what read them, and whether an image may begin so.
+/// Reads `bytes`, the first part, with a new reader. Returns the reader, and whether an image may begin with `bytes`.
 pub(crate) fn read_first(alloc: Global, bytes: &[u8]) -> Result<(ImageReader, bool), NoMemory>
     ensures reads { IfOk result (λ read. read.0 ≡ bytes.now) }
     ensures fits { IfOk result (λ read. read.1 ≡ is_none (standing_fault bytes.now)) }
@@ -50,8 +50,8 @@ pub(crate) fn read_first(alloc: Global, bytes: &[u8]) -> Result<(ImageReader, bo
     Ok((reader, fits))
 }
 
-/// Reads the bytes of the last part behind a copy of those before it, and returns what read them, and whether an image
-/// may begin so.
+/// Reads `bytes`, the last part, with a copy of the reader of the parts before; a part at position 1 gets a new reader.
+/// Returns that reader, and whether an image may begin with all that it read.
 fn read_last(
     alloc: Global,
     daemon: &Daemon,
@@ -72,7 +72,7 @@ fn read_last(
     read_first(alloc, bytes)
 }
 
-/// Holds what is restored from the data, or is gone where nothing can be restored from it.
+/// Restores the image in `bytes`, and holds the result. Where the image cannot be restored, the daemon is gone.
 pub(crate) fn take_data(
     alloc: Global,
     daemon: &Daemon,
@@ -101,7 +101,8 @@ pub(crate) fn take_data(
     }
 }
 
-/// Reads the last part behind those before it, and then does with all that was read as `take_data` with its bytes.
+/// Reads `bytes`, the last part, after the parts before. Then restores the image that was read, and holds the result.
+/// Where the image cannot be restored, the daemon is gone.
 pub(crate) fn take_last(
     alloc: Global,
     daemon: &Daemon,
@@ -130,7 +131,7 @@ pub(crate) fn take_last(
     }
 }
 
-/// Holds what is restored from what was read, or is gone where nothing can be restored from it.
+/// Restores the image that `reader` read, and holds the result. Where the image cannot be restored, the daemon is gone.
 fn take_read(
     alloc: Global,
     daemon: &Daemon,
@@ -159,7 +160,7 @@ fn take_read(
     }
 }
 
-/// Holds what was restored, until it claims the seat.
+/// Returns the turn of a daemon that holds `server`, which was restored, until it claims the seat.
 fn hold(node: Node, server: Server) -> Turn
     requires raising { IsTrue (is_raising node.phase) }
     ensures holds { result ≡ record { node = after node (Raised true); held = Some server; reaction = Reaction.Heeds } }
@@ -170,7 +171,7 @@ fn hold(node: Node, server: Server) -> Turn
     Turn::holding(node, server)
 }
 
-/// Takes in that nothing was restored.
+/// Returns the turn of a daemon that could restore nothing: it says so and is gone.
 fn lose(daemon: &Daemon, node: Node) -> Turn
     requires raising { IsTrue (is_raising node.phase) }
     ensures loses { Loses daemon.now node result.reaction (turned daemon.now result) }

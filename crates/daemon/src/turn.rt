@@ -1,4 +1,4 @@
-//! What a daemon makes of a message, and is to become of it.
+//! What a daemon says to a message, and what it becomes by the message.
 ghost use Rattle.std.specs.Prelude.{◌≡◌, ◌≤◌, Some, None, length};
 ghost use Rattle.daemon.specs.Saying.{of_said, what_is_said};
 
@@ -7,19 +7,19 @@ use crate::server::Server;
 use std::marker::Model;
 use takeover_core::{Message, Node};
 
-/// What a daemon makes of a message, or of a call in a takeover.
+/// What a daemon says to a message, or to a call of its program in a takeover.
 #[derive(Drop)]
 pub enum Reaction {
-    /// It is not for this phase or session.
+    /// The message or call is not for this phase or session, and changes nothing.
     Ignores,
-    /// It is taken, and has no answer.
+    /// The message or call is taken in, and the daemon says nothing.
     Heeds,
-    /// It says this message, and the others behind it.
+    /// The daemon says this message, and then the others.
     Says(Message, Messages),
 }
 
 impl Reaction {
-    /// Returns that this is said, if there is something, and nothing else.
+    /// Returns the reaction that says `said`, if there is a message. Else returns the reaction that says nothing.
     pub(crate) fn saying(said: Option<Message>) -> Reaction
         ensures of { result ≡ of_said said }
         ensures at_most_one { length (what_is_said result) ≤ 1 }
@@ -31,11 +31,11 @@ impl Reaction {
     }
 }
 
-/// What a daemon is to become of a message, and what it makes of it. Clauses see it as a `TurnState`.
+/// What a daemon becomes by a message, and what it says. Clauses see it as a `TurnState`.
 #[derive(Drop)]
 pub struct Turn {
     node: Node,
-    /// What it holds from then on, if it took data over.
+    /// What the daemon holds from then on, if it took data over.
     held: Option<Server>,
     reaction: Reaction,
 }
@@ -58,7 +58,8 @@ impl Model for Turn {
 }
 
 impl Turn {
-    /// Returns a turn to this part in takeovers, and to nothing else.
+    /// Returns a turn to `node` as the daemon's part in takeovers, with `reaction`. What the daemon serves stays as it
+    /// is.
     pub(crate) fn to(node: Node, reaction: Reaction) -> Turn
         ensures to { result ≡ record { node = node; held = None; reaction = reaction } }
     {
@@ -69,7 +70,8 @@ impl Turn {
         }
     }
 
-    /// Returns a turn to this part in takeovers with what was taken over, which is held from then on.
+    /// Returns a turn to `node` as the daemon's part in takeovers. From then on the daemon holds `held`, which it took
+    /// over.
     pub(crate) fn holding(node: Node, held: Server) -> Turn
         ensures holding { result ≡ record { node = node; held = Some held; reaction = Reaction.Heeds } }
     {
@@ -80,7 +82,8 @@ impl Turn {
         }
     }
 
-    /// Returns its part in takeovers, what it holds from then on, and what it makes of the message.
+    /// Returns the daemon's part in takeovers, what the daemon holds from then on if it took data over, and the
+    /// reaction.
     pub(crate) fn into_parts(self) -> (Node, Option<Server>, Reaction)
         ensures parts { result ≡ (self.node, self.held, self.reaction) }
     {
@@ -92,7 +95,7 @@ impl Turn {
         (node, held, reaction)
     }
 
-    /// Returns how many messages are said then.
+    /// Returns how many messages the turn says.
     pub fn count(&self) -> usize
         ensures count { result ≡ length (what_is_said self.now.reaction) }
     {

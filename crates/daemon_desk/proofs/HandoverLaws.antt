@@ -1,4 +1,4 @@
--- From what was handed over in frames the same is served.
+-- What is restored from frames knows what was handed over in them.
 use Rattle.std.proofs.Common.{◌≡◌, ◌+◌, ℕ, ◌≤◌, true, List, [], ◌∷◌, ◌++◌, length, Some, IsSome, inl, inr, refl, sym, ap, subst, ◌∙◌, append_assoc, length-append, arith}
 use Rattle.std.specs.Prelude.{map}
 use Rattle.std.specs.Int.{w32, w64}
@@ -80,7 +80,7 @@ nothing_yet = refl
 same_rest : (rest : List ℕ) → Rest rest ≡ Rest [] → rest ≡ []
 same_rest rest e = cc
 
--- frames stand in front of their texts, and nothing behind them
+-- the texts of frames are read as these frames, and nothing is left
 texts_first : (frames : List Frame) (bytes : List ℕ) → AreTexts frames bytes → AreFirst bytes frames []
 texts_first [] bytes none = none
 texts_first (frame ∷ frames) bytes (text, others, fits, is, are, joined) =
@@ -106,7 +106,7 @@ same_numbered session generation count other position (x ∷ xs) (y ∷ ys) e =
     let others : xs ≡ ys = same_numbered session generation count other (position + 1) xs ys cc in
     cc
 
--- they carry these bytes alone
+-- frames carry no other bytes than these
 carried : (session generation : ℕ) (frames : List Frame) (bytes read : List ℕ) → Carry session generation frames bytes → Carry session generation frames read → read ≡ bytes
 carried session generation frames bytes read (inl whole) (inl other) = (let e : (let one : List Frame = data_frame session generation bytes ∷ [] in one) ≡ data_frame session generation read ∷ [] = sym whole ∙ other in cc)
 carried session generation frames bytes read (inl whole) (inr (parts, are, joined)) = absurd (no_parts session generation bytes parts (sym whole ∙ are))

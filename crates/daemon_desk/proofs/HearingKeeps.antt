@@ -1,4 +1,4 @@
--- What a desk keeps where its daemon hears a message, or gives up.
+-- What a desk keeps if its daemon hears a message, or gives up.
 use Rattle.std.proofs.Common.{◌≡◌, ◌+◌, ℕ, Bool, true, false, List, ◌++◌, Option, Some, None, IsSome, inl, inr, refl, sym, ap, subst, ◌∙◌}
 use Rattle.std.specs.Prelude.{nat_lt, if◌then◌else◌}
 use Rattle.std.specs.Option.{IfSome}
@@ -26,7 +26,7 @@ not_both b is none = cc
 
 -- ---- by the phase and what is served alone
 
--- what is served stays, in another part in takeovers
+-- a daemon turned to another part in takeovers, and serves what it served
 pub record Keeps (old : DaemonState) (node : NodeState) (new : DaemonState) : Type 0 where
   pub node_is : new.node ≡ node
   pub server_is : new.server ≡ old.server
@@ -37,11 +37,11 @@ kept old later new is same = record {
   server_is = ap (λ (d : DaemonState). d.server) is ∙ same;
 }
 
--- nothing is in hand
+-- a daemon has nothing in hand
 abbrev pub IsAllIdle : DaemonState → Type 0
 IsAllIdle daemon = IfSome daemon.server IsIdle
 
--- what is served is there, unless it is lent, in each phase in which the daemon knows it
+-- a daemon that knows what is served serves it, unless it is lent
 abbrev pub IsThere : Bool → DaemonState → Type 0
 IsThere is_lent daemon = knows daemon.node.phase ≡ true → is_lent ≡ false → IsSome daemon.server
 
@@ -59,7 +59,7 @@ there_unknown is_lent old new node keeps none = λ later own.
 there_held : (is_lent : Bool) (new : DaemonState) (server : ServerState) → new.server ≡ Some server → IsThere is_lent new
 there_held is_lent new server held = λ later own. subst IsSome (sym held) refl
 
--- what is served is at the seat's generation, where the seat stays
+-- what is served stays at the seat's generation, if the seat stays
 pub seat_still : (old new : DaemonState) (node : NodeState) → Keeps old node new → ((g : ℕ) → seat_of node.phase ≡ Some g → seat_of old.node.phase ≡ Some g) → IsAtSeat old → IsAtSeat new
 seat_still old new node keeps stays at = λ g seat.
     subst (IsServedAt g) (sym keeps.server_is) (at g (stays g (ap (λ (n : NodeState). seat_of n.phase) (sym keeps.node_is) ∙ seat)))
@@ -68,17 +68,17 @@ seat_unknown : (old new : DaemonState) (node : NodeState) → Keeps old node new
 seat_unknown old new node keeps none = λ g seat.
     absurd (not_both _ (seat_knows node.phase g (ap (λ (n : NodeState). seat_of n.phase) (sym keeps.node_is) ∙ seat)) none)
 
--- the seat stays over a message
+-- a daemon that has the seat after a message had it before
 seat_heard : (old : NodeState) (said : Message) (g : ℕ) → seat_of (table.phase_after old (table.Hear said)) ≡ Some g → seat_of old.phase ≡ Some g
 seat_heard old said g seat = seat_stays old.versions old.sessions old.phase (table.Hear said) g refl seat
 
--- and over a call behind it
+-- a daemon that has the seat after a message, and a call after that, had it before
 seat_behind : (old : NodeState) (said : Message) (call : table.Event) → ((g : ℕ) → is_given g call ≡ false) → (g : ℕ) → seat_of (table.phase_after (table.after old (table.Hear said)) call) ≡ Some g → seat_of old.phase ≡ Some g
 seat_behind old said call none g seat =
     let node : NodeState = table.after old (table.Hear said) in
     seat_heard old said g (seat_stays node.versions node.sessions node.phase call g (none g) seat)
 
--- who raised the data has no seat yet
+-- a daemon that just restored data has no seat yet
 raised_unseated : (node : NodeState) (s g h : ℕ) → node.phase ≡ Raising s g → seat_of (table.phase_after node (table.Raised true)) ≡ Some h → ⊥
 raised_unseated node s g h is seat =
     let was : seat_of node.phase ≡ Some h = seat_stays node.versions node.sessions node.phase (table.Raised true) h refl seat in
@@ -125,7 +125,7 @@ unknown : (is_lent : Bool) (old new : DaemonState) (node : NodeState) → Keeps 
 unknown is_lent old new node keeps none =
     record { idle = idle_still old new node keeps; there = λ there. there_unknown is_lent old new node keeps none; at = λ at. seat_unknown old new node keeps none }
 
--- who got all of it
+-- what a daemon serves after it got all data
 takes_serve : (is_lent : Bool) (manifest : Manifest) (limit : ℕ) (bytes : List ℕ) (old new : DaemonState) (node : NodeState) (s g : ℕ) (reaction : Reaction) → node.phase ≡ Raising s g → TakesData manifest limit old bytes node g reaction new → Serves is_lent old new
 takes_serve is_lent manifest limit bytes old new node s g reaction at (inl h) = record {
   idle = λ idle. subst IsAllIdle (sym h.becomes) (record { hand = refl; unposted = refl });
@@ -136,7 +136,7 @@ takes_serve is_lent manifest limit bytes old new node s g reaction at (inr h) =
     unknown is_lent old new (table.after node (table.Raised false)) (kept old (turned_to old (table.after node (table.Raised false))) new h.loses.becomes refl)
     (ap (λ (p : Phase). knows (table.after_row node (table.row node p (table.Raised false))).phase) at)
 
--- who got a part, by whether others follow
+-- what a daemon serves after it got a part, by whether others follow
 part_serves : (is_lent : Bool) (manifest : Manifest) (limit : ℕ) (read : List ℕ) (old new : DaemonState) (node : NodeState) (s g v i n : ℕ) (reaction : Reaction) (follow : Bool) → nat_lt i n ≡ follow → node.phase ≡ Taking s g v i n → ReadsBy follow manifest limit old read node g reaction new → Serves is_lent old new
 part_serves is_lent manifest limit read old new node s g v i n reaction true follow at h =
     unknown is_lent old new (table.after node (table.Fed true)) (kept old (record old { node = table.after node (table.Fed true); reading = Some read }) new h.becomes refl)

@@ -62,12 +62,12 @@ waiting_takes_nothing (Serving g) waits may = cc
 waiting_takes_nothing (Draining g s v) waits may = cc
 waiting_takes_nothing phase waits may = cc
 
--- it serves at the generation at which it mounts
+-- a daemon that mounted at a generation serves at it
 pub mounts_at : (old new : DaemonState) (generation : ℕ) (server : ServerState) → is_waiting old ≡ true → MountsSo generation server old new → new.node.phase ≡ Serving generation
 mounts_at old new generation server waits h =
     ap (λ (d : DaemonState). d.node.phase) h ∙ mounted_phase old.node.versions old.node.sessions old.node.phase generation waits
 
--- where its phase is this one, what is served is at the seat's generation
+-- a daemon that serves at a generation is at the seat's generation
 at_serving : (daemon : DaemonState) (generation : ℕ) → daemon.node.phase ≡ Serving generation → IsServedAt generation daemon.server → IsAtSeat daemon
 at_serving daemon generation serves at = λ g seat.
     let same : Some generation ≡ Some g = sym (ap seat_of serves) ∙ seat in
@@ -135,7 +135,7 @@ served_claimed : (next : ℕ) (server : Option ServerState) → IsServedAt next 
 served_claimed next None = tt
 served_claimed next (Some server) = refl
 
--- it serves at the generation that it claimed
+-- a daemon that claimed a generation serves at it
 pub claims_at : (old new : DaemonState) (next : ℕ) → is_holding old.node.phase ≡ true → ClaimsSo (Ok next) old new → new.node.phase ≡ Serving next
 claims_at old new next holds h =
     ap (λ (d : DaemonState). d.node.phase) h ∙ claimed_phase old.node.versions old.node.sessions old.node.phase next holds

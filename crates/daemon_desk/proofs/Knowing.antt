@@ -1,4 +1,4 @@
--- A daemon that knows what is served knew it before the event, but where data was raised.
+-- A daemon that knows what is served after an event knew it before, unless the event restored data.
 use Rattle.std.proofs.Common.{◌≡◌, ℕ, true, false, List, rules}
 use Rattle.takeover_core.specs.declared.heard.Heard.TheVariants.{MakeData}
 use Rattle.takeover_core.specs.declared.message.Message.{Message}

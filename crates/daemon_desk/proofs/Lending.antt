@@ -34,21 +34,21 @@ some_lent (Some generation) None lease at there is = absurd (let no : ⊥ = cc i
 some_lent (Some generation) (Some server) None at there is = absurd (let no : ⊥ = cc in no)
 some_lent (Some generation) (Some server) (Some lease) at there is = refl
 
--- what is served is lent, where workers may take and it is not lent
+-- a desk lends what its daemon serves, if workers may take and it is not lent
 pub lends_it : (is_lent : Bool) (daemon : DaemonState) (lease : Option Lease) → IsOrderly is_lent daemon → may_take daemon.node.phase ≡ true → is_lent ≡ false → option_map lent_server lease ≡ lendable_at (taking_at daemon.node.phase) daemon.server → IsSome lease
 lends_it is_lent daemon lease orderly may own is =
     some_lent (taking_at daemon.node.phase) daemon.server lease (taking daemon.node.phase may) (orderly.known (may_take_knows daemon.node.phase may) own) is
 
 -- ---- the generation
 
--- what may be lent of a server at this generation is a lease at it
+-- a lease of a server at this generation is at this generation
 lent_at : (generation : ℕ) (server : Option ServerState) (lease : Lease) → IsServedAt generation server → Some (lent_server lease) ≡ server → generation ≡ lease.generation
 lent_at generation None lease at is = absurd (let no : ⊥ = cc in no)
 lent_at generation (Some server) lease at is =
     let same : lent_server lease ≡ server = cc in
     sym (ap (λ (s : ServerState). s.generation) same ∙ at)
 
--- where the daemon serves, what is lent is at the seat's generation
+-- a lease of a daemon that serves is at the seat's generation
 pub lends_at : (phase : Phase) (is_lent : Bool) (daemon : DaemonState) (taking : Option ℕ) (lease : Lease) → daemon.node.phase ≡ phase → IsOrderly is_lent daemon → IfSome taking (λ (g : ℕ). seat_of phase ≡ Some g) → is_none taking ≡ false → Some (lent_server lease) ≡ lendable daemon.server → seat_of phase ≡ Some lease.generation
 lends_at phase is_lent daemon None lease same orderly seat serves is = absurd (let no : ⊥ = cc in no)
 lends_at phase is_lent daemon (Some g) lease same orderly seat serves is =

@@ -8,11 +8,11 @@ use Rattle.takeover_core.specs.Node.{NodeState}
 use Rattle.takeover_core.specs.Phases.{Event, Hear, GiveUp, heard, may_take, phase_after}
 use Rattle.daemon.specs.Talking.{brings_data}
 
--- a daemon by its parts
+-- the state of a node, by its parts
 abbrev pub node_of : List ℕ → ℕ → Phase → NodeState
 node_of versions sessions phase = record { phase = phase; versions = versions; sessions = sessions }
 
--- an event that no data comes of, behind which workers may still take
+-- an event brings no data, and workers may still take after it
 pub record IsQuiet (node : NodeState) (event : Event) : Type 0 where
   pub no_data : brings_data (heard node event) ≡ false
   pub may_take : may_take (phase_after node event) ≡ true

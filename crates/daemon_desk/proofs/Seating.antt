@@ -1,4 +1,4 @@
--- A daemon has the seat at the generation at which it had it, unless the broker gives it anew.
+-- A daemon has the seat at the generation at which it had it before, unless the broker gives it a new one.
 use Rattle.std.proofs.Common.{◌≡◌, ℕ, true, false, List, Some, Ok, Err, arith, rules}
 use Rattle.eden_base.specs.declared.claim.ClaimFault.TheVariants.{Unanswered}
 use Rattle.takeover_core.specs.Histories.{seat_of, is_given}
@@ -34,18 +34,18 @@ seat_stays versions sessions (Holding h) (Claimed (Ok next)) g none seat = grind
 seat_stays versions sessions (Holding h) (Claimed (Err (Unanswered asks))) g none seat = grind rules
 seat_stays versions sessions phase event g none seat = grind rules
 
--- who has the seat knows what is served
+-- a daemon that has the seat knows what is served
 pub seat_knows : (phase : Phase) (g : ℕ) → seat_of phase ≡ Some g → knows phase ≡ true
 seat_knows phase g seat = grind rules
 
--- where workers may take, it is at the seat's generation
+-- the generation at which workers may take is the seat's
 pub taking_is_seat : (phase : Phase) (g : ℕ) → taking_at phase ≡ Some g → seat_of phase ≡ Some g
 taking_is_seat phase g taking = grind rules
 
--- where it mounts it serves there
+-- a daemon that mounts serves at the generation of the mount
 pub mounted_phase : (versions : List ℕ) (sessions : ℕ) (phase : Phase) (g : ℕ) → is_waiting_in phase ≡ true → phase_after (node_of versions sessions phase) (Mounted g) ≡ Serving g
 mounted_phase versions sessions phase g waits = grind rules
 
--- and where its claim succeeds
+-- a daemon whose claim succeeds serves at the generation that it claimed
 pub claimed_phase : (versions : List ℕ) (sessions : ℕ) (phase : Phase) (g : ℕ) → is_holding phase ≡ true → phase_after (node_of versions sessions phase) (Claimed (Ok g)) ≡ Serving g
 claimed_phase versions sessions phase g holds = grind rules

@@ -1,4 +1,4 @@
--- What is told, where a daemon says one message at most and has nothing in hand.
+-- What a desk tells, if its daemon says at most one message and has nothing in hand.
 use Rattle.std.proofs.Common.{◌≡◌, ℕ, ◌≤◌, false, List, [], ◌∷◌, length, Option, Some, None, Result, Ok, Err, refl, sym, ap, subst, ◌∙◌, arith, rules}
 use Rattle.std.specs.Option.{IfSome}
 use Rattle.manifest.specs.Manifest.{Manifest}
@@ -85,7 +85,7 @@ pub hears_by : (was old new : DeskState) (said : Message) (what : Hearing) (reac
 hears_by was old new said what reaction daemon is hears told becomes =
     subst (λ (d : DeskState). HearsMessage d said what new) is (record { reaction = reaction; daemon = daemon; hears = hears; tells = told; becomes = becomes })
 
--- what a daemon becomes of its turn it becomes of the message
+-- what a daemon becomes by its turn is what it becomes by the message
 pub hears_turned : (manifest : Manifest) (limit : ℕ) (old new : DaemonState) (said : Message) (turn : TurnState) (reaction : Reaction) → HearsSo manifest limit old said turn.reaction (turned old turn) → reaction ≡ turn.reaction → new ≡ turned old turn → HearsSo manifest limit old said reaction new
 hears_turned manifest limit old new said turn reaction h reacts becomes =
     subst (λ (d : DaemonState). HearsSo manifest limit old said reaction d) (sym becomes) (subst (λ (r : Reaction). HearsSo manifest limit old said r (turned old turn)) (sym reacts) h)

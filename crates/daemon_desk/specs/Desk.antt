@@ -1,6 +1,6 @@
--- A daemon behind its connections: what it makes of each frame that it is sent, and of each call of its program. What
--- it says and becomes is the daemon's own table; what is added here are the frames, and what is lent to workers. (This
--- project's own.)
+-- A daemon with the frames of its connections: what it makes of each frame that it gets, and of each call of its
+-- program. What the daemon says and becomes is in `daemon`. Added here are the frames, and what is lent to workers.
+-- (This project's own.)
 use Rattle.std.specs.Prelude.{◌≡◌, ◌⊎◌, ℕ, Bool, true, false, ◌&&◌, ◌==◌, List, [], ◌∷◌, map, Option, Some, None, Result, Ok, Err, if◌then◌else◌}
 use Rattle.std.specs.Option.{option_map}
 use Rattle.eden_base.specs.declared.claim.ClaimFault.{ClaimFault}
@@ -28,8 +28,9 @@ use Rattle.daemon_desk.specs.declared.answers.Mounting.TheVariants as mounting
 use Rattle.daemon_desk.specs.declared.answers.Claiming.{Claiming}
 use Rattle.daemon_desk.specs.declared.answers.Claiming.TheVariants as claiming
 
--- The daemon; the manifest of its checkout, and how many attributes it has loaded at most; what it would serve if it
--- mounted, once that is made; and whether its workers have what it serves. The daemon serves nothing meanwhile.
+-- A desk has a daemon, the manifest of its checkout, and how many attributes the daemon has loaded at most. It has what
+-- the daemon serves once it mounts, if that was prepared. It tells whether workers have a lease; then the daemon serves
+-- nothing.
 pub record DeskState : Type 0 where
   pub daemon : DaemonState
   pub manifest : Manifest
@@ -37,7 +38,7 @@ pub record DeskState : Type 0 where
   pub prepared : Option ServedState
   pub is_lent : Bool
 
--- a daemon that was just started, with these versions of the image
+-- the desk of a daemon that just started, with these versions of the image
 abbrev pub new_desk : Manifest → ℕ → List ℕ → DeskState
 new_desk manifest limit versions = record {
   daemon = new_daemon versions;
@@ -47,19 +48,19 @@ new_desk manifest limit versions = record {
   is_lent = false;
 }
 
--- the same with another daemon
+-- the desk with another daemon
 abbrev pub with_daemon : DeskState → DaemonState → DeskState
 with_daemon desk daemon = record desk { daemon = daemon }
 
 -- ---- a frame of another daemon
 
--- what is told of what the daemon makes of a message: all that it says, each message as a frame
+-- the hearing of a daemon's reaction: all that the daemon says, each message as a frame
 abbrev pub IsTold : Reaction → Hearing → Type 0
 IsTold reaction.Ignores what = what ≡ hearing.Ignores
 IsTold reaction.Heeds what = what ≡ hearing.Heeds
 IsTold (reaction.Says said others) what = what ≡ hearing.Tells (map frame.Takeover (said ∷ others))
 
--- the daemon hears the message
+-- the daemon hears a message of another daemon
 pub record HearsMessage (old : DeskState) (said : Message) (what : Hearing) (new : DeskState) : Type 0 where
   pub reaction : Reaction
   pub daemon : DaemonState
@@ -67,25 +68,25 @@ pub record HearsMessage (old : DeskState) (said : Message) (what : Hearing) (new
   pub tells : IsTold reaction what
   pub becomes : new ≡ with_daemon old daemon
 
--- memory was refused for data that was to be made, or to be read and raised; and nothing changes
+-- memory was refused for data that was to be made, or to be read and restored; and nothing changes
 pub record LacksMemory (old : DeskState) (said : Message) (what : Hearing) (new : DeskState) : Type 0 where
   pub wanted : brings_data (heard old.daemon.node (Hear said)) ≡ true
   pub told : what ≡ hearing.NoMemory
   pub unchanged : new ≡ old
 
--- nothing changes, and this is told
+-- the result `what` is this one, and nothing changes
 pub record Stays {X : Type 0} (old : DeskState) (is what : X) (new : DeskState) : Type 0 where
   pub told : what ≡ is
   pub unchanged : new ≡ old
 
--- a message of a takeover is heard; on any other frame the connection is closed
+-- a message of a takeover is heard, or lacks memory; any other frame closes the connection
 abbrev pub Hears : DeskState → Frame → Hearing → DeskState → Type 0
 Hears old (frame.Takeover said) what new = HearsMessage old said what new ⊎ LacksMemory old said what new
 Hears old other what new = Stays old hearing.Closes what new
 
 -- ---- a mount
 
--- what a Mount's answer comes to; a frame that is none is Broken
+-- the result of the broker's answer to a Mount; a frame that is no such answer is Broken
 abbrev pub mounting_of : Frame → Mounting
 mounting_of (frame.Mounted generation) = mounting.Serves generation
 mounting_of frame.Seated = mounting.Seated
@@ -93,12 +94,12 @@ mounting_of frame.LastGeneration = mounting.LastGeneration
 mounting_of frame.Ended = mounting.Ended
 mounting_of other = mounting.Broken
 
--- the generation that is told, where the daemon serves
+-- the generation at which the daemon serves after a Mount, if it serves
 abbrev pub mounted_at : Mounting → Option ℕ
 mounted_at (mounting.Serves generation) = Some generation
 mounted_at other = None
 
--- the daemon serves what was prepared
+-- the daemon takes the seat at a generation, and serves what was prepared
 pub record MountsAt (generation : ℕ) (served : ServedState) (old : DeskState) (what : Mounting)
     (new : DeskState) : Type 0 where
   pub daemon : DaemonState
@@ -106,17 +107,17 @@ pub record MountsAt (generation : ℕ) (served : ServedState) (old : DeskState) 
   pub told : what ≡ mounting.Serves generation
   pub becomes : new ≡ record old { daemon = daemon; prepared = None }
 
--- with what it may mount: what it prepared, as long as it waits
+-- what the daemon would serve if it mounted: what it prepared, while it may mount
 abbrev pub mountable : DeskState → Option ServedState
 mountable desk = if is_waiting desk.daemon then desk.prepared else None
 
--- by that
+-- the daemon takes in the broker's answer to a Mount, with what it would serve, if it may mount
 abbrev pub MountsWith : Option ServedState → DeskState → Frame → Mounting → DeskState → Type 0
 MountsWith (Some served) old (frame.Mounted generation) what new = MountsAt generation served old what new
 MountsWith (Some served) old answer what new = Stays old (mounting_of answer) what new
 MountsWith None old answer what new = Stays old mounting.Broken what new
 
--- the broker answers a Mount
+-- the daemon takes in the broker's answer to a Mount
 abbrev pub Mounts : DeskState → Frame → Mounting → DeskState → Type 0
 Mounts old answer what new = MountsWith (mountable old) old answer what new
 
@@ -128,12 +129,12 @@ taking_at (Serving generation) = Some generation
 taking_at (Draining generation session version) = Some generation
 taking_at phase = None
 
--- a takeover waits until nothing is in hand
+-- whether a takeover waits until the hand is empty
 abbrev pub is_draining : Phase → Bool
 is_draining (Draining generation session version) = true
 is_draining phase = false
 
--- what may be lent: what the daemon serves, where workers may take; it serves nothing where it is lent already
+-- what may be lent: what the daemon serves, if workers may take; a daemon whose server is lent serves nothing
 abbrev pub lendable_at : Option ℕ → Option ServerState → Option ServerState
 lendable_at (Some generation) server = server
 lendable_at None server = None
@@ -141,7 +142,7 @@ lendable_at None server = None
 abbrev pub lendable : DeskState → Option ServerState
 lendable desk = lendable_at (taking_at desk.daemon.node.phase) desk.daemon.server
 
--- it is lent, if it may be
+-- the desk after the server was lent, if there was one to lend
 abbrev pub lent_by : DeskState → Option ServerState → DeskState
 lent_by desk (Some server) = record desk { daemon = record desk.daemon { server = None }; is_lent = true }
 lent_by desk None = desk
@@ -149,16 +150,16 @@ lent_by desk None = desk
 abbrev pub lent : DeskState → DeskState
 lent desk = lent_by desk (lendable desk)
 
--- this is the generation at which workers may take
+-- whether workers may take at this generation
 abbrev pub is_generation : Option ℕ → ℕ → Bool
 is_generation (Some taking) generation = generation == taking
 is_generation None generation = false
 
--- what is served is lent, at this generation
+-- whether what is served is lent, at this generation
 abbrev pub is_lent_at : DeskState → ℕ → Bool
 is_lent_at desk generation = desk.is_lent && is_generation (taking_at desk.daemon.node.phase) generation
 
--- what was lent is served on; what was not lent, or at another generation, is dropped
+-- the desk after a server came back: the server is served on if it was lent at its generation, and else dropped
 abbrev pub returned_to : Bool → DeskState → ServerState → DeskState
 returned_to true desk server = record desk { daemon = with_server desk.daemon server; is_lent = false }
 returned_to false desk server = desk
@@ -168,13 +169,13 @@ returned desk server = returned_to (is_lent_at desk server.generation) desk serv
 
 -- ---- a drain
 
--- what is told where the daemon may be ready to hand over
+-- the frame for a drain's result: the one that says that the daemon is ready, or none if the drain is refused
 abbrev pub IsReadied : Result Reaction DrainFault → Option Frame → Type 0
 IsReadied (Ok (reaction.Says said [])) told = told ≡ Some (frame.Takeover said)
 IsReadied (Ok other) told = ⊥
 IsReadied (Err fault) told = told ≡ None
 
--- the daemon drains, where nothing is lent
+-- the daemon says that it is ready to hand over, if it drains
 pub record DrainsNow (old : DeskState) (told : Option Frame) (new : DeskState) : Type 0 where
   pub result : Result Reaction DrainFault
   pub daemon : DaemonState
@@ -186,11 +187,11 @@ abbrev pub DrainsWhile : Bool → DeskState → Option Frame → DeskState → T
 DrainsWhile true old told new = Stays old None told new
 DrainsWhile false old told new = DrainsNow old told new
 
--- a round of workers is over, if one was
+-- the daemon says that it is ready to hand over, if it drains and nothing is lent
 abbrev pub Drains : DeskState → Option Frame → DeskState → Type 0
 Drains old told new = DrainsWhile old.is_lent old told new
 
--- the frame that says so: exactly where it drains and nothing is lent
+-- the frame that says that the daemon is ready, exactly if it drains and nothing is lent
 abbrev pub ready_in : Bool → Phase → Option Frame
 ready_in false (Draining generation session version) = Some (frame.Takeover (message.Ready session generation))
 ready_in lent phase = None
@@ -200,14 +201,14 @@ ready_of desk = ready_in desk.is_lent desk.daemon.node.phase
 
 -- ---- the end of a takeover
 
--- what is told where the daemon gives up
+-- the frame of a reaction that says one message at most
 abbrev pub IsSaid : Reaction → Option Frame → Type 0
 IsSaid reaction.Ignores told = told ≡ None
 IsSaid reaction.Heeds told = told ≡ None
 IsSaid (reaction.Says said []) told = told ≡ Some (frame.Takeover said)
 IsSaid (reaction.Says said (other ∷ others)) told = ⊥
 
--- the daemon gives up
+-- the daemon gives its part in a takeover up
 pub record GivesUp (old : DeskState) (told : Option Frame) (new : DeskState) : Type 0 where
   pub reaction : Reaction
   pub daemon : DaemonState
@@ -233,7 +234,7 @@ claim_answer frame.Ended = Some (Err claim.Ended)
 claim_answer frame.LastGeneration = Some (Err claim.LastGeneration)
 claim_answer other = None
 
--- what it comes to
+-- the result of the answer to a Claim
 abbrev pub claiming_of : Result ℕ ClaimFault → Claiming
 claiming_of (Ok generation) = claiming.Serves generation
 claiming_of (Err (claim.Unanswered asks)) = claiming.Waits
@@ -241,24 +242,25 @@ claiming_of (Err (claim.Stale now)) = claiming.Stale
 claiming_of (Err claim.Ended) = claiming.Ended
 claiming_of (Err claim.LastGeneration) = claiming.LastGeneration
 
--- the generation that is told, where the daemon serves
+-- the generation at which the daemon serves after a Claim, if it serves
 abbrev pub claimed_at : Claiming → Option ℕ
 claimed_at (claiming.Serves generation) = Some generation
 claimed_at other = None
 
--- the daemon takes the answer in
+-- the daemon takes in the answer to its Claim
 pub record ClaimsBy (answer : Result ℕ ClaimFault) (old : DeskState) (what : Claiming) (new : DeskState) : Type 0 where
   pub daemon : DaemonState
   pub claims : ClaimsSo answer old.daemon daemon
   pub told : what ≡ claiming_of answer
   pub becomes : new ≡ with_daemon old daemon
 
--- where a claim is wanted
+-- the daemon takes the answer in, if it wants to claim and the frame was an answer to a Claim; else the result is
+-- Broken
 abbrev pub ClaimsFrom : Option ℕ → Option (Result ℕ ClaimFault) → DeskState → Claiming → DeskState → Type 0
 ClaimsFrom (Some generation) (Some answer) old what new = ClaimsBy answer old what new
 ClaimsFrom wanted answer old what new = Stays old claiming.Broken what new
 
--- the broker answers a Claim
+-- the daemon takes in the broker's answer to a Claim
 abbrev pub Claims : DeskState → Frame → Claiming → DeskState → Type 0
 Claims old answer what new =
     ClaimsFrom (claim_wanted old.daemon.node.phase) (claim_answer answer) old what new

@@ -1,4 +1,4 @@
--- What a desk keeps, whatever its daemon is sent and asked.
+-- What holds of a desk before and after each call.
 use Rattle.std.specs.Prelude.{◌≡◌, ℕ, Bool, true, false, Option, Some, None, IsSome}
 use Rattle.std.specs.Option.{IfSome}
 use Rattle.takeover_core.specs.Histories.{seat_of}
@@ -8,12 +8,12 @@ use Rattle.takeover_core.specs.declared.phase.Phase.TheVariants.{Waiting, Chosen
 use Rattle.daemon.specs.Daemon.{DaemonState}
 use Rattle.daemon.specs.Server.{ServerState, IsIdle}
 
--- what a daemon serves is lent only where workers may take: so nothing is handed over in its place
+-- a daemon whose served state is lent is in a phase in which workers may take, and serves nothing
 pub record IsLentBy (daemon : DaemonState) : Type 0 where
   pub may_take : may_take daemon.node.phase ≡ true
   pub serves_nothing : daemon.server ≡ None
 
--- a phase in which a daemon knows what is served, be it by a mount or from data
+-- whether a daemon in this phase knows what is served, be it by a mount or from data
 abbrev pub knows : Phase → Bool
 knows Waiting = false
 knows (Chosen session version) = false
@@ -23,16 +23,16 @@ knows (Raising session generation) = false
 knows Gone = false
 knows phase = true
 
--- what is served, if something is, is at this generation
+-- the server, if there is one, is at this generation
 abbrev pub IsServedAt : ℕ → Option ServerState → Type 0
 IsServedAt generation server = IfSome server (λ (s : ServerState). s.generation ≡ generation)
 
--- what is served is at the generation at which the daemon has the seat
+-- a daemon that has the seat serves at the seat's generation, if it serves
 abbrev pub IsAtSeat : DaemonState → Type 0
 IsAtSeat daemon = (generation : ℕ) → seat_of daemon.node.phase ≡ Some generation → IsServedAt generation daemon.server
 
--- what is served has nothing in hand, since workers have settled when they give it back; it is there in each phase in
--- which the daemon knows it, unless it is lent; and it is at the seat's generation
+-- What a daemon serves has an empty hand, since workers settle before they give a lease back. A daemon that knows what
+-- is served serves it, unless it is lent. A daemon that has the seat serves at the seat's generation.
 pub record IsOrderly (is_lent : Bool) (daemon : DaemonState) : Type 0 where
   pub lent : is_lent ≡ true → IsLentBy daemon
   pub idle : IfSome daemon.server IsIdle

@@ -1,12 +1,12 @@
-//! The results of frames that a daemon is sent.
+//! The results of frames that a daemon gets.
 use crate::frame_list::FrameList;
 
 /// The result of a frame of another daemon.
 #[derive(Drop)]
 pub enum Hearing {
-    /// The other daemon is sent these frames, one behind the other.
+    /// The daemon answers the other daemon with these frames, in order.
     Tells(FrameList),
-    /// The frame is taken, without an answer.
+    /// The frame is taken in, and has no answer.
     Heeds,
     /// The frame is not for this phase or session, and changes nothing.
     Ignores,

@@ -1,4 +1,4 @@
-//! A daemon behind its connections.
+//! A daemon with the frames of its connections: what each frame leads to.
 ghost use Rattle.std.specs.Option.{option_map, IfSome};
 ghost use Rattle.std.specs.Prelude.{◌≡◌, ◌≢◌, ◌≤◌, ◌⊎◌, Some, None, true, false, length, is_some, IsSome, IsTrue, OnOk, OnErr};
 ghost use Rattle.fuse_ops.specs.Served.{new_served};
@@ -22,7 +22,7 @@ use std::alloc::Global;
 use std::marker::Model;
 use takeover_core::{Message, Phase, Versions};
 
-/// The state that a daemon serves once it is mounted, with its share of the manifest.
+/// What a daemon serves once it mounts: a served state, with its share of the manifest.
 #[derive(Drop)]
 struct Prepared {
     manifest: Manifest,
@@ -30,8 +30,8 @@ struct Prepared {
     ghost over: { served.tree.manifest ≡ manifest },
 }
 
-/// A daemon, the manifest of its checkout, the state that it prepared for a mount, and whether its lease is with
-/// workers. Contracts see it as a `DeskState`.
+/// A daemon, the manifest of its checkout, what it prepared for a mount, and whether workers have its lease. Contracts
+/// see it as a `DeskState`.
 #[derive(Drop)]
 pub struct DaemonDesk {
     alloc: Global,
@@ -66,8 +66,8 @@ impl Model for DaemonDesk {
 }
 
 impl DaemonDesk {
-    /// Returns a daemon that was just started, with these versions of the image. It has at most `limit` attributes
-    /// loaded at once.
+    /// Returns the desk of a daemon that just started, and that has `versions` of the image. The daemon has at most
+    /// `limit` attributes loaded at once.
     pub fn new(alloc: Global, manifest: Manifest, limit: usize, versions: Versions) -> DaemonDesk
         ensures new { result ≡ new_desk manifest limit versions }
     {
@@ -81,7 +81,7 @@ impl DaemonDesk {
         }
     }
 
-    /// Makes the state to serve before the mount is asked for. So a mount that is granted takes no memory.
+    /// Makes the state that the daemon serves once it mounts. So taking the broker's answer to a Mount takes no memory.
     pub fn prepare(&mut self) -> Result<(), NoMemory>
         ensures prepared { OnOk result (self.new ≡ record self.old {
           prepared = Some (new_served self.old.manifest self.old.limit);
@@ -114,7 +114,7 @@ impl DaemonDesk {
         }
     }
 
-    /// Begins to serve what was prepared.
+    /// Begins to serve what was prepared, at `generation`.
     fn mount(&mut self, generation: u64) -> Mounting
         requires waiting { IsTrue (is_waiting self.old.daemon) }
         requires prepared { IsTrue (is_some self.old.prepared) }
@@ -131,15 +131,15 @@ impl DaemonDesk {
         Mounting::Serves(generation)
     }
 
-    /// Returns the offer of the versions that the daemon has.
+    /// Returns the frame in which the daemon offers its versions of the image.
     pub fn offer(&self) -> Frame
         ensures offer { result ≡ Takeover (Message.Offer self.now.daemon.node.versions) }
     {
         Frame::Takeover(self.daemon.offer())
     }
 
-    /// Hears a frame of another daemon. Here an image is written to be handed over, and one that comes is read and
-    /// restored.
+    /// Hears a frame of another daemon. In this call an image to hand over is written, and an image that comes is read
+    /// and restored.
     pub fn hear(&mut self, frame: &Frame) -> Hearing
         ensures hears { Hears self.old frame.now result self.new }
     {
@@ -149,7 +149,7 @@ impl DaemonDesk {
         }
     }
 
-    /// Hears a message.
+    /// Hears a message of another daemon.
     fn hear_message(&mut self, message: &Message) -> Hearing
         ensures hears { HearsMessage self.old message.now result self.new
             ⊎ LacksMemory self.old message.now result self.new }
@@ -167,7 +167,7 @@ impl DaemonDesk {
         hearing_of(reaction)
     }
 
-    /// Hears a part that others follow.
+    /// Hears a part that other parts follow.
     fn hear_part(&mut self, message: &Message) -> Hearing
         requires part { IsTrue (brings_part (heard self.old.daemon.node (Hear message.now))) }
         ensures hears { HearsMessage self.old message.now result self.new
@@ -179,16 +179,16 @@ impl DaemonDesk {
         Hearing::NoMemory
     }
 
-    /// Returns how far the daemon is in a takeover.
+    /// Returns the daemon's phase: how far it is in a takeover.
     pub fn phase(&self) -> Phase
         ensures phase { result ≡ self.now.daemon.node.phase }
-        // While workers have what is served, nothing can be handed over in its place.
+        // While workers have the lease, the daemon is in a phase in which they may take.
         ensures lent { self.now.is_lent ≡ true → IsTrue (may_take result) }
     {
         self.daemon.phase()
     }
 
-    /// Returns the generation at which workers may take, if they may: while the daemon serves, and while it drains.
+    /// Returns the generation at which workers may take, if they may. They may while the daemon serves or drains.
     pub fn serving(&self) -> Option<u64>
         ensures serving { result ≡ taking_at self.now.daemon.node.phase }
         ensures seat { IfSome result (λ generation. seat_of self.now.daemon.node.phase ≡ Some generation) }
@@ -199,14 +199,14 @@ impl DaemonDesk {
         }
     }
 
-    /// Returns whether a takeover waits for an empty hand.
+    /// Returns whether the daemon drains: a takeover waits until its hand is empty.
     pub fn drains(&self) -> bool
         ensures drains { result ≡ is_draining self.now.daemon.node.phase }
     {
         matches!(self.daemon.phase(), Phase::Draining { .. })
     }
 
-    /// Lends what the daemon serves to workers, where they may take and it is not lent already.
+    /// Lends workers what the daemon serves, if they may take and it is not lent already.
     #[tactic(auto, using(crate::proofs::Lending::lends_it))]
     pub fn lend(&mut self) -> Option<Lease>
         ensures lent { option_map lent_server result ≡ lendable self.old }
@@ -222,7 +222,8 @@ impl DaemonDesk {
         Some(lease)
     }
 
-    /// Takes back what was lent, after a round that is settled. What was not lent, or at another generation, is dropped.
+    /// Takes `lease` back after a round that is settled, and serves it on. If nothing is lent, or is lent at another
+    /// generation, `lease` is dropped.
     #[tactic(auto, using(crate::proofs::Lending::not_lent_at, crate::proofs::Keeping::returned_keeps))]
     pub fn take_back(&mut self, lease: Lease)
         ensures returned { self.new ≡ returned self.old (lent_server lease) }
@@ -236,7 +237,7 @@ impl DaemonDesk {
         self.daemon.take_back(self.alloc, lease);
     }
 
-    /// Returns whether what the daemon serves is lent, at this generation.
+    /// Returns whether workers have a lease, at this generation.
     fn has_lent_at(&self, generation: u64) -> bool
         ensures lent { result ≡ is_lent_at self.now generation }
     {
@@ -246,7 +247,7 @@ impl DaemonDesk {
         }
     }
 
-    /// Says that the daemon is ready to hand over, where it drains and has no lease out.
+    /// Returns the frame that says that the daemon is ready to hand over, if it drains and no workers have a lease.
     pub fn drained(&mut self) -> Option<Frame>
         ensures drains { Drains self.old result self.new }
         ensures ready { result ≡ ready_of self.old }
@@ -257,7 +258,7 @@ impl DaemonDesk {
         self.drain()
     }
 
-    /// Says that the daemon is ready to hand over, where it drains.
+    /// Returns the frame that says that the daemon is ready to hand over, if it drains.
     fn drain(&mut self) -> Option<Frame>
         requires own { self.old.is_lent ≡ false }
         ensures drains { DrainsNow self.old result self.new }
@@ -269,15 +270,15 @@ impl DaemonDesk {
         frame_of(reaction)
     }
 
-    /// Ends the daemon's part in a takeover, as where the connection to the other daemon ended. Returns the frame to
-    /// send to that one.
+    /// Gives up the daemon's part in a takeover, for example when the connection to the other daemon ended. Returns the
+    /// frame to send to the other daemon, if there is one.
     pub fn give_up(&mut self) -> Option<Frame>
         ensures gives_up { GivesUp self.old result self.new }
     {
         frame_of(self.daemon.give_up())
     }
 
-    /// Returns the claim that the daemon wants to make.
+    /// Returns the frame of the claim that the daemon wants to make, if it wants to make one.
     pub fn claim(&self) -> Option<Frame>
         ensures claim { result ≡ claim_of self.now }
     {
@@ -320,7 +321,7 @@ impl DaemonDesk {
     }
 }
 
-/// Converts a daemon's reaction to a hearing.
+/// Returns the hearing of a daemon's reaction.
 fn hearing_of(reaction: Reaction) -> Hearing
     ensures told { IsTold reaction result }
 {
@@ -331,7 +332,7 @@ fn hearing_of(reaction: Reaction) -> Hearing
     }
 }
 
-/// Returns the frame of a reaction's message, if it has one. It has one at most.
+/// Returns the frame of the message that `reaction` says, if it says one. It says one at most.
 fn frame_of(reaction: Reaction) -> Option<Frame>
     requires at_most_one { length (what_is_said reaction) ≤ 1 }
     ensures said { IsSaid reaction result }
@@ -345,7 +346,7 @@ fn frame_of(reaction: Reaction) -> Option<Frame>
     }
 }
 
-/// Converts a frame to the answer to a Claim, if it is one.
+/// Returns the answer to a Claim that `frame` is, if it is one.
 fn claim_answer(frame: &Frame) -> Option<Result<u64, ClaimFault>>
     ensures answer { result ≡ claim_answer frame.now }
 {

@@ -1,4 +1,4 @@
-//! Frames that another daemon is told.
+//! Frames that a daemon sends to another daemon.
 ghost use Rattle.std.specs.Prelude.{◌≡◌, [], ◌∷◌, map, MatchOption};
 ghost use Rattle.frames.specs.declared.frame.Frame.TheVariants.{Takeover};
 
@@ -7,7 +7,7 @@ use frames::Frame;
 use std::marker::Model;
 use takeover_core::Message;
 
-/// Frames in their order, each of a message. Clauses see them as a list.
+/// Frames in order, one for each message. Clauses see them as a list.
 #[derive(Drop)]
 pub struct FrameList {
     first: Option<Message>,
@@ -26,7 +26,7 @@ impl Model for FrameList {
 }
 
 impl FrameList {
-    /// Returns the frames of a message and of the others behind it. It takes no memory.
+    /// Returns the frames of `first` and of the `others`, in this order. It takes no memory.
     pub(crate) fn of(first: Message, others: Messages) -> FrameList
         ensures of { result ≡ map Takeover (first ∷ others) }
     {
@@ -36,7 +36,7 @@ impl FrameList {
         }
     }
 
-    /// Takes the first one off, if there is one.
+    /// Removes the first frame and returns it, if there is one.
     pub fn next(&mut self) -> Option<Frame>
         ensures next { MatchOption result ((self.old ≡ []) × (self.new ≡ []))
             (λ frame. self.old ≡ frame ∷ self.new) }

@@ -1,4 +1,5 @@
-//! A daemon's side of its connections: what it tells other daemons and asks the broker, and what its workers serve.
+//! A daemon's side of its connections: what it sends to other daemons, what it asks the broker, and what it lends to
+//! its workers.
 #![tactic(auto)]
 
 mod answers;

@@ -1,4 +1,4 @@
--- Frames that are written one behind the other.
+-- Frames that are written one after the other.
 use Rattle.std.proofs.Common.{◌≡◌, ℕ, List, [], ◌∷◌, ◌++◌, Option, Some, Err, refl, sym, ap, subst, ◌∙◌, append_assoc}
 use Rattle.std.specs.Prelude.{map}
 use Rattle.std.specs.Io.KnownBytes.{Appends}
@@ -30,7 +30,7 @@ tells_both before behind old mid new first then = record {
   written = subst (Appends old new) (sym (concat-append first.texts then.texts)) (Appends-trans old mid new (concat first.texts) (concat then.texts) first.written then.written);
 }
 
--- one more is written
+-- one more frame is written
 pub passes : (all left rest : List Frame) (frame : Frame) (old mid new : Option (List ℕ)) → ((before : List Frame) × (all ≡ before ++ left) × TellsAll before old mid) → left ≡ frame ∷ rest → Sends mid new frame → (before : List Frame) × (all ≡ before ++ rest) × TellsAll before old new
 passes all left rest frame old mid new was next sent = (
   was.0 ++ frame ∷ [],
@@ -38,7 +38,7 @@ passes all left rest frame old mid new was next sent = (
   tells_both was.0 (frame ∷ []) old mid new was.2 (tells_one frame mid new sent),
 )
 
--- the next one is not written
+-- the next frame is not written
 pub stops : (all before left rest : List Frame) (frame : Frame) (old mid new : Option (List ℕ)) (fault : FrameFault) → all ≡ before ++ left → left ≡ frame ∷ rest → TellsAll before old mid → Writes mid new frame (Err fault) → TellsSome all old new
 stops all before left rest frame old mid new fault is next told fails = record {
   before = before;
@@ -51,7 +51,7 @@ stops all before left rest frame old mid new fault is next told fails = record {
   fails = fails;
 }
 
--- none is left
+-- no frame is left
 pub ends : (all before left : List Frame) (old new : Option (List ℕ)) → all ≡ before ++ left → left ≡ [] → TellsAll before old new → TellsAll all old new
 ends all before left old new is none told =
     subst (λ (frames : List Frame). TellsAll frames old new) (sym (is ∙ ap (λ (l : List Frame). before ++ l) none ∙ append-nil before)) told

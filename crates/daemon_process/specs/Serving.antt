@@ -19,30 +19,31 @@ abbrev pub served_next : Next → Option Lease
 served_next (next.Serve lease stop) = Some lease
 served_next other = None
 
--- a round over what may be lent; or a pause, where memory was refused for the round's stop
+-- a round over what may be lent comes next, or a wait if nothing may be; or a pause, if memory for the round's stop was
+-- refused
 abbrev pub IsRound : Option ServerState → Next → Type 0
 IsRound server next.Pause = Unit {0}
 IsRound (Some server) (next.Serve lease stop) = lent_server lease ≡ server
 IsRound None next.Wait = Unit {0}
 IsRound server other = ⊥
 
--- no round while the daemon drains
+-- no round comes next while the daemon drains
 abbrev pub ComesWhile : Bool → Option ServerState → Next → Type 0
 ComesWhile true server what = what ≡ next.Wait
 ComesWhile false server what = IsRound server what
 
--- the daemon ends where its exit is noted; else a round comes, where something may be lent
+-- the daemon ends if its exit is noted; else a round comes next, if something may be lent
 abbrev pub ComesNext : Option Exit → DeskState → Next → Type 0
 ComesNext (Some exit) desk what = what ≡ next.Exit exit
 ComesNext None desk what = ComesWhile (is_draining desk.daemon.node.phase) (lendable desk) what
 
 -- ---- what is printed
 
--- the line of a generation
+-- the line that tells that a daemon serves at a generation
 abbrev pub serving_line : ℕ → List ℕ
 serving_line generation = codes "serving " ++ decimal generation ++ 10 ∷ []
 
--- a round's line: none, where the channels were at its generation before
+-- the line of a round; none if the channels were at the round's generation before
 abbrev pub printed_of : Bool → ℕ → List ℕ
 printed_of true generation = serving_line generation
 printed_of false generation = []
@@ -52,13 +53,13 @@ pub record IsUnmanned (was now : ℕ) (old new : Option (List ℕ)) : Type 0 whe
   pub same : now ≡ was
   pub nothing : Appends old new []
 
--- the channels are at the round's generation, and its line was printed
+-- the channels are at the round's generation, and the round's line was printed
 pub record IsManned (was generation now : ℕ) (old new : Option (List ℕ)) : Type 0 where
   pub at : now ≡ generation
   pub line : Appends old new (printed_of (not (was == generation)) generation)
 
--- of the channels' generation before the round, the round's own, and the channels' behind it: what was printed; or the
--- daemon ends since it could not be
+-- What a round prints, by the channels' generation before it, its own generation, and the channels' generation after
+-- it. If its line cannot be written, the daemon ends.
 abbrev pub PrintsRound : (was generation now : ℕ) → (old new : Option (List ℕ)) → Option Exit → Type 0
 PrintsRound was generation now old new exit =
     IsUnmanned was now old new

@@ -1,4 +1,4 @@
--- What a daemon does by frames and silences of another one. (This project's own.)
+-- What a daemon does by frames and silences of another daemon. (This project's own.)
 use Rattle.std.specs.Prelude.{ℕ}
 use Rattle.frames.specs.declared.frame.Frame.{Frame}
 use Rattle.frames.specs.declared.frame.Frame.TheVariants.{Takeover}
@@ -14,7 +14,7 @@ abbrev pub times_of : Phase → ℕ
 times_of (Handed generation session) = 10
 times_of phase = 1
 
--- how a daemon ends that is gone by this frame
+-- how a daemon ends that this frame ended
 abbrev pub exit_by : Frame → Exit
 exit_by (Takeover NoCommon) = Faulty OfferRefused
 exit_by (Takeover Busy) = Faulty OfferRefused

@@ -7,13 +7,13 @@ use Rattle.frames.specs.declared.fault.FrameFault.{FrameFault}
 use Rattle.frames.specs.declared.frame.Frame.{Frame}
 use Rattle.links.specs.Writing.{Writes}
 
--- each frame has a text, and these texts were written in their order
+-- each frame has a text, and these texts were written in order
 pub record TellsAll (frames : List Frame) (old new : Option (List ℕ)) : Type 0 where
   pub texts : List (List ℕ)
   pub are_texts : map frame_text frames ≡ map Some texts
   pub written : Appends old new (concat texts)
 
--- one of them was not written, or not all of it: the texts of those before it were, and none behind it
+-- One frame was written in part or not at all. The frames before were written whole, and none after.
 pub record TellsSome (frames : List Frame) (old new : Option (List ℕ)) : Type 0 where
   pub before : List Frame
   pub failed : Frame
@@ -24,7 +24,7 @@ pub record TellsSome (frames : List Frame) (old new : Option (List ℕ)) : Type 
   pub fault : FrameFault
   pub fails : Writes mid new failed (Err fault)
 
--- by whether all were written
+-- all frames were written, or not all
 abbrev pub TellsBy : Bool → List Frame → Option (List ℕ) → Option (List ℕ) → Type 0
 TellsBy true frames old new = TellsAll frames old new
 TellsBy false frames old new = TellsSome frames old new

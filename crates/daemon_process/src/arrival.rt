@@ -23,7 +23,7 @@ fn broker_patience() -> Duration {
     Duration::from_millis(BROKER_PATIENCE)
 }
 
-/// Returns by when the broker is to answer.
+/// Returns the deadline for an answer of the broker.
 pub(crate) fn answer_by<R: Clock>(clock: &R) -> Deadline {
     Deadline::after(clock, broker_patience())
 }
@@ -106,7 +106,7 @@ fn reach<'a, R: Net + Clock>(
     }
 }
 
-/// Attaches as a daemon, or with the number 0 as a new one, and returns its number.
+/// Attaches as `daemon`, or as a new daemon if that has the number 0. Returns the daemon that attached.
 fn attach<R: Clock>(
     connection: &mut Connection<'_, R>,
     daemon: DaemonId,
@@ -119,8 +119,8 @@ fn attach<R: Clock>(
     }
 }
 
-/// Makes a channel at a generation for each worker's connection, patient until a stop is asked. On those connections
-/// each frame was answered.
+/// Makes a channel at `generation` for each worker's connection, patient until `stop` is asked. The broker answered
+/// each frame that was sent on those connections before.
 pub(crate) fn channels<'a, R: Clock>(
     rt: &'a R,
     alloc: Global,
@@ -136,7 +136,7 @@ pub(crate) fn channels<'a, R: Clock>(
     Ok(channels)
 }
 
-/// The channel of a worker that asks once.
+/// A worker's channel, which asks the broker once for each take.
 type Asking<'a, R> = SocketChannel<BufReader<Timed<'a, R>>, UnixStream>;
 
 /// Returns a channel at a generation over a worker's connection.

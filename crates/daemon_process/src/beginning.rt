@@ -15,7 +15,7 @@ use std::os::unix::net::UnixListener;
 use std::rt::{Clock, Files};
 use std::sync::Wait;
 
-/// A daemon with the seat: its connections to the broker, and the socket at which it is taken over from.
+/// A daemon with the seat: its connections to the broker, and the socket at which the next daemon reaches it.
 #[derive(Drop)]
 pub(crate) struct Seated<'a, R> {
     pub(crate) arrival: Arrival<'a, R>,
@@ -41,7 +41,7 @@ pub(crate) fn begin<'a, R: Wait + Clock + Files + Net>(
     }
 }
 
-/// Mounts.
+/// Prepares what the daemon is to serve, makes its socket, and mounts.
 fn begin_new<R: Wait + Clock + Files + Net>(
     rt: &R,
     alloc: Global,
@@ -77,8 +77,8 @@ fn mount<R: Wait + Clock>(
     }
 }
 
-/// Takes over from the daemon at the path where this one is to listen. The connection to it closes after the claim's
-/// answer.
+/// Takes over from the daemon that listens at the path where this one is to listen. The connection to that daemon
+/// closes after the answer to the claim.
 fn begin_next<R: Wait + Clock + Files + Net>(
     rt: &R,
     alloc: Global,
@@ -114,7 +114,7 @@ fn reach<'a, R: Net + Clock>(
     }
 }
 
-/// Listens beside a path.
+/// Listens at a hidden socket beside `path`.
 fn hide<R: Files + Net>(rt: &R, alloc: Global, path: &str) -> Result<Hidden, Exit> {
     match Hidden::beside(rt, alloc, path) {
         Ok(hidden) => Ok(hidden),

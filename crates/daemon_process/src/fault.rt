@@ -2,7 +2,7 @@
 use eden_base::NoMemory;
 use std::io;
 
-/// Why a daemon ended that neither handed over nor saw the mount end, with the system's error behind it.
+/// Why a daemon ended that neither handed over nor saw the mount end, with the system's error that caused it.
 #[derive(Clone, Copy)]
 pub enum DaemonFault {
     /// The broker's socket can't be connected to.
@@ -11,7 +11,7 @@ pub enum DaemonFault {
     Seated,
     /// The other daemon's socket can't be connected to.
     NoDaemon(io::Error),
-    /// The other daemon reads or writes no version in common, or takes no offer now.
+    /// The two daemons have no version of the image in common, or the other daemon takes no offer at present.
     OfferRefused,
     /// The takeover ended without the seat.
     TakeoverFailed,

@@ -18,10 +18,10 @@ use std::sync::Wait;
 use std::time::Duration;
 use takeover_core::Phase;
 
-/// A silence may last this many times longer once the data is out.
+/// A silence may last for this many times the patience once the data is out.
 const LONGER: u32 = 10;
 
-/// Serves the connections of other daemons one behind another, until the daemon ends.
+/// Serves the connections of other daemons one after another, until the daemon ends.
 pub(crate) fn hand_over_all<R: Wait + Clock>(
     rt: &R,
     alloc: Global,
@@ -125,7 +125,7 @@ fn answer<R: Wait + Clock>(
     }
 }
 
-/// Claims the seat where the daemon is to, as after a handover. It notes the daemon's exit, if it ends.
+/// Claims the seat if the daemon wants to, as it does after a handover. If the daemon ends by that, notes its exit.
 fn claim_back<R: Wait + Clock>(rt: &R, shared: &Shared, broker: &mut Connection<'_, R>) {
     if shared.claim(rt).is_none() || shared.is_over(rt) {
         return;

@@ -12,7 +12,7 @@ const PAUSE: u64 = 10;
 /// The longest sleep of a thread that waits, in milliseconds.
 const LONGEST_SLEEP: u64 = 60_000;
 
-/// What stands under the lock.
+/// What the lock protects.
 #[derive(Drop)]
 struct State {
     /// The connection that is served next.
@@ -76,7 +76,7 @@ impl Lobby {
             .sleep(rt, seen, Duration::from_millis(LONGEST_SLEEP));
     }
 
-    /// Waits until nobody waits. Returns whether the lobby is still open.
+    /// Waits until no connection waits to be served. Returns whether the lobby is still open.
     fn has_room<R: Wait>(&self, rt: &R) -> bool {
         for _ in rt.forever() {
             let seen = self.changes.notifications();
@@ -93,7 +93,8 @@ impl Lobby {
         unreachable!()
     }
 
-    /// Lets a connection wait. Where no takeover is under way it is served at once.
+    /// Lets a connection wait. If the served connection has no takeover under way, it is sent away, and the new one is
+    /// next.
     fn enter<R: Wait>(&self, rt: &R, stream: UnixStream) {
         let mut state = self.state.lock(rt);
         state.waiting = Some(stream);
@@ -121,7 +122,8 @@ impl Lobby {
         unreachable!()
     }
 
-    /// Lets the connection that is served stay, unless it was sent away. Returns whether it may.
+    /// Notes that the served connection has a takeover under way, unless that connection was sent away. Returns whether
+    /// it may stay.
     pub(crate) fn stay<R: Wait>(&self, rt: &R) -> bool {
         let mut state = self.state.lock(rt);
         if state.is_sent_away {
@@ -131,7 +133,7 @@ impl Lobby {
         true
     }
 
-    /// Sends the connection that is served away where another one waits.
+    /// Notes that the served connection has no takeover under way, and sends it away if another one waits.
     pub(crate) fn make_way<R: Wait>(&self, rt: &R) {
         let mut state = self.state.lock(rt);
         state.is_engaged = false;

@@ -6,7 +6,7 @@ use std::time::Duration;
 pub enum Start {
     /// It mounts.
     Mount,
-    /// It takes over from the daemon at its own socket's path.
+    /// It takes over from the daemon that listens at the path `takeover`.
     Takeover,
 }
 
@@ -16,12 +16,12 @@ pub struct Orders<'a> {
     pub start: Start,
     /// The path of the broker's socket.
     pub broker: &'a str,
-    /// The path of the socket at which it is taken over from.
+    /// The path of the socket at which the next daemon reaches this one.
     pub takeover: &'a str,
     /// How many workers serve, from 1 to 16.
     pub workers: usize,
     /// How many files it keeps loaded, at least 1.
     pub limit: usize,
-    /// How long another daemon may be silent in a takeover. Once the data is out it is ten times that.
+    /// How long another daemon may be silent in a takeover. Once this daemon handed the data over, ten times as long.
     pub patience: Duration,
 }

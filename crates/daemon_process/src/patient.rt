@@ -1,4 +1,4 @@
-//! A channel that is asked again where nothing waits.
+//! A channel that looks again if it found no ask.
 ghost use Rattle.std.specs.Prelude.{◌≡◌, true};
 ghost use Rattle.daemon_process.specs.Patience.{Looks};
 ghost use Rattle.fuse_wire.specs.declared.request.Ask.{Ask as AskValue};
@@ -12,7 +12,7 @@ use workers::{Channel, Posted, Stop, Taken};
 /// How often a channel is asked again before a worker's round ends.
 const LOOKS: usize = 9;
 
-/// A channel that is asked again where nothing waits, unless the round is asked to stop. So a round outlasts a short
+/// A channel that looks again if it found no ask, unless the round is asked to stop. So a round outlasts a short
 /// silence. Threads start with each round, and a round for each silence would cost an idle daemon 2 % of a processor.
 #[derive(Drop)]
 pub(crate) struct Patient<C> {
@@ -44,7 +44,7 @@ impl<C: Channel> Patient<C> {
         &self.channel
     }
 
-    /// Takes the next ask, and looks again where there is none now.
+    /// Takes the next ask. If there is none, looks again up to `LOOKS` times, as long as no stop is asked.
     fn look(&mut self) -> Taken
         ensures looks { Looks C.takes self.old.channel result self.new.channel }
         ensures stop { self.new.stop ≡ self.old.stop }

@@ -34,8 +34,8 @@ struct Back<C: Channel + Drop> {
     channels: Vec<C>,
 }
 
-/// Serves a round over a lease, and gives the lease back. Out of memory it took no ask. Without a channel, or with more
-/// than 16, it serves no round.
+/// Serves a round over `lease`, and returns the lease with what else the round leaves. If memory is refused, the round
+/// took no ask. Without a channel, or with more than 16, no round is served.
 pub(crate) fn serve_one<'a, R: Threads + Wait + Clock + Sync>(
     rt: &'a R,
     alloc: Global,
@@ -111,8 +111,8 @@ fn serve_over<C: Channel + Drop + Send, R: Threads + Wait + Sync>(
     }
 }
 
-/// Compares a round's receipts with its journal, and returns what the round leaves. Out of memory it compares nothing:
-/// each worker ended well, so each reply was posted.
+/// Compares a round's receipts with its journal, and returns what the round leaves. If memory for that is refused,
+/// nothing is compared: each worker ended well, so each reply was posted.
 fn settle<B: Backing + Drop, C: Channel + Drop>(
     alloc: Global,
     round: Round<B, C>,

@@ -97,8 +97,8 @@ fn serve_lease<'a, R: Threads + Wait + Clock + Sync, W: Write>(
     }
 }
 
-/// Makes the workers' channels at a generation, if they are of another one, and lets them heed `stop`. Returns whether
-/// they are new.
+/// Makes the workers' channels at `generation`, if the present ones are of another, and else lets these heed `stop`.
+/// Returns whether the channels are new.
 fn man<'a, R: Clock>(
     rt: &'a R,
     alloc: Global,
@@ -122,7 +122,7 @@ fn man<'a, R: Clock>(
     Ok(true)
 }
 
-/// Prints that the daemon serves at a generation, where its channels there are new.
+/// Prints that the daemon serves at `generation`, if its channels are new.
 fn print_round<W: Write>(out: &mut W, is_new: bool, generation: u64) -> io::Result<()>
     ensures line { OnOk result (Appends (W.contents out.old) (W.contents out.new)
         (printed_of is_new generation)) }

@@ -18,7 +18,7 @@ use workers::Stop;
 /// The longest sleep of a thread that waits, in milliseconds.
 const LONGEST_SLEEP: u64 = 60_000;
 
-/// What stands under the lock.
+/// What the lock protects.
 #[derive(Drop)]
 struct State {
     desk: DaemonDesk,
@@ -34,7 +34,7 @@ pub(crate) enum Next {
     Serve(Lease, Arc<Stop>),
     /// It waits for a change.
     Wait,
-    /// It waits a moment, since memory was refused.
+    /// It waits a moment, as memory was refused.
     Pause,
     Exit(Exit),
 }
@@ -69,7 +69,7 @@ impl State {
         }
     }
 
-    /// Returns the stop of the next round: that of the last one, unless it was asked.
+    /// Returns the stop of the next round: that of the last round, or a new one if the last round was asked to stop.
     fn stop_of_round(&mut self, alloc: Global) -> Result<Arc<Stop>, NoMemory>
         ensures desk { self.new.desk ≡ self.old.desk }
         ensures exit { self.new.exit ≡ self.old.exit }
@@ -83,7 +83,7 @@ impl State {
         Ok(again)
     }
 
-    /// Hears a frame of another daemon, and asks the round to stop where the daemon serves no more.
+    /// Hears a frame of another daemon. If the daemon then is not serving any more, asks the round to stop.
     fn hear(&mut self, frame: &Frame) -> Hearing {
         let heard = self.desk.hear(frame);
         if !matches!(self.desk.phase(), Phase::Serving { .. }) {
@@ -113,7 +113,7 @@ impl Shared {
         self.changes.notifications()
     }
 
-    /// Waits until more changed than was `seen`.
+    /// Waits for a change after the first `seen` ones, for a minute at most.
     pub(crate) fn sleep<R: Wait>(&self, rt: &R, seen: u64) {
         self.changes
             .sleep(rt, seen, Duration::from_millis(LONGEST_SLEEP));

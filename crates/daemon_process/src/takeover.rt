@@ -42,7 +42,7 @@ pub(crate) fn take_over<R: Wait + Clock>(
     }
 }
 
-/// Offers, and answers the other daemon's frames until its data is restored.
+/// Offers the daemon's versions, and answers the other daemon's frames until its data is restored.
 fn get_data<R: Wait + Clock>(
     rt: &R,
     shared: &Shared,
@@ -69,7 +69,7 @@ fn get_data<R: Wait + Clock>(
 /// The state of a new daemon after a frame of the other one.
 #[derive(Clone, Copy)]
 enum Step {
-    /// It waits for the next one.
+    /// It waits for the next frame.
     Waits,
     /// It said that it is still there, and waits for the data.
     Ponged,
@@ -102,7 +102,7 @@ fn hear<R: Wait + Clock>(
     }
 }
 
-/// Returns the exit of a daemon that a frame of the other one ended.
+/// Returns the exit of a daemon that `frame` ended, which the other daemon sent.
 fn gone_by(frame: &Frame) -> Exit
     ensures exit { result ≡ exit_by frame.now }
 {

@@ -22,7 +22,7 @@ use Rattle.edend.specs.declared.note.Note.{Note}
 use Rattle.edend.specs.declared.note.Noted.{Noted}
 use Rattle.edend.specs.declared.note.Noted.TheVariants.{Broker, Daemon}
 
--- a file that can't be read is the fault's name
+-- a file that can't be read gives the fault its name
 read_by_broker : (words : BrokerWords) (fault : Fault) → IsReadRefusal fault → name_by words.script.now fault ≡ name_at (errand.Broker words) fault
 read_by_broker words CannotRead is = refl
 read_by_broker words TooLong is = refl
@@ -45,18 +45,18 @@ pub names-manifest : (words : DaemonWords) (failure : Failure) (fault : Fault) �
 names-manifest words failure fault same is named =
     named ∙ read_by_daemon words failure.fault (subst IsReadRefusal (sym same) is)
 
--- a bad manifest has no error of the system's behind it
+-- no error of the system causes a bad manifest
 pub names-bad_manifest : (words : DaemonWords) (text : List ℕ) (fault : Fault) → IsManifestFault text fault → Names (errand.Daemon words) (plain fault)
 names-bad_manifest words text (BadManifest fault) is = refl
 names-bad_manifest words text NoMemory is = refl
 names-bad_manifest words text fault is = absurd is
 
--- want of memory has none
+-- no error of the system causes want of memory
 names-no_memory : (e : Errand) → Names e (plain NoMemory)
 names-no_memory (errand.Broker words) = refl
 names-no_memory (errand.Daemon words) = refl
 
--- errands that were noted alike name alike
+-- two errands with the same words name the same for a fault
 same_of_broker : (a b : BrokerWords) (fault : Fault) → a.socket.now ≡ b.socket.now → a.script.now ≡ b.script.now → name_at (errand.Broker a) fault ≡ name_at (errand.Broker b) fault
 same_of_broker a b CannotListen socket script = ap (λ (p : List ℕ). Some p) socket
 same_of_broker a b fault socket script = ap (λ (p : List ℕ). name_by p fault) script

@@ -9,7 +9,7 @@ use Rattle.world_script.specs.declared.failure.Failure.{Failure}
 use Rattle.world_script.specs.declared.fault.Fault.{Fault}
 use Rattle.world_script.specs.declared.fault.Fault.TheVariants.{CannotListen, NoBroker, NoDaemon, NoMemory}
 
--- the socket, the file or the stream that the system's error behind an errand's fault is with, if one is
+-- the socket, file or stream whose error caused an errand's fault, if an error did
 abbrev pub name_at : Errand → Fault → Option (List ℕ)
 name_at (Broker words) CannotListen = Some words.socket.now
 name_at (Broker words) fault = name_by words.script.now fault
@@ -18,7 +18,7 @@ name_at (Daemon words) NoBroker = Some words.broker.now
 name_at (Daemon words) NoDaemon = Some words.takeover.now
 name_at (Daemon words) fault = name_by words.manifest.now fault
 
--- a failure names that, as the errand's words have it
+-- a failure names the socket, file or stream whose error caused it, by the errand's words
 abbrev pub Names : Errand → Failure → Type 0
 Names errand failure = name_of failure ≡ name_at errand failure.fault
 

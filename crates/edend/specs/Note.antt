@@ -1,4 +1,4 @@
--- An errand that was noted, in words of its own. (This project's own.)
+-- An errand that was noted, with owned strings. (This project's own.)
 use Rattle.std.specs.Prelude.{◌≡◌, ℕ, List, Option, Some, Result, Ok, Err, string_bytes}
 use Rattle.std.specs.Io.KnownBytes.{Keeps}
 use Rattle.command_line.specs.declared.errand.BrokerWords.{BrokerWords}
@@ -14,12 +14,12 @@ use Rattle.edend.specs.declared.note.Noted.TheVariants.{Broker, Daemon}
 use Rattle.edend.specs.declared.note.NotedBroker.{NotedBroker}
 use Rattle.edend.specs.declared.note.NotedDaemon.{NotedDaemon}
 
--- each word of a broker
+-- the noted words are these words of a broker
 abbrev pub IsBroker : NotedBroker → BrokerWords → Type 0
 IsBroker noted words =
     (string_bytes noted.socket ≡ words.socket.now) × (string_bytes noted.script ≡ words.script.now)
 
--- each word of a daemon
+-- the noted words are these words of a daemon
 abbrev pub IsDaemon : NotedDaemon → DaemonWords → Type 0
 IsDaemon noted words =
     (noted.start ≡ words.start)
@@ -36,7 +36,7 @@ IsNoted (Broker noted) (errand.Broker words) = IsBroker noted words
 IsNoted (Daemon noted) (errand.Daemon words) = IsDaemon noted words
 IsNoted _ _ = ⊥
 
--- A run of an errand notes it, or there is no memory to.
+-- A run of an errand notes the errand, or memory for that is refused and nothing changes.
 abbrev pub Notes : Note → Note → ErrandEnds
 Notes old new errand (Ok done) before after =
     ((noted : Noted) × (new.errand ≡ Some noted) × IsNoted noted errand) × Keeps before after

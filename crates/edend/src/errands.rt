@@ -79,7 +79,7 @@ fn run<'a, R: Threads + Wait + Clock + Files + Net + Sync, S: Sources, W: Write>
     }
 }
 
-/// Joins a fault with the system's error, which is with the file or stream of this name.
+/// Returns the failure of `fault`, caused by the system's error with the file, socket or stream `name`.
 fn caused<'a>(fault: Fault, name: &'a str, error: io::Error) -> Failure<'a>
     ensures fault { result.fault ≡ fault }
     ensures name { name_of result ≡ Some name.now }
@@ -161,7 +161,7 @@ fn daemon<'a, R: Threads + Wait + Clock + Files + Net + Sync, S: Sources, W: Wri
     }
 }
 
-/// Returns what the words start a daemon for.
+/// Returns the orders that `words` give the daemon.
 fn orders_of<'a>(words: &DaemonWords<'a>) -> Orders<'a>
     ensures broker { result.broker.now ≡ words.now.broker.now }
     ensures takeover { result.takeover.now ≡ words.now.takeover.now }
@@ -178,7 +178,7 @@ fn orders_of<'a>(words: &DaemonWords<'a>) -> Orders<'a>
     }
 }
 
-/// Returns how a daemon begins by the words.
+/// Returns how the daemon begins, as its words say.
 fn start_of(start: world_script::Start) -> Start {
     match start {
         world_script::Start::Mount => Start::Mount,

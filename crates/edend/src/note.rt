@@ -6,14 +6,14 @@ use std::alloc::Global;
 use std::io::Write;
 use world_script::{BrokerWords, DaemonWords, Errand, Errands, Failure, Fault, Sources, Start};
 
-/// The words of a broker, as text of their own.
+/// The words of a broker, with owned strings in place of borrowed ones.
 #[derive(Drop)]
 pub struct NotedBroker {
     pub socket: String,
     pub script: String,
 }
 
-/// The words of a daemon, as text of their own.
+/// The words of a daemon, with owned strings in place of borrowed ones.
 #[derive(Drop)]
 pub struct NotedDaemon {
     pub start: Start,
@@ -25,21 +25,21 @@ pub struct NotedDaemon {
     pub patience: u64,
 }
 
-/// An errand in words of its own.
+/// An errand, with owned strings in place of borrowed ones.
 #[derive(Drop)]
 pub enum Noted {
     Broker(NotedBroker),
     Daemon(NotedDaemon),
 }
 
-/// Takes errands down in place of running them, and keeps the last. A trait's method can't start threads that share
-/// the runtime, so a noted errand is run when the words were answered.
+/// Notes errands in place of running them, and keeps the last one. A trait's method can't start threads that share the
+/// runtime. So a noted errand is run after the words were answered.
 #[derive(Drop)]
 pub struct Note {
     pub errand: Option<Noted>,
 }
 
-/// Copies a text; there is none where memory is refused.
+/// Copies `text`, and returns none if memory is refused.
 fn copied(alloc: Global, text: &str) -> Option<String>
     ensures same { IfSome result (λ copy. string_bytes copy ≡ text.now) }
 {
@@ -103,7 +103,7 @@ impl NotedDaemon {
 }
 
 impl Noted {
-    /// Copies an errand; there is none where memory is refused.
+    /// Copies `errand`, and returns none if memory is refused.
     fn of(alloc: Global, errand: &Errand<'_>) -> Option<Noted>
         ensures same { IfSome result (λ noted. IsNoted noted errand.now) }
     {

@@ -28,7 +28,7 @@ chain-numbers (y ∷ es) n next chain fits =
     let e : y.number.0 ≡ n = chain.0 in
     (omega arith, subst (λ (m : ℕ). AreNumbers (m + 1) next es) (sym e) (chain-numbers es (n + 1) next chain.3 (omega arith)))
 
--- an entry of the chain
+-- an entry of a chain is below the entry before it
 pub chain-entry : (es : List Kept) (n m : ℕ) (kept : Kept) → IsChain n es → entry_of es m ≡ Some kept → (n ≤ m) × IsBelow m kept.place
 chain-entry [] n m kept chain found = absurd (let none : ⊥ = cc in none)
 chain-entry (y ∷ es) n m kept chain found = in_ (y.number.0 == m) refl found (λ f. chain-entry es (n + 1) m kept chain.3 f) where
@@ -44,7 +44,7 @@ chain-entry (y ∷ es) n m kept chain found = in_ (y.number.0 == m) refl found (
 dirs_alike : (place : Place) (dir other : Number) (name linked : List ℕ) → place ≡ Linked dir name → place ≡ Linked other linked → dir.0 ≡ other.0
 dirs_alike place dir other name linked e f = let both : Linked dir name ≡ Linked other linked = sym e ∙ f in let same : dir ≡ other = cc in ap (λ (d : Number). d.0) same
 
--- no two stand in one directory
+-- no two entries of a chain are in one directory
 pub chain-apart : (es : List Kept) (n : ℕ) → IsChain n es → AreApart es
 chain-apart [] n chain m kept dir name found place = absurd (let none : ⊥ = cc in none)
 chain-apart (y ∷ es) n chain m kept dir name found place = in_ (y.number.0 == m) refl found (λ f. chain-apart es (n + 1) chain.3 m kept dir name f place) where
@@ -71,7 +71,7 @@ pub chain-of_use : (all es : List Kept) (n : ℕ) → IsChain n es → AllByRecu
 chain-of_use all [] n chain = tt
 chain-of_use all (y ∷ es) n chain = (ap (λ (count : ℕ). nat_lt 0 count || list_any (is_kid_of y.number.0) all) chain.1, chain-of_use all es (n + 1) chain.3)
 
--- so they are entries that a map may have
+-- a chain's entries are such as a map may have
 pub chain-entries : (es : List Kept) (next : ℕ) → IsChain 2 es → next ≡ 2 + length es → next ≤ end_of_numbers → AreEntries es next
 chain-entries es next chain e fits = record {
   numbers = chain-numbers es 2 next chain (omega arith);

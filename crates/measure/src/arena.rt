@@ -1,5 +1,5 @@
-//! What the calls of an arena cost: `measure arena CAPACITY` makes them on a full one, and
-//! `measure arena CAPACITY times` tells the nanoseconds of a round of them.
+//! What the calls of an arena cost: `measure arena CAPACITY` makes the calls on a full arena, and `measure arena
+//! CAPACITY times` prints the nanoseconds that the calls of each round take.
 use crate::clock::{each_since, moment};
 use crate::told::Told;
 use crate::words::number_at;
@@ -8,10 +8,10 @@ use node_arena::{Nodes, Slot};
 use std::alloc::Global;
 use std::time::CpuClock;
 
-/// How often each call is made.
+/// How often the calls of a round are made.
 const ROUNDS: u32 = 1_000_000;
 
-/// The names of the rounds' calls. The last two pick any slot, those before them one of eight.
+/// The names of the rounds, by the calls in each. The last two rounds pick any slot, the two before them one of eight.
 const NAMES: [&str; 6] = [
     "oldest/touch",
     "oldest/remove/add",
@@ -28,7 +28,7 @@ fn next_random(state: u64) -> u64 {
         .wrapping_add(1_442_695_040_888_963_407)
 }
 
-/// Picks one of the slots, where there is one.
+/// Returns one of `slots`, picked by `random`, if there is one.
 fn pick(slots: &[Slot], random: u64) -> Option<Slot> {
     if slots.is_empty() {
         return None;
@@ -36,7 +36,7 @@ fn pick(slots: &[Slot], random: u64) -> Option<Slot> {
     Some(slots[(random >> 33) as usize % slots.len()])
 }
 
-/// Fills an arena, and lists its slots.
+/// Fills an arena, and returns its slots.
 fn fill(alloc: Global, nodes: &mut Nodes<u64>) -> Result<Vec<Slot>, NoMemory> {
     let mut slots = Vec::new(alloc);
     for value in 0..nodes.capacity() {
@@ -47,7 +47,7 @@ fn fill(alloc: Global, nodes: &mut Nodes<u64>) -> Result<Vec<Slot>, NoMemory> {
     Ok(slots)
 }
 
-/// Calls `oldest`, and `touch` of what it answers.
+/// Calls `oldest`, and `touch` of the slot that it returns.
 #[inline(never)]
 fn touch_oldest(nodes: &mut Nodes<u64>) {
     for _ in 0..ROUNDS {
@@ -57,7 +57,7 @@ fn touch_oldest(nodes: &mut Nodes<u64>) {
     }
 }
 
-/// Calls `oldest`, `remove` of what it answers, and `add`.
+/// Calls `oldest`, `remove` of the slot that it returns, and `add`.
 #[inline(never)]
 fn replace_oldest(nodes: &mut Nodes<u64>) {
     for _ in 0..ROUNDS {
@@ -106,7 +106,7 @@ enum Round {
     WriteAny,
 }
 
-/// Makes the calls of all rounds.
+/// Makes the calls of `round`, `ROUNDS` times.
 fn make(round: Round, nodes: &mut Nodes<u64>, slots: &[Slot]) {
     match round {
         Round::TouchOldest => touch_oldest(nodes),
@@ -116,14 +116,14 @@ fn make(round: Round, nodes: &mut Nodes<u64>, slots: &[Slot]) {
     }
 }
 
-/// Returns the nanoseconds of a round.
+/// Returns the nanoseconds that it takes to make the calls of `round` once.
 fn time(rt: &impl CpuClock, round: Round, nodes: &mut Nodes<u64>, slots: &[Slot]) -> u64 {
     let started = moment(rt);
     make(round, nodes, slots);
     each_since(rt, started, u64::from(ROUNDS))
 }
 
-/// Returns the nanoseconds of a round on all slots of the arena, and on eight of them.
+/// Returns the nanoseconds that the calls of `round` take on all of `slots`, and on eight of them.
 fn time_both(
     rt: &impl CpuClock,
     round: Round,
@@ -135,7 +135,7 @@ fn time_both(
     (all, time(rt, round, nodes, few))
 }
 
-/// Returns the nanoseconds of each round, in the order of the names.
+/// Returns the nanoseconds that the calls of each round take, in the order of `NAMES`.
 fn time_all(rt: &impl CpuClock, nodes: &mut Nodes<u64>, slots: &[Slot]) -> [u64; 6] {
     let oldest = time(rt, Round::TouchOldest, nodes, slots);
     let replaced = time(rt, Round::ReplaceOldest, nodes, slots);
@@ -144,7 +144,7 @@ fn time_all(rt: &impl CpuClock, nodes: &mut Nodes<u64>, slots: &[Slot]) -> [u64;
     [oldest, replaced, touched_few, written_few, touched, written]
 }
 
-/// Sums the values of an arena.
+/// Returns the sum of the values in an arena.
 fn sum_of(nodes: &Nodes<u64>, slots: &[Slot]) -> u64 {
     let mut sum = 0u64;
     for &slot in slots {
@@ -155,7 +155,7 @@ fn sum_of(nodes: &Nodes<u64>, slots: &[Slot]) -> u64 {
     sum
 }
 
-/// Fills an arena and makes the calls on it. Tells the times where they are wanted, and else the sum of its values.
+/// Fills an arena and makes the calls of all rounds on it. Returns their times if `timed`, else the sum of the values.
 fn measure_filled(
     rt: &impl CpuClock,
     alloc: Global,
@@ -172,7 +172,7 @@ fn measure_filled(
     Ok(Told::of(&["sum"], &[sum]))
 }
 
-/// Makes an arena, and the calls on it.
+/// Makes an arena, and the calls of all rounds on it.
 fn measure_made(rt: &HostRuntime, capacity: usize, timed: bool) -> Result<Told, NoMemory> {
     let mut nodes = Nodes::new(rt.alloc(), capacity.clamp(1, 65_536))?;
     let told = measure_filled(rt, rt.alloc(), &mut nodes, timed);
@@ -180,7 +180,7 @@ fn measure_made(rt: &HostRuntime, capacity: usize, timed: bool) -> Result<Told, 
     told
 }
 
-/// Makes the calls on an arena, as words say.
+/// Measures an arena, as `words` say.
 pub(crate) fn measure(rt: &HostRuntime, words: &[&str]) -> Result<Option<Told>, NoMemory> {
     let Some(capacity) = number_at(words, 0) else {
         return Ok(None);

@@ -1,7 +1,7 @@
-//! Bytes that are written one behind the other.
+//! Bytes that are written one after another.
 use std::alloc::AllocError;
 
-/// Puts parts behind a text.
+/// Appends each of `parts` to `text`.
 pub(crate) fn put_all(text: &mut Vec<u8>, parts: &[&[u8]]) -> Result<(), AllocError> {
     for part in parts {
         text.extend_from_slice(part)?;

@@ -1,12 +1,12 @@
-//! The processor's time that calls take. Where the clock can't be read, no time passes.
+//! The processor time that calls take. Where the clock can't be read, that time is 0.
 use std::time::{CpuClock, Duration};
 
-/// Returns the time that the thread has had so far.
+/// Returns the processor time that this thread has had so far.
 pub(crate) fn moment(rt: &impl CpuClock) -> Duration {
     rt.thread_cpu_time().unwrap_or(Duration::ZERO)
 }
 
-/// Returns the nanoseconds since `started`, for each of `calls` calls.
+/// Returns the nanoseconds since `started`, divided by `calls`.
 pub(crate) fn each_since(rt: &impl CpuClock, started: Duration, calls: u64) -> u64 {
     let spent = moment(rt).saturating_sub(started);
     let nanos = spent

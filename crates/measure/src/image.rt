@@ -1,6 +1,6 @@
 //! What an image costs: it is read, restored, made again and written, once each, so that the instructions of a call can
-//! be counted. `measure image ENTRIES UNLINKED` does so for ENTRIES entries, of which UNLINKED are unlinked, and with
-//! the word `times` it tells the nanoseconds of each call for an entry. An image that is too long is not written.
+//! be counted. `measure image ENTRIES UNLINKED` does so for ENTRIES entries, of which UNLINKED are unlinked. With the
+//! word `times` it prints the nanoseconds of each call, divided by ENTRIES. An image that is too long is not written.
 ghost use Rattle.std.specs.Prelude.{IfOk};
 ghost use Rattle.map_image.specs.Fit.{CountsFit, IsFit};
 
@@ -17,13 +17,13 @@ use map_codec::{RaiseFault, image_of, raise};
 use map_image::{Image, ImageFault, ImageReader, WriteFault, read, write};
 use std::alloc::{AllocError, Global};
 
-/// Returns how many attributes may be loaded. With the number itself in the call, the proof of `image_raised` takes
+/// Returns how many attributes may be loaded. If the call has the number itself, the proof of `image_raised` takes
 /// several times as long.
 fn loaded_limit() -> usize {
     64
 }
 
-/// Puts the line of a manifest for an entry.
+/// Appends the manifest's line for entry `i` to `text`.
 fn put_line(alloc: Global, text: &mut Vec<u8>, i: u64) -> Result<(), AllocError> {
     let name = name_text(alloc, i)?;
     if i % EACH == 0 {
@@ -45,7 +45,7 @@ fn put_line(alloc: Global, text: &mut Vec<u8>, i: u64) -> Result<(), AllocError>
     )
 }
 
-/// Makes the text of a manifest with a file for each entry.
+/// Makes the text of a manifest with a line for each entry.
 fn manifest_text(alloc: Global, entries: u64) -> Result<Vec<u8>, AllocError> {
     let mut text = Vec::from_slice(alloc, b"commit 0123456789abcdef0123456789abcdef01234567\n")?;
     for i in 0..entries {
@@ -54,7 +54,7 @@ fn manifest_text(alloc: Global, entries: u64) -> Result<Vec<u8>, AllocError> {
     Ok(text)
 }
 
-/// Spells an entry that stands under its name and is held once.
+/// Appends the bytes of entry `i`, which has its name and is counted once.
 fn put_linked(alloc: Global, text: &mut Vec<u8>, i: u64) -> Result<(), AllocError> {
     let name = name_text(alloc, i)?;
     let number = i.wrapping_add(2).to_be_bytes();
@@ -72,7 +72,7 @@ fn put_linked(alloc: Global, text: &mut Vec<u8>, i: u64) -> Result<(), AllocErro
     )
 }
 
-/// Spells an entry whose file was made and lost its name.
+/// Appends the bytes of entry `i`, which is unlinked: its file was made and lost its name.
 fn put_unlinked(text: &mut Vec<u8>, i: u64, file: u64) -> Result<(), AllocError> {
     let number = i.wrapping_add(2).to_be_bytes();
     let file = file.to_be_bytes();
@@ -86,12 +86,12 @@ fn put_unlinked(text: &mut Vec<u8>, i: u64, file: u64) -> Result<(), AllocError>
     )
 }
 
-/// Returns four bytes for a count.
+/// Returns the four bytes of a count.
 fn count_text(count: u64) -> [u8; 4] {
     (count.min(0xffff_ffff) as u32).to_be_bytes()
 }
 
-/// Spells the head of an image. The manifest's files have the lower ids, and the made files the higher ones.
+/// Appends the head of an image. The manifest's files have the lower ids, and the made files the higher ones.
 fn put_head(text: &mut Vec<u8>, entries: u64, unlinked: u64) -> Result<(), AllocError> {
     let next = entries.wrapping_add(2);
     let next_number = next.to_be_bytes();
@@ -110,7 +110,7 @@ fn put_head(text: &mut Vec<u8>, entries: u64, unlinked: u64) -> Result<(), Alloc
     )
 }
 
-/// Spells the entries, of which the last ones are unlinked.
+/// Appends the bytes of all entries, of which the last `unlinked` are unlinked.
 fn put_entries(
     alloc: Global,
     text: &mut Vec<u8>,
@@ -128,7 +128,7 @@ fn put_entries(
     Ok(())
 }
 
-/// Spells the files that were made.
+/// Appends the bytes of the files that were made.
 fn put_made(text: &mut Vec<u8>, entries: u64, unlinked: u64) -> Result<(), AllocError> {
     for i in 0..unlinked {
         let file = entries.wrapping_add(2).wrapping_add(i).to_be_bytes();
@@ -137,7 +137,7 @@ fn put_made(text: &mut Vec<u8>, entries: u64, unlinked: u64) -> Result<(), Alloc
     Ok(())
 }
 
-/// Spells an image of `entries` entries, of which the last `unlinked` are unlinked. No link was changed.
+/// Returns the bytes of an image of `entries` entries, of which the last `unlinked` are unlinked. No link was changed.
 fn image_text(alloc: Global, entries: u64, unlinked: u64) -> Result<Vec<u8>, AllocError> {
     let mut text = Vec::new(alloc);
     put_head(&mut text, entries, unlinked)?;
@@ -156,7 +156,7 @@ fn image_read(alloc: Global, text: &[u8]) -> Result<Image, ImageFault>
     read(alloc, text)
 }
 
-/// Feeds a text in parts of 4,096 bytes.
+/// Reads an image from `text` by a reader that is fed parts of 4,096 bytes.
 #[inline(never)]
 fn image_fed(alloc: Global, text: &[u8]) -> Result<Image, ImageFault> {
     let Ok(mut reader) = ImageReader::new(alloc) else {
@@ -168,7 +168,7 @@ fn image_fed(alloc: Global, text: &[u8]) -> Result<Image, ImageFault> {
     reader.finish()
 }
 
-/// Feeds a text. Returns the time.
+/// Feeds `text` to a reader, and returns the nanoseconds of that, divided by `entries`.
 fn time_fed(rt: &HostRuntime, text: &[u8], entries: u64) -> u64 {
     let started = moment(rt);
     let fed = image_fed(rt.alloc(), text);
@@ -199,7 +199,7 @@ fn image_written(alloc: Global, image: &Image) -> Result<Vec<u8>, WriteFault>
     write(alloc, image, 1)
 }
 
-/// What an image took: the nanoseconds of each call for an entry, and how many bytes were written.
+/// What an image took: the nanoseconds of each call, divided by the entries, and how many bytes were written.
 #[derive(Clone, Copy)]
 struct Took {
     read: u64,
@@ -210,7 +210,8 @@ struct Took {
     bytes: u64,
 }
 
-/// Writes an image, unless it is too long. Returns the time, and how many bytes were written.
+/// Writes an image, unless it is too long. Returns the nanoseconds, divided by `entries`, and how many bytes were
+/// written.
 fn time_write(rt: &HostRuntime, image: &Image, entries: u64) -> (u64, u64)
     requires fit { IsFit image.now }
 {
@@ -223,7 +224,7 @@ fn time_write(rt: &HostRuntime, image: &Image, entries: u64) -> (u64, u64)
     }
 }
 
-/// Makes the image of what is served, and writes it.
+/// Times making the image of `served`, and writing it.
 fn time_taken(rt: &HostRuntime, served: &Served, entries: u64) -> Result<Took, NoMemory> {
     let started = moment(rt);
     let image = image_taken(rt.alloc(), served)?;
@@ -240,7 +241,8 @@ fn time_taken(rt: &HostRuntime, served: &Served, entries: u64) -> Result<Took, N
     })
 }
 
-/// Restores an image, and goes on with the served state. The manifest has its files, so only memory can be refused.
+/// Times the restoring of `image`, and each call after it. The manifest has the image's files, so only memory can be
+/// refused.
 fn time_raise(
     rt: &HostRuntime,
     image: Image,
@@ -260,7 +262,8 @@ fn time_raise(
     Ok(Took { raise, ..took? })
 }
 
-/// Reads an image, and goes on with it. The bytes do spell one, so only memory can be refused.
+/// Times the reading of an image, and each call after it. `text` has the bytes of an image, so only memory can be
+/// refused.
 fn time_read(
     rt: &HostRuntime,
     text: &[u8],
@@ -277,12 +280,12 @@ fn time_read(
     Ok(Took { read, feed, ..took })
 }
 
-/// Makes a manifest with a file for each entry.
+/// Makes a manifest with a line for each entry.
 fn manifest_of(alloc: Global, entries: u64) -> Result<Manifest, NoMemory> {
     manifest_from(alloc, manifest_text(alloc, entries)?)
 }
 
-/// Makes an image and each call on it.
+/// Makes the bytes of an image over `manifest`, and times each call on the image.
 fn time_all(
     rt: &HostRuntime,
     manifest: &Manifest,
@@ -295,7 +298,7 @@ fn time_all(
     took
 }
 
-/// Makes a manifest, an image over it, and each call.
+/// Makes a manifest and an image over it, and times each call on the image.
 fn time_made(rt: &HostRuntime, entries: u64, unlinked: u64) -> Result<Took, NoMemory> {
     let manifest = manifest_of(rt.alloc(), entries)?;
     let took = time_all(rt, &manifest, entries, unlinked);
@@ -303,7 +306,7 @@ fn time_made(rt: &HostRuntime, entries: u64, unlinked: u64) -> Result<Took, NoMe
     took
 }
 
-/// Makes each call, as words say.
+/// Times each call on an image, as `words` say.
 pub(crate) fn measure(rt: &HostRuntime, words: &[&str]) -> Result<Option<Told>, NoMemory> {
     let (Some(entries), Some(unlinked)) = (number_at(words, 0), number_at(words, 1)) else {
         return Ok(None);

@@ -4,7 +4,8 @@ use eden_base::NoMemory;
 use manifest::Manifest;
 use std::alloc::{AllocError, Global};
 
-/// Returns line `i` of a manifest: each sixty-fourth line is a directory, and the lines behind it are its files.
+/// Returns line `i` of a manifest. Each sixty-fourth line is a directory, and the lines after it are the directory's
+/// files.
 fn line_of(alloc: Global, i: u64) -> Result<String, AllocError> {
     let dir = i / EACH;
     if i % EACH == 0 {
@@ -14,7 +15,7 @@ fn line_of(alloc: Global, i: u64) -> Result<String, AllocError> {
     }
 }
 
-/// Puts a line of a manifest behind a text.
+/// Appends line `i` of a manifest to `text`.
 fn put_line(alloc: Global, text: &mut Vec<u8>, i: u64) -> Result<(), AllocError> {
     let line = line_of(alloc, i)?;
     let done = text.extend_from_slice(line.as_bytes());
@@ -22,7 +23,8 @@ fn put_line(alloc: Global, text: &mut Vec<u8>, i: u64) -> Result<(), AllocError>
     done
 }
 
-/// Makes the text of a manifest: its first directory, and the lines from one on up to another.
+/// Makes the text of a manifest: the commit, line 0, which is a directory, and the lines from `first` up to but not
+/// including `end`.
 pub(crate) fn manifest_text(alloc: Global, first: u64, end: u64) -> Result<Vec<u8>, AllocError> {
     let mut text = Vec::from_slice(alloc, b"commit 0123456789abcdef0123456789abcdef01234567\n")?;
     put_line(alloc, &mut text, 0)?;
@@ -32,7 +34,7 @@ pub(crate) fn manifest_text(alloc: Global, first: u64, end: u64) -> Result<Vec<u
     Ok(text)
 }
 
-/// Reads the manifest of a text that is one.
+/// Reads the manifest that `text` writes. It does write one, so only memory can be refused.
 pub(crate) fn manifest_from(alloc: Global, text: Vec<u8>) -> Result<Manifest, NoMemory> {
     match Manifest::read(alloc, text.as_slice()) {
         Ok(manifest) => Ok(manifest),

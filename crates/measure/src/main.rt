@@ -1,5 +1,5 @@
-//! What calls cost: `measure SUBJECT WORD..` makes those of one subject, so that their instructions can be counted, or
-//! their times are told. Without words the program makes a small run of each.
+//! What calls cost: `measure SUBJECT WORD..` makes the calls of one subject, so that their instructions can be counted,
+//! or prints their times. Without words the program makes a small run of each subject.
 #![tactic(auto)]
 
 mod arena;
@@ -28,7 +28,7 @@ use std::thread::Threads;
 use told::Told;
 use words::refuse;
 
-/// The small runs: words, as the program may be started with.
+/// The small runs: each is the words with which the program could be started.
 static RUNS: [&str; 55] = [
     "arena 1",
     "arena 1024",
@@ -87,8 +87,8 @@ static RUNS: [&str; 55] = [
     "rounds 16 64 2",
 ];
 
-/// Makes the calls of a subject, as the words behind it say. There is nothing to tell where they are not its words.
-/// `threads` is the handle by which rounds start their workers.
+/// Makes the calls of `subject`, as `words` say, and returns the figures. Returns none if these are not words of the
+/// subject. `threads` is the handle by which rounds start their workers.
 fn told_of<R: Threads + Wait + Clock + Sync>(
     rt: &HostRuntime,
     threads: &R,
@@ -109,7 +109,7 @@ fn told_of<R: Threads + Wait + Clock + Sync>(
     }
 }
 
-/// Makes the calls that a line of words is for, and prints their numbers.
+/// Makes the calls that the words of `line` ask for, and prints their figures.
 fn measure<R: Threads + Wait + Clock + Sync>(
     rt: &HostRuntime,
     threads: &R,

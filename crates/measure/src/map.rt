@@ -1,7 +1,7 @@
-//! Makes a map and each call on a thousand of its numbers, so that the instructions of a call can be counted:
-//! `measure map ENTRIES`. `measure map ENTRIES holes` does so with a map in which every second number was forgotten;
-//! `measure map ENTRIES given` makes a map of given entries in place of that. `measure map ENTRIES random` asks
-//! for the attributes of random numbers, at the limit that the program has by itself.
+//! Makes a map and each call on a thousand of its numbers, so that the instructions of a call can be counted: `measure
+//! map ENTRIES`. `measure map ENTRIES holes` does so with a map in which every second number was forgotten. `measure
+//! map ENTRIES given` makes a map of a list of entries, and no call on its numbers. `measure map ENTRIES random` asks
+//! for the attributes of random numbers, with the limit that `edend` has without an option.
 ghost use Rattle.std.specs.Prelude.{◌≡◌, ◌<◌, IfOk, None, IsSome, false, length};
 ghost use Rattle.std.specs.List.{list_any};
 ghost use Rattle.entry_table.specs.Entries.{entry_of, is_kid_of, AreEntries, IsLinked};
@@ -21,7 +21,7 @@ const SOUGHT: u64 = 1000;
 
 const LOADED_LIMIT: usize = 64;
 
-/// A number of the map, its place, and a name that its directory lacks.
+/// A number of the map, its directory and its name, and a name that the directory lacks.
 #[derive(Drop)]
 struct Sought {
     number: Number,
@@ -30,7 +30,7 @@ struct Sought {
     fresh: Name,
 }
 
-/// Gives the entry at position `i` a number. All but one of `every` are forgotten again.
+/// Gives entry `i` a number. If `every` is 2, the numbers of the odd entries are forgotten again.
 fn give_entry(alloc: Global, map: &mut InodeMap, i: u64, every: u64) -> Result<(), NoMemory> {
     let name = name_of(alloc, i)?;
     let given = map.give(alloc, Number(parent_of(i)), &name);
@@ -44,7 +44,7 @@ fn give_entry(alloc: Global, map: &mut InodeMap, i: u64, every: u64) -> Result<(
     Ok(())
 }
 
-/// Gives entries numbers, in directories of 63 files each, until `entries` of them are left.
+/// Gives numbers to entries, in directories of 63 files each, until `entries` numbers are left.
 fn fill(alloc: Global, map: &mut InodeMap, entries: u64, every: u64) -> Result<(), NoMemory> {
     for i in 0..entries.wrapping_mul(every) {
         give_entry(alloc, map, i, every)?;
@@ -52,7 +52,7 @@ fn fill(alloc: Global, map: &mut InodeMap, entries: u64, every: u64) -> Result<(
     Ok(())
 }
 
-/// Returns entry `i` as a sought number, with a fresh name.
+/// Returns the number of entry `i`, with `fresh` as the name that its directory lacks.
 fn sought_of(alloc: Global, i: u64, fresh: Name) -> Result<Sought, NoMemory> {
     let name = name_of(alloc, i)?;
     Ok(Sought {
@@ -63,7 +63,7 @@ fn sought_of(alloc: Global, i: u64, fresh: Name) -> Result<Sought, NoMemory> {
     })
 }
 
-/// Lists numbers that lie evenly over those of a map.
+/// Lists numbers that are spread evenly over those of a map.
 fn list_sought(alloc: Global, entries: u64, every: u64) -> Result<Vec<Sought>, NoMemory> {
     let mut list = Vec::new(alloc);
     for j in 0..SOUGHT {
@@ -155,7 +155,7 @@ fn unlink(map: &mut InodeMap, number: Number, file: FileId)
     map.unlink(number, file);
 }
 
-/// Makes the calls that change nothing, and sums what they answer.
+/// Makes the calls that change nothing on each listed number, and returns the sum of what they return.
 fn read_all(map: &InodeMap, list: &[Sought]) -> u64 {
     let mut sum = 0u64;
     for sought in list {
@@ -176,7 +176,7 @@ fn read_all(map: &InodeMap, list: &[Sought]) -> u64 {
     sum
 }
 
-/// Loads an attribute of a number, unless the number is unknown or has one. Tells whether it did.
+/// Loads an attribute of `number`, unless `number` is unknown or has one loaded. Returns whether it did.
 fn load_where_none(map: &mut InodeMap, number: Number) -> bool {
     if map.entry(number).is_some() && attr(map, number).is_none() {
         let attr = Attr {
@@ -191,7 +191,7 @@ fn load_where_none(map: &mut InodeMap, number: Number) -> bool {
     false
 }
 
-/// Remembers a file of each number, and loads an attribute of it.
+/// Remembers a file of each listed number, and loads its attribute. Returns how many attributes were loaded.
 fn remember_all(map: &mut InodeMap, list: &[Sought]) -> u64 {
     let mut loaded = 0u64;
     for sought in list {
@@ -205,7 +205,7 @@ fn remember_all(map: &mut InodeMap, list: &[Sought]) -> u64 {
     loaded
 }
 
-/// Gives each name once more, and takes it back.
+/// Gives the number of each listed name once more, and forgets it once. Returns how many counts were lowered.
 fn give_all_again(alloc: Global, map: &mut InodeMap, list: &[Sought]) -> u64 {
     let mut lowered = 0u64;
     for sought in list {
@@ -218,7 +218,7 @@ fn give_all_again(alloc: Global, map: &mut InodeMap, list: &[Sought]) -> u64 {
     lowered
 }
 
-/// Takes the name of a number away, unless it has none or something stands below it.
+/// Takes the name of `number` away, if `number` has a name and forgetting it once would drop it.
 fn unlink_lonely(map: &mut InodeMap, number: Number) {
     let Some(Place::Linked { .. }) = map.entry(number) else {
         return;
@@ -229,7 +229,8 @@ fn unlink_lonely(map: &mut InodeMap, number: Number) {
     unlink(map, number, FileId(number.0));
 }
 
-/// Gives a number to each name that was not there, takes every second name away, and forgets the numbers.
+/// Gives a number to each fresh name, takes every second such name away, and forgets the numbers. Returns how many
+/// numbers were dropped.
 fn give_all_new(alloc: Global, map: &mut InodeMap, list: &[Sought]) -> Result<u64, NoMemory> {
     let mut dropped = 0u64;
     for sought in list {
@@ -246,7 +247,7 @@ fn give_all_new(alloc: Global, map: &mut InodeMap, list: &[Sought]) -> Result<u6
     Ok(dropped)
 }
 
-/// Makes each call on the numbers of a list.
+/// Makes each call on the listed numbers, and returns the figures.
 fn call_all(alloc: Global, map: &mut InodeMap, list: &[Sought]) -> Result<Told, NoMemory> {
     let loaded = remember_all(map, list);
     let sum = read_all(map, list);
@@ -280,7 +281,7 @@ fn told_of(alloc: Global, entries: u64, every: u64) -> Result<Told, NoMemory> {
     told
 }
 
-/// Asks for the attributes of random numbers, and loads those that aren't loaded. Counts these.
+/// Asks for the attributes of random numbers, and loads those that are not loaded. Returns how many were loaded.
 fn ask_random(map: &mut InodeMap, entries: u64) -> u64 {
     let mut random = Random::new();
     let mut loaded = 0u64;
@@ -307,7 +308,7 @@ fn told_of_random(alloc: Global, entries: u64) -> Result<Told, NoMemory> {
     told
 }
 
-/// Lists entries of which each stands in the directory of the number before it.
+/// Lists `entries` entries, each in the directory of the number before it.
 fn list_chain(alloc: Global, entries: u32) -> Result<Vec<Kept>, NoMemory>
     ensures chain { IfOk result (λ list. IsChain 2 list.items) }
     ensures len { IfOk result (λ list. length list.items ≡ entries) }
@@ -335,7 +336,7 @@ fn of_entries(alloc: Global, entries: Vec<Kept>, next: u64) -> Result<InodeMap, 
     InodeMap::of_entries(alloc, entries, next, LOADED_LIMIT)
 }
 
-/// Makes a map of entries, and tells whether it knows the last.
+/// Makes a map of `entries`, and returns whether it knows their last number.
 fn knows_last(alloc: Global, entries: Vec<Kept>, next: u64) -> Result<bool, NoMemory>
     requires entries { AreEntries entries.items next }
     requires next { 0 < next }
@@ -346,20 +347,20 @@ fn knows_last(alloc: Global, entries: Vec<Kept>, next: u64) -> Result<bool, NoMe
     Ok(known)
 }
 
-/// Makes a map of a chain of `entries` entries, and returns whether it knows the last.
+/// Makes a map of a chain of `entries` entries, and returns whether it knows their last number.
 fn knows_last_of(alloc: Global, entries: u32) -> Result<bool, NoMemory> {
     let list = list_chain(alloc, entries)?;
     let next = entries as u64 + 2;
     knows_last(alloc, list, next)
 }
 
-/// Makes a map of given entries, and tells whether it knows the last.
+/// Makes a map of a list of `entries` entries. The figure is whether the map knows their last number.
 fn told_of_given(alloc: Global, entries: u32) -> Result<Told, NoMemory> {
     let known = knows_last_of(alloc, entries)?;
     Ok(Told::of(&["known"], &[u64::from(known)]))
 }
 
-/// Makes each call on a map, or a map of given entries, as words say.
+/// Measures the calls on a map, or a map of given entries, as `words` say.
 pub(crate) fn measure(alloc: Global, words: &[&str]) -> Result<Option<Told>, NoMemory> {
     let Some(entries) = number_at(words, 0) else {
         return Ok(None);

@@ -3,11 +3,11 @@
 use eden_base::{Name, NoMemory};
 use std::alloc::{AllocError, Global};
 
-/// How many entries a directory and its files are.
+/// How many entries a directory and its files make up.
 pub(crate) const EACH: u64 = 64;
 
-/// Returns the number of the directory in which entry `i` stands: the root's, where `i` is a directory itself. Entry 0
-/// has number 2, and each other one the next.
+/// Returns the number of the directory of entry `i`. If entry `i` is itself a directory, that is the root's number.
+/// Entry 0 has number 2, entry 1 has number 3, and so on.
 pub(crate) fn parent_of(i: u64) -> u64 {
     if i % EACH == 0 {
         1
@@ -16,7 +16,7 @@ pub(crate) fn parent_of(i: u64) -> u64 {
     }
 }
 
-/// Returns the name of an entry, as text.
+/// Returns the name of entry `i`, as text.
 pub(crate) fn name_text(alloc: Global, i: u64) -> Result<String, AllocError> {
     if i % EACH == 0 {
         format!(in alloc; "directory{i}")
@@ -25,7 +25,7 @@ pub(crate) fn name_text(alloc: Global, i: u64) -> Result<String, AllocError> {
     }
 }
 
-/// Makes a name of a text that is one.
+/// Makes a name of `text`. The text is fit for a name, so only memory can be refused.
 pub(crate) fn named(alloc: Global, text: String) -> Result<Name, NoMemory> {
     match Name::parse(alloc, text.as_bytes()) {
         Ok(name) => Ok(name),
@@ -33,17 +33,17 @@ pub(crate) fn named(alloc: Global, text: String) -> Result<Name, NoMemory> {
     }
 }
 
-/// Returns the name of an entry.
+/// Returns the name of entry `i`.
 pub(crate) fn name_of(alloc: Global, i: u64) -> Result<Name, NoMemory> {
     named(alloc, name_text(alloc, i)?)
 }
 
-/// Returns a file's name, by a number.
+/// Returns the name of file `i`.
 pub(crate) fn file_name(alloc: Global, i: u64) -> Result<Name, NoMemory> {
     named(alloc, format!(in alloc; "file{i}.txt")?)
 }
 
-/// Returns a name that no entry has, by a number.
+/// Returns name `j` of those that no entry has.
 pub(crate) fn fresh_name(alloc: Global, j: u64) -> Result<Name, NoMemory> {
     named(alloc, format!(in alloc; "fresh{j}.txt")?)
 }

@@ -1,13 +1,13 @@
-//! Random numbers, the same in each run, and the limit at which they are asked for.
+//! Random numbers, which are the same in each run, and the limit of loaded attributes with which they are asked for.
 use eden_base::Number;
 
-/// How many attributes the program keeps loaded where its words don't say.
+/// How many attributes `edend` keeps loaded if its words say no number.
 pub(crate) const DEFAULT_LIMIT: usize = 1024;
 
 /// How many random numbers are asked for.
 pub(crate) const ASKED: u64 = 20_000;
 
-/// The last word of a linear congruential sequence (Knuth's MMIX).
+/// A linear congruential generator (Knuth's MMIX). `word` is the last word of its sequence.
 #[derive(Drop)]
 pub(crate) struct Random {
     word: u64,
@@ -19,7 +19,7 @@ impl Random {
         Random { word: 1 }
     }
 
-    /// Returns one of the numbers that were given, which begin with 2.
+    /// Returns a random one of the `given` numbers that begin with 2.
     pub(crate) fn number(&mut self, given: u64) -> Number {
         self.word = self
             .word

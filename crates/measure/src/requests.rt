@@ -1,7 +1,7 @@
-//! Makes what a daemon serves and asks it a thousand requests of each kind, so that the instructions of one can be
-//! counted: `measure requests LINES DEPTH`, for a manifest of LINES lines and a directory at DEPTH.
-//! `measure requests LINES random` asks for the attributes of random files of it, at the limit that the program has by
-//! itself.
+//! Makes what a daemon serves and a thousand requests of each kind on it, so that the instructions of one request can
+//! be counted. `measure requests LINES DEPTH` has a manifest of LINES lines, and a directory at DEPTH. `measure
+//! requests LINES random` asks for the attributes of random files of the manifest, with the limit that `edend` has
+//! without an option.
 use crate::lines::{manifest_from, manifest_text};
 use crate::names::{EACH, named};
 use crate::random::{ASKED as ASKED_RANDOMLY, DEFAULT_LIMIT, Random};
@@ -15,7 +15,7 @@ use manifest::Manifest;
 use std::alloc::{AllocError, Global};
 use std::marker::Model;
 
-/// How many requests of a kind are asked.
+/// How many requests of each kind are made.
 const ASKED: u64 = 1000;
 
 const LOADED_LIMIT: usize = 64;
@@ -56,7 +56,7 @@ impl Hosted {
     }
 }
 
-/// Reads a manifest of this many lines.
+/// Makes and reads a manifest of `lines` lines.
 fn manifest_of(alloc: Global, lines: u64) -> Result<Manifest, NoMemory> {
     manifest_from(alloc, manifest_text(alloc, 1, lines)?)
 }
@@ -66,7 +66,7 @@ fn begin(alloc: Global, lines: u64, limit: usize) -> Result<Hosted, NoMemory> {
     Hosted::of(alloc, manifest_of(alloc, lines)?, limit)
 }
 
-/// Returns the name of a line of the manifest, as text.
+/// Returns the name in line `i` of the manifest, as text.
 fn name_text(alloc: Global, i: u64) -> Result<String, AllocError> {
     let dir = i / EACH;
     if i % EACH == 0 {
@@ -76,12 +76,12 @@ fn name_text(alloc: Global, i: u64) -> Result<String, AllocError> {
     }
 }
 
-/// Returns the name of a line of the manifest.
+/// Returns the name in line `i` of the manifest.
 fn name_of(alloc: Global, i: u64) -> Result<Name, NoMemory> {
     named(alloc, name_text(alloc, i)?)
 }
 
-/// Returns the number of an entry, and the root's where there is none.
+/// Returns the number of an entry, and the root's for any other answer.
 fn number_told(answer: Option<Answer>) -> Number {
     match answer {
         Some(Answer::Entry { number, .. }) => number,
@@ -89,7 +89,7 @@ fn number_told(answer: Option<Answer>) -> Number {
     }
 }
 
-/// Looks a name up twice, and returns its number.
+/// Looks a name up twice, and returns the number that the first reply gave.
 fn look_up_twice(alloc: Global, served: &mut Hosted, dir: Number, name: Name) -> Number {
     let request = Request::Lookup { dir, name };
     let number = number_told(served.apply(alloc, &request));
@@ -98,8 +98,8 @@ fn look_up_twice(alloc: Global, served: &mut Hosted, dir: Number, name: Name) ->
     number
 }
 
-/// Looks every second file up twice, and every directory. Lists the requests for each of the others, as far as they are
-/// wanted.
+/// Looks every directory up twice, and every file that is not one in `every`. Returns the requests that look up the
+/// other files.
 fn look_half_up(alloc: Global, served: &mut Hosted, lines: u64) -> Result<Vec<Request>, NoMemory> {
     let mut others = Vec::new(alloc);
     let every = (lines / ASKED).max(2);
@@ -117,7 +117,7 @@ fn look_half_up(alloc: Global, served: &mut Hosted, lines: u64) -> Result<Vec<Re
     Ok(others)
 }
 
-/// Makes a directory in a directory, and returns its number.
+/// Makes a directory in `dir`, and returns its number.
 fn make_dir(alloc: Global, served: &mut Hosted, dir: Number, name: Name) -> Number {
     let perm = Perm::DIRECTORY;
     let request = Request::Mkdir { dir, name, perm };
@@ -126,7 +126,7 @@ fn make_dir(alloc: Global, served: &mut Hosted, dir: Number, name: Name) -> Numb
     number
 }
 
-/// Makes directories in one another, `depth` of them, and returns the number of the last.
+/// Makes `depth` directories, each in the one before it, and returns the number of the last.
 fn make_deep(alloc: Global, served: &mut Hosted, depth: u64) -> Result<Number, NoMemory> {
     let mut dir = Number::ROOT;
     for _ in 0..depth {
@@ -136,15 +136,15 @@ fn make_deep(alloc: Global, served: &mut Hosted, depth: u64) -> Result<Number, N
     Ok(dir)
 }
 
-/// The requests that make a file, look it up and take its name away.
+/// The requests that make a file, look it up and unlink it.
 type Asked = (Request, Request, Request);
 
-/// Returns the name of a file that is made.
+/// Returns the name of made file `j`.
 fn made_name(alloc: Global, j: u64) -> Result<Name, NoMemory> {
     named(alloc, format!(in alloc; "made{j}.txt")?)
 }
 
-/// Returns the requests for a file that is made in a directory.
+/// Returns the requests for made file `j` in `dir`.
 fn asked_of(alloc: Global, dir: Number, j: u64) -> Result<Asked, NoMemory> {
     let perm = Perm::DIRECTORY;
     let made = made_name(alloc, j)?;
@@ -159,7 +159,7 @@ fn asked_of(alloc: Global, dir: Number, j: u64) -> Result<Asked, NoMemory> {
     Ok((create, lookup, Request::Unlink { dir, name }))
 }
 
-/// Lists the requests for all files that are made in a directory.
+/// Lists the requests for all files that are made in `dir`.
 fn list_asked(alloc: Global, dir: Number) -> Result<Vec<Asked>, NoMemory> {
     let mut list = Vec::new(alloc);
     for j in 0..ASKED {
@@ -247,14 +247,14 @@ fn forget_batch(alloc: Global, served: &mut Hosted, request: &Request) -> u64 {
     }
 }
 
-/// Looks names up that have no number.
+/// Looks up names that have no number yet.
 fn ask_others(alloc: Global, served: &mut Hosted, others: &[Request]) {
     for request in others {
         look_up_fresh(alloc, served, request);
     }
 }
 
-/// Takes a number back once. Tells whether that has no answer.
+/// Forgets `node` once. Returns whether the forget has no answer.
 fn take_back(alloc: Global, served: &mut Hosted, node: Number) -> bool {
     let back = Request::Forget(Item { node, k: 1 });
     let answer = served.apply(alloc, &back);
@@ -262,15 +262,16 @@ fn take_back(alloc: Global, served: &mut Hosted, node: Number) -> bool {
     answer.is_none()
 }
 
-/// Looks a name up whose number has no attribute loaded, and then once more. Takes one back, so that it is held
-/// twice as the others are, and tells whether both gave one number.
+/// Looks up a name whose number has no attribute loaded, and then looks it up once more. Forgets the number once, so
+/// that it is held twice as the others are. Returns whether both look-ups gave the same number.
 fn ask_other_again(alloc: Global, served: &mut Hosted, request: &Request) -> bool {
     let node = look_up_unloaded(alloc, served, request);
     let same = look_up_loaded(alloc, served, request, node);
     same && node != Number::ROOT && take_back(alloc, served, node)
 }
 
-/// Looks half of the names up, asks for others three times, and counts those that are there.
+/// Looks most names up twice, and the other names three times. Returns how many of the other names had one number in
+/// the last two look-ups.
 fn ask_fresh(alloc: Global, served: &mut Hosted, lines: u64) -> Result<u64, NoMemory> {
     let others = look_half_up(alloc, served, lines)?;
     ask_others(alloc, served, &others);
@@ -284,7 +285,7 @@ fn ask_fresh(alloc: Global, served: &mut Hosted, lines: u64) -> Result<u64, NoMe
     Ok(found)
 }
 
-/// Asks for the attributes of a number. Tells whether there are some.
+/// Asks for the attributes of `node`. Returns whether the answer has some.
 fn is_shown(alloc: Global, served: &mut Hosted, node: Number) -> bool {
     let request = Request::Getattr { node };
     let shown = get_attr(alloc, served, &request).is_some();
@@ -292,7 +293,8 @@ fn is_shown(alloc: Global, served: &mut Hosted, node: Number) -> bool {
     shown
 }
 
-/// Forgets a file once, unlinks it and forgets it again. Tells whether all was answered as it should be.
+/// Forgets a file once, unlinks it and forgets it again. Returns whether the unlink was done, and no forget was
+/// answered.
 fn is_forgotten(alloc: Global, served: &mut Hosted, node: Number, unlinking: &Request) -> bool {
     let forget = Request::Forget(Item { node, k: 1 });
     let lowered = forget_one(alloc, served, &forget);
@@ -302,8 +304,8 @@ fn is_forgotten(alloc: Global, served: &mut Hosted, node: Number, unlinking: &Re
     lowered && gone && dropped
 }
 
-/// Looks a file that was made up once more, asks for its attributes, forgets it once, unlinks it and forgets it again.
-/// Tells whether all was answered as it should be.
+/// Looks up a made file once more, asks for its attributes, forgets it once, unlinks it and forgets it again. Returns
+/// whether the look-up gave `number`, attributes came, the unlink was done, and no forget was answered.
 fn ask_one(
     alloc: Global,
     served: &mut Hosted,
@@ -317,7 +319,7 @@ fn ask_one(
     same && shown && forgotten
 }
 
-/// Makes files and asks each of them. Counts those that answered as they should.
+/// Makes files, and calls `ask_one` with each. Returns how many calls returned true.
 fn ask_listed(alloc: Global, served: &mut Hosted, list: &[Asked]) -> u64 {
     let mut done = 0u64;
     for (making, lookup, unlinking) in list {
@@ -330,7 +332,7 @@ fn ask_listed(alloc: Global, served: &mut Hosted, list: &[Asked]) -> u64 {
     done
 }
 
-/// Makes files in a directory at this depth, and asks each of them.
+/// Makes files in a directory at `depth`, and calls `ask_one` with each. Returns how many calls returned true.
 fn ask_made(alloc: Global, served: &mut Hosted, depth: u64) -> Result<u64, NoMemory> {
     let dir = make_deep(alloc, served, depth)?;
     let list = list_asked(alloc, dir)?;
@@ -339,7 +341,7 @@ fn ask_made(alloc: Global, served: &mut Hosted, depth: u64) -> Result<u64, NoMem
     Ok(done)
 }
 
-/// Returns a batch that forgets numbers once each, from this one on.
+/// Returns a batch that forgets 256 numbers once each, from `first` on.
 fn batch_from(alloc: Global, first: u64) -> Result<Batch, NoMemory> {
     let mut items = [Item {
         node: Number::ROOT,
@@ -353,7 +355,7 @@ fn batch_from(alloc: Global, first: u64) -> Result<Batch, NoMemory> {
     Batch::of(alloc, &items)
 }
 
-/// Forgets the numbers of a batch twice. Tells how many batches were forgotten.
+/// Forgets the numbers of a batch twice. Returns 1 if neither forget was answered, else 0.
 fn ask_batch(alloc: Global, served: &mut Hosted, request: &Request) -> u64 {
     if lower_batch(alloc, served, request) == 0 {
         forget_batch(alloc, served, request)
@@ -362,7 +364,8 @@ fn ask_batch(alloc: Global, served: &mut Hosted, request: &Request) -> u64 {
     }
 }
 
-/// Forgets the first numbers twice, once each in a batch, so that they are lowered and then dropped.
+/// Forgets the first 1,024 numbers twice, in four batches: the first forget lowers a count, and the second drops the
+/// number. Returns how many batches were forgotten so.
 fn ask_batches(alloc: Global, served: &mut Hosted) -> Result<u64, NoMemory> {
     let mut batches = 0u64;
     for &first in &[2, 258, 514, 770] {
@@ -373,7 +376,7 @@ fn ask_batches(alloc: Global, served: &mut Hosted) -> Result<u64, NoMemory> {
     Ok(batches)
 }
 
-/// Makes all requests.
+/// Makes all requests, and returns the figures.
 fn ask_all(alloc: Global, served: &mut Hosted, lines: u64, depth: u64) -> Result<Told, NoMemory> {
     let found = ask_fresh(alloc, served, lines)?;
     let done = ask_made(alloc, served, depth)?;
@@ -385,7 +388,7 @@ fn ask_all(alloc: Global, served: &mut Hosted, lines: u64, depth: u64) -> Result
     ))
 }
 
-/// Makes all requests of a daemon that begins.
+/// Begins to serve a manifest of `lines` lines, and makes all requests.
 fn ask_begun(alloc: Global, lines: u64, depth: u64) -> Result<Told, NoMemory> {
     let mut served = begin(alloc, lines, LOADED_LIMIT)?;
     let told = ask_all(alloc, &mut served, lines, depth);
@@ -393,7 +396,7 @@ fn ask_begun(alloc: Global, lines: u64, depth: u64) -> Result<Told, NoMemory> {
     told
 }
 
-/// Looks each name up once.
+/// Looks each name of the manifest up once.
 fn look_all_up(alloc: Global, served: &mut Hosted, lines: u64) -> Result<(), NoMemory> {
     let mut parent = Number::ROOT;
     for i in 0..lines {
@@ -409,7 +412,7 @@ fn look_all_up(alloc: Global, served: &mut Hosted, lines: u64) -> Result<(), NoM
     Ok(())
 }
 
-/// Asks for the attributes of random numbers. Counts those that have some.
+/// Asks for the attributes of random numbers. Returns how many have some.
 fn ask_random(alloc: Global, served: &mut Hosted, lines: u64) -> Result<Told, NoMemory> {
     look_all_up(alloc, served, lines)?;
     let mut random = Random::new();
@@ -422,7 +425,7 @@ fn ask_random(alloc: Global, served: &mut Hosted, lines: u64) -> Result<Told, No
     Ok(Told::of(&["shown"], &[shown]))
 }
 
-/// Asks a daemon that begins for the attributes of random numbers.
+/// Begins to serve a manifest of `lines` lines, and asks for the attributes of random numbers.
 fn ask_begun_random(alloc: Global, lines: u64) -> Result<Told, NoMemory> {
     let mut served = begin(alloc, lines, DEFAULT_LIMIT)?;
     let told = ask_random(alloc, &mut served, lines);
@@ -430,7 +433,7 @@ fn ask_begun_random(alloc: Global, lines: u64) -> Result<Told, NoMemory> {
     told
 }
 
-/// Makes all requests, as words say.
+/// Measures requests, as `words` say.
 pub(crate) fn measure(alloc: Global, words: &[&str]) -> Result<Option<Told>, NoMemory> {
     let Some(lines) = number_at(words, 0) else {
         return Ok(None);

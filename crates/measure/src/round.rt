@@ -1,5 +1,5 @@
-//! Makes a round of RECORDS records, each with its receipt, and asks whether it is settled, so that the instructions of
-//! that can be counted: `measure journal RECORDS WORKERS ROUNDS`.
+//! Makes a round of RECORDS records, each with its receipt, and asks ROUNDS times whether the round is settled. So the
+//! instructions of one such call can be counted: `measure journal RECORDS WORKERS ROUNDS`.
 use crate::names::file_name;
 use crate::told::Told;
 use crate::words::number_at;
@@ -8,12 +8,12 @@ use fuse_wire::{Answer, Ask, Item, Request};
 use journal::{Journal, Receipt, Receipts, Record, is_settled};
 use std::alloc::Global;
 
-/// Returns the number that a request is about.
+/// Returns the number that request `i` is about.
 fn number_of(i: u32) -> Number {
     Number(u64::from(i).wrapping_add(2))
 }
 
-/// Returns a request: the kinds rotate among four, two of which carry a name.
+/// Returns request `i`. Its kind is one of four in turn, of which two carry a name.
 fn request_of(alloc: Global, i: u32) -> Result<Request, NoMemory> {
     let dir = Number::ROOT;
     let node = number_of(i);
@@ -32,7 +32,7 @@ fn request_of(alloc: Global, i: u32) -> Result<Request, NoMemory> {
     }
 }
 
-/// Returns the answer to that request.
+/// Returns the answer to request `i`.
 fn answer_of(i: u32) -> Option<Answer> {
     let number = number_of(i);
     let attr = Attr {
@@ -49,7 +49,7 @@ fn answer_of(i: u32) -> Option<Answer> {
     }
 }
 
-/// Writes `records` records down, as far as there is room.
+/// Appends `records` records to `journal`, as long as it has room.
 fn fill(alloc: Global, journal: &mut Journal, records: u32) -> Result<(), NoMemory> {
     for i in 0..records {
         let request = request_of(alloc, i)?;
@@ -61,7 +61,7 @@ fn fill(alloc: Global, journal: &mut Journal, records: u32) -> Result<(), NoMemo
     Ok(())
 }
 
-/// Returns the receipt of a record.
+/// Returns the receipt of record `i`.
 fn receipt_of(alloc: Global, i: u32) -> Result<Receipt, NoMemory> {
     let what = request_of(alloc, i)?;
     Ok(Receipt {
@@ -74,7 +74,7 @@ fn receipt_of(alloc: Global, i: u32) -> Result<Receipt, NoMemory> {
     })
 }
 
-/// Returns a worker's receipts: one of `workers` records, from its own on.
+/// Returns the receipts of `worker`: those of every record `i` with `i` modulo `workers` equal to `worker`.
 fn receipts_of(
     alloc: Global,
     worker: u32,
@@ -90,7 +90,7 @@ fn receipts_of(
     Ok(Receipts::of(alloc, list))
 }
 
-/// Returns the receipts of all workers, which take turns.
+/// Returns the receipts of all workers, to whom the records go in turn.
 fn list_receipts(alloc: Global, workers: u32, records: u32) -> Result<Vec<Receipts>, NoMemory> {
     let mut list = Vec::new(alloc);
     for worker in 0..workers {
@@ -104,7 +104,7 @@ fn settled(alloc: Global, journal: &Journal, workers: &[Receipts]) -> Result<boo
     is_settled(alloc, journal, workers)
 }
 
-/// Asks `rounds` times whether a round is settled, and counts how often it is.
+/// Asks `rounds` times whether a round is settled, and returns how often it is.
 fn ask_often(alloc: Global, journal: &Journal, workers: &[Receipts], rounds: u32) -> u32 {
     let mut times = 0u32;
     for _ in 0..rounds {
@@ -115,7 +115,7 @@ fn ask_often(alloc: Global, journal: &Journal, workers: &[Receipts], rounds: u32
     times
 }
 
-/// Makes a journal and its receipts, and calls `ask_often` with them.
+/// Makes the records and the receipts of a round, and calls `ask_often` with them.
 fn ask_made(
     alloc: Global,
     journal: &mut Journal,
@@ -138,7 +138,7 @@ fn times_settled(alloc: Global, records: u32, workers: u32, rounds: u32) -> Resu
     times
 }
 
-/// Asks whether a round is settled, as words say.
+/// Measures whether a round is settled, as `words` say. Returns none if they say no numbers.
 pub(crate) fn measure(alloc: Global, words: &[&str]) -> Result<Option<Told>, NoMemory> {
     let (Some(records), Some(workers)) = (number_at(words, 0), number_at(words, 1)) else {
         return Ok(None);

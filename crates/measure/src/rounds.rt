@@ -1,5 +1,5 @@
-//! Serves rounds of workers one after another, so that the instructions and the time of one can be counted:
-//! `measure rounds WORKERS ASKS ROUNDS [times]`. Each worker may take 64 requests a round, and finds ASKS.
+//! Serves rounds of workers one after another, so that the instructions and the time of one round can be counted:
+//! `measure rounds WORKERS ASKS ROUNDS [times]`. Each worker may take 64 requests a round, and finds ASKS asks.
 ghost use Rattle.std.specs.Prelude.{◌≡◌, vec_len, IfOk, IfSome};
 
 use crate::lines::{manifest_from, manifest_text};
@@ -24,7 +24,7 @@ const TURNS: usize = 64;
 
 const LOADED_LIMIT: usize = 64;
 
-/// A channel that asks for the root's attributes until none is left, and takes no memory.
+/// A channel from which `left` more asks can be taken, each for the root's attributes. It takes no memory.
 #[derive(Drop)]
 struct Rooted {
     left: u64,
@@ -71,7 +71,7 @@ fn channels_of(alloc: Global, workers: usize) -> Result<Vec<Rooted>, NoMemory> {
     Ok(channels)
 }
 
-/// Begins to serve a manifest.
+/// Returns the state before the first round over `manifest`.
 fn begin<'a>(alloc: Global, manifest: &'a Manifest, workers: usize) -> Result<Between<'a>, NoMemory>
     ensures over { IfOk result (λ between. between.served.tree.manifest ≡ manifest.now) }
 {
@@ -92,7 +92,7 @@ fn ask(channels: &mut Vec<Rooted>, asks: u64) {
     }
 }
 
-/// Drains a round. There is nothing to tell where it is not settled.
+/// Drains a round. Returns none if the round is not settled.
 fn drained(alloc: Global, round: Round<ManifestBacking<'_>, Rooted>) -> Option<Between<'_>>
     ensures served { IfSome result (λ between. between.served ≡ round.entry.served) }
 {
@@ -102,7 +102,7 @@ fn drained(alloc: Global, round: Round<ManifestBacking<'_>, Rooted>) -> Option<B
     }
 }
 
-/// Serves a round and drains it. There is nothing to tell where it is not settled.
+/// Serves a round and drains it. Returns none where the round could not be served or is not settled.
 fn next<'a, R: Threads + Wait + Sync>(
     rt: &R,
     alloc: Global,
@@ -137,7 +137,8 @@ fn next<'a, R: Threads + Wait + Sync>(
     }
 }
 
-/// Serves `rounds` rounds one after another, each of `asks` asks for each worker.
+/// Serves `rounds` rounds one after another, each with `asks` asks for each worker. Returns none where a round could
+/// not be served or is not settled.
 fn serve_rounds<'a, R: Threads + Wait + Sync>(
     rt: &R,
     alloc: Global,
@@ -164,7 +165,7 @@ fn posted(channels: &[Rooted]) -> u64 {
     all
 }
 
-/// Returns the nanoseconds between two moments, for each of `rounds` rounds.
+/// Returns the nanoseconds between two moments, divided by `rounds`.
 fn each_between(started: Duration, ended: Duration, rounds: u32) -> u64 {
     let spent = ended.saturating_sub(started);
     let nanos = spent
@@ -174,7 +175,8 @@ fn each_between(started: Duration, ended: Duration, rounds: u32) -> u64 {
     nanos / u64::from(rounds.max(1))
 }
 
-/// Serves rounds of these workers over a manifest, and tells how many replies were posted and the time of a round.
+/// Serves rounds over `manifest`, with `words` as the numbers of workers, asks and rounds. Returns how many replies
+/// were posted, and the nanoseconds of a round.
 fn told_of<R: Threads + Wait + Clock + Sync>(
     rt: &R,
     alloc: Global,
@@ -193,7 +195,7 @@ fn told_of<R: Threads + Wait + Clock + Sync>(
     Ok(Some((replies, each_between(started, now, rounds))))
 }
 
-/// Serves rounds as words say.
+/// Measures rounds of workers, as `words` say.
 pub(crate) fn measure<R: Threads + Wait + Clock + Sync>(
     rt: &R,
     alloc: Global,

@@ -1,7 +1,7 @@
-//! What frames cost, so that the instructions of a call can be counted: `measure frames FORM ROUNDS` writes a frame,
-//! feeds its text to a reader in one piece, and takes the first frame off, once a round. With `behind FRAMES` another
-//! FRAMES frames are unread. With `pieces BYTES` the text of a frame for each round is fed in pieces of BYTES bytes, and
-//! after each piece all whole frames are taken.
+//! What frames cost, so that the instructions of a call can be counted. `measure frames FORM ROUNDS` does the same in
+//! each round: it writes a frame, feeds the text to a reader in one piece, and takes the first frame off. With `behind
+//! FRAMES`, FRAMES other frames are unread before that. With `pieces BYTES`, the texts of ROUNDS frames are fed in
+//! pieces of BYTES bytes, and all whole frames are taken after each piece.
 use crate::told::Told;
 use crate::words::number_at;
 use byte_codec::Bytes;
@@ -15,7 +15,7 @@ const FORMS: [&str; 3] = ["claim", "ask", "data"];
 /// How many bytes an Ask carries: as many as a LOOKUP of a name of three bytes has.
 const ASK: usize = 44;
 
-/// How many bytes a Data carries at most, behind its session and its generation.
+/// How many bytes a Data carries at most, after its session and its generation.
 const LONGEST_DATA: usize = 65_524;
 
 /// Makes a frame of a form.
@@ -46,7 +46,7 @@ fn next(reader: &mut FrameReader) -> Result<Option<Frame>, FrameFault> {
     reader.next()
 }
 
-/// Takes the first frame off, and returns whether there was one.
+/// Takes the first frame off `reader`, and returns whether there was one.
 fn has_taken(reader: &mut FrameReader) -> bool {
     match next(reader) {
         Ok(Some(frame)) => {
@@ -58,7 +58,7 @@ fn has_taken(reader: &mut FrameReader) -> bool {
     }
 }
 
-/// Writes a frame and feeds its text, and returns whether both were done.
+/// Writes `frame` and feeds its text to `reader`. Returns whether both could be done.
 fn has_fed(alloc: Global, reader: &mut FrameReader, frame: &Frame) -> bool {
     let Ok(text) = write(alloc, frame) else {
         return false;
@@ -68,14 +68,15 @@ fn has_fed(alloc: Global, reader: &mut FrameReader, frame: &Frame) -> bool {
     fed
 }
 
-/// Feeds a frame `frames` times.
+/// Feeds `frame` to `reader`, `frames` times.
 fn feed_frames(alloc: Global, reader: &mut FrameReader, frame: &Frame, frames: u32) {
     for _ in 0..frames {
         has_fed(alloc, reader, frame);
     }
 }
 
-/// Feeds a frame `rounds` times, takes the first one each time, and counts those that were taken.
+/// Feeds `frame` to `reader` `rounds` times, and takes the first unread frame off each time. Returns how many were
+/// taken.
 fn take_each(alloc: Global, reader: &mut FrameReader, frame: &Frame, rounds: u32) -> u32 {
     let mut taken = 0u32;
     for _ in 0..rounds {
@@ -86,7 +87,8 @@ fn take_each(alloc: Global, reader: &mut FrameReader, frame: &Frame, rounds: u32
     taken
 }
 
-/// Feeds a frame `rounds` times behind `behind` others, and counts the frames that were taken.
+/// Feeds `frame` to a reader that has `behind` unread frames, `rounds` times, and takes one off each time. Returns how
+/// many were taken.
 fn take_behind(alloc: Global, frame: &Frame, rounds: u32, behind: u32) -> u32 {
     let mut reader = FrameReader::new(alloc);
     feed_frames(alloc, &mut reader, frame, behind);
@@ -95,7 +97,7 @@ fn take_behind(alloc: Global, frame: &Frame, rounds: u32, behind: u32) -> u32 {
     taken
 }
 
-/// Puts a text behind itself until it stands there `rounds` times.
+/// Returns `text`, repeated `rounds` times.
 fn repeated(alloc: Global, text: &[u8], rounds: u32) -> Result<Vec<u8>, AllocError> {
     let mut texts = Vec::new(alloc);
     for _ in 0..rounds {
@@ -104,7 +106,7 @@ fn repeated(alloc: Global, text: &[u8], rounds: u32) -> Result<Vec<u8>, AllocErr
     Ok(texts)
 }
 
-/// Writes a frame `rounds` times, one text behind the other.
+/// Returns the text of `frame`, repeated `rounds` times.
 fn text_of(alloc: Global, frame: &Frame, rounds: u32) -> Result<Vec<u8>, NoMemory> {
     let Ok(text) = write(alloc, frame) else {
         return Err(NoMemory);
@@ -114,7 +116,8 @@ fn text_of(alloc: Global, frame: &Frame, rounds: u32) -> Result<Vec<u8>, NoMemor
     Ok(texts?)
 }
 
-/// Takes all whole frames off, and counts them. A piece has fewer frames than bytes.
+/// Takes all whole frames off, and returns how many there were. `piece` was fed last, and ends at most as many frames
+/// as it has bytes.
 fn take_whole(reader: &mut FrameReader, piece: &[u8]) -> u32 {
     let mut taken = 0u32;
     for _byte in piece {
@@ -126,7 +129,7 @@ fn take_whole(reader: &mut FrameReader, piece: &[u8]) -> u32 {
     taken
 }
 
-/// Feeds a text in pieces of `bytes` bytes, and counts the frames that were taken.
+/// Feeds `text` in pieces of `bytes` bytes, takes all whole frames off after each, and returns how many were taken.
 fn take_pieces(alloc: Global, text: &[u8], bytes: u32) -> u32 {
     let mut reader = FrameReader::new(alloc);
     let mut taken = 0u32;
@@ -139,7 +142,7 @@ fn take_pieces(alloc: Global, text: &[u8], bytes: u32) -> u32 {
     taken
 }
 
-/// Takes `rounds` frames in pieces of `bytes` bytes, and counts those that were taken.
+/// Feeds `rounds` frames in pieces of `bytes` bytes, and returns how many frames were taken.
 fn take_in_pieces(alloc: Global, frame: &Frame, rounds: u32, bytes: u32) -> Result<u32, NoMemory> {
     let text = text_of(alloc, frame, rounds)?;
     let taken = take_pieces(alloc, text.as_slice(), bytes);
@@ -147,7 +150,7 @@ fn take_in_pieces(alloc: Global, frame: &Frame, rounds: u32, bytes: u32) -> Resu
     Ok(taken)
 }
 
-/// Takes `rounds` frames in pieces or whole, as words say, and counts those that were taken.
+/// Feeds and takes `rounds` frames, whole or in pieces, as `words` say. Returns how many were taken.
 fn take_frames(
     alloc: Global,
     frame: &Frame,
@@ -167,7 +170,7 @@ fn take_frames(
     }
 }
 
-/// Takes frames of a form, as words say.
+/// Measures frames of a form, as `words` say.
 pub(crate) fn measure(alloc: Global, words: &[&str]) -> Result<Option<Told>, NoMemory> {
     let [form, _, rest @ ..] = words else {
         return Ok(None);

@@ -1,10 +1,10 @@
-//! The numbers that a measurement prints.
+//! The figures that a measurement prints.
 use std::io::Result;
 
-/// How many numbers can be told.
+/// How many figures a measurement has at most.
 const MOST: usize = 6;
 
-/// Numbers, each by its name.
+/// Up to six measured figures, each with its name.
 #[derive(Clone, Copy)]
 pub(crate) struct Told {
     names: &'static [&'static str],
@@ -12,7 +12,7 @@ pub(crate) struct Told {
 }
 
 impl Told {
-    /// Makes named numbers.
+    /// Makes figures of these names and values.
     pub(crate) fn of(names: &'static [&'static str], told: &[u64]) -> Told {
         let mut numbers = [0; MOST];
         for (number, its) in numbers.iter_mut().zip(told) {
@@ -21,7 +21,7 @@ impl Told {
         Told { names, numbers }
     }
 
-    /// Prints the numbers behind a line of words.
+    /// Prints `line`, and after it each figure with its name.
     pub(crate) fn print(&self, rt: &impl Print, line: &str) -> Result<()> {
         print!(rt; "{line}:")?;
         for (name, number) in self.names.iter().zip(&self.numbers) {

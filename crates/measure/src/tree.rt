@@ -1,6 +1,6 @@
 //! What a manifest and its tree cost: `measure checkout LINES` makes each call of the tree on a thousand of its files,
-//! so that the instructions of a call can be counted. `measure checkout LINES times` tells how many nanoseconds it
-//! takes to read the manifest, for each line, to make the tree, and to look a file up.
+//! so that the instructions of a call can be counted. `measure checkout LINES times` prints the nanoseconds of reading
+//! a line of the manifest, of making the tree, and of looking a file up.
 ghost use Rattle.std.specs.Prelude.{◌≡◌, IfSome, IsSome, None, Some, false};
 ghost use Rattle.manifest.specs.Tree.{child_of, kind_of};
 ghost use Rattle.checkout.specs.ChangedTree.{is_full_dir, is_unlinked};
@@ -19,22 +19,22 @@ use std::alloc::{AllocError, Global};
 /// How many files of a tree each call is made on.
 const SOUGHT: u64 = 1000;
 
-/// Makes the text of a manifest of this many lines: directories of 63 files each, and of 62 the first.
+/// Makes the text of a manifest of `lines` lines: directories of 63 files each, but the first of 62.
 fn text_of(alloc: Global, lines: u32) -> Result<Vec<u8>, AllocError> {
     manifest_text(alloc, 2, u64::from(lines))
 }
 
-/// Reads a manifest of this many lines.
+/// Makes and reads a manifest of `lines` lines.
 fn read_manifest(alloc: Global, lines: u32) -> Result<Manifest, NoMemory> {
     manifest_from(alloc, text_of(alloc, lines)?)
 }
 
-/// Returns the directory of the file that a line lists.
+/// Returns the directory of the file in line `i`.
 fn dir_of(i: u64) -> FileId {
     FileId((i - i % EACH).max(1).wrapping_add(1))
 }
 
-/// A file, where it stands, and a name that its directory lacks.
+/// A file, its directory and its name, and a name that the directory lacks.
 #[derive(Drop)]
 struct Member {
     file: FileId,
@@ -43,7 +43,7 @@ struct Member {
     fresh: Name,
 }
 
-/// Returns the file that a line lists, with a fresh name.
+/// Returns the file in line `i`, with `fresh` as the name that its directory lacks.
 fn member_of(alloc: Global, i: u64, fresh: Name) -> Result<Member, NoMemory> {
     let name = file_name(alloc, i)?;
     Ok(Member {
@@ -54,7 +54,7 @@ fn member_of(alloc: Global, i: u64, fresh: Name) -> Result<Member, NoMemory> {
     })
 }
 
-/// Lists files that lie evenly over those of such a manifest.
+/// Lists files that are spread evenly over those of a manifest of `lines` lines.
 fn list_members(alloc: Global, lines: u32) -> Result<Vec<Member>, NoMemory> {
     let mut list = Vec::new(alloc);
     for j in 2..SOUGHT {
@@ -66,7 +66,7 @@ fn list_members(alloc: Global, lines: u32) -> Result<Vec<Member>, NoMemory> {
     Ok(list)
 }
 
-/// Counts the files that the tree has.
+/// Returns how many of the listed files `tree` finds by their names.
 fn found_of(tree: &Tree, list: &[Member]) -> u32 {
     let mut found = 0u32;
     for member in list {
@@ -77,7 +77,7 @@ fn found_of(tree: &Tree, list: &[Member]) -> u32 {
     found
 }
 
-/// Looks files up a hundred times, and counts those that are found.
+/// Looks the listed files up a hundred times, and returns how many were found in all.
 fn found_often(tree: &Tree, list: &[Member]) -> u32 {
     let mut found = 0u32;
     for _ in 0..100u32 {
@@ -164,7 +164,7 @@ fn remove_made(tree: &mut Tree, dir: FileId, name: &Name, file: FileId) -> bool
     tree.remove(dir, name) == file
 }
 
-/// Makes the calls that change nothing, and counts what they find.
+/// Makes the calls that change nothing on each listed file, and returns how many of them find something.
 fn read_members(tree: &Tree, list: &[Member]) -> u32 {
     let mut found = 0u32;
     for member in list {
@@ -181,7 +181,7 @@ fn read_members(tree: &Tree, list: &[Member]) -> u32 {
     found
 }
 
-/// Makes a file under a free name in a directory. Tells whether there is one.
+/// Makes a file under `name` in `dir`, if `name` is free there. Returns whether a file was made.
 fn create_free(tree: &mut Tree, dir: FileId, name: &Name) -> bool {
     match tree.kind(dir) {
         Some(Kind::Dir) => {}
@@ -197,7 +197,7 @@ fn create_free(tree: &mut Tree, dir: FileId, name: &Name) -> bool {
     }
 }
 
-/// Takes the name of a file of the manifest out of its directory.
+/// Removes the name of a file of the manifest from `dir`, and returns the file. Returns none if there is no such file.
 #[tactic(auto, using(checkout::proofs::RemoveLaws::not_full_rules))]
 fn remove_file(tree: &mut Tree, dir: FileId, name: &Name) -> Option<FileId> {
     let file = tree.child(dir, name)?;
@@ -208,7 +208,7 @@ fn remove_file(tree: &mut Tree, dir: FileId, name: &Name) -> Option<FileId> {
     }
 }
 
-/// Takes the name of a file that was made out of its directory. Tells whether there is one.
+/// Removes the name of a file that was made from `dir`. Returns whether that file was removed.
 #[tactic(auto, using(checkout::proofs::RemoveLaws::not_full_rules))]
 fn remove_made_file(tree: &mut Tree, dir: FileId, name: &Name) -> bool {
     let Some(file) = tree.child(dir, name) else {
@@ -221,7 +221,8 @@ fn remove_made_file(tree: &mut Tree, dir: FileId, name: &Name) -> bool {
     }
 }
 
-/// Makes a file beside each, and takes the files of the manifest out, and then those that were made.
+/// Makes a file beside each listed file. Then removes the names of the listed files, and after them those of the made
+/// files. Returns how many changes were made.
 fn change_all(tree: &mut Tree, list: &[Member]) -> u32 {
     let mut changes = 0u32;
     for member in list {
@@ -242,16 +243,16 @@ fn change_all(tree: &mut Tree, list: &[Member]) -> u32 {
     changes
 }
 
-/// How many files each call was made on, how many were found, and how many changes were made.
+/// How many files each call was made on, how many calls found something, and how many changes were made.
 type Called = (usize, u32, u32);
 
-/// Makes each call on files of a tree.
+/// Makes each call on the listed files of `tree`.
 fn call_each(tree: &mut Tree, list: &[Member]) -> Called {
     let found = read_members(tree, list);
     (list.len(), found, change_all(tree, list))
 }
 
-/// Makes each call on files of a tree of a manifest.
+/// Makes the tree of `manifest`, and each call on the listed files of that tree.
 fn call_made(alloc: Global, manifest: &Manifest, list: &[Member]) -> Result<Called, NoMemory> {
     let mut tree = tree_of(alloc, manifest)?;
     let told = call_each(&mut tree, list);
@@ -259,7 +260,7 @@ fn call_made(alloc: Global, manifest: &Manifest, list: &[Member]) -> Result<Call
     Ok(told)
 }
 
-/// Makes each call on files that lie evenly over those of a manifest.
+/// Makes each call on files that are spread evenly over those of `manifest`.
 fn call_listed(alloc: Global, lines: u32, manifest: &Manifest) -> Result<Called, NoMemory> {
     let list = list_members(alloc, lines)?;
     let told = call_made(alloc, manifest, list.as_slice());
@@ -267,7 +268,7 @@ fn call_listed(alloc: Global, lines: u32, manifest: &Manifest) -> Result<Called,
     told
 }
 
-/// Makes each call on a manifest of this many lines.
+/// Makes each call on a tree over a manifest of `lines` lines, and returns the figures.
 fn call_all(alloc: Global, lines: u32) -> Result<Told, NoMemory> {
     let manifest = read_manifest(alloc, lines)?;
     let told = call_listed(alloc, lines, &manifest);
@@ -279,7 +280,7 @@ fn call_all(alloc: Global, lines: u32) -> Result<Told, NoMemory> {
     ))
 }
 
-/// Makes each call on a manifest, or times some, as words say.
+/// Makes each call on a tree, or times some calls, as `words` say.
 pub(crate) fn measure(rt: &HostRuntime, words: &[&str]) -> Result<Option<Told>, NoMemory> {
     let Some(lines) = number_at(words, 0) else {
         return Ok(None);

@@ -7,7 +7,7 @@ use eden_base::NoMemory;
 use fuse_wire::{Ask, Items, WireFault, read_items, read_request};
 use std::alloc::{AllocError, Global};
 
-/// How many messages of one form there are, so that no two reads in a row are of the same bytes.
+/// How many messages of one form are read in turn, so that no two reads in a row are of the same bytes.
 const MESSAGES: u32 = 64;
 
 const FORMS: [&str; 11] = [
@@ -47,7 +47,7 @@ fn body_of(alloc: Global, form: &str) -> Result<Vec<u8>, AllocError> {
     }
 }
 
-/// Writes the body of a BATCH_FORGET of 256 items, which tells `excess` more.
+/// Writes the body of a BATCH_FORGET of 256 items. Its count says `excess` more.
 fn batch(alloc: Global, excess: u8) -> Result<Vec<u8>, AllocError> {
     let mut body = Vec::from_slice(alloc, &[excess, 1, 0, 0, 0, 0, 0, 0])?;
     for i in 0..256u64 {
@@ -57,7 +57,7 @@ fn batch(alloc: Global, excess: u8) -> Result<Vec<u8>, AllocError> {
     Ok(body)
 }
 
-/// Writes a message of a form, with this unique and body, on the root.
+/// Writes a message of a form, with this unique and this body, about the root.
 fn spell(alloc: Global, form: &str, unique: u32, body: &[u8]) -> Result<Vec<u8>, AllocError> {
     let excess = if form == "bad-length" { 1 } else { 0 };
     let len = (body.len().wrapping_add(40).wrapping_add(excess) as u64).to_le_bytes();
@@ -98,7 +98,7 @@ fn read(alloc: Global, text: &[u8]) -> Result<Ask, WireFault> {
     read_request(alloc, text)
 }
 
-/// Reads the messages. What is read is kept, so that each request is built whole.
+/// Reads all messages. Each request is kept in `asks`, so that the compiler builds it whole.
 fn read_all(alloc: Global, texts: &[Vec<u8>], asks: &mut Vec<Ask>) -> Result<(), AllocError> {
     for text in texts {
         if let Ok(ask) = read(alloc, text.as_slice()) {
@@ -108,7 +108,7 @@ fn read_all(alloc: Global, texts: &[Vec<u8>], asks: &mut Vec<Ask>) -> Result<(),
     Ok(())
 }
 
-/// Sums all uniques.
+/// Returns the sum of all uniques.
 fn uniques(asks: &[Ask]) -> u64 {
     let mut sum = 0u64;
     for ask in asks {
@@ -123,7 +123,7 @@ fn items(text: &[u8]) -> Result<Items, WireFault> {
     read_items(text)
 }
 
-/// Counts the messages that are read as forgets, and their items.
+/// Returns how many messages are read as forgets, and how many items they have.
 fn read_all_items(texts: &[Vec<u8>]) -> (usize, u64) {
     let mut read = 0usize;
     let mut sum = 0u64;
@@ -136,7 +136,7 @@ fn read_all_items(texts: &[Vec<u8>]) -> (usize, u64) {
     (read, sum)
 }
 
-/// Counts the messages that are read, and sums their uniques or the number of their items.
+/// Reads all messages once. Returns how many are read, and the sum of their uniques or the number of their items.
 fn round(
     alloc: Global,
     form: &str,
@@ -152,7 +152,7 @@ fn round(
     Ok(told)
 }
 
-/// Reads messages `rounds` times.
+/// Reads all messages `rounds` times, and returns the sums over the rounds.
 fn read_rounds(
     alloc: Global,
     form: &str,
@@ -170,7 +170,7 @@ fn read_rounds(
     Ok((read, sum))
 }
 
-/// Reads the messages of a form `rounds` times.
+/// Makes the messages of a form, and reads them `rounds` times.
 fn read_form(alloc: Global, form: &str, rounds: u32) -> Result<(usize, u64), AllocError> {
     let texts = messages(alloc, form)?;
     let told = read_rounds(alloc, form, texts.as_slice(), rounds);
@@ -178,7 +178,7 @@ fn read_form(alloc: Global, form: &str, rounds: u32) -> Result<(usize, u64), All
     told
 }
 
-/// Reads the messages of a form, as words say.
+/// Measures reading the messages of a form, as `words` say.
 pub(crate) fn measure(alloc: Global, words: &[&str]) -> Result<Option<Told>, NoMemory> {
     let (Some(form), Some(rounds)) = (words.first(), number_at(words, 1)) else {
         return Ok(None);

@@ -14,13 +14,13 @@ const USAGE: &str = "usage: measure [SUBJECT WORD..]
 The forms of wire are lookup, getattr, forget, batch, forget-items, batch-items, short, bad-length, bad-body, bad-count
 and bad-name; those of frames are claim, ask and data. Without words a small run of each is made.";
 
-/// Refuses the words, and prints the right ones on standard error.
+/// Refuses the program's words: prints the usage on standard error, and returns an error.
 pub(crate) fn refuse(rt: &impl Eprint) -> Result<()> {
     eprintln!(rt; "{USAGE}")?;
     Err(Error::from(ErrorKind::InvalidInput))
 }
 
-/// Returns the number that the word at this index writes.
+/// Returns the number that the word at index `place` writes, if it writes one.
 pub(crate) fn number_at(words: &[&str], place: usize) -> Option<u32> {
     match words.get(place) {
         Some(word) => word.parse::<u32>().ok(),

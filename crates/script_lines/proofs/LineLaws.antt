@@ -25,7 +25,7 @@ lines_of-first (byte ∷ []) h = lines_of_one byte (is_lf byte)
 lines_of-first (byte ∷ next ∷ more) h =
     lines_of_more byte (position_or_len is_lf (next ∷ more)) (next ∷ more) (is_lf byte) (lines_of-first (next ∷ more) (omega arith))
 
--- the same, where both parts are known
+-- the lines of a text, if its first line and the rest are known
 pub lines_of_parts : (text line after : List ℕ) → 0 < length text → line ≡ before_first is_lf text → after ≡ after_first is_lf text → lines_of text ≡ line ∷ lines_of after
 lines_of_parts text line after some first others =
     lines_of-first text some ∙ ap (λ (l : List ℕ). l ∷ lines_of (after_first is_lf text)) (sym first) ∙ ap (λ (t : List ℕ). line ∷ lines_of t) (sym others)

@@ -26,7 +26,7 @@ above-first n kept entries low = ap (λ (b : Bool). if b then kept ∷ entries e
 above-later : (n : ℕ) (kept : Kept) (entries : List Kept) → kept.number.0 ≤ n → above n (kept ∷ entries) ≡ above n entries
 above-later n kept entries high = ap (λ (b : Bool). if b then kept ∷ entries else above n entries) (is_above-no n kept high)
 
--- all stand above a number that is below the lowest
+-- all entries are above a number that is below the lowest
 pub above-all : (low next n : ℕ) (entries : List Kept) → AreNumbers low next entries → n < low → above n entries ≡ entries
 above-all low next n [] are h = refl
 above-all low next n (kept ∷ entries) are h = above-first n kept entries (let least : low ≤ kept.number.0 = are.0 in omega arith)
@@ -56,7 +56,7 @@ low-le-next low next (kept ∷ entries) are =
     let more : kept.number.0 + 1 ≤ next = low-le-next (kept.number.0 + 1) next entries are.1 in
     omega arith
 
--- the least number above another, and its entry
+-- this is the least number above another, with its entry
 pub record IsNext (next n : ℕ) (entries : List Kept) (m : Number) (kept : Kept) : Type 0 where
   pub higher : n < m.0
   pub below : m.0 < next
@@ -85,7 +85,7 @@ next-later next n kept entries m one high i =
       goes_on = above-later n kept entries high ∙ i.goes_on ∙ ap (λ (es : List Kept). one ∷ es) (sym (above-later m.0 kept entries (omega (arith, lower))));
     }
 
--- the same, by whether the first entry is above
+-- the least number above another, by whether the first entry is above it
 next-by : (next n : ℕ) (kept : Kept) (entries : List Kept) (m : Number) (b : Bool) → is_above n kept ≡ b → AreNumbers (kept.number.0 + 1) next entries →
     number_after (kept ∷ entries) n ≡ Some m → (number_after entries n ≡ Some m → (one : Kept) × IsNext next n entries m one) →
     (one : Kept) × IsNext next n (kept ∷ entries) m one
@@ -100,7 +100,7 @@ next-by next n kept entries m false is are e rest =
     let (one, i) = rest later in
     (one, next-later next n kept entries m one high i)
 
--- where there is a number above, the entries above go on with its entry
+-- if there is a number above another, the entries above begin with the least one's
 pub next-is : (low next n : ℕ) (entries : List Kept) (m : Number) → AreNumbers low next entries → number_after entries n ≡ Some m → (kept : Kept) × IsNext next n entries m kept
 next-is low next n [] m are e = let none : ⊥ = cc in absurd none
 next-is low next n (kept ∷ entries) m are e = next-by next n kept entries m (is_above n kept) refl are.1 e (next-is (kept.number.0 + 1) next n entries m are.1)
@@ -115,7 +115,7 @@ none-by n kept entries false is e rest =
     let high : kept.number.0 ≤ n = grind (arith, nat_tests) in
     above-later n kept entries high ∙ rest (sym (ap (option_map number_of_kept) (first_above-no n kept entries high)) ∙ e)
 
--- where there is none, no entries are above
+-- if there is no number above another, no entries are above
 pub none-above : (n : ℕ) (entries : List Kept) → number_after entries n ≡ None → above n entries ≡ []
 none-above n [] e = refl
 none-above n (kept ∷ entries) e = none-by n kept entries (is_above n kept) refl e (none-above n entries)
@@ -126,7 +126,7 @@ no_entry entries m kept place entry is none =
     let placed : Some kept.place ≡ None = sym (ap (option_map place_of_kept) entry) ∙ sym is ∙ ap option_copied none in
     cc
 
--- its entry is what was told of it
+-- the entry of a number is what was told of it
 pub kept-is : (next n : ℕ) (entries : List Kept) (m : Number) (kept : Kept) (told : Option (Bor Place)) (place : Bor Place) (count : ℕ) → IsNext next n entries m kept → option_copied told ≡ option_map place_of_kept (entry_of entries m.0) → told ≡ Some place → count ≡ count_of entries m.0 → kept ≡ record { number = m; place = place.now; count = count }
 kept-is next n entries m kept told place count i is some counted =
     let placed : Some kept.place ≡ Some place.now = sym (ap (option_map place_of_kept) i.entry) ∙ sym is ∙ ap option_copied some in

@@ -10,7 +10,7 @@ use Rattle.script_lines.specs.Printed.{octal}
 abbrev padded : List ℕ → List ℕ
 padded numeral = padded_integral (format_spec 32 0 4 4 (2 ^ 64 - 1)) false [] numeral
 
--- the digit of a number's last place
+-- the glyph of a number's last octal digit
 abbrev glyph : ℕ → ℕ
 glyph n = digit_glyph false (n % 8)
 
@@ -66,10 +66,10 @@ octal-by n false false false small e f g =
     ∙ pad-4 (glyph (n / 8 / 8 / 8)) (glyph (n / 8 / 8)) (glyph (n / 8)) (glyph n)
     ∙ four (glyph (n / 8 / 8 / 8)) (glyph (n / 8 / 8)) (glyph (n / 8)) (glyph n) _ _ _ _ (glyph-is (n / 8 / 8 / 8)) (glyph-is (n / 8 / 8)) (glyph-is (n / 8)) (glyph-is n)
 
--- `{:04o}` writes the four digits of a number that has no more
+-- `{:04o}` writes the four octal digits of a number that has no more than four
 pub octal-formatted : (n : ℕ) → n ≤ 4095 → padded_integral (format_spec 32 0 4 4 (2 ^ 64 - 1)) false [] (digits 8 false n) ≡ octal n
 octal-formatted n small = octal-by n (n / 8 == 0) (n / 8 / 8 == 0) (n / 8 / 8 / 8 == 0) small refl refl refl
 
--- the same of what was written
+-- what was written by `{:04o}` is the four octal digits
 pub octal-written : {E : Type 0} (r : Result (Unit {0}) E) (a b : Option (List ℕ)) (n : ℕ) → n ≤ 4095 → OnOk r (Appends a b (padded_integral (format_spec 32 0 4 4 (2 ^ 64 - 1)) false [] (digits 8 false n))) → OnOk r (Appends a b (octal n))
 octal-written r a b n small written = subst (λ (text : List ℕ). OnOk r (Appends a b text)) (octal-formatted n small) written

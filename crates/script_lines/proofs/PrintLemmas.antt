@@ -11,7 +11,7 @@ use Rattle.world.specs.State.{State}
 use Rattle.entry_table.specs.declared.kept.Kept.{Kept}
 use Rattle.script_lines.specs.Printed.{spaced, count_words, place_line, kept_line, kept_lines}
 
--- the three parts of a number's line
+-- a number's line is written if its three parts are
 pub kept_line_written : {E : Type 0} (r : Result (Unit {0}) E) (state : State) (daemon : DaemonId) (kept : Kept) (number : Number) (place : Place) (count : ℕ) (a b c d : Option (List ℕ)) →
     kept ≡ record { number = number; place = place; count = count } → Appends a b (spaced (codes "number" ∷ decimal number.0 ∷ [])) →
     Appends b c (spaced (count_words state daemon number.0 count)) → OnOk r (Appends c d (place_line place)) → OnOk r (Appends a d (kept_line state daemon kept))
@@ -19,11 +19,11 @@ kept_line_written (Ok done) state daemon kept number place count a b c d is firs
     subst (λ (kept : Kept). Appends a d (kept_line state daemon kept)) (sym is) (Appends-trans a c d _ _ (Appends-trans a b c _ _ first second) third)
 kept_line_written (Err error) state daemon kept number place count a b c d is first second third = tt
 
--- the lines of the same numbers
+-- the lines of entries are those of the same entries
 pub kept_lines_same : (state : State) (daemon : DaemonId) (rest same : List Kept) (a b : Option (List ℕ)) → rest ≡ same → Appends a b (kept_lines state daemon rest) → Appends a b (kept_lines state daemon same)
 kept_lines_same state daemon rest same a b is written = subst (λ (entries : List Kept). Appends a b (kept_lines state daemon entries)) is written
 
--- no lines
+-- without entries there are no lines
 pub kept_lines_none : (state : State) (daemon : DaemonId) (rest : List Kept) (a : Option (List ℕ)) → rest ≡ [] → Appends a a (kept_lines state daemon rest)
 kept_lines_none state daemon rest a none = subst (λ (entries : List Kept). Appends a a (kept_lines state daemon entries)) (sym none) (Appends-nil a)
 

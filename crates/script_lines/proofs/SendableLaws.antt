@@ -1,4 +1,4 @@
--- What a line of a broker's script asks has a text of its own.
+-- The request of a line that asks can be sent.
 use Rattle.std.proofs.Common.{ℕ, Bool, true, false, cond, List, Option, Some, None}
 use Rattle.std.specs.Prelude.{IfSome, codes, nat_lt, ◌^◌}
 use Rattle.std.specs.Option.{option_map, option_and_then}
@@ -64,7 +64,7 @@ sendable-line-by word rest =
     (either IsSendableLine (is_word word (codes "forget")) (forgets_of rest) _ (mapped IsSendableLine _ (pair_of rest) (λ _. tt))
     (either IsSendableLine (is_word word (codes "seat")) (seat_of rest) None (mapped IsSendableLine _ (number_of rest) (λ _. tt)) tt))
 
--- each line that says something
+-- a line that says something can be sent
 pub sendable-line : (line : List ℕ) → IfSome (broker_line_of line) IsSendableLine
 sendable-line line =
     either IsSendableLine (is_word line (codes "idle")) (Some says.Idle) _ tt

@@ -12,7 +12,7 @@ use Rattle.script_lines.specs.Words.{words_of}
 abbrev is_space : ℕ → Bool
 is_space byte = byte == 32
 
--- where the first space stands
+-- the index of the first space, or the length if there is none
 abbrev first_space : List ℕ → ℕ
 first_space text = position_or_len is_space text
 
@@ -38,7 +38,7 @@ one_word-by text false is none = one text is
 pub one_word : (text : List ℕ) → cut 32 text ≡ None → words_of text ≡ text ∷ []
 one_word text none = one_word-by text (nat_lt (first_space text) (length text)) refl none
 
--- else its first word stands before the others
+-- a text with a space is its first word, and the words of the rest
 more_words-by : (text word behind : List ℕ) (b : Bool) → nat_lt (first_space text) (length text) ≡ b → option_map {U = List ℕ × List ℕ} (λ (i : ℕ). (take i text, drop (i + 1) text)) (cond b (Some (first_space text)) None) ≡ Some (word, behind) → words_of text ≡ word ∷ words_of behind
 more_words-by text word behind true is some =
     let pair : (before_first is_space text, after_first is_space text) ≡ (word, behind) = cc in
@@ -50,22 +50,22 @@ more_words text word behind some = more_words-by text word behind (nat_lt (first
 
 -- ---- versions
 
--- the first word, whose version is next, stands before the others
+-- one word more was cut off, and its version is next
 pub more_versions : (text versions rest word behind : List ℕ) → versions_after versions (words_of rest) ≡ versions_after [] (words_of text) → cut 32 rest ≡ Some (word, behind) → versions_after versions (word ∷ words_of behind) ≡ versions_after [] (words_of text)
 more_versions text versions rest word behind is some = sym (ap (versions_after versions) (more_words rest word behind some)) ∙ is
 
--- the last word, whose version is next
+-- the last word is left, and its version is next
 pub last_version : (text versions rest : List ℕ) → versions_after versions (words_of rest) ≡ versions_after [] (words_of text) → cut 32 rest ≡ None → versions_after versions (rest ∷ []) ≡ versions_after [] (words_of text)
 last_version text versions rest is none = sym (ap (versions_after versions) (one_word rest none)) ∙ is
 
--- a word that is no version leaves none
+-- if a word is no version, the line has no event
 pub no_start : (text versions word : List ℕ) (words : List (List ℕ)) → versions_after versions (word ∷ words) ≡ versions_after [] (words_of text) → with_version versions word ≡ None → start_of text ≡ None
 no_start text versions word words is none = ap (option_map (λ (versions : List ℕ). Start versions)) (sym is ∙ ap (option_and_then (λ (longer : List ℕ). versions_after longer words)) none)
 
--- one more version
+-- the version of one word more was appended
 pub one_version : (text versions longer word : List ℕ) (words : List (List ℕ)) → versions_after versions (word ∷ words) ≡ versions_after [] (words_of text) → with_version versions word ≡ Some longer → versions_after longer words ≡ versions_after [] (words_of text)
 one_version text versions longer word words is some = sym (ap (option_and_then (λ (longer : List ℕ). versions_after longer words)) some) ∙ is
 
--- all versions
+-- if no word is left, the versions are those of the line
 pub all_versions : (text versions : List ℕ) → versions_after versions [] ≡ versions_after [] (words_of text) → start_of text ≡ Some (Start versions)
 all_versions text versions is = sym (ap (option_map (λ (versions : List ℕ). Start versions)) is)

@@ -1,4 +1,4 @@
--- How often a hand takes each number back, of 256 numbers from one on. (This project's own.)
+-- How many lookups a hand takes back of each of 256 numbers, from a lowest one on. (This project's own.)
 use Rattle.std.specs.Prelude.{◌≡◌, ℕ, ◌+◌, ◌*◌, ◌<◌, ◌≤◌, ◌^◌, List, [], length, sum_by, slice_index_or, Option, Some, None}
 use Rattle.std.specs.Borrow.{Bor}
 use Rattle.std.specs.declared.collections.VecDeque.{VecDeque}
@@ -6,30 +6,30 @@ use Rattle.fuse_wire.specs.declared.request.Ask.{Ask}
 use Rattle.script_lines.specs.Printed.{taken_back_by}
 use Rattle.script_lines.specs.declared.taken_back.TakenBack.{TakenBack}
 
--- the members of a ring, if there is one
+-- the members of a ring, and none if there is no ring
 abbrev pub members : {X Z : Type 0} → Option (Bor (VecDeque X Z)) → List X
 members (Some ring) = ring.now.items
 members None = []
 
--- no sum reaches a bound
+-- every sum is below the bound
 abbrev pub AreBelow : ℕ → TakenBack → Type 0
 AreBelow bound gathered = (i : ℕ) → i < 256 → slice_index_or gathered.sums i 0 < bound
 
--- what one of a hand takes back is added to each number's sum
+-- what one member of a hand takes back is added to each number's sum
 pub record IsAdded (old : TakenBack) (task : Ask) (new : TakenBack) : Type 0 where
   pub low : new.low ≡ old.low
   pub sums : (i : ℕ) → i < 256 →
       slice_index_or new.sums i 0 ≡ slice_index_or old.sums i 0 + taken_back_by (old.low + i) task
   pub more : (i : ℕ) → i < 256 → slice_index_or new.sums i 0 < slice_index_or old.sums i 0 + 2 ^ 64
 
--- what each of some takes back is added
+-- what each of several members of a hand takes back is added to each number's sum
 pub record AreAdded (old : TakenBack) (tasks : List Ask) (new : TakenBack) : Type 0 where
   pub low : new.low ≡ old.low
   pub sums : (i : ℕ) → i < 256 →
       slice_index_or new.sums i 0 ≡ slice_index_or old.sums i 0 + sum_by (taken_back_by (old.low + i)) tasks
   pub more : (i : ℕ) → i < 256 → slice_index_or new.sums i 0 ≤ slice_index_or old.sums i 0 + length tasks * 2 ^ 64
 
--- each number's sum over a hand
+-- the sum for each number is what the hand takes back of it
 pub record IsGathered (hand : List Ask) (gathered : TakenBack) : Type 0 where
   pub sums : (i : ℕ) → i < 256 → slice_index_or gathered.sums i 0 ≡ sum_by (taken_back_by (gathered.low + i)) hand
   pub below : AreBelow (2 ^ 127) gathered

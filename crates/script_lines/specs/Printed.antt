@@ -33,31 +33,31 @@ use Rattle.daemon.specs.declared.happened.Happened.TheVariants.{Started, Mounted
 use Rattle.daemon.specs.declared.happened.Refusal.{Refusal}
 use Rattle.daemon.specs.declared.happened.Refusal.TheVariants.{Stale, Unanswered, Undrained}
 
--- words parted by one space each, and LF
+-- a line: its words, separated by one space each, and LF
 abbrev pub line : List (List ℕ) → List ℕ
 line [] = 10 ∷ []
 line (word ∷ []) = word ++ 10 ∷ []
 line (word ∷ next ∷ more) = word ++ 32 ∷ line (next ∷ more)
 
--- words, each with a space behind it
+-- words, each followed by a space
 abbrev pub spaced : List (List ℕ) → List ℕ
 spaced [] = []
 spaced (word ∷ more) = word ++ 32 ∷ spaced more
 
--- the last digit of a number in base eight
+-- the last octal digit of a number
 abbrev pub octal_digit : ℕ → ℕ
 octal_digit n = 48 + n % 8
 
--- the last four of its digits, each a division by eight further than the one behind it
+-- the last four octal digits of a number
 abbrev pub octal : ℕ → List ℕ
 octal n = octal_digit (n / 8 / 8 / 8) ∷ octal_digit (n / 8 / 8) ∷ octal_digit (n / 8) ∷ octal_digit n ∷ []
 
--- `WORD N KIND PERM SIZE NLINK`
+-- the words of a number and its file's attributes: `WORD N KIND PERM SIZE NLINK`
 abbrev pub file_words : List ℕ → Number → Attr → List (List ℕ)
 file_words word number attr =
     word ∷ decimal number.0 ∷ kind_name attr.kind ∷ octal attr.perm.bits ∷ decimal attr.size ∷ decimal attr.nlink ∷ []
 
--- an answer, by its kind
+-- the words of an answer
 abbrev pub answer_words : Answer → List (List ℕ)
 answer_words (Entry number attr) = file_words (codes "entry") number attr
 answer_words (Opened number attr) = file_words (codes "opened") number attr
@@ -65,35 +65,36 @@ answer_words (Attrs number attr) = file_words (codes "attr") number attr
 answer_words Done = codes "done" ∷ []
 answer_words (Error errno) = codes "error" ∷ errno_name errno ∷ []
 
--- `WORD U` and the answer
+-- the line of a reply: `WORD U`, and the words of its answer
 abbrev pub reply_line : List ℕ → Reply → List ℕ
 reply_line word reply = spaced (word ∷ decimal reply.unique ∷ []) ++ line (answer_words reply.answer)
 
--- the unique of an ask; a forget has none
+-- the words of a request that waits: an ask's with its unique, a forget's without
 abbrev pub asked_words : Option ℕ → List (List ℕ)
 asked_words (Some unique) = codes "asked" ∷ decimal unique ∷ []
 asked_words None = codes "asked" ∷ []
 
--- what a refusal says beside its name
+-- the words of a refusal after its name: its values
 abbrev pub refusal_values : Refusal → List (List ℕ)
 refusal_values (Stale now) = decimal now ∷ []
 refusal_values (Unanswered asks) = decimal asks ∷ []
 refusal_values (Undrained in_hand unposted) = decimal in_hand ∷ decimal unposted ∷ []
 refusal_values refusal = []
 
--- a refusal, with its values
+-- the line of a refusal: its name and its values
 abbrev pub refusal_line : Refusal → List ℕ
 refusal_line refusal = line (codes "refused" ∷ refusal_name refusal ∷ refusal_values refusal)
 
--- how many bytes the data at a position has, if there is any
+-- how many bytes of data the message at a position carries; 0 if there is no such message
 abbrev pub length_at : List Message → ℕ → ℕ
 length_at messages position = option_map_or (λ (said : Message). length (bytes_of said)) (at_position messages position) 0
 
--- the length of a text in `count` parts, of which the first stands at `position`: each is full but the last
+-- the length of a text in `count` parts, the first of which is the message at `position`; each part but the last is
+-- full
 abbrev pub total_length : List Message → ℕ → ℕ → ℕ
 total_length messages position count = (count - 1) * part_len + length_at messages (position + (count - 1))
 
--- a message at a position, by its kind; of data, how many bytes there are
+-- the words of the message at a position, by its kind; for data they say how many bytes it has
 abbrev pub message_words : List Message → ℕ → Message → List (List ℕ)
 message_words messages position (Offer versions) = codes "offer" ∷ []
 message_words messages position (Choice session version) = codes "choice" ∷ decimal session ∷ decimal version ∷ []
@@ -109,13 +110,13 @@ message_words messages position (Part session generation index count bytes) =
     ∷ decimal (total_length messages position count) ∷ []
 message_words messages position (Failed session) = codes "failed" ∷ decimal session ∷ []
 
--- `said K MESSAGE`; nothing where nothing was said at the position
+-- the line of the message at a position, `said K MESSAGE`; no line if there is no such message
 abbrev pub said_line : List Message → ℕ → Option Message → List ℕ
 said_line messages position None = []
 said_line messages position (Some message) =
     spaced (codes "said" ∷ decimal position ∷ []) ++ line (message_words messages position message)
 
--- the line of what happened, where so much was said
+-- the line of what happened, in a world with these messages
 abbrev pub line_of : List Message → Happened → List ℕ
 line_of messages (Started daemon) = line (codes "daemon" ∷ decimal daemon.0 ∷ [])
 line_of messages (Mounted generation) = line (codes "mounted" ∷ decimal generation ∷ [])
@@ -133,16 +134,16 @@ line_of messages (Claimed generation) = line (codes "claimed" ∷ decimal genera
 line_of messages Crashed = line (codes "crashed" ∷ [])
 line_of messages (Refused refusal) = refusal_line refusal
 
--- where a number stands: `at PARENT NAME`, the name byte for byte, or `unlinked FILE`
+-- the line of a number's place: `at PARENT NAME`, with the name byte for byte, or `unlinked FILE`
 abbrev pub place_line : Place → List ℕ
 place_line (Linked parent name) = line (codes "at" ∷ decimal parent.0 ∷ name ∷ [])
 place_line (Unlinked file) = line (codes "unlinked" ∷ decimal file.0 ∷ [])
 
--- how often what a daemon took takes a number back: an item does, and an ask does not
+-- how many lookups of a number a member of a hand takes back: an item may take some back, an ask takes none
 abbrev pub taken_back_by : ℕ → Ask → ℕ
 taken_back_by n task = option_map_or (taken_back n) (item_of task.what) 0
 
--- how often the items under way take a number back: those that wait, and those in a daemon's hand
+-- how many lookups of a number the items that wait and the items in a daemon's hand take back
 abbrev pub taken_back_under_way : State → DaemonId → ℕ → ℕ
 taken_back_under_way state daemon n =
     forgets_on state.broker.traffic n + sum_by (taken_back_by n) (hand_of state daemon)
@@ -152,51 +153,51 @@ abbrev pub given_under_way : State → DaemonId → ℕ → ℕ
 given_under_way state daemon n =
     count_by (gives n) (unposted_of state daemon) + entries_of state.broker.traffic n
 
--- how often a number is held, is under way both ways, and is counted by a daemon
+-- the words for how often a number is held, is under way up and down, and is counted by a daemon
 abbrev pub count_words : State → DaemonId → ℕ → ℕ → List (List ℕ)
 count_words state daemon n count =
     codes "held" ∷ decimal (held_count state.broker.held n)
     ∷ codes "up" ∷ decimal (taken_back_under_way state daemon n)
     ∷ codes "down" ∷ decimal (given_under_way state daemon n) ∷ codes "count" ∷ decimal count ∷ []
 
--- `number N held H up U down W count C` and the place
+-- the line of a number that a daemon keeps: `number N held H up U down W count C`, and its place
 abbrev pub kept_line : State → DaemonId → Kept → List ℕ
 kept_line state daemon kept =
     spaced (codes "number" ∷ decimal kept.number.0 ∷ [])
     ++ spaced (count_words state daemon kept.number.0 kept.count) ++ place_line kept.place
 
--- the line of each number that a daemon keeps
+-- the lines of the numbers that a daemon keeps
 abbrev pub kept_lines : State → DaemonId → List Kept → List ℕ
 kept_lines state daemon [] = []
 kept_lines state daemon (kept ∷ more) = kept_line state daemon kept ++ kept_lines state daemon more
 
--- `seat G D next X`, and what the daemon keeps
+-- the lines of the seat's daemon: `seat G D next X`, and the numbers that the daemon keeps
 abbrev pub served_lines : State → Seat → ServedState → List ℕ
 served_lines state seat served =
     line (codes "seat" ∷ decimal seat.generation ∷ decimal seat.daemon.0 ∷ codes "next" ∷ decimal served.map.next ∷ [])
     ++ kept_lines state seat.daemon served.map.entries
 
--- nobody has the seat
+-- the line of a world in which nobody has the seat
 abbrev pub no_seat : List ℕ
 no_seat = line (codes "seat" ∷ codes "none" ∷ [])
 
--- who has the seat, and what it serves
+-- the lines of the seat, and of what its daemon serves
 abbrev pub seat_lines : State → Option Seat → Option ServedState → List ℕ
 seat_lines state (Some seat) (Some served) = served_lines state seat served
 seat_lines state _ _ = no_seat
 
--- what `show` prints
+-- the lines that `show` prints
 abbrev pub world_lines : State → List ℕ
 world_lines state =
     seat_lines state state.broker.seat
     (option_and_then (λ (seat : Seat). served_of state seat.daemon) state.broker.seat)
 
--- the line of the last thing that happened, if anything did
+-- the line of the last thing that happened at an event, if anything did
 abbrev pub last_line : List Message → Option Happened → List ℕ
 last_line messages None = []
 last_line messages (Some happened) = line_of messages happened
 
--- what an event prints, with the world after it
+-- the lines that an event prints, by the state after it
 abbrev pub printed : State → Event → List Happened → List ℕ
 printed state Show outcome = world_lines state
 printed state event outcome = last_line state.messages (slice_get outcome (length outcome - 1))

@@ -8,22 +8,22 @@ use eden_base::{NoMemory, Number, cut};
 use fuse_wire::{Item, Request};
 use std::alloc::Global;
 
-/// What the kernel does, or waits for.
+/// What the kernel does, or what the script waits for.
 #[derive(Drop)]
 pub enum BrokerLine {
-    /// It asks, and waits for the answer.
+    /// The kernel asks, and the script waits for the answer.
     Ask(Request),
-    /// It forgets.
+    /// The kernel forgets.
     Forget(Item),
-    /// It waits until the seat is at this generation or a later one.
+    /// The script waits until the seat is at this generation or a later one.
     Seat(u64),
-    /// It waits until every forget was taken.
+    /// The script waits until every forget was taken.
     Idle,
-    /// It tells which numbers it holds, and how often.
+    /// The script prints which numbers the kernel holds, and how often.
     Held,
 }
 
-/// Reads what a line says, without its LF; none where the line is bad.
+/// Reads a line, which comes without its LF. Returns none if the line is bad.
 pub fn read_broker_line(alloc: Global, line: &[u8]) -> Result<Option<BrokerLine>, NoMemory>
     ensures says { IfOk result (λ read. read ≡ broker_line_of line.now) }
 {
@@ -39,7 +39,7 @@ pub fn read_broker_line(alloc: Global, line: &[u8]) -> Result<Option<BrokerLine>
     }
 }
 
-/// Reads a line by its first word.
+/// Reads a line by its first word and the rest. Returns none if the line is bad.
 fn read_by(alloc: Global, word: &[u8], rest: &[u8]) -> Result<Option<BrokerLine>, NoMemory>
     ensures { IfOk result (λ read. read ≡ broker_line_by word.now rest.now) }
 {
@@ -55,7 +55,7 @@ fn read_by(alloc: Global, word: &[u8], rest: &[u8]) -> Result<Option<BrokerLine>
     Ok(None)
 }
 
-/// Reads what the kernel asks.
+/// Reads the request of an `ask` line. Returns none for a forget, as nobody answers one.
 fn read_ask(alloc: Global, words: &[u8]) -> Result<Option<BrokerLine>, NoMemory>
     ensures { IfOk result (λ read. read ≡ ask_of words.now) }
 {
@@ -65,7 +65,7 @@ fn read_ask(alloc: Global, words: &[u8]) -> Result<Option<BrokerLine>, NoMemory>
     }
 }
 
-/// Reads a number, and how many lookups the forget takes back.
+/// Reads the words of a `forget` line: a number, and how many lookups are taken back.
 fn read_forgets(words: &[u8]) -> Option<BrokerLine>
     ensures { result ≡ forgets_of words.now }
 {
@@ -74,7 +74,7 @@ fn read_forgets(words: &[u8]) -> Option<BrokerLine>
     Some(BrokerLine::Forget(Item { node, k }))
 }
 
-/// Reads the generation that is waited for.
+/// Reads the words of a `seat` line: the generation to wait for.
 fn read_seat(words: &[u8]) -> Option<BrokerLine>
     ensures { result ≡ seat_of words.now }
 {

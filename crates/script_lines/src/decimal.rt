@@ -2,7 +2,7 @@
 ghost use Rattle.std.specs.Prelude.{◌≡◌};
 ghost use Rattle.script_lines.specs.Number.{number_of, with_digit};
 
-/// Reads the number that decimal digits write, where it fits 64 bits. Zeros may stand in front, and a sign may not.
+/// Returns the number that decimal digits write, if it fits 64 bits. Zeros may come first, but no sign may.
 pub fn number(digits: &[u8]) -> Option<u64>
     ensures { result ≡ number_of digits.now }
 {
@@ -16,7 +16,7 @@ pub fn number(digits: &[u8]) -> Option<u64>
     Some(value)
 }
 
-/// Returns the number with one more digit.
+/// Returns `value` with one more digit at its end, if `byte` is a digit and the number fits 64 bits.
 fn with_digit(value: u64, byte: u8) -> Option<u64>
     ensures { result ≡ with_digit value byte }
 {

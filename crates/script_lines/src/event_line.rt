@@ -1,4 +1,4 @@
-//! A line that says what happens.
+//! The lines of a script, each read as an event.
 ghost use Rattle.std.specs.Prelude.{◌≡◌, IfOk, option_map};
 ghost use Rattle.script_lines.specs.EventLine.{event_of, start_of, with_version, daemon_event_by, mount_of, take_of, work_of, tried_of, tried_at, pair_of, post_of, takeover_event_by, hear_of, drained_of, give_up_of, claim_of, crash_of, issue_of, do_of, request_of, request_by, nameless_by, lookup_of, create_of, mkdir_of, unlink_of, rmdir_of, forget_of, getattr_of, other_said, named_of, made_of, name_of};
 
@@ -11,7 +11,7 @@ use std::alloc::Global;
 use takeover_core::Versions;
 use world::Event;
 
-/// Reads the event that a line says, without its LF; none where the line is bad.
+/// Reads the event of a line, which comes without its LF. Returns none if the line is bad.
 pub fn read_event(alloc: Global, line: &[u8]) -> Result<Option<Event>, NoMemory>
     ensures event { IfOk result (λ event. event ≡ event_of line.now) }
 {
@@ -39,7 +39,7 @@ pub fn read_event(alloc: Global, line: &[u8]) -> Result<Option<Event>, NoMemory>
     Ok(read_daemon_event(word, rest))
 }
 
-/// Reads what a daemon does, by the line's first word.
+/// Reads an event of a daemon, by the line's first word and the rest. Returns none if the line is bad.
 fn read_daemon_event(word: &[u8], rest: &[u8]) -> Option<Event>
     ensures { result ≡ daemon_event_by word.now rest.now }
 {
@@ -61,7 +61,7 @@ fn read_daemon_event(word: &[u8], rest: &[u8]) -> Option<Event>
     read_takeover_event(word, rest)
 }
 
-/// Reads what a daemon does in a takeover, by the line's first word.
+/// Reads an event of a daemon in a takeover, by the line's first word and the rest. Returns none if the line is bad.
 fn read_takeover_event(word: &[u8], rest: &[u8]) -> Option<Event>
     ensures { result ≡ takeover_event_by word.now rest.now }
 {
@@ -80,7 +80,7 @@ fn read_takeover_event(word: &[u8], rest: &[u8]) -> Option<Event>
     None
 }
 
-/// Reads the versions that a new daemon has.
+/// Reads the words of a `start` line: one to eight versions of the image.
 fn read_start(words: &[u8]) -> Option<Event>
     ensures { result ≡ start_of words.now }
 {
@@ -94,7 +94,7 @@ fn read_start(words: &[u8]) -> Option<Event>
     Some(Event::Start(Versions::of(versions.as_slice())))
 }
 
-/// Returns the versions with that of one more word, where there are at most eight.
+/// Returns `versions` with the version of `word` appended, if `word` is a version and there are at most eight then.
 fn with_version(mut versions: ArrayVec<u16, 8>, word: &[u8]) -> Option<ArrayVec<u16, 8>>
     ensures { option_map (λ longer. longer.items) result ≡ with_version versions.items word.now }
 {
@@ -103,7 +103,7 @@ fn with_version(mut versions: ArrayVec<u16, 8>, word: &[u8]) -> Option<ArrayVec<
     Some(versions)
 }
 
-/// Reads the daemon that mounts.
+/// Reads the words of a `mount` line: the daemon.
 fn read_mount(words: &[u8]) -> Option<Event>
     ensures { result ≡ mount_of words.now }
 {
@@ -111,7 +111,7 @@ fn read_mount(words: &[u8]) -> Option<Event>
     Some(Event::Mount(DaemonId(daemon)))
 }
 
-/// Reads the daemon that takes what waits first.
+/// Reads the words of a `take` line: the daemon.
 fn read_take(words: &[u8]) -> Option<Event>
     ensures { result ≡ take_of words.now }
 {
@@ -119,7 +119,7 @@ fn read_take(words: &[u8]) -> Option<Event>
     Some(Event::Take(DaemonId(daemon)))
 }
 
-/// Reads the daemon that works, the position in its hand, and whether its backing fails.
+/// Reads the words of a `work` line: the daemon, a position in its hand, and whether its backing fails.
 fn read_work(words: &[u8]) -> Option<Event>
     ensures { result ≡ work_of words.now }
 {
@@ -133,7 +133,7 @@ fn read_work(words: &[u8]) -> Option<Event>
     })
 }
 
-/// Reads a position, and whether the word `fail` stands behind it.
+/// Reads a position, and whether the word `fail` follows it.
 fn read_tried(words: &[u8]) -> Option<(u64, bool)>
     ensures { result ≡ tried_of words.now }
 {
@@ -148,7 +148,7 @@ fn read_tried(words: &[u8]) -> Option<(u64, bool)>
     }
 }
 
-/// Reads two numbers.
+/// Reads two numbers, separated by a space.
 pub(crate) fn read_pair(words: &[u8]) -> Option<(u64, u64)>
     ensures { result ≡ pair_of words.now }
 {
@@ -156,7 +156,7 @@ pub(crate) fn read_pair(words: &[u8]) -> Option<(u64, u64)>
     Some((number(first)?, number(second)?))
 }
 
-/// Reads the daemon that posts, and the position among its replies.
+/// Reads the words of a `post` line: the daemon, and a position of its unposted replies.
 fn read_post(words: &[u8]) -> Option<Event>
     ensures { result ≡ post_of words.now }
 {
@@ -165,7 +165,7 @@ fn read_post(words: &[u8]) -> Option<Event>
     Some(Event::Post { daemon, position })
 }
 
-/// Reads the daemon that hears, and the position of the message.
+/// Reads the words of a `hear` line: the daemon, and the position of a message.
 fn read_hear(words: &[u8]) -> Option<Event>
     ensures { result ≡ hear_of words.now }
 {
@@ -174,7 +174,7 @@ fn read_hear(words: &[u8]) -> Option<Event>
     Some(Event::Hear { daemon, position })
 }
 
-/// Reads the daemon that is to be drained.
+/// Reads the words of a `drained` line: the daemon.
 fn read_drained(words: &[u8]) -> Option<Event>
     ensures { result ≡ drained_of words.now }
 {
@@ -182,7 +182,7 @@ fn read_drained(words: &[u8]) -> Option<Event>
     Some(Event::Drained(DaemonId(daemon)))
 }
 
-/// Reads the daemon that gives its takeover up.
+/// Reads the words of a `giveup` line: the daemon.
 fn read_give_up(words: &[u8]) -> Option<Event>
     ensures { result ≡ give_up_of words.now }
 {
@@ -190,7 +190,7 @@ fn read_give_up(words: &[u8]) -> Option<Event>
     Some(Event::GiveUp(DaemonId(daemon)))
 }
 
-/// Reads the daemon that claims the seat.
+/// Reads the words of a `claim` line: the daemon.
 fn read_claim(words: &[u8]) -> Option<Event>
     ensures { result ≡ claim_of words.now }
 {
@@ -198,7 +198,7 @@ fn read_claim(words: &[u8]) -> Option<Event>
     Some(Event::Claim(DaemonId(daemon)))
 }
 
-/// Reads the daemon that crashes.
+/// Reads the words of a `crash` line: the daemon.
 fn read_crash(words: &[u8]) -> Option<Event>
     ensures { result ≡ crash_of words.now }
 {
@@ -206,7 +206,7 @@ fn read_crash(words: &[u8]) -> Option<Event>
     Some(Event::Crash(DaemonId(daemon)))
 }
 
-/// Reads what the kernel asks or forgets, and waits.
+/// Reads the words of an `issue` line: the request that the kernel issues.
 fn read_issue(alloc: Global, words: &[u8]) -> Result<Option<Event>, NoMemory>
     ensures { IfOk result (λ event. event ≡ issue_of words.now) }
 {
@@ -216,7 +216,7 @@ fn read_issue(alloc: Global, words: &[u8]) -> Result<Option<Event>, NoMemory>
     }
 }
 
-/// Reads what the kernel asks or forgets, and is worked off.
+/// Reads the words of a `do` line: the request that the kernel issues, and that is worked off at once.
 fn read_do(alloc: Global, words: &[u8]) -> Result<Option<Event>, NoMemory>
     ensures { IfOk result (λ event. event ≡ do_of words.now) }
 {
@@ -226,7 +226,7 @@ fn read_do(alloc: Global, words: &[u8]) -> Result<Option<Event>, NoMemory>
     }
 }
 
-/// Reads the request that words say.
+/// Reads the request that words write. Returns none if they write none.
 pub(crate) fn read_request(alloc: Global, words: &[u8]) -> Result<Option<Request>, NoMemory>
     ensures { IfOk result (λ request. request ≡ request_of words.now) }
 {
@@ -236,7 +236,7 @@ pub(crate) fn read_request(alloc: Global, words: &[u8]) -> Result<Option<Request
     }
 }
 
-/// Reads a request by the first word.
+/// Reads a request by its first word and the rest.
 fn read_request_by(alloc: Global, word: &[u8], rest: &[u8]) -> Result<Option<Request>, NoMemory>
     ensures { IfOk result (λ request. request ≡ request_by word.now rest.now) }
 {
@@ -258,7 +258,7 @@ fn read_request_by(alloc: Global, word: &[u8], rest: &[u8]) -> Result<Option<Req
     Ok(read_nameless(word, rest))
 }
 
-/// Reads a request that has no name in it, by the first word.
+/// Reads a request without a name, by its first word and the rest.
 fn read_nameless(word: &[u8], rest: &[u8]) -> Option<Request>
     ensures { result ≡ nameless_by word.now rest.now }
 {
@@ -274,7 +274,7 @@ fn read_nameless(word: &[u8], rest: &[u8]) -> Option<Request>
     None
 }
 
-/// Reads the name that is looked up, and its directory.
+/// Reads the words of a `lookup`: a directory's number, and the name to look up in it.
 fn read_lookup(alloc: Global, words: &[u8]) -> Result<Option<Request>, NoMemory>
     ensures { IfOk result (λ request. request ≡ lookup_of words.now) }
 {
@@ -284,7 +284,7 @@ fn read_lookup(alloc: Global, words: &[u8]) -> Result<Option<Request>, NoMemory>
     }
 }
 
-/// Reads the file that is made, and its directory.
+/// Reads the words of a `create`: a directory's number, and permissions and name of the file to make in it.
 fn read_create(alloc: Global, words: &[u8]) -> Result<Option<Request>, NoMemory>
     ensures { IfOk result (λ request. request ≡ create_of words.now) }
 {
@@ -294,7 +294,7 @@ fn read_create(alloc: Global, words: &[u8]) -> Result<Option<Request>, NoMemory>
     }
 }
 
-/// Reads the directory that is made, and the one that it is made in.
+/// Reads the words of a `mkdir`: a directory's number, and permissions and name of the directory to make in it.
 fn read_mkdir(alloc: Global, words: &[u8]) -> Result<Option<Request>, NoMemory>
     ensures { IfOk result (λ request. request ≡ mkdir_of words.now) }
 {
@@ -304,7 +304,7 @@ fn read_mkdir(alloc: Global, words: &[u8]) -> Result<Option<Request>, NoMemory>
     }
 }
 
-/// Reads the name that a file loses, and its directory.
+/// Reads the words of an `unlink`: a directory's number, and the name that a file loses in it.
 fn read_unlink(alloc: Global, words: &[u8]) -> Result<Option<Request>, NoMemory>
     ensures { IfOk result (λ request. request ≡ unlink_of words.now) }
 {
@@ -314,7 +314,7 @@ fn read_unlink(alloc: Global, words: &[u8]) -> Result<Option<Request>, NoMemory>
     }
 }
 
-/// Reads the name that a directory loses, and the directory that it is in.
+/// Reads the words of an `rmdir`: a directory's number, and the name that a directory loses in it.
 fn read_rmdir(alloc: Global, words: &[u8]) -> Result<Option<Request>, NoMemory>
     ensures { IfOk result (λ request. request ≡ rmdir_of words.now) }
 {
@@ -340,7 +340,7 @@ fn read_named(alloc: Global, words: &[u8]) -> Result<Option<(Number, Name)>, NoM
     }
 }
 
-/// Reads a directory's number, permissions, and a name in it.
+/// Reads a directory's number, permissions, and a name in that directory.
 fn read_made(alloc: Global, words: &[u8]) -> Result<Option<(Number, Perm, Name)>, NoMemory>
     ensures { IfOk result (λ made. made ≡ made_of words.now) }
 {
@@ -362,7 +362,7 @@ fn read_made(alloc: Global, words: &[u8]) -> Result<Option<(Number, Perm, Name)>
     }
 }
 
-/// Reads a name, which runs to the end of the line; none where the bytes are no name.
+/// Reads a name, which runs to the end of the line. Returns none if the bytes are no name.
 fn read_name(alloc: Global, bytes: &[u8]) -> Result<Option<Name>, NoMemory>
     ensures { IfOk result (λ name. name ≡ name_of bytes.now) }
 {
@@ -373,7 +373,7 @@ fn read_name(alloc: Global, bytes: &[u8]) -> Result<Option<Name>, NoMemory>
     }
 }
 
-/// Reads a number, and how many lookups the forget takes back.
+/// Reads the words of a `forget`: a number, and how many lookups are taken back.
 fn read_forget(words: &[u8]) -> Option<Request>
     ensures { result ≡ forget_of words.now }
 {
@@ -382,7 +382,7 @@ fn read_forget(words: &[u8]) -> Option<Request>
     Some(Request::Forget(Item { node, k }))
 }
 
-/// Reads the number whose attributes are asked for.
+/// Reads the words of a `getattr`: the number whose attributes are asked for.
 fn read_getattr(words: &[u8]) -> Option<Request>
     ensures { result ≡ getattr_of words.now }
 {
@@ -390,7 +390,7 @@ fn read_getattr(words: &[u8]) -> Option<Request>
     Some(Request::Getattr { node })
 }
 
-/// Reads the opcode of a request that has no command of its own, and the number that it goes to.
+/// Reads the words of an `other`: the opcode of a request that has no command of its own, and the request's number.
 fn read_other(words: &[u8]) -> Option<Request>
     ensures { result ≡ other_said words.now }
 {

@@ -1,4 +1,4 @@
-//! The lines of scripts: what one says, and the line that it prints.
+//! The lines of scripts: how a line is read, and what its event prints.
 #![tactic(auto)]
 
 mod broker_line;

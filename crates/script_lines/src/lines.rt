@@ -5,7 +5,7 @@ ghost use Rattle.script_lines.specs.Lines.{is_lf};
 
 use eden_base::cut;
 
-/// Returns the first line of a text, without its LF, and what comes after it.
+/// Returns the first line of `text` without its LF, and what comes after that LF.
 pub fn first_line(text: &[u8]) -> (&[u8], &[u8])
     requires { 0 < length text.now }
     ensures line { result.0.now ≡ before_first is_lf text.now }

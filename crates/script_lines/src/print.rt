@@ -22,7 +22,7 @@ use std::io::{self, Write};
 use takeover_core::Message;
 use world::{Event, Happened, Outcome, Refusal, World};
 
-/// Prints what came of an event, and the world where the event was to show it.
+/// Prints what came of `event`, or the world if `event` is `Show`.
 pub fn print_event<W: Write>(
     out: &mut W,
     world: &World,
@@ -41,7 +41,7 @@ pub fn print_event<W: Write>(
     }
 }
 
-/// Prints the line of what happened, where so much was said.
+/// Prints the line of what happened, in a world with these messages.
 fn print_happened<W: Write>(
     out: &mut W,
     messages: &[Message],
@@ -72,7 +72,7 @@ fn print_happened<W: Write>(
     }
 }
 
-/// Prints a word and a number.
+/// Prints a line of a word and a number.
 pub fn print_numbered<W: Write>(out: &mut W, word: &str, number: u64) -> io::Result<()>
     ensures { OnOk result (Appends (W.contents out.old) (W.contents out.new)
         (line (word.now ∷ decimal number ∷ []))) }
@@ -80,7 +80,7 @@ pub fn print_numbered<W: Write>(out: &mut W, word: &str, number: u64) -> io::Res
     writeln!(out, "{word} {number}")
 }
 
-/// Prints the message at a position, counted from 1: nothing, where nothing was said there.
+/// Prints the message at `position`, and nothing if there is no such message. The first position is 1.
 fn print_said<W: Write>(out: &mut W, messages: &[Message], position: usize) -> io::Result<()>
     ensures { OnOk result (Appends (W.contents out.old) (W.contents out.new)
         (said_line messages.now position (at_position messages.now position))) }
@@ -94,7 +94,7 @@ fn print_said<W: Write>(out: &mut W, messages: &[Message], position: usize) -> i
     }
 }
 
-/// Returns the message at a position, counted from 1.
+/// Returns the message at `position`, if there is one. The first position is 1.
 fn message_at(messages: &[Message], position: usize) -> Option<&Message>
     ensures message { option_copied result ≡ at_position messages.now position }
     ensures within { IfSome result (λ said. position ≤ length messages.now) }
@@ -103,7 +103,7 @@ fn message_at(messages: &[Message], position: usize) -> Option<&Message>
     messages.get(index)
 }
 
-/// Prints the message at a position, by its kind.
+/// Prints `message`, which is at `position` of `messages`, by its kind.
 fn print_message<W: Write>(
     out: &mut W,
     messages: &[Message],
@@ -145,7 +145,8 @@ fn print_message<W: Write>(
     }
 }
 
-/// Returns the length of a text in `count` parts, of which the first stands at `position`. Each is full but the last.
+/// Returns the length of a text in `count` parts. The first part is the message at `position`. Each part but the last
+/// is full.
 fn total_length(messages: &[Message], position: usize, count: u32) -> u64
     requires within { position ≤ length messages.now }
     ensures { result ≡ total_length messages.now position count }
@@ -155,7 +156,7 @@ fn total_length(messages: &[Message], position: usize, count: u32) -> u64
     u64::from(full) * PART_LEN as u64 + last as u64
 }
 
-/// Returns how many bytes the data at a position has, if there is any.
+/// Returns how many bytes of data the message at `position` carries. Returns 0 if there is no such message.
 fn length_at(messages: &[Message], position: usize) -> usize
     ensures length { result ≡ length_at messages.now position }
     ensures below { result < 2 ^ 63 }
@@ -166,7 +167,7 @@ fn length_at(messages: &[Message], position: usize) -> usize
     }
 }
 
-/// Prints that a request waits, with the unique of an ask.
+/// Prints that a request waits: an ask with its unique, a forget without.
 pub fn print_asked<W: Write>(out: &mut W, unique: Option<u64>) -> io::Result<()>
     ensures { OnOk result (Appends (W.contents out.old) (W.contents out.new)
         (line (asked_words unique))) }
@@ -193,7 +194,7 @@ pub fn print_refusal<W: Write>(out: &mut W, refusal: Refusal) -> io::Result<()>
     }
 }
 
-/// Prints a word, the unique that an answer goes by, and the answer.
+/// Prints a word, the unique of `reply`, and the answer of `reply`.
 pub fn print_reply<W: Write>(out: &mut W, word: &str, reply: &Reply) -> io::Result<()>
     ensures { OnOk result (Appends (W.contents out.old) (W.contents out.new)
         (reply_line word.now reply.now)) }
@@ -220,7 +221,7 @@ fn print_answer<W: Write>(out: &mut W, answer: &Answer) -> io::Result<()>
     }
 }
 
-/// Prints a word, a number, and the attributes of its file.
+/// Prints a word, a number, and the attributes of the number's file.
 fn print_file<W: Write>(out: &mut W, word: &str, number: Number, attr: &Attr) -> io::Result<()>
     ensures { OnOk result (Appends (W.contents out.old) (W.contents out.new)
         (line (file_words word.now number attr.now))) }
@@ -243,7 +244,7 @@ fn print_perm<W: Write>(out: &mut W, perm: Perm) -> io::Result<()>
     write!(out, "{bits:04o}")
 }
 
-/// Prints who has the seat, and what it serves.
+/// Prints which daemon has the seat, and what it serves.
 fn print_world<W: Write>(out: &mut W, world: &World) -> io::Result<()>
     ensures { OnOk result (Appends (W.contents out.old) (W.contents out.new)
         (world_lines world.now)) }
@@ -257,7 +258,7 @@ fn print_world<W: Write>(out: &mut W, world: &World) -> io::Result<()>
     }
 }
 
-/// Prints the seat, the number that its daemon gives next, and all numbers that the daemon keeps.
+/// Prints the seat, the next number of its daemon, and all numbers that the daemon keeps.
 fn print_served<W: Write>(out: &mut W, world: &World, seat: Seat, served: &Served) -> io::Result<()>
     ensures { OnOk result (Appends (W.contents out.old) (W.contents out.new)
         (served_lines world.now seat served.now)) }
@@ -269,7 +270,8 @@ fn print_served<W: Write>(out: &mut W, world: &World, seat: Seat, served: &Serve
     print_all_kept(out, world, seat.daemon, served.map())
 }
 
-/// Prints each number that a daemon keeps, by rising number. The least comes after the root's, which is no entry.
+/// Prints each number that a daemon keeps, the least first. The root has no entry, so the first one is looked for after
+/// the root.
 fn print_all_kept<W: Write>(
     out: &mut W,
     world: &World,
@@ -294,7 +296,7 @@ fn print_all_kept<W: Write>(
     Ok(())
 }
 
-/// Prints a number that a daemon keeps.
+/// Prints the line of a number that a daemon keeps: its counts, and its place.
 fn print_kept<W: Write>(
     out: &mut W,
     world: &World,
@@ -316,7 +318,7 @@ fn print_kept<W: Write>(
     print_place(out, place)
 }
 
-/// Prints how often a number is held, is under way both ways, and is counted by its daemon.
+/// Prints how often a number is held, is under way up and down, and is counted by its daemon.
 fn print_counts<W: Write>(
     out: &mut W,
     world: &World,
@@ -336,7 +338,7 @@ fn print_counts<W: Write>(
     write!(out, "held {held} up {up} down {down} count {count} ")
 }
 
-/// Returns how often the items that wait and those in a daemon's hand take a number back.
+/// Returns how many lookups of `number` the items that wait and the items in a daemon's hand take back.
 fn taken_back_under_way(world: &World, daemon: DaemonId, number: Number, in_hand: u128) -> u128
     requires sum { in_hand ≡ sum_by (taken_back_by number.0) (hand_of world.now daemon) }
     requires below { in_hand < 2 ^ 127 }
@@ -345,7 +347,7 @@ fn taken_back_under_way(world: &World, daemon: DaemonId, number: Number, in_hand
     u128::from(world.broker().forgets_waiting(number)) + in_hand
 }
 
-/// Returns how many replies that a daemon did not post, or that wait for the kernel, give a number out.
+/// Returns how many replies give `number` out, of those that `daemon` did not post and those that wait for the kernel.
 fn given_under_way(world: &World, daemon: DaemonId, number: Number) -> u128
     ensures { result ≡ given_under_way world.now daemon number.0 }
 {
@@ -353,7 +355,7 @@ fn given_under_way(world: &World, daemon: DaemonId, number: Number) -> u128
     unposted + u128::from(world.broker().entries_posted(number))
 }
 
-/// Returns how many replies that a daemon did not post give a number out: none where it serves nothing.
+/// Returns how many of a daemon's unposted replies give `number` out. Returns 0 if the daemon serves nothing.
 fn entries_unposted(replies: Option<&VecDeque<Reply>>, number: Number) -> u128
     ensures count { result ≡ count_by (gives number.0) (members replies.entry) }
     ensures below { result < 2 ^ 127 }
@@ -365,7 +367,7 @@ fn entries_unposted(replies: Option<&VecDeque<Reply>>, number: Number) -> u128
     u128::from(entries_of(front, number)) + u128::from(entries_of(back, number))
 }
 
-/// Returns how many replies give a number out.
+/// Returns how many of `replies` give `number` out.
 fn entries_of(replies: &[Reply], number: Number) -> u64
     ensures { result ≡ count_by (gives number.0) replies.now }
 {
@@ -373,7 +375,7 @@ fn entries_of(replies: &[Reply], number: Number) -> u64
     count as u64
 }
 
-/// Returns whether a reply gives a number out.
+/// Returns whether `reply` gives `number` out.
 fn gives(reply: &Reply, number: Number) -> bool
     ensures { result ≡ gives number.0 reply.now }
 {
@@ -383,7 +385,7 @@ fn gives(reply: &Reply, number: Number) -> bool
     }
 }
 
-/// Prints where a number stands. A name is written byte for byte.
+/// Prints the place of a number. A name is written byte for byte.
 fn print_place<W: Write>(out: &mut W, place: &Place) -> io::Result<()>
     ensures { OnOk result (Appends (W.contents out.old) (W.contents out.new)
         (place_line place.now)) }

@@ -1,4 +1,4 @@
-//! How often what a daemon took takes numbers back.
+//! How many lookups a daemon's hand takes back of each number.
 ghost use Rattle.std.specs.Prelude.{ℕ, ◌≡◌, ◌≢◌, ◌<◌, ◌≤◌, ◌+◌, ◌-◌, ◌*◌, ◌^◌, ◌⊎◌, length, MatchOption, slice_index_or, sum_by};
 ghost use Rattle.script_lines.specs.Gathered.{AreAdded, AreBelow, IsAdded, IsGathered, members};
 ghost use Rattle.script_lines.specs.Printed.{taken_back_by};
@@ -7,10 +7,10 @@ use eden_base::Number;
 use fuse_wire::Ask;
 use std::collections::VecDeque;
 
-/// How many numbers one pass over a hand is for.
+/// For how many numbers one pass over a hand sums up.
 const WIDTH: usize = 256;
 
-/// How often a hand takes each number back, of those from one on.
+/// How many lookups a hand takes back of each of the `WIDTH` numbers from `low` on.
 #[derive(Drop)]
 pub(crate) struct TakenBack {
     low: u64,
@@ -18,7 +18,7 @@ pub(crate) struct TakenBack {
 }
 
 impl TakenBack {
-    /// Goes over a hand once, where there is one, for the numbers from `low` on.
+    /// Goes over `hand` once, if there is one, and sums up for the numbers from `low` on.
     pub(crate) fn gather(hand: Option<&VecDeque<Ask>>, low: u64) -> TakenBack
         ensures gathered { IsGathered (members hand.entry) result }
         ensures low { result.low ≡ low }
@@ -36,8 +36,8 @@ impl TakenBack {
         gathered
     }
 
-    /// Returns how often the hand takes a number back. It goes over the hand again for a number that is none of these,
-    /// and for those behind it.
+    /// Returns how many lookups `hand` takes back of `number`. If `number` is not among the summed ones, goes over
+    /// `hand` again, for `number` and the numbers after it.
     pub(crate) fn of(&mut self, hand: Option<&VecDeque<Ask>>, number: Number) -> u128
         requires gathered { IsGathered (members hand) self.old }
         ensures sum { result ≡ sum_by (taken_back_by number.0) (members hand.entry) }
@@ -51,7 +51,7 @@ impl TakenBack {
         self.sums[0]
     }
 
-    /// Adds what each of a part of a hand takes back.
+    /// Adds what each of `tasks` takes back.
     fn add_each(&mut self, tasks: &[Ask])
         requires small { AreBelow (2 ^ 127 - length tasks.now * 2 ^ 64) self.old }
         ensures added { AreAdded self.old tasks.now self.new }
@@ -61,7 +61,7 @@ impl TakenBack {
         }
     }
 
-    /// Adds what one of a hand takes back.
+    /// Adds what `task` takes back.
     fn add(&mut self, task: &Ask)
         requires small { AreBelow (2 ^ 127) self.old }
         ensures added { IsAdded self.old task.now self.new }
@@ -75,7 +75,7 @@ impl TakenBack {
         self.add_at(at, item.k);
     }
 
-    /// Adds to the sum of an index.
+    /// Adds `k` to the sum at index `at`.
     fn add_at(&mut self, at: usize, k: u64)
         requires within { at < 256 }
         requires small { AreBelow (2 ^ 127) self.old }
@@ -88,7 +88,7 @@ impl TakenBack {
         self.sums[at] += u128::from(k);
     }
 
-    /// Returns the index of a number's sum.
+    /// Returns the index of the sum for `number`, if `number` is among the summed ones.
     fn index_of(&self, number: Number) -> Option<usize>
         ensures { MatchOption result (number.0 < self.now.low ⊎ self.now.low + 256 ≤ number.0)
             (λ at. (at < 256) × (self.now.low + at ≡ number.0)) }

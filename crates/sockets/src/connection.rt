@@ -12,7 +12,7 @@ use std::time::Duration;
 /// How many bytes are read ahead.
 const AHEAD: usize = 65_536;
 
-/// One end of a connection. Both ends of it are closed where it is dropped.
+/// One end of a connection. Dropping it closes its handles of the socket.
 #[derive(Drop)]
 pub struct Connection<'a, R> {
     alloc: Global,
@@ -26,7 +26,7 @@ pub fn connect<R: Net>(rt: &R, path: &str) -> io::Result<UnixStream> {
 }
 
 impl<'a, R: Clock> Connection<'a, R> {
-    /// Returns a connection over a socket. A write that waits longer than `patience` for its reader fails.
+    /// Returns a connection over `stream`. A write fails if it waits longer than `patience` for the other end to read.
     pub fn over(
         alloc: Global,
         clock: &'a R,
@@ -43,19 +43,19 @@ impl<'a, R: Clock> Connection<'a, R> {
         })
     }
 
-    /// Reads the next frame, of which every byte comes by `deadline`: none where the other end closed the connection
-    /// before it. After a fault close the connection.
+    /// Reads the next frame, every byte of which has to come by `deadline`. Returns none if the other end closed the
+    /// connection before the frame. After a fault the caller has to close the connection.
     pub fn read(&mut self, deadline: Deadline) -> Result<Option<Frame>, FrameFault> {
         self.reader.get_mut().end_by(deadline);
         read_frame(self.alloc, &mut self.reader)
     }
 
-    /// Writes a frame. After a fault close the connection.
+    /// Writes `frame`. After a fault the caller has to close the connection.
     pub fn write(&mut self, frame: &Frame) -> Result<(), FrameFault> {
         write_frame(self.alloc, &mut self.writer, frame)
     }
 
-    /// Writes a frame and reads the answer by `deadline`. There is none where either fails.
+    /// Writes `frame`, and reads the answer by `deadline`. Returns none if either fails, or if no answer comes.
     pub fn ask(&mut self, frame: &Frame, deadline: Deadline) -> Option<Frame> {
         if let Err(_fault) = self.write(frame) {
             return None;
@@ -66,27 +66,28 @@ impl<'a, R: Clock> Connection<'a, R> {
         }
     }
 
-    /// Returns who gives the memory for frames.
+    /// Returns the allocator for frames.
     pub fn alloc(&self) -> Global {
         self.alloc
     }
 
-    /// Returns the end that frames are written to.
+    /// Returns the handle to which frames are written.
     pub fn writer(&mut self) -> &mut UnixStream {
         &mut self.writer
     }
 
-    /// Returns another handle of the connection.
+    /// Returns another handle of the connection's socket.
     pub fn handle(&self) -> io::Result<UnixStream> {
         self.writer.try_clone()
     }
 
-    /// Ends the connection for both ends.
+    /// Shuts the connection down for both ends.
     pub fn end(&self) {
         let _ended = self.writer.shutdown(Shutdown::Both);
     }
 
-    /// Returns the two handles of a channel, without what was read ahead.
+    /// Returns the reader, which keeps what it read ahead, and the handle to which frames are written. A channel is
+    /// made of both.
     pub fn into_ends(self) -> (BufReader<Timed<'a, R>>, UnixStream) {
         (self.reader, self.writer)
     }

@@ -10,24 +10,24 @@ use std::time::{Duration, Instant};
 /// When a wait ends.
 #[derive(Clone, Copy)]
 pub enum Deadline {
-    /// The wait has no end of its own.
+    /// The wait has no deadline.
     Never,
     At(Instant),
-    /// The wait is over at once, as where the clock can't be read.
+    /// The wait is over at once. This also stands for a deadline that the clock could not give.
     Passed,
 }
 
-/// How long a wait may last.
+/// How much longer a wait may last.
 #[derive(Clone, Copy)]
 pub enum Left {
     Forever,
-    /// Longer than no time.
+    /// The wait may last this much longer, which is more than no time.
     For(Duration),
     Nothing,
 }
 
 impl Deadline {
-    /// Returns the end of a wait that begins now.
+    /// Returns the deadline of a wait that begins at this moment and lasts for `wait`.
     pub fn after<R: Clock>(clock: &R, wait: Duration) -> Deadline {
         match Instant::now(clock) {
             Ok(now) => match now.checked_add(wait) {
@@ -38,7 +38,7 @@ impl Deadline {
         }
     }
 
-    /// Returns how long a wait lasts that begins now.
+    /// Returns how much longer a wait with this deadline may last.
     pub fn left<R: Clock>(&self, clock: &R) -> Left
         ensures never { self.now ≡ Never → result ≡ Forever }
         ensures passed { self.now ≡ Passed → result ≡ Nothing }
@@ -51,13 +51,13 @@ impl Deadline {
         }
     }
 
-    /// Returns whether the wait is over.
+    /// Returns whether the deadline has passed.
     pub fn is_over<R: Clock>(&self, clock: &R) -> bool {
         matches!(self.left(clock), Left::Nothing)
     }
 }
 
-/// Returns how long it is until an instant.
+/// Returns how much longer a wait may last that ends at `end`.
 fn left_until<R: Clock>(clock: &R, end: Instant) -> Left
     ensures some { (wait : _) → result ≡ For wait → 0 < as_nanos wait }
 {

@@ -7,7 +7,7 @@ use std::os::unix::fs::{DirBuilderExt, FileTypeExt, PermissionsExt};
 use std::os::unix::net::UnixListener;
 use std::rt::Files;
 
-/// How many folders of earlier runs may stand beside a socket.
+/// How many folders that earlier runs left may stand beside a socket.
 const MOST_FOLDERS: usize = 64;
 
 /// A socket that listens in a folder of its own, where nobody finds it yet.
@@ -18,13 +18,13 @@ pub struct Hidden {
     name: String,
 }
 
-/// Listens at a path, for the user alone. A socket that stands there is replaced, and at no moment does the path lack
-/// one. Anything else that stands there is left alone, and is an error.
+/// Listens at `path`, for this user alone. A socket at `path` is replaced, and there is one at every moment. Any other
+/// file at `path` is left alone, and is an error.
 pub fn listen_at<R: Files + Net>(rt: &R, alloc: Global, path: &str) -> io::Result<UnixListener> {
     Hidden::beside(rt, alloc, path)?.show(rt, path)
 }
 
-/// Returns an error where something stands at a path that is no socket.
+/// Checks that there is a socket or nothing at `path`, else returns an error.
 fn check_place<R: Files>(rt: &R, path: &str) -> io::Result<()> {
     match rt.symlink_metadata(path) {
         Ok(found) if found.file_type().is_socket() => Ok(()),
@@ -34,7 +34,7 @@ fn check_place<R: Files>(rt: &R, path: &str) -> io::Result<()> {
     }
 }
 
-/// Makes a folder beside a path that the user alone may enter, and returns its name.
+/// Makes a folder beside `path` that this user alone may enter, and returns the folder's name.
 fn make_folder<R: Files>(rt: &R, alloc: Global, path: &str) -> io::Result<String> {
     for number in 1..=MOST_FOLDERS {
         let folder = format!(in alloc; "{path}.{number}")?;
@@ -47,7 +47,7 @@ fn make_folder<R: Files>(rt: &R, alloc: Global, path: &str) -> io::Result<String
     Err(io::Error::from(ErrorKind::AlreadyExists))
 }
 
-/// Listens at a name, for the user alone.
+/// Listens at `name`, for this user alone.
 fn bind_private<R: Files + Net>(rt: &R, name: &str) -> io::Result<UnixListener> {
     let listener = UnixListener::bind(rt, name)?;
     fs::set_permissions(rt, name, Permissions::from_mode(0o600))?;
@@ -55,7 +55,7 @@ fn bind_private<R: Files + Net>(rt: &R, name: &str) -> io::Result<UnixListener> 
 }
 
 impl Hidden {
-    /// Listens in a folder beside a path. So whatever may fail has failed before anyone finds the socket.
+    /// Listens in a new folder beside `path`. So a failure to listen comes before anyone can find the socket.
     pub fn beside<R: Files + Net>(rt: &R, alloc: Global, path: &str) -> io::Result<Hidden> {
         check_place(rt, path)?;
         let folder = make_folder(rt, alloc, path)?;
@@ -72,7 +72,7 @@ impl Hidden {
         }
     }
 
-    /// Listens in a folder. Where that fails the folder is left empty.
+    /// Listens in `folder`. If that fails, `folder` is left empty.
     fn within<R: Files + Net>(
         rt: &R,
         alloc: Global,
@@ -88,7 +88,7 @@ impl Hidden {
         }
     }
 
-    /// Lets the socket be found at a path, in place of the one that stands there.
+    /// Moves the socket to `path`, where others find it. It replaces a socket that is there.
     pub fn show<R: Files>(self, rt: &R, path: &str) -> io::Result<UnixListener> {
         let shown = fs::rename(rt, self.name.as_str(), path);
         if shown.is_err() {
@@ -99,7 +99,7 @@ impl Hidden {
         Ok(self.listener)
     }
 
-    /// Removes the socket that nobody found.
+    /// Removes the socket, which nobody could find, and its folder.
     pub fn remove<R: Files>(self, rt: &R) {
         let _removed = fs::remove_file(rt, self.name.as_str());
         let _removed = fs::remove_dir(rt, self.folder.as_str());

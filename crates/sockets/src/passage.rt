@@ -2,19 +2,20 @@
 ghost use Rattle.std.specs.Prelude.{◌≡◌};
 ghost use Rattle.sockets.specs.Passage.{is_between, passed};
 
-/// How far a stream of bytes is into a frame. What no frame is, as a length that is too long, is the reader's to find.
+/// How far a stream of bytes is into a frame. Bytes that are no frame, for example too great a length, are for the
+/// reader to find.
 #[derive(Clone, Copy)]
 pub(crate) struct Passage {
-    /// How many bytes of a length came, from 0 to 3.
+    /// How many bytes of a length came so far, from 0 to 3.
     came: u32,
-    /// The number that they write, highest byte first.
+    /// The number that these bytes write, highest byte first.
     len: u32,
-    /// How many bytes are to come behind a length that came: the kind's, and the body's.
+    /// How many bytes are still to come after a length: one for the kind, and those of the body.
     left: u32,
 }
 
 impl Passage {
-    /// Returns that a stream begins.
+    /// Returns the passage of a stream that begins.
     pub(crate) fn new() -> Passage
         ensures new { result ≡ record { came = 0; len = 0; left = 0 } }
     {

@@ -10,22 +10,23 @@ use std::os::unix::net::UnixStream;
 use std::rt::Clock;
 use std::time::Duration;
 
-/// How long the rest of a frame may take that began to come, in milliseconds.
+/// How long the rest of a frame may take once the frame began to come, in milliseconds.
 const REST: u64 = 5000;
 
-/// The reading end of a socket, which gives up at a deadline: a read that would end later is `WouldBlock`. Without a
-/// deadline a frame may begin whenever it does, or after a silence at most, and the rest of it comes within five seconds.
+/// The reading end of a socket, which gives up at a deadline: a read that would end later fails with `WouldBlock`.
+/// Without a deadline a frame may begin at any time, or after a silence of limited length. The rest of the frame then
+/// has to come within five seconds.
 #[derive(Drop)]
 pub struct Timed<'a, R> {
     clock: &'a R,
     stream: UnixStream,
     deadline: Deadline,
-    /// How long a silence between frames lasts at most without a deadline, if it has an end.
+    /// How long a silence between frames may last while there is no deadline, if that is limited.
     silence: Option<Duration>,
     passage: Passage,
-    /// By when the frame is to end that began to come, where that was asked.
+    /// The deadline for the rest of the frame that began to come, once a read asked for it.
     rest: Option<Deadline>,
-    /// Whether the socket may have a timeout that isn't the silence's.
+    /// Whether the socket may have another timeout than the silence's.
     is_timed: bool,
 }
 
@@ -43,18 +44,18 @@ impl<'a, R: Clock> Timed<'a, R> {
         }
     }
 
-    /// Lets all reads from now on end by a deadline.
+    /// Lets all reads from this call on end by `deadline`.
     pub fn end_by(&mut self, deadline: Deadline) {
         self.deadline = deadline;
     }
 
-    /// Lets no silence between frames last longer than this, where there is no deadline.
+    /// Lets a silence between frames last for `silence` at most, while there is no deadline.
     pub fn end_silence_after(&mut self, silence: Duration) {
         self.silence = Some(silence);
         self.is_timed = true;
     }
 
-    /// Returns by when the next byte comes: by the deadline, or without one by the end of the frame that began to come.
+    /// Returns the deadline of the next byte: the one that was set, or else that of the frame that began to come.
     fn by(&mut self) -> Deadline
         ensures given { self.old.deadline ≢ Never → result ≡ self.old.deadline }
         ensures between { is_between self.old.passage ≡ true → result ≡ self.old.deadline }
@@ -65,7 +66,7 @@ impl<'a, R: Clock> Timed<'a, R> {
         }
     }
 
-    /// Returns by when the frame is to end that began to come.
+    /// Returns the deadline for the rest of the frame that began to come.
     fn rest(&mut self) -> Deadline {
         if let Some(rest) = self.rest {
             return rest;
@@ -75,7 +76,7 @@ impl<'a, R: Clock> Timed<'a, R> {
         rest
     }
 
-    /// Gives the socket a timeout up to the end of its next read.
+    /// Gives the socket a timeout, by which its next read ends at the deadline.
     fn set_timeout(&mut self) -> io::Result<()> {
         match self.by().left(self.clock) {
             Left::Forever => {

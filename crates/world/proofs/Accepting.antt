@@ -28,7 +28,7 @@ use Rattle.fuse_ops.specs.Served.{ServedState, numbers_at, place_told, IsLegal}
 use Rattle.fuse_ops.specs.Soundness.{IsSound}
 use Rattle.fuse_ops.proofs.Shapes.{TellsEntry, find-tells, make-tells, show-form, take-form}
 
--- an answer in this form is taken
+-- the broker takes this answer to an ask of this form
 abbrev pub IsTakenAs : Form → Answer → Type 0
 IsTakenAs form answer = (belongs form answer && may_be_given answer) ≡ true
 
@@ -40,7 +40,7 @@ error-taken form answer errno is = subst (IsTakenAs form) (sym is) (in_ form) wh
   in_ AnEntry = refl
   in_ f = refl
 
--- what gives a number out above the root's
+-- an answer that gives out a number above the root's is taken
 entry-taken : (form : Form) (number : Number) (attr : Attr) → given_out (told_as form number attr) ≡ Some number → 2 ≤ number.0 → IsTakenAs form (told_as form number attr)
 entry-taken AnEntry number attr e two = grind (arith, nat_tests)
 entry-taken AnOpenEntry number attr e two = grind (arith, nat_tests)
@@ -64,7 +64,7 @@ module _ (served : ServedState) (request : Request) (answer : Answer) (sound : I
   abbrev Legal : Result Effect Errno → Type 0
   Legal result = Answers (numbers_at served (place_told request)) request result answer
 
-  -- an entry, by what stands against its number
+  -- the answer that tells an entry is taken, by what stands against the entry's number
   counted_in : (dir : Number) (name : List ℕ) (tree : Tree) (file : FileId) → TellsEntry request dir name → (fault : Option NumberFault) → AnswersCounted (numbers_at served (place_told request)) request tree file fault answer → Taken
   counted_in dir name tree file tells (Some fault) a = error-taken (form_of request) answer (number_errno fault) a
   counted_in dir name tree file tells None (inl t) = subst (IsTakenAs (form_of request)) (sym t.is)
@@ -82,7 +82,7 @@ module _ (served : ServedState) (request : Request) (answer : Answer) (sound : I
   make_in dir name tree kind perm (Ok above) tells (fault, against, a) = counted_in dir name _ _ tells fault a
   make_in dir name tree kind perm (Err errno) tells a = error-taken (form_of request) answer errno a
 
-  -- a name that is taken away
+  -- the answer that takes a name away is taken
   take_in : (tree : Tree) (dir : FileId) (name : List ℕ) (found : Result FileId Errno) → form_of request ≡ NoValue → Legal (takes tree dir name found) → Taken
   take_in tree dir name (Ok file) form a = subst (λ (f : Form). IsTakenAs f answer) (sym form) (subst (λ (x : Answer). IsTakenAs NoValue x) (sym a) refl)
   take_in tree dir name (Err errno) form a = error-taken (form_of request) answer errno a
@@ -91,13 +91,13 @@ module _ (served : ServedState) (request : Request) (answer : Answer) (sound : I
   take_from tree against (Some dir) name form a = take_in tree dir name (unless against (found_in tree (Some dir) name)) form a
   take_from tree against None name form a = error-taken (form_of request) answer ESTALE a
 
-  -- attributes that are shown
+  -- the answer that shows attributes is taken
   show_in : (tree : Tree) (above : Option FileId) → form_of request ≡ Attributes → Legal (shows tree above) → Taken
   show_in tree (Some file) form (inl t) = subst (λ (f : Form). IsTakenAs f answer) (sym form) (subst (IsTakenAs Attributes) (sym (t.is ∙ ap (λ (f : Form). told_as f t.number t.attr) form)) refl)
   show_in tree (Some file) form (inr (is, may)) = error-taken (form_of request) answer EIO is
   show_in tree None form a = error-taken (form_of request) answer ESTALE a
 
-  -- A legal answer is taken, a line a deed.
+  -- A legal answer is taken, by what the request does.
   pub legal-taken : (later : ServedState) → IsLegal served request answer later → IsTakenAs (form_of request) answer
   legal-taken later l = by_deed (deed_of request) refl l.answers where
     by_deed : (deed : Deed) → deed_of request ≡ deed → Legal (done_to served.tree l.files deed) → Taken

@@ -1,4 +1,5 @@
--- A daemon's legal answer is one that the world may give, and what the daemon knows after it is what the world has then.
+-- A daemon's legal answer is one that the world may give, and what the daemon knows after it is what the world has
+-- then.
 use Rattle.std.proofs.Common.{◌≡◌, ℕ, ◌+◌, ◌<◌, false, List, [], ◌∷◌, Option, Some, None, Result, Ok, Err, refl, sym, ap, ◌∙◌, subst, inl, inr, arith}
 use Rattle.std.specs.Prelude.{Contains}
 use Rattle.std.specs.List.{AllByRecursion}
@@ -31,25 +32,25 @@ use Rattle.fuse_ops.proofs.Making.{free-place}
 use Rattle.fuse_ops.proofs.Shapes.{GoesTo, TellsEntry, TakesPlace, entered, shown, show-form, find-goes, find-tells, make-goes, make-tells, take-goes, take-takes, take-frees, show-goes, unless-found, shown-after, done-after}
 use Rattle.fuse_ops.proofs.UnnamingLaw.{unnaming-keeps}
 
--- what a daemon knows of a world, in which it answers
+-- what a daemon that answers knows of a world
 record Serves (w : World) (m : MapState) : Type 0 where
   is_tree : IsTree w.tree
   of_manifest : w.tree.manifest ≡ w.manifest
   knows : Knows w.tree w.names (owed w) (served_over w.tree m)
 
--- a legal answer, by what the request comes to
+-- an answer is legal for a request that comes to this result
 record Legal (w : World) (m : MapState) (request : Request) (result : Result Effect Errno) (answer : Answer) (later : ServedState) : Type 0 where
   answers : Answers (numbers_at (served_over w.tree m) (place_told request)) request result answer
   answered : Answered w m request result answer later
 
 -- ---- errors
 
--- the error that the request comes to, or that its number is stale
+-- if a request comes to an error, the error is an answer of the world, or the request's number is stale
 error_in : (w : World) (m : MapState) (request : Request) (errno : Errno) (answer : Answer) (later : ServedState) → Serves w m → Legal w m request (Err errno) answer later → MayAnswer w request (Error errno) → Worked w request answer later
 error_in w m request errno answer later s l may = subst (λ (a : Answer). Worked w request a later) (sym l.answers)
     (error-worked w m request (Err errno) errno later s.is_tree s.knows ((l.answered).makes ∙ ap (λ (a : Answer). plain (served_after (served_over w.tree m) request (Err errno) a)) l.answers) may)
 
--- the number that it looks at names no file for the daemon, so that it is not live
+-- if the number that a request looks at names no file for the daemon, the number is not live
 stale_in : (w : World) (m : MapState) (request : Request) (node : Number) → Serves w m → looks_at request ≡ node ∷ [] → ((file : FileId) → IsFileOf w.tree m.entries node.0 file → ⊥) → MayAnswer w request (Error ESTALE)
 stale_in w m request node s looks nobody = inl (
   refl,
@@ -62,7 +63,7 @@ stale_in w m request node s looks nobody = inl (
 
 -- ---- a request to a number
 
--- a success of it, over the file that its number names
+-- if a request comes to an effect over the file that its number names, a legal answer is one of the world's
 abbrev Succeeds : World → MapState → Request → Number → (Tree → Option FileId → Result Effect Errno) → Answer → ServedState → Type 0
 Succeeds w m request dir effect answer later =
     (above : FileId) → IsFileOf w.tree m.entries dir.0 above → (e : Effect) → effect w.tree (Some above) ≡ Ok e → effect_in w request ≡ Ok e → Legal w m request (Ok e) answer later → Worked w request answer later
@@ -81,7 +82,7 @@ goes_in w m request dir effect answer later s goes success (Some above) at l = i
 
 -- ---- its successes
 
--- an entry of a file that was found
+-- a request for the entry of a file that was found is answered so
 find_in : (w : World) (m : MapState) (request : Request) (dir : Number) (name : List ℕ) (answer : Answer) (later : ServedState) → Serves w m → TellsEntry request dir name → Succeeds w m request dir (λ tree above. enters tree (found_in tree above name)) answer later
 find_in w m request dir name answer later s tells above at e is came l = in_ (found_in w.tree (Some above) name) refl is where
   in_ : (r : Result FileId Errno) → found_in w.tree (Some above) name ≡ r → enters w.tree r ≡ Ok e → Worked w request answer later
@@ -94,7 +95,7 @@ find_in w m request dir name answer later s tells above at e is came l = in_ (fo
       (found-enters w m dir name above file s.is_tree s.of_manifest s.knows at child request tells (came ∙ ap (λ (x : Effect). Ok x) (sym same))) answer later legal.answered
       (found-number w m dir name above file s.is_tree s.of_manifest s.knows at child) legal.answers
 
--- an entry of a file that is made
+-- a request for the entry of a file that is made is answered so
 make_in : (w : World) (m : MapState) (request : Request) (dir : Number) (name : List ℕ) (kind : Kind) (perm : Perm) (answer : Answer) (later : ServedState) → Serves w m → TellsEntry request dir name →
     Succeeds w m request dir (λ tree above. makes tree name kind perm (free_in tree above name)) answer later
 make_in w m request dir name kind perm answer later s tells above at e is came l = in_ (free_in w.tree (Some above) name) refl is where
@@ -110,7 +111,7 @@ make_in w m request dir name kind perm answer later s tells above at e is came l
       (made-enters w m dir name dir_file kind perm s.is_tree s.of_manifest s.knows at' place.1 request tells (came ∙ ap (λ (x : Effect). Ok x) (sym same))) answer later legal.answered
       (inr (made-number w m dir name dir_file kind perm s.is_tree s.of_manifest s.knows at' place.1)) legal.answers
 
--- a name that is taken away
+-- the effect of taking a name away
 abbrev taken : Tree → FileId → List ℕ → FileId → Effect
 taken tree above name file = record { tree = removed tree above name; file = None; counts = false; unnamed = Some file }
 
@@ -144,7 +145,7 @@ take_in w m request dir name against answer later s place frees above at e is ca
           so = (legal.answered).makes ∙ ap (λ (a : Answer). plain (served_after (served_over w.tree m) request (Ok (taken w.tree above name file)) a)) legal.answers
               ∙ ap plain (done-after (served_over w.tree m) request dir name (taken w.tree above name file) file place refl)
 
--- attributes that are shown
+-- a request for attributes is answered so
 show_in : (w : World) (m : MapState) (request : Request) (node : Number) (answer : Answer) (later : ServedState) → Serves w m → deed_of request ≡ show_file node → Succeeds w m request node shows answer later
 show_in w m request node answer later s does file at e is came l =
     let same : shown w.tree file ≡ e = cc in
@@ -175,7 +176,7 @@ show_in w m request node answer later s does file at e is came l =
 
 -- ---- all requests
 
--- what is legal for a request that goes to a number
+-- a legal answer to a request that names a number is one of the world's
 legal_to : (w : World) (m : MapState) (request : Request) (dir : Number) (effect : Tree → Option FileId → Result Effect Errno) (answer : Answer) (later : ServedState) → Serves w m → GoesTo request dir effect → Succeeds w m request dir effect answer later →
     IsLegal (served_over w.tree m) request answer later → Worked w request answer later
 legal_to w m request dir effect answer later s goes success l =
@@ -186,7 +187,7 @@ legal_to w m request dir effect answer later s goes success l =
       answered = record { makes = l.makes; keeps_tree = l.keeps_tree };
     }))
 
--- what is legal for a request that isn't served
+-- a legal answer to a request that is not served is one of the world's
 unserved_in : (w : World) (m : MapState) (request : Request) (answer : Answer) (later : ServedState) → Serves w m → deed_of request ≡ unserved → IsLegal (served_over w.tree m) request answer later → Worked w request answer later
 unserved_in w m request answer later s does l =
     error_in w m request ENOSYS answer later s (subst (λ (r : Result Effect Errno). Legal w m request r answer later) (ap (done_to w.tree l.files) does) (record {
@@ -194,7 +195,7 @@ unserved_in w m request answer later s does l =
       answered = record { makes = l.makes; keeps_tree = l.keeps_tree };
     })) (inr (subst (λ (r : Result Effect Errno). Answers (numbers_of w) request r (Error ENOSYS)) (sym (ap (done_to w.tree (file_named w.names)) does)) refl))
 
--- the same over the world's tree, a line a deed
+-- a legal answer over the world's tree is one of the world's, by what the request does
 legal_in : (w : World) (m : MapState) (request : Request) (answer : Answer) (later : ServedState) → Serves w m → IsLegal (served_over w.tree m) request answer later → Worked w request answer later
 legal_in w m request answer later s l = by_deed (deed_of request) refl where
   by_deed : (deed : Deed) → deed_of request ≡ deed → Worked w request answer later

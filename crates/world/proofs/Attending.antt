@@ -1,5 +1,5 @@
--- Who serves has the seat, and the broker waits for what the seat's daemon has to answer, over a change of one daemon, or
--- of none.
+-- After a change of one daemon, or of none, each daemon that serves has the seat, and the broker waits for what the
+-- daemon of the seat has to answer.
 use Rattle.std.proofs.Common.{◌≡◌, ℕ, Bool, true, false, List, [], ◌∷◌, ◌++◌, Option, Some, None, refl, sym, ap, ◌∙◌, subst, inl, inr, ◌⊎◌}
 use Rattle.std.specs.Prelude.{if◌then◌else◌}
 use Rattle.std.specs.Option.{option_map_or, option_and_then}
@@ -29,11 +29,11 @@ use Rattle.world.proofs.HandingOn.{started-there}
 abbrev pub after_one : State → BrokerState → List Message → DaemonId → DaemonState → State
 after_one old broker messages daemon later = with_daemon (record old { broker = broker; messages = messages }) daemon later
 
--- where the seat stays, so does who serves
+-- if the seat stays, a daemon that served with the seat still does
 pub serves-along : (old new : State) (daemon : DaemonId) (was : DaemonState) → new.broker.seat ≡ old.broker.seat → ServesSeated old daemon was → ServesSeated new daemon was
 serves-along old new daemon was seat s = record { at = s.at; has_seat = λ g e. seat ∙ s.has_seat g e }
 
--- the others stand, and so does the one that changed
+-- a state stays attended after one daemon changed, if that daemon and each other one still serves with the seat
 pub attended-one : (old : State) (broker : BrokerState) (messages : List Message) (daemon : DaemonId) (was later : DaemonState) → daemon_of old daemon ≡ Some was → ServesSeated (after_one old broker messages daemon later) daemon later →
     ((other : DaemonId) (d : DaemonState) → (other ≡ daemon → ⊥) → daemon_of old other ≡ Some d → ServesSeated (after_one old broker messages daemon later) other d) →
     ((seat : Seat) (server : ServerState) → IsSeated (after_one old broker messages daemon later) seat server → IsAwaited broker.traffic server) → IsAttended (after_one old broker messages daemon later)
@@ -48,7 +48,7 @@ attended-one old broker messages daemon was later there stands others awaited = 
   in_ other d (inl (same, is)) = subst (λ (x : DaemonId). ServesSeated new x d) (sym same) (subst (λ (x : DaemonState). ServesSeated new daemon x) (sym is) stands)
   in_ other d (inr (apart, e)) = others other d apart e
 
--- the seat's daemon had the seat, and serves what it served
+-- the daemon of the seat had the seat before, and serves what it served
 pub seated-back : (old : State) (broker : BrokerState) (messages : List Message) (daemon : DaemonId) (was later : DaemonState) → daemon_of old daemon ≡ Some was → broker.seat ≡ old.broker.seat →
     ((seat : Seat) → old.broker.seat ≡ Some seat → daemon ≡ seat.daemon → later.server ≡ was.server) → (seat : Seat) (server : ServerState) → IsSeated (after_one old broker messages daemon later) seat server → IsSeated old seat server
 seated-back old broker messages daemon was later there same keeps seat server at = record { has_seat = here; serves = in_ (eq-or seat.daemon.0 daemon.0) } where

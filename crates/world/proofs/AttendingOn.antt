@@ -1,4 +1,5 @@
--- The same after every event.
+-- After every event each daemon that serves has the seat, and the broker waits for what the daemon of the seat has to
+-- answer.
 use Rattle.std.proofs.Common.{◌≡◌, Option, Some, None, refl, sym, subst, inl, inr}
 use Rattle.daemon.specs.declared.happened.Happened.{Happened}
 use Rattle.daemon.specs.declared.happened.Refusal.{Refusal}
@@ -34,7 +35,7 @@ refuses-attended : (old : State) (event : Event) → IsHanding old → IsAttende
 refuses-attended old (Claim daemon) h a = unclaimed-attended old daemon h a
 refuses-attended old event h a = a
 
--- Every event that is no `do`, made or refused, leaves it so.
+-- After an event that is no `do`, made or refused, a state is attended that was attended.
 pub once-attended : (w : World) (old : State) (event : Event) (told : Happened) (new : State) → Follows w old → IsHanding old → IsAttended old → Once old event told new → IsAttended new
 once-attended w old event told new m h a once = in_ (fault old event) refl once where
   in_ : (f : Option Refusal) → fault old event ≡ f → OnceBy old event f told new → IsAttended new

@@ -1,5 +1,5 @@
--- Who serves has the seat, and the broker waits for what the seat's daemon has to answer, after a mount, a claim and a
--- crash.
+-- After a mount, a claim and a crash each daemon that serves has the seat, and the broker waits for what the daemon of
+-- the seat has to answer.
 use Rattle.std.proofs.Common.{◌≡◌, ℕ, ◌+◌, Bool, true, false, [], Option, Some, None, Err, refl, sym, ap, ◌∙◌, subst}
 use Rattle.std.specs.Prelude.{◌==◌, if◌then◌else◌}
 use Rattle.std.specs.Option.{option_map, option_map_or, option_and_then}
@@ -32,7 +32,7 @@ use Rattle.world.proofs.Daemons.{MayMount, may_mount, server_of-with, seated-sam
 
 -- ---- a new seat
 
--- a daemon serves from here on, and has nothing to answer; nobody else serves
+-- a state is attended if a daemon begins to serve with nothing to answer, and no other daemon serves
 seated-attended : (old : State) (broker : BrokerState) (daemon : DaemonId) (was later : DaemonState) (server : ServerState) (g : ℕ) → daemon_of old daemon ≡ Some was → later.server ≡ Some server → later.node.phase ≡ Serving g → server.generation ≡ g → broker.seat ≡ Some (record { generation = g; daemon = daemon }) →
     ((other : DaemonId) (d : DaemonState) → (other ≡ daemon → ⊥) → daemon_of old other ≡ Some d → (x : ℕ) → serving_at d.node.phase ≡ Some x → ⊥) → IsAwaited broker.traffic server → IsAttended old → IsAttended (after_one old broker old.messages daemon later)
 seated-attended old broker daemon was later server g there serves phase generation seated nobody awaited a =
@@ -72,7 +72,7 @@ mounts-attended w old daemon told new m a clear t = subst IsAttended (sym t.make
       serving : (t.later).node.phase ≡ Serving (old.broker.last + 1)
       serving = ap (λ (d : DaemonState). d.node.phase) t.does ∙ mounted-phase (t.was).node.versions (t.was).node.sessions (t.was).node.phase (old.broker.last + 1) (subst (λ (d : DaemonState). is_waiting d ≡ true) same may.waits)
 
--- whose data is out does not serve
+-- a daemon whose data is out does not serve
 out-apart : (p : Phase) (g : ℕ) → is_out p ≡ true → serving_at p ≡ Some g → ⊥
 out-apart (Handed h s) g e x = let none : ⊥ = cc in none
 out-apart (Holding h) g e x = let none : ⊥ = cc in none
@@ -97,7 +97,7 @@ claims-attended w old daemon told new m h a clear t = subst IsAttended (sym t.ma
       none : old.broker.traffic.taken ≡ []
       none = awaited-none old.broker.traffic k.handed k.idle (a.asked c.seat k.handed (record { has_seat = c.seated; serves = ap (option_and_then (λ (d : DaemonState). d.server)) (k.has).there ∙ (k.has).serves }))
 
-      -- who served was the holder, whose data is out
+      -- no other daemon serves: it would be the holder, whose data is out
       nobody : (other : DaemonId) (d : DaemonState) → (other ≡ daemon → ⊥) → daemon_of old other ≡ Some d → (x : ℕ) → serving_at d.node.phase ≡ Some x → ⊥
       nobody other d apart e x s =
           let two : Some c.seat ≡ Some (record { generation = x; daemon = other }) = sym c.seated ∙ (a.daemons other d e).has_seat x s in
@@ -123,7 +123,7 @@ crashes-attended old daemon told new a t = subst IsAttended (sym t.makes) (in_ (
   gone : (t.later).node.phase ≡ Gone
   gone = ap (λ (d : DaemonState). d.node.phase) t.does ∙ crashed-phase (t.was).node.versions (t.was).node.sessions (t.was).node.phase
 
-  -- by the seat, where somebody has it
+  -- whether the daemon has the seat, if some daemon has
   has_in : (seat : Seat) (b : Bool) → has_seat old.broker daemon ≡ b → old.broker.seat ≡ Some seat → (seat.daemon.0 == daemon.0) ≡ b
   has_in seat b e at = ap (λ (o : Option Seat). option_map_or (λ (s : Seat). s.daemon.0 == daemon.0) o false) (sym at) ∙ e
 

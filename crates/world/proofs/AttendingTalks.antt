@@ -1,4 +1,5 @@
--- The same after a message was heard, and after a daemon was drained or gave up.
+-- After a message was heard, and after a daemon was drained or gave up, each daemon that serves has the seat, and the
+-- broker waits for what the daemon of the seat has to answer.
 use Rattle.std.proofs.Common.{◌≡◌, ℕ, ◌+◌, Bool, true, false, ◌&&◌, List, ◌++◌, Some, None, refl, sym, ap, ◌∙◌, subst, inl, inr}
 use Rattle.std.specs.Prelude.{◌==◌, nat_lt}
 use Rattle.eden_base.specs.declared.number.DaemonId.{DaemonId}
@@ -25,7 +26,7 @@ use Rattle.world.proofs.Attending.{after_one, serves-along, attended-one, seated
 use Rattle.world.proofs.HandingTalks.{HandsText, whole-text, parts-text, no-seat, waits-alone, behind-more, behind-last}
 use Rattle.world.proofs.Turns.{IsTurn, node_of, turn-hear, turn-give_up, turn-drained, turn-made, turn-failed, turn-gone, MakesIt, makes-it, takes-it, PartIt, part-it}
 
--- a daemon turned, and serves what it served
+-- a state stays attended if a daemon turned to another phase, and serves what it served
 turned-attended : (old : State) (messages : List Message) (daemon : DaemonId) (was later : DaemonState) (idle : Bool) → daemon_of old daemon ≡ Some was → later.server ≡ was.server → ((g : ℕ) → IsTurn g idle was.node.phase later.node.phase) → IsAttended old → IsAttended (after_one old old.broker messages daemon later)
 turned-attended old messages daemon was later idle there same turn a =
     attended-one old old.broker messages daemon was later there
@@ -36,7 +37,7 @@ turned-attended old messages daemon was later idle there same turn a =
     (λ other d apart e. serves-along old _ other d refl (a.daemons other d e))
     (λ seat server at. a.asked seat server (seated-back old old.broker messages daemon was later there refl (λ s e here. same) seat server at))
 
--- by an answer that brings no data
+-- a state stays attended after an answer of the table that brings no data
 by-turn : (old : State) (messages : List Message) (daemon : DaemonId) (was : DaemonState) (node : NodeState) (said : Answer) (reaction : Reaction) (later : DaemonState) → daemon_of old daemon ≡ Some was → ((g : ℕ) → IsTurn g false was.node.phase node.phase) → IsAttended old →
     TurnsBy was node said reaction later → IsAttended (after_one old old.broker messages daemon later)
 by-turn old messages daemon was node said reaction later there turn a t = in_ said t where
@@ -51,17 +52,17 @@ by-turn old messages daemon was node said reaction later there turn a t = in_ sa
   in_ (answer.GotData s g v) t = absurd t
   in_ (answer.GotPart s g v i n) t = absurd t
 
--- a daemon handed over
+-- a state stays attended after a daemon handed over
 hands-attended : (old : State) (messages : List Message) (daemon : DaemonId) (was : DaemonState) (s g v : ℕ) (text : List ℕ) (reaction : Reaction) (later : DaemonState) → IsAttended old → HandsText old daemon was s g v text reaction later → IsAttended (after_one old old.broker messages daemon later)
 hands-attended old messages daemon was s g v text reaction later a t =
     turned-attended old messages daemon was later false t.there t.same (λ x. subst (λ (p : Phase). IsTurn x false was.node.phase p) (sym t.phase) (subst (λ (p : Phase). IsTurn x false p (Handed g s)) (sym t.drained) (turn-made s v g x))) a
 
--- a daemon turned to this phase, and serves what it served
+-- a state stays attended if a daemon turned to this phase, and serves what it served
 turns-attended : (old : State) (messages : List Message) (daemon : DaemonId) (was later : DaemonState) (phase : Phase) → daemon_of old daemon ≡ Some was → later.server ≡ was.server → later.node.phase ≡ phase → ((x : ℕ) → IsTurn x false was.node.phase phase) → IsAttended old → IsAttended (after_one old old.broker messages daemon later)
 turns-attended old messages daemon was later phase there same is turn a =
     turned-attended old messages daemon was later false there same (λ x. subst (λ (p : Phase). IsTurn x false was.node.phase p) (sym is) (turn x)) a
 
--- a daemon took data, or could not
+-- a state stays attended after a daemon took data, or could not take it
 takes-attended : (old : State) (messages : List Message) (daemon : DaemonId) (was : DaemonState) (bytes : List ℕ) (node : NodeState) (s g : ℕ) (reaction : Reaction) (later : DaemonState) → IsHanding old → IsAttended old → daemon_of old daemon ≡ Some was → part_at was.node.phase ≡ None → ((x : ℕ) → IsTurn x false was.node.phase Gone) → node.phase ≡ Raising s g →
     TakesData old.manifest old.limit was bytes node g reaction later → IsAttended (after_one old old.broker messages daemon later)
 takes-attended old messages daemon was bytes node s g reaction later h a there alone turn raising (inl t) =
@@ -81,7 +82,7 @@ takes-attended old messages daemon was bytes node s g reaction later h a there a
     turns-attended old messages daemon was later Gone there (ap (λ (d : DaemonState). d.server) (t.loses).becomes)
     (ap (λ (d : DaemonState). d.node.phase) (t.loses).becomes ∙ ap (λ (p : Phase). (table.after (node_of node.versions node.sessions p) (table.Raised false)).phase) raising) turn a
 
--- a daemon waits for the next part
+-- a state stays attended if a daemon waits for the next part
 reads-attended : (old : State) (messages : List Message) (daemon : DaemonId) (was : DaemonState) (s g v i n : ℕ) (later : DaemonState) → IsAttended old → daemon_of old daemon ≡ Some was → part_at was.node.phase ≡ None → later.server ≡ was.server → later.node.phase ≡ Reading s g v i n → IsAttended (after_one old old.broker messages daemon later)
 reads-attended old messages daemon was s g v i n later a there alone same phase =
     attended-one old old.broker messages daemon was later there
@@ -94,7 +95,7 @@ reads-attended old messages daemon was s g v i n later a there alone same phase 
     (λ other d apart f. serves-along old _ other d refl (a.daemons other d f))
     (λ seat server at. a.asked seat server (seated-back old old.broker messages daemon was later there refl (λ x f here. same) seat server at))
 
--- a message that was heard
+-- a state stays attended after a message was heard
 heard-attended : (old : State) (messages : List Message) (daemon : DaemonId) (was : DaemonState) (said : Message) (told : Answer) (reaction : Reaction) (later : DaemonState) → IsHanding old → IsAttended old → daemon_of old daemon ≡ Some was → table.heard was.node (table.Hear said) ≡ told →
     ReactsBy old.manifest old.limit (bytes_of said) was (table.after was.node (table.Hear said)) told reaction later → IsAttended (after_one old old.broker messages daemon later)
 heard-attended old messages daemon was said (answer.MakeData s g v) reaction later h a there e (inl t) = hands-attended old messages daemon was s g v t.bytes reaction later a (whole-text old daemon was said s g v reaction later there e t)

@@ -1,4 +1,5 @@
--- The same once a daemon took, worked or posted.
+-- After a daemon took, worked or posted, each daemon that serves has the seat, and the broker waits for what the daemon
+-- of the seat has to answer.
 use Rattle.std.proofs.Common.{◌≡◌, ℕ, ◌+◌, ◌-◌, ◌≤◌, Bool, true, false, List, [], ◌∷◌, ◌++◌, Option, Some, None, map, refl, sym, ap, ◌∙◌, subst, inl, inr, ◌⊎◌, arith}
 use Rattle.std.specs.Prelude.{◌==◌, sum_by, count_by, if◌then◌else◌}
 use Rattle.std.specs.List.{AllByRecursion}
@@ -33,7 +34,7 @@ use Rattle.world.proofs.Orderly.{IsAsk}
 use Rattle.world.proofs.Taking.{take-seat, each-right}
 use Rattle.world.proofs.Attending.{after_one, serves-along, attended-one}
 
--- the seat's daemon goes on at its generation
+-- a state stays attended if the daemon of the seat goes on at its generation
 busy-attended : (old : State) (broker : BrokerState) (daemon : DaemonId) (was : DaemonState) (server now : ServerState) (seat : Seat) → IsAttended old → daemon_of old daemon ≡ Some was → was.server ≡ Some server → seat.daemon ≡ daemon → old.broker.seat ≡ Some seat →
     now.generation ≡ server.generation → broker.seat ≡ old.broker.seat → IsAwaited broker.traffic now → IsAttended (after_one old broker old.messages daemon (with_server was now))
 busy-attended old broker daemon was server now seat a there serves here has_seat generation same awaited =
@@ -53,7 +54,7 @@ busy-attended old broker daemon was server now seat a there serves here has_seat
       new_at : IsSeated new seat now
       new_at = record { has_seat = same ∙ has_seat; serves = ap (server_of new) here ∙ server_of-with (record old { broker = broker }) daemon was (with_server was now) there }
 
--- what is measured of the asks in hand alone
+-- a measure of the uniques in hand is that of the asks in hand
 hand-measured : (f : ℕ → ℕ) (hand : List Ask) → sum_by (of_ask f) hand ≡ sum_by (λ (task : Ask). f task.unique) (asks_in hand)
 hand-measured f [] = refl
 hand-measured f (task ∷ hand) = in_ (is_ask task.what) refl (hand-measured f hand) where
@@ -80,7 +81,7 @@ few-in w old server unique m holder =
     let both : sum_by (of_reply (only unique)) (server.unposted ++ old.broker.traffic.posted) ≡ sum_by (of_reply (only unique)) server.unposted + sum_by (of_reply (only unique)) old.broker.traffic.posted = sum_by-append (of_reply (only unique)) server.unposted old.broker.traffic.posted in
     omega arith
 
--- what joins the hand
+-- what joins the hand by an ask is that ask alone
 pub handed-one : (ask : Ask) → is_ask ask.what ≡ true → handed ask ≡ ask ∷ []
 handed-one ask e = rw e refl
 
@@ -108,7 +109,7 @@ takes-attended w old daemon told new m a clear t = subst IsAttended (sym t.makes
       left : TrafficState
       left = left_by_take old.broker.traffic
 
-      -- its unique is of no other
+      -- the unique of the ask is that of no other taken ask
       fresh : IsAskTaken old.broker.traffic t.ask left → sum_by (of_taken (only (t.ask).unique)) old.broker.traffic.taken ≡ 0
       fresh is =
           let few : times_in t.server (t.ask).unique + count_by (is_asked (t.ask).unique) old.broker.traffic.untaken ≤ 1 = few-in w old t.server (t.ask).unique m holder in
@@ -118,7 +119,7 @@ takes-attended w old daemon told new m a clear t = subst IsAttended (sym t.makes
           let all : sum_by (of_taken (only (t.ask).unique)) old.broker.traffic.taken ≡ times_in t.server (t.ask).unique = awaited.uniques (only (t.ask).unique) in
           omega arith
 
-      -- what waits for an answer is an ask
+      -- the untaken request that was taken is an ask
       its : IsAskTaken old.broker.traffic t.ask left → is_ask (t.ask).what ≡ true
       its is = (each-right IsAsk (asks_in (t.server).hand) (t.ask ∷ left.untaken)
           (subst (λ (all : List Ask). AllByRecursion IsAsk all) ((holder.under).asks ∙ ap (λ (us : List Ask). asks_in (t.server).hand ++ us) is.was) (m.orderly).asked)).0

@@ -1,4 +1,5 @@
--- What the broker waits for is what the seat's daemon has to answer, over each call of the broker and of the daemon.
+-- Each call of the broker and of the daemon leaves this: the broker waits for what the daemon of the seat has to
+-- answer.
 use Rattle.std.proofs.Common.{◌≡◌, ℕ, ◌+◌, Bool, true, false, ◌&&◌, List, [], ◌∷◌, ◌++◌, Option, Some, None, map, refl, sym, ap, ◌∙◌, subst, arith}
 use Rattle.std.specs.Prelude.{◌==◌, sum_by, slice_get, remove, if◌then◌else◌}
 use Rattle.std.specs.Option.{option_map, option_map_or}
@@ -24,11 +25,11 @@ Asked = ℕ × Form
 
 -- ---- the same taken asks
 
--- nothing but the taken asks is looked at
+-- what the broker waits for depends on the taken asks alone
 pub awaited-along : (t now : TrafficState) (server : ServerState) → now.taken ≡ t.taken → IsAwaited t server → IsAwaited now server
 awaited-along t now server same a = subst (λ (ts : List Asked). IsAwaited (record now { taken = ts }) server) (sym same) (record { uniques = a.uniques; forms = a.forms; replies = a.replies })
 
--- where nothing is in hand or unposted, nothing is waited for
+-- if nothing is in hand or unposted, the broker waits for nothing
 pub awaited-none : (t : TrafficState) (server : ServerState) → IsIdle server → IsAwaited t server → t.taken ≡ []
 awaited-none t server idle a = in_ t.taken refl where
   none : sum_by (of_taken (λ (u : ℕ). 1)) t.taken ≡ 0
@@ -50,7 +51,7 @@ idle-awaited t server none idle = record {
 
 -- ---- what is found
 
--- what was found is found
+-- what was found in a list is found in a longer one
 found-on : (p : Asked → Bool) (xs ys : List Asked) (form : Form) → option_map (λ (asked : Asked). asked.1) (first_where p xs) ≡ Some form → option_map (λ (asked : Asked). asked.1) (first_where p (xs ++ ys)) ≡ Some form
 found-on p [] ys form e = absurd (let none : ⊥ = cc in none)
 found-on p (x ∷ xs) ys form e = in_ (p x) e (found-on p xs ys form) where
@@ -59,15 +60,15 @@ found-on p (x ∷ xs) ys form e = in_ (p x) e (found-on p xs ys form) where
   in_ true h more = h
   in_ false h more = more h
 
--- another unique
+-- a unique whose mark is 0 is another one
 pub marked-apart : (m n : ℕ) → mark (m == n) ≡ 0 → m ≡ n → ⊥
 marked-apart m n e same = let one : mark (m == n) ≡ 1 = ap mark (eq-true m n same) in omega (arith, e)
 
--- what is measured of one unique
+-- the measure that counts one unique
 abbrev pub only : ℕ → ℕ → ℕ
 only unique u = mark (u == unique)
 
--- what is new is found behind, where its unique was not
+-- a new ask at the end is found by its unique, if the unique was not in the list
 found-last : (unique : ℕ) (xs : List Asked) (x : Asked) → sum_by (of_taken (only unique)) xs ≡ 0 → unique ≡ x.0 → first_where (is_of unique) (xs ++ x ∷ []) ≡ Some x
 found-last unique [] x none e = let t : (unique == x.0) ≡ true = eq-true unique x.0 e in rw t refl
 found-last unique (y ∷ xs) x none e =
@@ -76,7 +77,7 @@ found-last unique (y ∷ xs) x none e =
     let f : (unique == y.0) ≡ false = eq-false unique y.0 (λ same. apart (sym same)) in
     rw f (found-last unique xs x (omega (arith, none)) e)
 
--- a reply is taken where its ask is waited for in the same form
+-- the broker takes a reply if it waits for the reply's ask in the same form
 pub asked-on : (t now : TrafficState) (reply : Reply) → ((form : Form) → form_asked t reply.unique ≡ Some form → form_asked now reply.unique ≡ Some form) → is_asked t reply ≡ true → is_asked now reply ≡ true
 asked-on t now reply on e = in_ (form_asked t reply.unique) refl e where
   in_ : (o : Option Form) → form_asked t reply.unique ≡ o → option_map_or (λ (form : Form). belongs form reply.answer && may_be_given reply.answer) o false ≡ true → is_asked now reply ≡ true
@@ -85,7 +86,7 @@ asked-on t now reply on e = in_ (form_asked t reply.unique) refl e where
 
 -- ---- take
 
--- an ask that was taken
+-- the broker waits for what is to be answered after an ask was taken
 pub awaited-asked : (t now : TrafficState) (server : ServerState) (ask : Ask) → is_ask ask.what ≡ true → now.taken ≡ t.taken ++ asked_of ask ∷ [] → sum_by (of_taken (only ask.unique)) t.taken ≡ 0 → IsAwaited t server → IsAwaited now (record server { hand = server.hand ++ ask ∷ [] })
 awaited-asked t now server ask its taken fresh a = record {
   uniques = λ f.
@@ -105,7 +106,7 @@ awaited-asked t now server ask its taken fresh a = record {
   new = subst (λ (ts : List Asked). option_map (λ (asked : Asked). asked.1) (first_where (is_of ask.unique) ts) ≡ Some (form_of ask.what)) (sym taken)
       (ap (option_map (λ (asked : Asked). asked.1)) (found-last ask.unique t.taken (asked_of ask) fresh refl))
 
--- items that were taken
+-- the broker waits for what is to be answered after items were taken
 pub awaited-items : (t now : TrafficState) (server : ServerState) (items : List Item) → now.taken ≡ t.taken → IsAwaited t server → IsAwaited now (record server { hand = server.hand ++ map single items })
 awaited-items t now server items taken a = awaited-along t now (record server { hand = server.hand ++ map single items }) taken (record {
   uniques = λ f.
@@ -130,7 +131,7 @@ awaited-items t now server items taken a = awaited-along t now (record server { 
 
 -- ---- work
 
--- an ask that was answered
+-- the broker waits for what is to be answered after an ask was answered
 pub awaited-worked : (t : TrafficState) (server : ServerState) (i : ℕ) (task : Ask) (reply : Reply) → slice_get server.hand i ≡ Some task → is_ask task.what ≡ true → reply.unique ≡ task.unique → (belongs (form_of task.what) reply.answer && may_be_given reply.answer) ≡ true → IsAwaited t server →
     IsAwaited t (record server { hand = remove server.hand i; unposted = server.unposted ++ reply ∷ [] })
 awaited-worked t server i task reply at its same takes a = record {
@@ -150,7 +151,7 @@ awaited-worked t server i task reply at its same takes a = record {
   asked : is_asked t reply ≡ true
   asked = ap (λ (o : Option Form). option_map_or (λ (x : Form). belongs x reply.answer && may_be_given reply.answer) o false) (ap (form_asked t) same ∙ left.0 its) ∙ takes
 
--- an item that was applied
+-- the broker waits for what is to be answered after an item was applied
 pub awaited-applied : (t : TrafficState) (server : ServerState) (i : ℕ) (task : Ask) → slice_get server.hand i ≡ Some task → is_ask task.what ≡ false → IsAwaited t server → IsAwaited t (record server { hand = remove server.hand i; unposted = server.unposted ++ [] })
 awaited-applied t server i task at its a = record {
   uniques = λ f.

@@ -22,7 +22,7 @@ use Rattle.world.proofs.Awaiting.{Asked, only, asked-on, marked-apart}
 abbrev pub times_in : ServerState → ℕ → ℕ
 times_in server unique = sum_by (of_ask (only unique)) server.hand + sum_by (of_reply (only unique)) server.unposted
 
--- where a measure comes to nothing, it does for each member
+-- if the sum of a measure over a list is 0, the measure of each member is 0
 each-nothing : {X : Type 0} (f : X → ℕ) (xs : List X) → sum_by f xs ≡ 0 → AllByRecursion (λ (x : X). f x ≡ 0) xs
 each-nothing f [] e = tt
 each-nothing f (x ∷ xs) e =
@@ -33,13 +33,13 @@ both-each : {X : Type 0} (P Q R : X → Type 0) (xs : List X) → ((x : X) → P
 both-each P Q R [] f a b = tt
 both-each P Q R (x ∷ xs) f a b = (f x a.0 b.0, both-each P Q R xs f a.1 b.1)
 
--- a member of a list, and the others
+-- what holds of all members holds of the one at an index, and of the others
 each-but : {X : Type 0} (P : X → Type 0) (xs : List X) (i : ℕ) (x : X) → slice_get xs i ≡ Some x → AllByRecursion P xs → P x × AllByRecursion P (remove xs i)
 each-but P [] i x at a = absurd (let none : ⊥ = cc in none)
 each-but P (y ∷ xs) zero x at a = let same : y ≡ x = cc in (subst P same a.0, a.1)
 each-but P (y ∷ xs) (suc i) x at a = let r = each-but P xs i x at a.1 in (r.0, (a.0, r.1))
 
--- a reply that was posted, where its unique is of no other
+-- after a reply was posted, whose unique is that of no other, the broker waits for what is still to be answered
 pub awaited-posted : (t : TrafficState) (server : ServerState) (i : ℕ) (reply : Reply) → slice_get server.unposted i ≡ Some reply → times_in server reply.unique ≤ 1 → IsAwaited t server → IsAwaited (reply_posted t reply) (record server { unposted = remove server.unposted i })
 awaited-posted t server i reply at few a = record {
   uniques = λ f.
@@ -78,7 +78,7 @@ awaited-posted t server i reply at few a = record {
   unique_is : reply.unique ≡ (found.0).0
   unique_is = true-eq reply.unique (found.0).0 (first-passes (is_of reply.unique) t.taken found.0 found.1)
 
-  -- another ask is waited for still
+  -- the broker still waits for an ask of another unique
   still : (unique : ℕ) (form : Form) → (unique ≡ reply.unique → ⊥) → form_asked t unique ≡ Some form → form_asked (reply_posted t reply) unique ≡ Some form
   still unique form apart e = ap (option_map (λ (asked : Asked). asked.1)) (first_where-without_other (is_of reply.unique) (is_of unique) t.taken
       (λ x is. eq-false unique x.0 (λ same. apart (same ∙ sym (true-eq reply.unique x.0 is))))) ∙ e

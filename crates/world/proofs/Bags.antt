@@ -5,14 +5,14 @@ use Rattle.std.proofs.lemmas.List.Sums.{sum_by-cons, sum_by_push}
 use Rattle.eden_base.specs.First.{first_where, without_where}
 use Rattle.world.specs.Agreement.{IsSameBag}
 
--- one that passes a test counts once
+-- 1 for a member that passes a test, and else 0
 abbrev pub mark : Bool → ℕ
 mark b = cond b 1 0
 
 pub count-cons : {X : Type 0} (p : X → Bool) (x : X) (xs : List X) → count_by p (x ∷ xs) ≡ mark (p x) + count_by p xs
 count-cons p x xs = sum_by-cons (λ y. cond (p y) 1 0) x xs
 
--- where something counts, there is a first that does
+-- if the count of members that pass is above 0, there is a first that passes
 pub counted-first : {X : Type 0} (p : X → Bool) (xs : List X) → 0 < count_by p xs → (x : X) × (first_where p xs ≡ Some x)
 counted-first p [] h = absurd (let none : 0 < 0 = h in omega (arith, none))
 counted-first {X = X} p (x ∷ xs) h = in_ (p x) refl (λ some. counted-first p xs some) where
@@ -27,7 +27,7 @@ first-passes p (y ∷ ys) x e = in_ (p y) refl e (λ e'. first-passes p ys x e')
   in_ true t e' more = let same : y ≡ x = cc in ap p (sym same) ∙ t
   in_ false t e' more = more e'
 
--- a sum is that of the first that passes and of the others
+-- a sum over a list is the measure of the first member that passes, and the sum over the others
 pub sum-without : {X : Type 0} (f : X → ℕ) (p : X → Bool) (xs : List X) (x : X) → first_where p xs ≡ Some x → sum_by f xs ≡ f x + sum_by f (without_where p xs)
 sum-without f p [] x e = absurd (let none : ⊥ = cc in none)
 sum-without f p (y ∷ ys) x e = in_ (p y) refl e (λ e'. sum-without f p ys x e') where
@@ -40,7 +40,7 @@ sum-without f p (y ∷ ys) x e = in_ (p y) refl e (λ e'. sum-without f p ys x e
       let d : sum_by f (y ∷ without_where p ys) ≡ f y + sum_by f (without_where p ys) = sum_by-cons f y (without_where p ys) in
       omega arith
 
--- what is measured of the members alone that pass
+-- the measure that is 0 for members that do not pass
 abbrev pub part : {X : Type 0} → (X → Bool) → (X → ℕ) → X → ℕ
 part p f x = if p x then f x else 0
 
@@ -57,7 +57,7 @@ sum-none f p (x ∷ xs) h = in_ (p x) refl (λ h'. sum-none f p xs h') where
       let r : sum_by (part p f) xs ≡ 0 = more (omega (arith, h)) in
       omega arith
 
--- where one member passes, the measure of those that pass is its own
+-- if one member passes, the sum over the members that pass is its own measure
 sum-only : {X : Type 0} (f : X → ℕ) (p : X → Bool) (xs : List X) (x : X) → first_where p xs ≡ Some x → count_by p xs ≤ 1 → sum_by (part p f) xs ≡ f x
 sum-only f p xs x e few =
     let t : p x ≡ true = first-passes p xs x e in
@@ -68,7 +68,7 @@ sum-only f p xs x e few =
     let h : part p f x ≡ f x = rw t refl in
     omega arith
 
--- in one bag, the members that alone pass a test are measured the same
+-- if each of two equal bags has one member that passes, both members have the same measure
 pub same-measure : {X : Type 0} (p : X → Bool) (xs ys : List X) (x y : X) → IsSameBag xs ys → first_where p xs ≡ Some x → first_where p ys ≡ Some y → count_by p xs ≤ 1 → (f : X → ℕ) → f x ≡ f y
 same-measure p xs ys x y same a b few f =
     let c : count_by p xs ≡ count_by p ys = same (λ z. cond (p z) 1 0) in
@@ -77,7 +77,7 @@ same-measure p xs ys x y same a b few f =
     let g : sum_by (part p f) ys ≡ f y = sum-only f p ys y b (omega (arith, few)) in
     omega arith
 
--- at a position of a list
+-- a sum over a list is the measure of the member at an index, and the sum over the others
 pub sum-at : {X : Type 0} (f : X → ℕ) (xs : List X) (i : ℕ) (x : X) → slice_get xs i ≡ Some x → sum_by f xs ≡ f x + sum_by f (remove xs i)
 sum-at f [] i x e = absurd (let none : ⊥ = cc in none)
 sum-at f (y ∷ ys) zero x e = let same : y ≡ x = cc in sum_by-cons f y ys ∙ ap (λ z. f z + sum_by f ys) same
@@ -90,7 +90,7 @@ sum-at f (y ∷ ys) (suc i) x e =
 pub count-push : {X : Type 0} (p : X → Bool) (xs : List X) (x : X) → count_by p (xs ++ x ∷ []) ≡ count_by p xs + mark (p x)
 count-push p xs x = sum_by_push (λ y. cond (p y) 1 0) xs x
 
--- the first that passes stands in the first of two lists, and is taken out of it
+-- the first member that passes in one list is also the first in a longer list, and is taken out there too
 pub first-append : {X : Type 0} (p : X → Bool) (xs ys : List X) (x : X) → first_where p xs ≡ Some x → (first_where p (xs ++ ys) ≡ Some x) × (without_where p (xs ++ ys) ≡ without_where p xs ++ ys)
 first-append p [] ys x e = absurd (let none : ⊥ = cc in none)
 first-append p (y ∷ xs) ys x e = in_ (p y) refl e (λ e'. first-append p xs ys x e') where

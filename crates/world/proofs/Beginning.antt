@@ -1,4 +1,4 @@
--- A daemon's call that issues a request and takes is these two events.
+-- The call of a daemon that issues a request and takes is these two events.
 use Rattle.std.proofs.Common.{◌≡◌, ◌≢◌, ℕ, Bool, true, false, List, [], ◌∷◌, length, Option, Some, None, set, refl, sym, ap, ◌∙◌, subst, inl, inr}
 use Rattle.std.specs.Prelude.{slice_get}
 use Rattle.std.specs.Option.{option_map}
@@ -27,7 +27,7 @@ use Rattle.world.proofs.StepLemmas.{Once-makes, Once-takes}
 
 -- ---- the issue
 
--- it is refused for the first cause
+-- an issue that is refused for this cause is the event `issue`
 issue-refused : (old : State) (request : Request) (f : IssueFault) (told : Happened) → IsIssueRefusal old.broker request f → told ≡ Refused (refusal_of_issue f) →
     Once old (Issue request) told old
 issue-refused old request f told is tells = by_fault f is tells where
@@ -41,7 +41,7 @@ issue-refused old request f told is tells = by_fault f is tells where
   by_fault fault_is.Full e tells = first fault_is.Full e tells
   by_fault fault_is.NoMemory e tells = subst (λ (o : Option IssueFault). OnceBy old (Issue request) (option_map refusal_of_issue o) told old) (sym e) (inr (tt, (tells, refl)))
 
--- it leaves the daemons
+-- an issue leaves the daemons as they were
 issue-daemons : (old : State) (request : Request) (told : Happened) (new : State) → Once old (Issue request) told new → new.daemons ≡ old.daemons
 issue-daemons old request told new once = in_ (fault old (Issue request)) once where
   in_ : (f : Option Refusal) → OnceBy old (Issue request) f told new → new.daemons ≡ old.daemons
@@ -54,7 +54,7 @@ issue-daemons old request told new once = in_ (fault old (Issue request)) once w
 no-room : (r : Refusal) → (r ≡ NoDaemon) → Refused r ≢ Refused NoMemory
 no-room r is e = (let other : Refused NoDaemon ≡ Refused NoMemory = ap Refused (sym is) ∙ e in let none : ⊥ = cc in none)
 
--- its take is refused
+-- if there is no such daemon, the request is issued and the take is refused
 pub begins-nowhere : (old : State) (request : Request) (daemon : DaemonId) (asked : Happened) (outcome : List Happened) (between : State) → HasNone (length old.daemons) daemon.0 →
     Once old (Issue request) asked between → true ≡ is_made asked → outcome ≡ asked ∷ Refused NoDaemon ∷ [] → Begins old request daemon false outcome between
 begins-nowhere old request daemon asked outcome between none once made tells =

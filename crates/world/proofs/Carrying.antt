@@ -17,26 +17,26 @@ use Rattle.daemon.specs.declared.happened.Happened.{Happened}
 use Rattle.daemon.specs.declared.happened.Happened.TheVariants.{Refused}
 use Rattle.daemon.specs.declared.happened.Refusal.TheVariants.{NoMemory}
 
--- the first is refused
+-- if the first event is refused, no other one follows
 Carries-stop : (old : State) (event : Event) (events : List Event) (told : Happened) (new : State) → Once old event told new → false ≡ is_made told →
     Carries old (event ∷ events) (told ∷ []) new
 Carries-stop old event events told new once refused =
     (new, once, subst (λ (b : Bool). IfMade b (Carries new events [] new) ((◌≡◌ {A = List Happened} [] []) × (new ≡ new))) refused (refl, refl))
 
--- the first is made
+-- if the first event is made, the others follow
 Carries-go : (old : State) (event : Event) (events : List Event) (told : Happened) (between : State) (rest : List Happened) (new : State) →
     Once old event told between → true ≡ is_made told → Carries between events rest new → Carries old (event ∷ events) (told ∷ rest) new
 Carries-go old event events told between rest new once made later =
     (between, once, subst (λ (b : Bool). IfMade b (Carries between events rest new) ((rest ≡ []) × (new ≡ between))) made later)
 
--- one event alone
+-- a list of one event
 Carries-one : (old : State) (event : Event) (told : Happened) (new : State) → Once old event told new → Carries old (event ∷ []) (told ∷ []) new
 Carries-one old event told new once = by_made (is_made told) refl where
   by_made : (b : Bool) → is_made told ≡ b → Carries old (event ∷ []) (told ∷ []) new
   by_made true made = Carries-go old event [] told new [] new once (sym made) (refl, refl)
   by_made false refused = Carries-stop old event [] told new once (sym refused)
 
--- an event that is no `do`
+-- an event that is no `do` is a step of one event
 pub Step-alone : (old : State) (event : Event) (told : Happened) (outcome : List Happened) (new : State) → parts_of old.broker.seat event ≡ event ∷ [] →
     Once old event told new → outcome ≡ told ∷ [] → Step old event outcome new
 Step-alone old event told outcome new parts once one = (
@@ -44,36 +44,36 @@ Step-alone old event told outcome new parts once one = (
   subst HasRoom (sym one) tt,
 )
 
--- nothing happened yet
+-- before any event happened, all events are left
 pub goes-nothing : (old : State) (events : List Event) (told : List Happened) → told ≡ [] → Goes old events told old events
 goes-nothing old events told none = λ outcome new h. subst (λ (os : List Happened). Carries old events (os ++ outcome) new) (sym none) h
 
--- one more was made
+-- one more event of a list was made
 pub goes-on : (old : State) (events : List Event) (before after : List Happened) (between : State) (event : Event) (told : Happened) (next : State) (rest : List Event) →
     Goes old events before between (event ∷ rest) → Once between event told next → after ≡ before ++ told ∷ [] → true ≡ is_made told → Goes old events after next rest
 goes-on old events before after between event told next rest goes once added made = λ outcome new h.
     let longer : before ++ told ∷ outcome ≡ after ++ outcome = sym (append_assoc before (told ∷ []) outcome) ∙ ap (λ (os : List Happened). os ++ outcome) (sym added) in
     subst (λ (os : List Happened). Carries old events os new) longer (goes (told ∷ outcome) new (Carries-go between event rest told next outcome new once made h))
 
--- one was refused
+-- one event of a list was refused, so the list is done
 pub goes-stop : (old : State) (events : List Event) (before after : List Happened) (between : State) (event : Event) (told : Happened) (next : State) (rest : List Event) →
     Goes old events before between (event ∷ rest) → Once between event told next → after ≡ before ++ told ∷ [] → false ≡ is_made told → Carries old events after next
 goes-stop old events before after between event told next rest goes once added refused =
     subst (λ (os : List Happened). Carries old events os next) (sym added) (goes (told ∷ []) next (Carries-stop between event rest told next once refused))
 
--- the last was made or refused
+-- the last event of a list was made or refused, so the list is done
 pub goes-last : (old : State) (events : List Event) (before after : List Happened) (between : State) (event : Event) (told : Happened) (next : State) →
     Goes old events before between (event ∷ []) → Once between event told next → after ≡ before ++ told ∷ [] → Carries old events after next
 goes-last old events before after between event told next goes once added =
     subst (λ (os : List Happened). Carries old events os next) (sym added) (goes (told ∷ []) next (Carries-one between event told next once))
 
--- all were made
+-- all events of a list were made, so the list is done
 pub goes-end : (old : State) (events : List Event) (told : List Happened) (now : State) → Goes old events told now [] → Carries old events told now
 goes-end old events told now goes = subst (λ (os : List Happened). Carries old events os now) (append-nil told) (goes [] now (refl, refl))
 
 -- ---- a `do`
 
--- one more was told
+-- an outcome with one thing more is longer by one
 pub few-more : (before after : List Happened) (told : Happened) (n : ℕ) → length before ≤ n → after ≡ before ++ told ∷ [] → length after ≤ n + 1
 few-more before after told n few added = subst (λ (os : List Happened). length os ≤ n + 1) (sym added) (longer before n few) where
   longer : (os : List Happened) (m : ℕ) → length os ≤ m → length (os ++ told ∷ []) ≤ m + 1
@@ -81,28 +81,28 @@ few-more before after told n few added = subst (λ (os : List Happened). length 
   longer (o ∷ os) zero few = absurd (omega arith)
   longer (o ∷ os) (suc m) few = let more : length (os ++ told ∷ []) ≤ m + 1 = longer os m (omega arith) in omega arith
 
--- by its seat
+-- the events of a `do` are a step, by the seat before it
 Step-do : (old : State) (seat : Option Seat) (request : Request) (outcome : List Happened) (new : State) → old.broker.seat ≡ seat →
     Carries old (events_of_do seat request) outcome new → HasRoom outcome → Step old (Do request) outcome new
 Step-do old seat request outcome new has h room = (subst (λ (o : Option Seat). Carries old (events_of_do o request) outcome new) (sym has) h, room)
 
--- without a seat it is issued alone
+-- without a seat the request of a `do` is issued, and nothing else happens
 pub Step-do-unseated : (old : State) (request : Request) (told : Happened) (outcome : List Happened) (new : State) → old.broker.seat ≡ None →
     Once old (Issue request) told new → outcome ≡ told ∷ [] → Step old (Do request) outcome new
 Step-do-unseated old request told outcome new free once one =
     Step-do old None request outcome new free (subst (λ (os : List Happened). Carries old (Issue request ∷ []) os new) (sym one) (Carries-one old (Issue request) told new once)) (subst HasRoom (sym one) tt)
 
--- what follows the take
+-- the events of a `do` after the take
 abbrev pub rest_of_do : DaemonId → Request → List Event
 rest_of_do daemon request = Work daemon 1 false ∷ (if is_ask request then Post daemon 1 ∷ Deliver ∷ [] else [])
 
--- it was not issued, or not taken
+-- the request of a `do` was not issued, or not taken, so the `do` is done
 pub Step-do-unbegun : (old : State) (seat : Seat) (request : Request) (outcome : List Happened) (new : State) → old.broker.seat ≡ Some seat →
     Begins old request seat.daemon false outcome new → Step old (Do request) outcome new
 Step-do-unbegun old seat request outcome new has begins =
     Step-do old (Some seat) request outcome new has (begins.1 (rest_of_do seat.daemon request)) begins.0
 
--- what happened first happened still
+-- the first two things of an outcome stay so if more is told after them
 two-more : (before more : List Happened) → HasTwo before → HasTwo (before ++ more)
 two-more [] more two = absurd two
 two-more (asked ∷ []) more two = absurd two
@@ -116,14 +116,14 @@ two-room (asked ∷ taken ∷ later) two = two
 pub two-after : (before more after : List Happened) → HasTwo before → after ≡ before ++ more → HasTwo after
 two-after before more after two added = subst HasTwo (sym added) (two-more before more two)
 
--- it was begun, and then carried on
+-- the request of a `do` was issued and taken, and the other events carried out
 pub Step-do-begun : (old : State) (seat : Seat) (request : Request) (outcome : List Happened) (new : State) → old.broker.seat ≡ Some seat →
     HasTwo outcome → Carries old (Issue request ∷ Take seat.daemon ∷ rest_of_do seat.daemon request) outcome new → Step old (Do request) outcome new
 Step-do-begun old seat request outcome new has two carries = Step-do old (Some seat) request outcome new has carries (two-room outcome two)
 
 -- ---- how it begins
 
--- both were made
+-- the issue and the take were both made
 pub begins-both : (old : State) (request : Request) (daemon : DaemonId) (asked : Happened) (between : State) (taken : Happened) (outcome : List Happened) (new : State) →
     Once old (Issue request) asked between → true ≡ is_made asked → Once between (Take daemon) taken new → true ≡ is_made taken → taken ≢ Refused NoMemory →
     outcome ≡ asked ∷ taken ∷ [] → Begins old request daemon true outcome new

@@ -31,7 +31,7 @@ use Rattle.world.proofs.Talks.{talks-follow}
 
 -- ---- who had the seat
 
--- the seat's daemon before a claim, and what the claiming one serves
+-- the daemon of the seat before a claim, and what the claiming daemon serves
 pub record Handed (w : World) (old : State) (seat : Seat) (was : DaemonState) : Type 0 where
   pub holder : DaemonState
   pub handed : ServerState
@@ -43,7 +43,7 @@ pub record Handed (w : World) (old : State) (seat : Seat) (was : DaemonState) : 
   pub knows : Knows w.tree w.names (owed w) server.served
   pub under : IsUnderWay w old.broker.traffic handed
 
--- the seat's daemon, what it serves, and that it knows the world
+-- the daemon of the seat, what it serves, and that this knows the world
 pub record HolderHas (w : World) (old : State) (seat : Seat) : Type 0 where
   pub was : DaemonState
   pub server : ServerState
@@ -164,7 +164,7 @@ module _ (w : World) (old : State) (daemon : DaemonId) (was later : DaemonState)
           let same : k.handed ≡ server = cc in
           subst IsIdle same k.idle
 
--- what a claim comes to
+-- a claim that succeeds is a move, and the state matches the world after it
 claim-moved : (w : World) (old : State) (daemon : DaemonId) (was later : DaemonState) (g : ℕ) (new : State) → Follows w old → IsHanding old → daemon_of old daemon ≡ Some was → table.claim_wanted was.node.phase ≡ Some g → IsClaim w old g → later.server ≡ option_map (at_generation (g + 1)) was.server →
     new ≡ with_daemon (record old { broker = claimed old.broker daemon g }) daemon later → MovesBy w (move_of w.seat (Claim daemon) (happened.Claimed (g + 1))) old (happened.Claimed (g + 1)) new
 claim-moved w old daemon was later g new m h there wants c serves makes =

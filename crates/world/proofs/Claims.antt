@@ -34,7 +34,7 @@ pub claimed-phase : (vs : List ℕ) (n : ℕ) (phase : Phase) (g next : ℕ) →
 claimed-phase vs n (Holding h) g next e = refl
 claimed-phase vs n phase g next e = absurd (let none : ⊥ = cc in none)
 
--- a fault after which no other claim can succeed
+-- no other claim can succeed after this fault
 abbrev pub IsFatal : ClaimFault → Type 0
 IsFatal (claim.Unanswered asks) = ⊥
 IsFatal fault = Unit {0}
@@ -46,7 +46,7 @@ fatal-phase vs n (Holding h) g claim.LastGeneration fatal e = refl
 fatal-phase vs n (Holding h) g (claim.Unanswered asks) fatal e = absurd fatal
 fatal-phase vs n phase g fault fatal e = absurd (let none : ⊥ = cc in none)
 
--- where asks were unanswered the daemon stays as it was
+-- if asks were unanswered, the daemon stays as it was
 pub waiting-phase : (was : DaemonState) (g asks : ℕ) → table.claim_wanted was.node.phase ≡ Some g → after_claim was (Err (claim.Unanswered asks)) ≡ was
 waiting-phase was g asks e = in_ was.node.phase refl e where
   in_ : (p : Phase) → was.node.phase ≡ p → table.claim_wanted p ≡ Some g → after_claim was (Err (claim.Unanswered asks)) ≡ was
@@ -58,7 +58,7 @@ crashed-phase vs n phase = grind (arith, rules)
 
 -- ---- the seat
 
--- a claim is of the seat's generation, which is the last, and not the last that there may be
+-- a claim is from the seat's generation, which is the last so far, but not the last that there may be
 pub record IsClaim (w : World) (old : State) (g : ℕ) : Type 0 where
   pub seat : Seat
   pub seated : old.broker.seat ≡ Some seat
@@ -98,7 +98,7 @@ claim-is w old daemon was g m there wants clear = record {
   free = claim-free old.broker.seat (length old.broker.traffic.taken) g
       (no_fault (claim_fault old.broker g) (ap (wanted_refusal old) (sym wants) ∙ ap (claim_refusal old) (sym there) ∙ clear))
 
--- a claim of the seat's holder is refused for unanswered asks alone
+-- a claim from the seat's generation, below the last, is refused for unanswered asks alone
 fatal-apart : (seat : Seat) (asks g : ℕ) (fault : ClaimFault) → IsFatal fault → claim_fault_by (Some seat) asks g ≡ Some fault → seat.generation ≡ g → g < last_generation → ⊥
 fatal-apart seat asks g fault fatal e same below = in_ (nat_lt 0 asks) (nat_le last_generation g) refl refl (ap (λ (b : Bool). if not b then Some (claim.Stale seat.generation) else if nat_lt 0 asks then Some (claim.Unanswered asks) else if nat_le last_generation g then Some claim.LastGeneration else None) (sym (eq-true seat.generation g same)) ∙ e) where
   in_ : (b c : Bool) → nat_lt 0 asks ≡ b → nat_le last_generation g ≡ c → (if b then Some (claim.Unanswered asks) else if c then Some claim.LastGeneration else None) ≡ Some fault → ⊥

@@ -1,4 +1,4 @@
--- An event is refused only as it may be, where the state matches a world.
+-- If the state matches a world, each refusal of an event is one that may come.
 use Rattle.std.proofs.Common.{◌≡◌, ℕ, ◌-◌, Bool, true, false, not, [], length, Option, Some, None, is_none, refl, sym, ap, ◌∙◌, subst, inl, inr}
 use Rattle.std.specs.Prelude.{◌==◌, nat_lt, nat_le, if◌then◌else◌}
 use Rattle.std.specs.Option.{option_map, option_and_then}
@@ -38,7 +38,7 @@ use Rattle.world.proofs.Refusing.{comes, tested, mount-comes, issue-comes, work-
 
 -- ---- who takes or posts has the seat
 
--- who may take serves
+-- a daemon that may take serves
 taking-serves : (p : Phase) (g : ℕ) → may_take p ≡ true → part_at p ≡ Some g → serving_at p ≡ Some g
 taking-serves (Serving h) g e part = part
 taking-serves (Draining h s v) g e part = part
@@ -60,7 +60,7 @@ module _ (w : World) (old : State) (m : Matches w old) where
     in_ true None may serves e = comes (Take daemon) refusal.WrongPhase r refl e
     in_ false s may serves e = comes (Take daemon) refusal.WrongPhase r refl e
 
-  -- a reply that is there is posted
+  -- a post is refused only as it may be
   reply-comes : (daemon : DaemonId) (position : ℕ) (was : DaemonState) (server : ServerState) (o : Option Reply) (r : Refusal) → daemon_of old daemon ≡ Some was → was.server ≡ Some server → at_position server.unposted position ≡ o → reply_refusal old daemon server o ≡ Some r → may_come r (Post daemon position) ≡ true
   reply-comes daemon position was server None r there serves at e = comes (Post daemon position) refusal.NoSuch r refl e
   reply-comes daemon position was server (Some reply) r there serves at e = absurd (let two : None ≡ Some r = sym none ∙ e in let x : ⊥ = cc in x) where
@@ -91,7 +91,7 @@ module _ (w : World) (old : State) (m : Matches w old) where
 
   -- ---- who claims from the seat's generation
 
-  -- nothing waits for an answer then
+  -- if a daemon may claim from the seat's generation, the broker waits for nothing
   answered-all : (daemon : DaemonId) (was : DaemonState) (g : ℕ) (seat : Seat) → daemon_of old daemon ≡ Some was → claim_wanted was.node.phase ≡ Some g → old.broker.seat ≡ Some seat → seat.generation ≡ g → old.broker.traffic.taken ≡ []
   answered-all daemon was g seat there wants seated same = awaited-none old.broker.traffic k.handed k.idle (((m.attended).asked) seat k.handed (record { has_seat = seated; serves = ap (option_and_then (λ (d : DaemonState). d.server)) (k.has).there ∙ (k.has).serves })) where
     k : Handed w old seat was
@@ -134,7 +134,7 @@ module _ (w : World) (old : State) (m : Matches w old) where
   fault-comes (Crash daemon) r e = absence-comes (Crash daemon) (daemon_of old daemon) r e
   fault-comes event r e = absurd (let none : ⊥ = cc in none)
 
-  -- an event is refused only as it may be
+  -- each refusal of an event is one that may come
   pub once-comes : (event : Event) (told : Happened) (new : State) → Once old event told new → MayBeTold event told
   once-comes event told new once = in_ (fault old event) refl once where
     in_ : (f : Option Refusal) → fault old event ≡ f → OnceBy old event f told new → MayBeTold event told

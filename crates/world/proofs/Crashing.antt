@@ -20,7 +20,7 @@ use Rattle.world.proofs.Moving.{MovesBy, unmoved}
 
 -- ---- who serves
 
--- whoever serves after a daemon went is another, and served before
+-- a daemon that serves after another one ended served before
 still-serves : (state : State) (daemon other : DaemonId) (d gone : DaemonState) (server : ServerState) → gone.server ≡ None → daemon_of state daemon ≡ Some d →
     server_of (with_daemon state daemon gone) other ≡ Some server → (daemon ≡ other → ⊥) × (server_of state other ≡ Some server)
 still-serves state daemon other d gone server nothing there serves = (apart, sym (server_of-other state daemon other d gone there apart) ∙ serves) where
@@ -32,7 +32,7 @@ still-serves state daemon other d gone server nothing there serves = (apart, sym
 
 -- ---- the holder
 
--- the mount is over
+-- the mount is over after the daemon of the seat ended
 ends : (w : World) (old : State) (seat : Seat) (d gone : DaemonState) → gone.server ≡ None → Follows w old → daemon_of old seat.daemon ≡ Some d → old.broker.seat ≡ Some seat →
     Follows (after w end) (with_daemon (record old { broker = ended old.broker }) seat.daemon gone)
 ends w old seat d gone nothing m there at = record {
@@ -55,7 +55,7 @@ ends w old seat d gone nothing m there at = record {
 
 -- ---- any other daemon
 
--- nothing changes for whoever has the seat
+-- nothing changes for the daemon of the seat if another one ended
 leaves : (w : World) (old : State) (daemon : DaemonId) (d gone : DaemonState) → gone.server ≡ None → Follows w old → daemon_of old daemon ≡ Some d → (IsHolder old daemon → ⊥) →
     Follows w (with_daemon old daemon gone)
 leaves w old daemon d gone nothing m there no_seat = record {
@@ -77,7 +77,7 @@ leaves w old daemon d gone nothing m there no_seat = record {
 
 -- ---- a crash
 
--- by who has the seat
+-- a crash is moves, by the seat before it
 abbrev Crashed : World → State → DaemonId → DaemonState → Option Seat → Type 0
 Crashed w old daemon gone seat = MovesBy w (if holds seat daemon then end ∷ [] else []) old happened.Crashed
     (with_daemon (record old { broker = if holds seat daemon then ended old.broker else old.broker }) daemon gone)

@@ -21,7 +21,7 @@ use Rattle.daemon.specs.declared.happened.Refusal.TheVariants as refusal
 
 -- ---- one of many
 
--- a new one serves nothing, as if it were not there
+-- a daemon that just started serves nothing, as if it were not there
 more_in : (vs : List ℕ) (ds : List DaemonState) (i : ℕ) → option_and_then (λ (d : DaemonState). d.server) (slice_get (ds ++ new_daemon vs ∷ []) i) ≡ option_and_then (λ (d : DaemonState). d.server) (slice_get ds i)
 more_in vs [] zero = refl
 more_in vs [] (suc i) = refl
@@ -34,7 +34,7 @@ server_of-more old vs messages daemon = in_ (daemon.0 == 0) where
   in_ true = refl
   in_ false = more_in vs old.daemons (daemon.0 - 1)
 
--- what was written at a daemon's position is there, and nowhere else
+-- a daemon that was written at an index is there
 set_in : (ds : List DaemonState) (i : ℕ) (d later : DaemonState) → slice_get ds i ≡ Some d → slice_get (slice_set ds i later) i ≡ Some later
 set_in [] i d later h = absurd (let none : ⊥ = cc in none)
 set_in (x ∷ ds) zero d later h = refl
@@ -74,7 +74,7 @@ daemon_of-other state daemon other d later h apart = in_ (other.0 == 0) refl whe
       let same : daemon.0 ≡ other.0 = omega (arith, s, low, more) in
       apart (λ i. record { 0 = same i }))
 
--- the daemon of a number, once one was changed: that one, or what was there
+-- the daemon of a number after one daemon changed: it is the changed one, or was there before
 pub who : (state : State) (daemon other : DaemonId) (d later now : DaemonState) → daemon_of state daemon ≡ Some d → daemon_of (with_daemon state daemon later) other ≡ Some now →
     ((other ≡ daemon) × (now ≡ later)) ⊎ ((other ≡ daemon → ⊥) × (daemon_of state other ≡ Some now))
 who state daemon other d later now h there = in_ (eq-or other.0 daemon.0) where
@@ -94,7 +94,7 @@ pub server_of-other : (state : State) (daemon other : DaemonId) (d later : Daemo
     server_of (with_daemon state daemon later) other ≡ server_of state other
 server_of-other state daemon other d later h apart = ap (option_and_then (λ (x : DaemonState). x.server)) (daemon_of-other state daemon other d later h apart)
 
--- who serves is there
+-- a daemon that serves is there
 pub serving-there : (old : State) (daemon : DaemonId) (server : ServerState) → server_of old daemon ≡ Some server → (d : DaemonState) × (daemon_of old daemon ≡ Some d) × (d.server ≡ Some server)
 serving-there old daemon server h = in_ (daemon_of old daemon) refl h where
   in_ : (o : Option DaemonState) → daemon_of old daemon ≡ o → option_and_then (λ (x : DaemonState). x.server) o ≡ Some server → (d : DaemonState) × (daemon_of old daemon ≡ Some d) × (d.server ≡ Some server)
@@ -103,7 +103,7 @@ serving-there old daemon server h = in_ (daemon_of old daemon) refl h where
 
 -- ---- the holder
 
--- the seat has one holder, and it serves one thing
+-- the seat has one daemon, which serves one thing
 pub seated-same : (state : State) (seat other : Seat) (server more : ServerState) → IsSeated state seat server → IsSeated state other more → (seat ≡ other) × (server ≡ more)
 seated-same state seat other server more one two =
     let s : Some seat ≡ Some other = sym one.has_seat ∙ two.has_seat in
@@ -111,7 +111,7 @@ seated-same state seat other server more one two =
     let m : Some server ≡ Some more = sym one.serves ∙ ap (λ (x : Seat). server_of state x.daemon) same ∙ two.serves in
     (same, (let is : server ≡ more = cc in is))
 
--- what is known of the seat's daemon, whoever asks
+-- what is known of what the daemon of the seat serves
 pub record HolderIs (w : World) (state : State) (server : ServerState) : Type 0 where
   pub knows : Knows w.tree w.names (owed w) server.served
   pub under : IsUnderWay w state.broker.traffic server
@@ -121,7 +121,7 @@ holder-is w state seat server knows at =
     let k = knows seat at.has_seat in
     subst (λ (s : ServerState). HolderIs w state s) (seated-same state seat seat k.0 server k.1 at).1 (record { knows = k.2; under = k.3 })
 
--- a daemon has the seat, or hasn't
+-- a daemon has the seat, or does not have it
 pub holder-or : (state : State) (daemon : DaemonId) → IsHolder state daemon ⊎ (IsHolder state daemon → ⊥)
 holder-or state daemon = in_ state.broker.seat refl where
   in_ : (o : Option Seat) → state.broker.seat ≡ o → IsHolder state daemon ⊎ (IsHolder state daemon → ⊥)
@@ -137,14 +137,14 @@ none-at {X = X} position x h = in_ (position == 0) h where
   in_ true e = let none : ⊥ = cc in none
   in_ false e = let none : ⊥ = cc in none
 
--- a member at a position, by the position less 1
+-- a member at a position is at the index one below
 pub at-is : {X : Type 0} (xs : List X) (position : ℕ) (x : X) → at_position xs position ≡ Some x → slice_get xs (position - 1) ≡ Some x
 at-is {X = X} xs position x h = in_ (position == 0) h where
   in_ : (b : Bool) → (if b then None else slice_get xs (position - 1)) ≡ Some x → slice_get xs (position - 1) ≡ Some x
   in_ true e = absurd (let none : ⊥ = cc in none)
   in_ false e = e
 
--- who has something in hand, or unposted, has the seat
+-- a daemon that has something in hand or unposted has the seat
 pub hand-seated : (state : State) (daemon : DaemonId) (server : ServerState) {X : Type 0} (of : ServerState → List X) (position : ℕ) (x : X) → OthersAreIdle state → ((s : ServerState) → IsIdle s → of s ≡ []) → server_of state daemon ≡ Some server →
     at_position (of server) position ≡ Some x → (seat : Seat) × (seat.daemon ≡ daemon) × IsSeated state seat server
 hand-seated state daemon server of position x idle empty serves at = in_ (holder-or state daemon) where
@@ -154,7 +154,7 @@ hand-seated state daemon server of position x idle empty serves at = in_ (holder
 
 -- ---- after a call
 
--- the state matches once the seat's daemon went on: what a call of the broker and one of the daemon keep
+-- a state follows a world after the daemon of the seat went on, if the calls of the broker and of the daemon keep these
 pub goes-on : (w new : World) (old : State) (broker : BrokerState) (seat : Seat) (d now : DaemonState) (later : ServerState) → Follows w old → now.server ≡ Some later → new.manifest ≡ w.manifest → IsTree new.tree → new.tree.manifest ≡ new.manifest → Books new broker →
     SeatIsLast new → IsOrderly new broker.next_unique → AnsweredBefore new → broker.seat ≡ Some seat → ((other : DaemonId) → IsHolder old other → seat.daemon ≡ other) → daemon_of old seat.daemon ≡ Some d →
     Knows new.tree new.names (owed new) later.served → IsUnderWay new broker.traffic later → Follows new (with_daemon (record old { broker = broker }) seat.daemon now)
@@ -183,11 +183,11 @@ goes-on w new old broker seat d now later m serves manifest is of_manifest books
   state : State
   state = with_daemon (record old { broker = broker }) seat.daemon now
 
--- the seat's daemon is the only holder
+-- no other daemon than that of the seat has the seat
 pub only-holder : (old : State) (seat : Seat) → old.broker.seat ≡ Some seat → (other : DaemonId) → IsHolder old other → seat.daemon ≡ other
 only-holder old seat at other h = let s : Some seat ≡ Some h.0 = sym at ∙ h.1 in let is : seat ≡ h.0 = cc in ap (λ (x : Seat). x.daemon) is ∙ h.2
 
--- the state matches after a call of the broker alone
+-- a state follows a world after a call of the broker alone
 pub broker-goes-on : (w new : World) (old : State) (broker : BrokerState) (seat : Seat) (server : ServerState) → Follows w old → new.manifest ≡ w.manifest → new.tree ≡ w.tree → Books new broker → SeatIsLast new → IsOrderly new broker.next_unique →
     AnsweredBefore new → broker.seat ≡ old.broker.seat → IsSeated old seat server → Knows new.tree new.names (owed new) server.served → IsUnderWay new broker.traffic server → Follows new (record old { broker = broker })
 broker-goes-on w new old broker seat server m manifest tree books last orderly answered same at knows under = record {
@@ -211,7 +211,7 @@ broker-goes-on w new old broker seat server m manifest tree books last orderly a
   others_idle = λ other more serves no_holder. m.others_idle other more serves (λ h. no_holder (h.0, same ∙ h.1, h.2));
 }
 
--- who may mount waits, and nobody has the seat
+-- a daemon may mount: it waits, and nobody has the seat
 pub record MayMount (old : State) (o : Option DaemonState) : Type 0 where
   pub was : DaemonState
   pub is : o ≡ Some was

@@ -29,11 +29,11 @@ use Rattle.world.specs.Agreement.{Knows}
 use Rattle.world.proofs.Knowing.{named, knows-plain}
 use Rattle.world.proofs.Worked.{Worked, one_more, worked-from, error-worked}
 
--- what a daemon asks its backing for is backed
+-- a file for which a daemon asks its backing is backed in the world
 pub backed : (w : World) (file : FileId) → w.tree.manifest ≡ w.manifest → IsBackedIn w.tree file → IsBacked w file
 backed w file same is = subst (λ (m : Manifest). (kind_of w.tree file ≡ Some File) × (file.0 < length m.lines + 2)) same is
 
--- a request that comes to an entry of a file of a tree, and what the daemon knows once the number is given
+-- a request comes to an entry of a file of a tree, and the daemon knows this once it gave the number
 pub record Enters (w : World) (m : MapState) (request : Request) (dir : Number) (name : List ℕ) (tree : Tree) (file : FileId) : Type 0 where
   pub is_tree : IsTree w.tree
   pub of_manifest : w.tree.manifest ≡ w.manifest
@@ -43,7 +43,7 @@ pub record Enters (w : World) (m : MapState) (request : Request) (dir : Number) 
   pub gives : IsTree tree → give_fault m dir.0 name ≡ None →
       Knows tree (named w.names (number_given m dir.0 name).0 file) (λ n. owed w n + (if (number_given m dir.0 name).0 == n then 1 else 0)) (served_over tree (given m dir name))
 
--- the file has a number, which its place has
+-- the file has a number, which is that of its place
 pub record Numbered (w : World) (m : MapState) (dir : Number) (name : List ℕ) (file : FileId) : Type 0 where
   pub number : ℕ
   pub is_given : (number_given m dir.0 name).0 ≡ number
@@ -55,7 +55,7 @@ pub record Numbered (w : World) (m : MapState) (dir : Number) (name : List ℕ) 
   pub low : 2 ≤ number
   pub high : number < end_of_numbers
 
--- the file has none, so that its place gets the next
+-- the file has no number, so its place gets the next one
 pub record Unnumbered (w : World) (m : MapState) (dir : Number) (name : List ℕ) (file : FileId) : Type 0 where
   pub is_given : (number_given m dir.0 name).0 ≡ m.next
   pub fault : give_fault m dir.0 name ≡ (if nat_le end_of_numbers m.next then Some NoNumber else None)
@@ -64,7 +64,7 @@ pub record Unnumbered (w : World) (m : MapState) (dir : Number) (name : List ℕ
   pub all_named : (n : ℕ) → 2 ≤ n → n < m.next → IsSome (file_named w.names n)
   pub low : 2 ≤ m.next
 
--- what the daemon answers by the table, and knows after it
+-- what the daemon knows after it answered by the table
 pub record Answered (w : World) (m : MapState) (request : Request) (result : Result Effect Errno) (answer : Answer) (later : ServedState) : Type 0 where
   pub makes : plain later ≡ plain (served_after (served_over w.tree m) request result answer)
   pub keeps_tree : IsTree w.tree → IsTree later.tree
@@ -73,16 +73,16 @@ module _ (w : World) (m : MapState) (request : Request) (dir : Number) (name : L
   old : ServedState
   old = served_over w.tree m
 
-  -- the answers of the world to it, by what stands against the file's number
+  -- what the table answers by the world's numbers is one of the world's answers
   may_in : (a : Answer) → AnswersFile (numbers_of w) request tree (Some file) true a → MayAnswer w request a
   may_in a given_so = inr (subst (λ (r : Result Effect Errno). Answers (numbers_of w) request r a) (sym e.comes) given_so)
 
-  -- an error
+  -- the answer is an error
   error_in : (errno : Errno) → answer ≡ Error errno → MayAnswer w request (Error errno) → Worked w request answer later
   error_in errno is may = subst (λ (a : Answer). Worked w request a later) (sym is)
       (error-worked w m request (Ok (entered tree file)) errno later e.is_tree e.knows (made.makes ∙ ap (λ (a : Answer). plain (served_after (served_over w.tree m) request (Ok (entered tree file)) a)) is) may)
 
-  -- the number is given
+  -- the answer gives the number out
   told_in : give_fault m dir.0 name ≡ None → MayBeGiven w file → MayNumber w file (number_given m dir.0 name).0 → Tells request tree file (λ n. n ≡ (number_given m dir.0 name).0) answer → Worked w request answer later
   told_in clear may number t = subst (λ (a : Answer). Worked w request a later) (sym t.is) (worked-from w request entry later (Ok (entered tree file)) (Some t.number) e.comes gives
       (may_in entry (
@@ -120,7 +120,7 @@ module _ (w : World) (m : MapState) (request : Request) (dir : Number) (name : L
         known = subst (λ (x : Tree). Knows x (named w.names t.number.0 file) (λ n. owed w n + (if t.number.0 == n then 1 else 0)) later) (sym after_tree)
             (subst (λ (i : ℕ). Knows tree (named w.names i file) (λ n. owed w n + (if i == n then 1 else 0)) later) (sym t.is_number) gave)
 
-  -- what stands against a place's number is answered, and else the number is given
+  -- if something stands against a place's number, the answer tells it, and else the number is given
   by_fault : (told : Option GiveFault) → give_fault m dir.0 name ≡ told → IsAgainst w file (number_fault told) → (told ≡ None → MayNumber w file (number_given m dir.0 name).0) → (told ≡ Some NoMemory → ⊥) →
       (fault : Option NumberFault) → fault ≡ number_fault (give_fault m dir.0 name) → AnswersCounted (numbers_at (served_over w.tree m) (Some (dir, name))) request tree file fault answer → Worked w request answer later
   by_fault told f against number real fault is answers = in_ told f against number real (subst (λ (x : Option NumberFault). AnswersCounted (numbers_at (served_over w.tree m) (Some (dir, name))) request tree file x answer) (is ∙ ap number_fault f) answers) where
@@ -133,11 +133,11 @@ module _ (w : World) (m : MapState) (request : Request) (dir : Number) (name : L
     in_ None f' ag nu re (inr (inl (is', of))) = error_in EIO is' (may_in (Error EIO) (None, ag, inr (inl (refl, backed w file e.of_manifest of.0))))
     in_ None f' ag nu re (inr (inr (is', absent))) = error_in ENOMEM is' (may_in (Error ENOMEM) (None, ag, inr (inr (refl, tt))))
 
-  -- what an entry is answered, by what stands against its number
+  -- the answer to a request for an entry is one of the world's, by what stands against the number
   abbrev Asked : Type 0
   Asked = (fault : Option NumberFault) → fault ≡ number_fault (give_fault m dir.0 name) → AnswersCounted (numbers_at (served_over w.tree m) (Some (dir, name))) request tree file fault answer → Worked w request answer later
 
-  -- a file that has a number: it may be given out once more, or is counted as often as may be
+  -- if the file has a number, that may be given out once more, or is counted as often as it may be
   numbered_in : Numbered w m dir name file → Asked
   numbered_in n = in_ (nat_le greatest_count (count_of m.entries n.number)) refl where
     may : MayNumber w file n.number
@@ -163,7 +163,7 @@ module _ (w : World) (m : MapState) (request : Request) (dir : Number) (name : L
       less : (j : ℕ) → IsAtGreatest w file j → j ≡ n.number → ⊥
       less j is same = let l : count_of m.entries n.number < greatest_count = grind (arith, nat_tests) in let g : owed w j ≡ greatest_count = is.greatest in let c : owed w j ≡ count_of m.entries n.number = ap (owed w) same ∙ n.counted in omega arith
 
-  -- a file that has none: the next one is given, or none is left
+  -- if the file has no number, the next one is given, or no number is left
   unnumbered_in : Unnumbered w m dir name file → Asked
   unnumbered_in n = in_ (nat_le end_of_numbers m.next) refl where
     fault_is : (b : Bool) → nat_le end_of_numbers m.next ≡ b → give_fault m dir.0 name ≡ (if b then Some NoNumber else None)

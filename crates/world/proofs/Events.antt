@@ -63,7 +63,7 @@ refuses-moved : (w : World) (old : State) (event : Event) (r : Refusal) (told : 
 refuses-moved w old (Claim daemon) r told new m h (is, same) = unclaimed-moved w old daemon r told new m h is same
 refuses-moved w old event r told new m h (is, same) = lacks-moved w old event r told new m is same
 
--- a daemon more leaves the broker, and whoever has the seat
+-- a daemon that starts changes nothing for the broker, or for the daemon of the seat
 starts-moved : (w : World) (old : State) (versions : List ℕ) (told : Happened) (new : State) → Follows w old → Starts old versions told new → MovesBy w (move_of w.seat (Start versions) told) old told new
 starts-moved w old versions told new m (is, makes) = subst (λ (x : Happened). MovesBy w (move_of w.seat (Start versions) x) old x new) (sym is) (unmoved w old _ new tt refl (subst (λ (s : State). Follows w s) (sym makes) (record {
   manifest = m.manifest;
@@ -79,7 +79,7 @@ starts-moved w old versions told new m (is, makes) = subst (λ (x : Happened). M
   others_idle = λ daemon server serves other. m.others_idle daemon server (sym (server_of-more old versions (old.messages ++ Offer versions ∷ []) daemon) ∙ serves) other;
 })))
 
--- nothing under way is owed for
+-- if nothing is under way or held, nothing is owed
 quiet-owed : (w : World) (n : ℕ) → IsQuiet w → w.held ≡ [] → owed w n ≡ 0
 quiet-owed w n quiet held = rw (quiet.replies, quiet.items, held) refl
 
@@ -127,7 +127,7 @@ issues-seated w old request told new m clear made = in_ old.broker.seat refl (ac
   in_ None e some = absurd (let s : false ≡ true = sym (ap is_some e) ∙ some in let none : ⊥ = cc in none)
   in_ (Some seat) e some = let k = m.knows seat e in issues-moved w old request told new seat k.0 m free k.1 made
 
--- an event that no cause stands against
+-- an event that no cause stands against is moves
 made-moved : (w : World) (old : State) (event : Event) (told : Happened) (new : State) → Follows w old → IsHanding old → fault old event ≡ None → Makes old event told new → MovesBy w (move_of w.seat event told) old told new
 made-moved w old (Start versions) told new m h clear made = starts-moved w old versions told new m made
 made-moved w old (Mount daemon) told new m h clear made = mounts-moved w old daemon told new m clear made

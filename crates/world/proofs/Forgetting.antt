@@ -12,7 +12,7 @@ use Rattle.world.specs.World.{file_named}
 use Rattle.world.specs.Agreement.{Knows}
 use Rattle.fuse_ops.proofs.ForgettingLaw.{forgets-well as forgetting}
 
--- what a forget takes back is owed no more
+-- what is owed after `k` lookups of a number were taken back
 abbrev pub less_owed : (ℕ → ℕ) → ℕ → ℕ → ℕ → ℕ
 less_owed owes n k j = if n == j then owes j - k else owes j
 

@@ -1,4 +1,4 @@
--- What stands of daemons and messages goes on standing, whatever happens to one daemon.
+-- Daemons and messages stand after an event if they stood before, whatever happens to one daemon.
 use Rattle.std.proofs.Common.{◌≡◌, ℕ, suc, zero, ◌<◌, ◌≤◌, true, false, List, [], ◌∷◌, ◌++◌, Some, None, refl, sym, ap, ◌∙◌, subst, inl, inr, ◌⊎◌, arith}
 use Rattle.std.specs.Prelude.{slice_get}
 use Rattle.std.specs.List.{AllByRecursion}
@@ -37,7 +37,7 @@ all-at P (y ∷ xs) (suc i) x all at = all-at P xs i x all.1 at
 
 -- ---- phases
 
--- whoever serves at a generation has its part at it, and so has who holds from it
+-- if a phase has the seat at a generation, its part is at that generation
 pub seat-part : (p : Phase) (g : ℕ) → seat_of p ≡ Some g → part_at p ≡ Some g
 seat-part (Serving h) g e = e
 seat-part (Draining h s v) g e = e
@@ -61,21 +61,21 @@ out-drained p e = absurd (let none : ⊥ = cc in none)
 
 -- ---- the same seat
 
--- the holder was the holder; where it was out it is out, and serves the same
+-- the daemon of the seat had the seat before; if its data was out, its data is out and it serves the same
 pub record WasHolder (old : State) (seat : Seat) (now : DaemonState) (server : ServerState) : Type 0 where
   pub was : DaemonState
   pub before : ServerState
   pub has : HasTheSeat old seat was before
   pub out : is_out was.node.phase ≡ true → (is_out now.node.phase ≡ true) × (server.served ≡ before.served)
 
--- the seat, and what its holder handed over, are as they were
+-- the seat, and what its daemon handed over, are as they were
 pub record KeepsSeat (old new : State) : Type 0 where
   pub seat : new.broker.seat ≡ old.broker.seat
   pub last : new.broker.last ≡ old.broker.last
   pub holder : (seat : Seat) (now : DaemonState) (server : ServerState) → HasTheSeat new seat now server → WasHolder old seat now server
   pub said : (seat : Seat) (was : DaemonState) (before : ServerState) → HasTheSeat old seat was before → is_out was.node.phase ≡ true → data_of seat.generation new.messages ≡ data_of seat.generation old.messages
 
--- what is handed over now was handed over before
+-- what is handed over after a change was handed over before
 abbrev pub handed-back : (old new : State) (seat : Seat) (was now : DaemonState) (before server : ServerState) → is_out was.node.phase ≡ true → server.served ≡ before.served → data_of seat.generation new.messages ≡ data_of seat.generation old.messages → HasHanded new seat now server → HasHanded old seat was before
 handed-back old new seat was now before server out served same over = record {
   session = over.session;
@@ -112,7 +112,7 @@ daemon-along old new daemon was k s = record {
       };
 }
 
--- what was handed over from the seat is handed over still
+-- data of the seat that was handed over is still what its daemon handed over
 pub once-at : (old new : State) (seat : Seat) (now : DaemonState) (server : ServerState) → KeepsSeat old new → data_of seat.generation new.messages ≡ data_of seat.generation old.messages → HandsOnce old → HasTheSeat new seat now server → (data_of seat.generation new.messages ≡ []) ⊎ HasHanded new seat now server
 once-at old new seat now server k same once has =
     let h = k.holder seat now server has in
@@ -136,7 +136,7 @@ once-along old new k same once seat now server has = once-at old new seat now se
 
 -- ---- a later seat
 
--- the seat is one generation later
+-- the seat is at a later generation than all before
 pub record IsLater (old new : State) (seat : Seat) : Type 0 where
   pub seated : new.broker.seat ≡ Some seat
   pub later : old.broker.last < seat.generation
@@ -166,7 +166,7 @@ daemon-later old new seat daemon was l apart s = record {
       let same : other.generation ≡ seat.generation = ap (λ (y : Seat). y.generation) (the_seat other e) in
       let later = l.later in omega arith
 
--- what was said is no later than it was
+-- a message stays one of a generation that was, if the last generation is later
 pub past-later : (old new : ℕ) (m : Message) → old ≤ new → IsPast old m → IsPast new m
 past-later old new (Data s g bytes) later low = omega arith
 past-later old new (Part s g i n bytes) later low = omega arith
@@ -194,16 +194,16 @@ once-free new free seat was server has = absurd (let two : None ≡ Some seat = 
 
 -- ---- one daemon changed
 
--- a daemon that has the seat is out still if it was, and serves the same then
+-- a daemon whose data was out is still out after a change, and serves the same
 pub record KeepsOut (was later : DaemonState) : Type 0 where
   pub server : (server : ServerState) → later.server ≡ Some server → (before : ServerState) × (was.server ≡ Some before)
       × (is_out was.node.phase ≡ true → (is_out later.node.phase ≡ true) × (server.served ≡ before.served))
 
--- more was said, and none of it is data of the seat's generation where that is out
+-- if data of the seat is out, none of what was said more is data of the seat's generation
 abbrev pub SaysNoMore : State → List Message → Type 0
 SaysNoMore old said = (seat : Seat) (was : DaemonState) (before : ServerState) → HasTheSeat old seat was before → is_out was.node.phase ≡ true → data_of seat.generation said ≡ data_of seat.generation old.messages
 
--- the holder after one daemon changed
+-- the seat is kept if one daemon changed, and that daemon is still out if it was out and has the seat
 pub keeps-seat : (old base : State) (daemon : DaemonId) (was later : DaemonState) → base.daemons ≡ old.daemons → base.broker.seat ≡ old.broker.seat → base.broker.last ≡ old.broker.last → SaysNoMore old base.messages → daemon_of old daemon ≡ Some was →
     ((seat : Seat) → old.broker.seat ≡ Some seat → daemon ≡ seat.daemon → KeepsOut was later) → KeepsSeat old (with_daemon base daemon later)
 keeps-seat old base daemon was later daemons seat last said there keeps = record {
@@ -235,13 +235,13 @@ keeps-seat old base daemon was later daemons seat last said there keeps = record
     out = λ o. (o, refl);
   }
 
--- what a state has beside its daemons is that of another, and more was said
+-- a state has all of another but its messages, to which more were added
 pub record IsBase (old base : State) (more : List Message) : Type 0 where
   pub manifest : base.manifest ≡ old.manifest
   pub daemons : base.daemons ≡ old.daemons
   pub messages : base.messages ≡ old.messages ++ more
 
--- every daemon stands, where the others stand and the one that changed does
+-- every daemon stands after one changed, if that one and each other one stands
 pub every-daemon : (base new : State) (daemon : DaemonId) (was later : DaemonState) → new ≡ with_daemon base daemon later → daemon_of base daemon ≡ Some was → DaemonStands new daemon later →
     ((other : DaemonId) (d : DaemonState) → (other ≡ daemon → ⊥) → daemon_of base other ≡ Some d → DaemonStands new other d) → (other : DaemonId) (d : DaemonState) → daemon_of new other ≡ Some d → DaemonStands new other d
 every-daemon base new daemon was later makes there stands others other d e = in_ (who base daemon other was later d there (subst (λ (s : State). daemon_of s other ≡ Some d) makes e)) where
@@ -258,11 +258,11 @@ module _ (old base new : State) (daemon : DaemonId) (was later : DaemonState) (m
   old_of : (other : DaemonId) (d : DaemonState) → daemon_of base other ≡ Some d → daemon_of old other ≡ Some d
   old_of other d e = subst (λ (ds : List DaemonState). daemon_of (record old { daemons = ds }) other ≡ Some d) is.daemons e
 
-  -- all that is said now
+  -- the messages after the change
   said_now : old.messages ++ more ≡ new.messages
   said_now = sym (ap (λ (s : State). s.messages) makes ∙ is.messages)
 
-  -- every other daemon and message stands as it did
+  -- daemons and messages stand if the daemon that changed stands, and so does each other daemon
   pub handing-where : new.broker.last ≤ last_generation → old.broker.last ≤ new.broker.last → DaemonStands new daemon later → ((other : DaemonId) (d : DaemonState) → (other ≡ daemon → ⊥) → DaemonStands old other d → DaemonStands new other d) →
       AllByRecursion (IsPast new.broker.last) more → HandsOnce new → IsHanding new
   handing-where low on stands others said once = record {
@@ -274,7 +274,7 @@ module _ (old base new : State) (daemon : DaemonId) (was later : DaemonState) (m
     once = once;
   }
 
-  -- the seat stays
+  -- the seat and what was handed over are kept
   pub stays : base.broker.seat ≡ old.broker.seat → base.broker.last ≡ old.broker.last → SaysNoMore old (old.messages ++ more) → ((seat : Seat) → old.broker.seat ≡ Some seat → daemon ≡ seat.daemon → KeepsOut was later) → KeepsSeat old new
   stays seat last said keeps = subst (λ (s : State). KeepsSeat old s) (sym makes) (keeps-seat old base daemon was later is.daemons seat last (subst (λ (ms : List Message). SaysNoMore old ms) (sym is.messages) said) there keeps)
 
@@ -282,7 +282,7 @@ module _ (old base new : State) (daemon : DaemonId) (was later : DaemonState) (m
   handing-stays k stands said once = handing-where (subst (λ (l : ℕ). l ≤ last_generation) (sym k.last) h.low) (let same = k.last in omega arith) (daemon-along old new daemon later k stands)
       (λ other d apart s. daemon-along old new other d k s) (subst (λ (l : ℕ). AllByRecursion (IsPast l) more) (sym k.last) said) once
 
-  -- nothing that was said is data of the seat's generation
+  -- daemons and messages stand if nothing that was said is data of the seat's generation
   pub handing-quiet : KeepsSeat old new → ((seat : Seat) → old.broker.seat ≡ Some seat → data_of seat.generation (old.messages ++ more) ≡ data_of seat.generation old.messages) → DaemonStands old daemon later → AllByRecursion (IsPast old.broker.last) more → IsHanding new
   handing-quiet k quiet stands said = handing-stays k stands said
       (once-along old new k (λ seat at. subst (λ (ms : List Message). data_of seat.generation ms ≡ data_of seat.generation old.messages) said_now (quiet seat at)) h.once)

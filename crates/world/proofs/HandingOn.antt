@@ -41,7 +41,7 @@ use Rattle.world.proofs.Standing.{busy-stands, busy-out, seated-stands, gone-sta
 
 -- ---- no daemon changes
 
--- the kernel's side alone
+-- daemons and messages stand after a change of the kernel's side that keeps the seat
 broker-handing : (old : State) (broker : BrokerState) → broker.seat ≡ old.broker.seat → broker.last ≡ old.broker.last → IsHanding old → IsHanding (record old { broker = broker })
 broker-handing old broker seat last h = record {
   is_manifest = h.is_manifest;
@@ -83,7 +83,7 @@ busy-handing old broker daemon was before server new h there serves busy seat la
     (stays old (record old { broker = broker }) new daemon was (with_server was server) [] (same-base old broker) makes there h seat last (says-no-more old [] tt) (λ at e here. busy-out was before server busy serves))
     (λ at e. data-quiet old [] tt at) (busy-stands old daemon was server busy (h.daemons daemon was there)) tt
 
--- who may take is not drained
+-- a daemon that may take is not drained
 may-busy : (p : Phase) → table.may_take p ≡ true → is_drained p ≡ false
 may-busy (Serving g) e = refl
 may-busy (Rattle.takeover_core.specs.declared.phase.Phase.TheVariants.Draining g s v) e = refl
@@ -99,7 +99,7 @@ takes-handing old daemon told new h clear t =
       may_in true e r = e
       may_in false e r = absurd (let none : ⊥ = cc in none)
 
--- who has something left is not drained
+-- a daemon that has something in hand or unposted is not drained
 left-busy : {X : Type 0} (old : State) (daemon : DaemonId) (was : DaemonState) (server : ServerState) (of : ServerState → List X) (position : ℕ) (x : X) → IsHanding old → daemon_of old daemon ≡ Some was → was.server ≡ Some server → ((s : ServerState) → IsIdle s → of s ≡ []) → at_position (of server) position ≡ Some x →
     is_drained was.node.phase ≡ false
 left-busy {X} old daemon was server of position x h there serves empty at = in_ (is_drained was.node.phase) refl where
@@ -123,7 +123,7 @@ posts-handing old daemon position told new h t =
 
 -- ---- a start
 
--- who is there once a daemon more was started: who was, or the new one where nobody was
+-- a daemon that is there after one started was there before, or is the new one
 started-in : (vs : List ℕ) (ds : List DaemonState) (i : ℕ) (now : DaemonState) → slice_get (ds ++ new_daemon vs ∷ []) i ≡ Some now → (slice_get ds i ≡ Some now) ⊎ ((slice_get ds i ≡ None) × (now ≡ new_daemon vs))
 started-in vs [] zero now e = inr (refl, (let same : new_daemon vs ≡ now = cc in sym same))
 started-in vs [] (suc i) now e = absurd (let none : ⊥ = cc in none)
@@ -161,7 +161,7 @@ starts-handing w old vs told new m h (tells, makes) = subst IsHanding (sym makes
     said = says-no-more old (Offer vs ∷ []) (refl, tt);
   }
 
-  -- the seat's daemon was there
+  -- the daemon of the seat is not one that is not there
   no_seat : (daemon : DaemonId) → daemon_of old daemon ≡ None → (seat : Seat) → old.broker.seat ≡ Some seat → daemon ≡ seat.daemon → ⊥
   no_seat daemon nobody seat e here =
       let serving = m.knows seat e in
@@ -242,14 +242,14 @@ claims-handing w old daemon told new m h clear t =
 
 -- ---- a daemon is gone
 
--- a daemon is gone that has not the seat
+-- daemons and messages stand after a daemon without the seat ended
 gone-handing : (old : State) (daemon : DaemonId) (was later : DaemonState) (new : State) → IsHanding old → daemon_of old daemon ≡ Some was → later.node.phase ≡ Gone → ((seat : Seat) → old.broker.seat ≡ Some seat → daemon ≡ seat.daemon → ⊥) → new ≡ with_daemon old daemon later → IsHanding new
 gone-handing old daemon was later new h there gone no_seat makes =
     handing-quiet old old new daemon was later [] (same-base old old.broker) makes there h
     (stays old old new daemon was later [] (same-base old old.broker) makes there h refl refl (says-no-more old [] tt) (λ at e here. absurd (no_seat at e here)))
     (λ at e. data-quiet old [] tt at) (gone-stands old daemon later gone no_seat) tt
 
--- the seat's daemon is gone
+-- daemons and messages stand after the daemon of the seat ended
 ended-handing : (old : State) (daemon : DaemonId) (was later : DaemonState) (new : State) → IsHanding old → daemon_of old daemon ≡ Some was → later.node.phase ≡ Gone → new ≡ with_daemon (record old { broker = ended old.broker }) daemon later → IsHanding new
 ended-handing old daemon was later new h there gone makes =
     handing-where old (record old { broker = ended old.broker }) new daemon was later [] (same-base old (ended old.broker)) makes there h
@@ -277,7 +277,7 @@ crashes-handing old daemon told new h t = in_ (has_seat old.broker daemon) refl 
 
 -- ---- a claim that is refused
 
--- a daemon that stays as it was
+-- daemons and messages stand if a daemon stays as it was
 still-handing : (old : State) (daemon : DaemonId) (was later : DaemonState) → IsHanding old → daemon_of old daemon ≡ Some was → later ≡ was → IsHanding (with_daemon old daemon later)
 still-handing old daemon was later h there same =
     handing-quiet old old (with_daemon old daemon later) daemon was later [] (same-base old old.broker) refl there h

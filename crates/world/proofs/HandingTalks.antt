@@ -44,22 +44,22 @@ use Rattle.world.proofs.Turns.{IsTurn, is_data, says_data, node_of, turn-hear, t
 
 -- ---- a turn
 
--- all that is said is no data
+-- a reaction says no data
 abbrev pub SaysNoData : Reaction → Type 0
 SaysNoData reaction = AreNoData (what_is_said reaction)
 
--- what is said is what it is known to be
+-- a reaction that is known to say no data says none
 says-none : (is reaction : Reaction) → reaction ≡ is → SaysNoData is → SaysNoData reaction
 says-none is reaction same quiet = subst SaysNoData (sym same) quiet
 
--- a state to which what is said is added
+-- the state with the messages of a reaction added
 abbrev saying : State → Reaction → State
 saying old reaction = record old { messages = old.messages ++ what_is_said reaction }
 
 said-base : (old : State) (reaction : Reaction) → IsBase old (saying old reaction) (what_is_said reaction)
 said-base old reaction = record { manifest = refl; daemons = refl; messages = refl }
 
--- a daemon turned, and what it said is no data
+-- daemons and messages stand after a daemon turned and said no data
 turned-handing : (old : State) (daemon : DaemonId) (was later : DaemonState) (idle : Bool) (reaction : Reaction) (new : State) → IsHanding old → Turned old daemon was later idle → SaysNoData reaction →
     new ≡ with_daemon (saying old reaction) daemon later → IsHanding new
 turned-handing old daemon was later idle reaction new h t quiet makes =
@@ -68,16 +68,16 @@ turned-handing old daemon was later idle reaction new h t quiet makes =
       keeps : KeepsSeat old new
       keeps = stays old (saying old reaction) new daemon was later (what_is_said reaction) (said-base old reaction) makes t.there h refl refl (says-no-more old (what_is_said reaction) quiet) (λ seat e here. turned-out old daemon was later idle t)
 
--- what says no data says none
+-- an answer of the table that says no data makes a reaction that says none
 no_data_of : (a : Answer) (said : Message) → says_data a ≡ false → a ≡ answer.Say said → SaysNoData (Says said [])
 no_data_of a said silent is = (ap says_data (sym is) ∙ silent, tt)
 
--- a daemon that turned to a phase by a message keeps what it read, where it waits for a part
+-- a daemon that turned to a phase by a message and waits for a part keeps what it read
 read_by_turn : (was later : DaemonState) (node : NodeState) → later ≡ turned_to was node → (g : ℕ) → reads_at later.node.phase ≡ Some g → later.reading ≡ was.reading
 read_by_turn was later node becomes g e =
     ap (λ (d : DaemonState). d.reading) becomes ∙ read-kept node.phase g was.reading (ap (λ (d : DaemonState). reads_at d.node.phase) (sym becomes) ∙ e)
 
--- by an answer that brings no data
+-- daemons and messages stand after an answer of the table that brings no data
 by-turn : (old : State) (daemon : DaemonId) (was : DaemonState) (node : NodeState) (a : Answer) (reaction : Reaction) (later : DaemonState) (new : State) → IsHanding old → daemon_of old daemon ≡ Some was →
     ((g : ℕ) → IsTurn g false was.node.phase node.phase) → says_data a ≡ false → TurnsBy was node a reaction later → new ≡ with_daemon (saying old reaction) daemon later → IsHanding new
 by-turn old daemon was node a reaction later new h there turn silent t makes = in_ a refl t where
@@ -100,7 +100,7 @@ by-turn old daemon was node a reaction later new h there turn silent t makes = i
 
 -- ---- the data is made
 
--- who has the seat, by what it serves
+-- a daemon that has the seat and serves is seated
 seated-by : (state : State) (seat : Seat) (was : DaemonState) (server : ServerState) → HasTheSeat state seat was server → IsSeated state seat server
 seated-by state seat was server has = record { has_seat = has.seated; serves = ap (option_and_then (λ (d : DaemonState). d.server)) has.there ∙ has.serves }
 
@@ -113,7 +113,7 @@ pub record HandsText (old : State) (daemon : DaemonId) (was : DaemonState) (s g 
   pub phase : later.node.phase ≡ Handed g s
   pub same : later.server ≡ was.server
 
--- the data is made of what its holder serves
+-- daemons and messages stand after a daemon handed over what it serves
 hands-handing : (old : State) (daemon : DaemonId) (was : DaemonState) (s g v : ℕ) (text : List ℕ) (reaction : Reaction) (later : DaemonState) (new : State) → IsHanding old → HandsText old daemon was s g v text reaction later →
     new ≡ with_daemon (saying old reaction) daemon later → IsHanding new
 hands-handing old daemon was s g v text reaction later new h t makes =
@@ -130,11 +130,11 @@ hands-handing old daemon was s g v text reaction later new h t makes =
       was_stands : DaemonStands old daemon was
       was_stands = h.daemons daemon was t.there
 
-      -- whoever has the seat at this generation is the daemon
+      -- if the seat is at this generation, its daemon is this one
       here : (seat : Seat) → old.broker.seat ≡ Some seat → (g == seat.generation) ≡ true → daemon ≡ seat.daemon
       here seat at e = was_stands.only seat at (ap seat_of t.drained ∙ ap Some (true-eq g seat.generation e))
 
-      -- its data was not out
+      -- data of the seat that was out before is not of this generation
       said : (seat : Seat) (holder : DaemonState) (before : ServerState) → HasTheSeat old seat holder before → is_out holder.node.phase ≡ true → data_of seat.generation (old.messages ++ more) ≡ data_of seat.generation old.messages
       said seat holder before has out = in_ (g == seat.generation) refl where
         in_ : (b : Bool) → (g == seat.generation) ≡ b → data_of seat.generation (old.messages ++ more) ≡ data_of seat.generation old.messages
@@ -170,7 +170,7 @@ hands-handing old daemon was s g v text reaction later new h t makes =
       all_said : (at : ℕ) → data_of at new.messages ≡ data_of at (old.messages ++ more)
       all_said at = ap (λ (x : State). data_of at x.messages) makes
 
-      -- whoever has the seat at this generation had it, and serves what it served
+      -- if the seat is at this generation, its daemon had it before, and serves what it served
       held : (seat : Seat) (now : DaemonState) (server : ServerState) → HasTheSeat new seat now server → (g == seat.generation) ≡ true → (later ≡ now) × HasTheSeat old seat was server
       held seat now server has e =
           let at : old.broker.seat ≡ Some seat = sym keeps.seat ∙ has.seated in
@@ -184,7 +184,7 @@ hands-handing old daemon was s g v text reaction later new h t makes =
             },
           )
 
-      -- it hands it over for the first time
+      -- the daemon hands over for the first time
       first : (seat : Seat) (now : DaemonState) (server : ServerState) → later ≡ now → was.server ≡ Some server → g ≡ seat.generation → (data_of seat.generation old.messages ≡ []) ⊎ HasHanded old seat was server → HasHanded new seat now server
       first seat now server one serves same (inr over) = absurd (let both : false ≡ true = sym not_out ∙ over.out in let none : ⊥ = cc in none)
       first seat now server one serves same (inl none) =
@@ -204,7 +204,7 @@ hands-handing old daemon was s g v text reaction later new h t makes =
         in_ true e = let k = held seat now server has e in inr (first seat now server k.0 (k.1).serves (true-eq g seat.generation e) (h.once seat was server k.1))
         in_ false e = once-at old new seat now server keeps (all_said seat.generation ∙ data-same seat.generation old.messages more (handed-other s g seat.generation text more e t.said)) h.once has
 
--- the phase behind the making of the data
+-- the phase after the data was made
 made-whole : (made : NodeState) (g s v : ℕ) (bytes : List ℕ) → made.phase ≡ Making g s v → table.goes_whole v ≡ true → (table.after made (table.DataMade bytes)).phase ≡ Handed g s
 made-whole made g s v bytes now whole =
     ap (λ (p : Phase). (table.after (node_of made.versions made.sessions p) (table.DataMade bytes)).phase) now
@@ -221,7 +221,7 @@ made-parts made g s v now cut =
     ap (λ (p : Phase). (table.after (node_of made.versions made.sessions p) table.PartsMade).phase) now
     ∙ ap (λ (b : Bool). (table.after_row (node_of made.versions made.sessions (Making g s v)) (if b then table.Goes (Handed g s) answer.Heard else table.ignored)).phase) cut
 
--- in one message
+-- a daemon that hands over in one message hands a text over
 pub whole-text : (old : State) (daemon : DaemonId) (was : DaemonState) (said : Message) (s g v : ℕ) (reaction : Reaction) (later : DaemonState) → daemon_of old daemon ≡ Some was → table.heard was.node (table.Hear said) ≡ answer.MakeData s g v →
     (t : HandsOver was (table.after was.node (table.Hear said)) g v reaction later) → HandsText old daemon was s g v t.bytes reaction later
 whole-text old daemon was said s g v reaction later there e t =
@@ -235,7 +235,7 @@ whole-text old daemon was said s g v reaction later there e t =
       same = ap (λ (d : DaemonState). d.server) t.becomes;
     }
 
--- in its parts
+-- a daemon that hands over in parts hands a text over
 pub parts-text : (old : State) (daemon : DaemonId) (was : DaemonState) (said : Message) (s g v : ℕ) (reaction : Reaction) (later : DaemonState) → daemon_of old daemon ≡ Some was → table.heard was.node (table.Hear said) ≡ answer.MakeData s g v →
     (t : HandsOverInParts was (table.after was.node (table.Hear said)) s g v reaction later) → HandsText old daemon was s g v t.bytes reaction later
 parts-text old daemon was said s g v reaction later there e t =
@@ -268,11 +268,11 @@ turns-handing old daemon was node phase reaction later new h there turn t makes 
   now : later.node.phase ≡ phase
   now = ap (λ (d : DaemonState). d.node.phase) t.becomes ∙ t.now
 
--- what says that a session failed is no data
+-- the message that says that a session failed is no data
 failed-quiet : (s : ℕ) (said : Message) (reaction : Reaction) → Failed s ≡ said → reaction ≡ Says said [] → SaysNoData reaction
 failed-quiet s said reaction is reacts = says-none (Says said []) reaction reacts (sym (ap is_data is), tt)
 
--- nothing could be written, and the daemon serves on
+-- daemons and messages stand if nothing could be written, and the daemon serves on
 serves-handing : (old : State) (daemon : DaemonId) (was : DaemonState) (said : Message) (s g v : ℕ) (reaction : Reaction) (later : DaemonState) (new : State) → IsHanding old → daemon_of old daemon ≡ Some was →
     table.heard was.node (table.Hear said) ≡ answer.MakeData s g v → ServesOn was (table.after was.node (table.Hear said)) g v reaction later → new ≡ with_daemon (saying old reaction) daemon later → IsHanding new
 serves-handing old daemon was said s g v reaction later new h there e t makes =
@@ -292,20 +292,21 @@ serves-handing old daemon was said s g v reaction later new h there e t makes =
 
 -- ---- the data is taken
 
--- data of a generation that was: where it is the seat's, its holder handed over an image with these bytes as its text
+-- the bytes are data of a generation that was; if that is the seat's, they are the image of what the seat's daemon
+-- handed over
 record IsFromHolder (old : State) (g : ℕ) (bytes : List ℕ) : Type 0 where
   pub past : g ≤ old.broker.last
   pub from : (seat : Seat) (holder : DaemonState) (handed : ServerState) → HasTheSeat old seat holder handed → g ≡ seat.generation →
       (is_out holder.node.phase ≡ true) × (version : ℕ) × IsHandedOver handed.served g version bytes
 
--- a daemon without a part at any generation has not the seat
+-- a daemon whose phase has no generation does not have the seat
 pub no-seat : (old : State) (daemon : DaemonId) (was : DaemonState) → IsHanding old → daemon_of old daemon ≡ Some was → part_at was.node.phase ≡ None → (seat : Seat) → old.broker.seat ≡ Some seat → daemon ≡ seat.daemon → ⊥
 no-seat old daemon was h there none seat at here =
     let part : part_at was.node.phase ≡ Some seat.generation = (h.daemons daemon was there).part seat at here in
     let two : None ≡ Some seat.generation = sym none ∙ part in
     let no : ⊥ = cc in no
 
--- what is restored knows what the holder knows
+-- daemons and messages stand after data was restored: what is restored knows what the seat's daemon knows
 takes-handing : (w : World) (old : State) (daemon : DaemonId) (was : DaemonState) (bytes : List ℕ) (node : NodeState) (s g : ℕ) (reaction : Reaction) (later : DaemonState) (new : State) → Follows w old → IsHanding old → daemon_of old daemon ≡ Some was → part_at was.node.phase ≡ None → node.phase ≡ Raising s g →
     IsFromHolder old g bytes → TakesOver was old.manifest old.limit bytes node g reaction later → new ≡ with_daemon (saying old reaction) daemon later → IsHanding new
 takes-handing w old daemon was bytes node s g reaction later new m h there alone raising source t makes =
@@ -352,7 +353,7 @@ takes-handing w old daemon was bytes node s g reaction later new m h there alone
         reads = λ seat holder handed has e. absurd (let two : None ≡ Some seat.generation = sym (ap reads_at phase) ∙ e in let none : ⊥ = cc in none);
       }
 
--- nothing could be restored, and the daemon is gone
+-- daemons and messages stand if nothing could be restored, and the daemon is gone
 cannot-handing : (old : State) (daemon : DaemonId) (was : DaemonState) (bytes : List ℕ) (node : NodeState) (s g : ℕ) (reaction : Reaction) (later : DaemonState) (new : State) → IsHanding old → daemon_of old daemon ≡ Some was → ((at : ℕ) → IsTurn at false was.node.phase Gone) → node.phase ≡ Raising s g →
     CannotTakeOver was old.manifest bytes node g reaction later → new ≡ with_daemon (saying old reaction) daemon later → IsHanding new
 cannot-handing old daemon was bytes node s g reaction later new h there turn raising t makes =
@@ -364,7 +365,7 @@ cannot-handing old daemon was bytes node s g reaction later new h there turn rai
           ap (λ (p : Phase). table.said (table.heard (node_of node.versions node.sessions p) (table.Raised false))) (sym raising) ∙ (t.loses).says in
           let same : Failed s ≡ (t.loses).said = cc in same
 
--- it is restored, or nothing is
+-- daemons and messages stand whether data could be restored or not
 takes-data : (w : World) (old : State) (daemon : DaemonId) (was : DaemonState) (bytes : List ℕ) (node : NodeState) (s g : ℕ) (reaction : Reaction) (later : DaemonState) (new : State) → Follows w old → IsHanding old → daemon_of old daemon ≡ Some was → part_at was.node.phase ≡ None → ((at : ℕ) → IsTurn at false was.node.phase Gone) → node.phase ≡ Raising s g →
     IsFromHolder old g bytes → TakesData old.manifest old.limit was bytes node g reaction later → new ≡ with_daemon (saying old reaction) daemon later → IsHanding new
 takes-data w old daemon was bytes node s g reaction later new m h there alone turn raising source (inl t) makes = takes-handing w old daemon was bytes node s g reaction later new m h there alone raising source t makes
@@ -372,7 +373,7 @@ takes-data w old daemon was bytes node s g reaction later new m h there alone tu
 
 -- ---- what was heard
 
--- a message that was said, at its place
+-- a message was said: it is at an index of the messages
 record IsSaid (old : State) (said : Message) : Type 0 where
   pub index : ℕ
   pub at : slice_get old.messages index ≡ Some said
@@ -385,14 +386,14 @@ piece-handed : (old : State) (seat : Seat) (holder : DaemonState) (handed : Serv
 piece-handed old seat holder handed said at is over =
     filter-at (IsPieceOf over.text) (is_data_of seat.generation) old.messages at.index said (handed-pieces over.session seat.generation over.text (data_of seat.generation old.messages) over.said) at.at is
 
--- where a piece of it was said, it is out
+-- if a piece of the seat's data was said, the data is out
 out-handed : (old : State) (seat : Seat) (holder : DaemonState) (handed : ServerState) (said : Message) → IsHanding old → IsSaid old said → is_data_of seat.generation said ≡ true → HasTheSeat old seat holder handed → HasHanded old seat holder handed
 out-handed old seat holder handed said h at is has = in_ (h.once seat holder handed has) where
   in_ : (data_of seat.generation old.messages ≡ []) ⊎ HasHanded old seat holder handed → HasHanded old seat holder handed
   in_ (inl none) = absurd (filter-some (is_data_of seat.generation) old.messages at.index said at.at is none)
   in_ (inr over) = over
 
--- the data in one message
+-- data in one message is from the seat's daemon
 from-data : (old : State) (s g : ℕ) (bytes : List ℕ) → IsHanding old → IsSaid old (Data s g bytes) → IsFromHolder old g bytes
 from-data old s g bytes h at = record {
   past = all-at (IsPast old.broker.last) old.messages at.index (Data s g bytes) h.messages at.at;
@@ -403,20 +404,20 @@ from-data old s g bytes h at = record {
       (over.out, over.version, subst (λ (x : ℕ). IsHandedOver handed.served x over.version bytes) (sym same) (subst (λ (b : List ℕ). IsHandedOver handed.served seat.generation over.version b) (sym text) over.handed));
 }
 
--- who waits for a part has no part at any generation, and may be gone
+-- a daemon that waits for a part has no generation, and may be gone
 pub waits-alone : (s g v i n : ℕ) (p : Phase) → ((p ≡ Chosen s v) × (i ≡ 1)) ⊎ (p ≡ Reading s g v i n) → (part_at p ≡ None) × ((at : ℕ) → IsTurn at false p Gone)
 waits-alone s g v i n p (inl (is, first)) = (ap part_at is, λ at. subst (λ (x : Phase). IsTurn at false x Gone) (sym is) (turn-gone s v at))
 waits-alone s g v i n p (inr is) = (ap part_at is, λ at. subst (λ (x : Phase). IsTurn at false x Gone) (sym is) (turn-lost s g v i n at))
 
 -- ---- a part is taken
 
--- a part was heard by who waited for it
+-- a daemon that waited for a part heard it
 record HearsPart (old : State) (daemon : DaemonId) (was : DaemonState) (s g v i n : ℕ) (bytes : List ℕ) : Type 0 where
   pub there : daemon_of old daemon ≡ Some was
   pub waited : ((was.node.phase ≡ Chosen s v) × (i ≡ 1)) ⊎ (was.node.phase ≡ Reading s g v i n)
   pub said : IsSaid old (Part s g i n bytes)
 
--- with those before it, it is what was handed over up to there
+-- a part, with the parts before it, is the beginning of what was handed over
 read-here : (old : State) (daemon : DaemonId) (was : DaemonState) (s g v i n : ℕ) (bytes : List ℕ) (seat : Seat) (holder : DaemonState) (handed : ServerState) → IsHanding old → HearsPart old daemon was s g v i n bytes → HasTheSeat old seat holder handed → g ≡ seat.generation → (over : HasHanded old seat holder handed) →
     (p : IsPartOf over.text i n bytes) × (read_before i was ++ bytes ≡ concat (take i p.parts))
 read-here old daemon was s g v i n bytes seat holder handed h t has same over = (p, in_ t.waited) where
@@ -443,7 +444,7 @@ read-here old daemon was s g v i n bytes seat holder handed h t has same over = 
 part-past : (old : State) (s g i n : ℕ) (bytes : List ℕ) → IsHanding old → IsSaid old (Part s g i n bytes) → g ≤ old.broker.last
 part-past old s g i n bytes h at = all-at (IsPast old.broker.last) old.messages at.index (Part s g i n bytes) h.messages at.at
 
--- the data in its last part, with those before it
+-- data whose last part was heard, with the parts before it, is from the seat's daemon
 from-parts : (old : State) (daemon : DaemonId) (was : DaemonState) (s g v i n : ℕ) (bytes : List ℕ) → IsHanding old → HearsPart old daemon was s g v i n bytes → nat_lt i n ≡ false → IsFromHolder old g (read_before i was ++ bytes)
 from-parts old daemon was s g v i n bytes h t last = record {
   past = part-past old s g i n bytes h t.said;
@@ -460,7 +461,7 @@ from-parts old daemon was s g v i n bytes h t last = record {
       let all : take i p.parts ≡ p.parts = take-whole p.parts i (omega arith) in
       is ∙ ap concat all ∙ (p.are).joined
 
--- the phases behind it
+-- the phases after a part was read
 pub behind-more : (node : NodeState) (s g v i n : ℕ) → node.phase ≡ Taking s g v i n → nat_lt i n ≡ true → (table.after node (table.Fed true)).phase ≡ Reading s g v (i + 1) n
 behind-more node s g v i n taking more =
     ap (λ (p : Phase). (table.after (node_of node.versions node.sessions p) (table.Fed true)).phase) taking ∙ ap (λ (b : Bool). if b then Reading s g v (i + 1) n else Raising s g) more
@@ -469,7 +470,7 @@ pub behind-last : (node : NodeState) (s g v i n : ℕ) → node.phase ≡ Taking
 behind-last node s g v i n taking last =
     ap (λ (p : Phase). (table.after (node_of node.versions node.sessions p) (table.Fed true)).phase) taking ∙ ap (λ (b : Bool). if b then Reading s g v (i + 1) n else Raising s g) last
 
--- it waits for the next
+-- daemons and messages stand if a daemon read a part and waits for the next
 reads-handing : (old : State) (daemon : DaemonId) (was : DaemonState) (s g v i n : ℕ) (bytes : List ℕ) (node : NodeState) (reaction : Reaction) (later : DaemonState) (new : State) → IsHanding old → HearsPart old daemon was s g v i n bytes → node.phase ≡ Taking s g v i n → nat_lt i n ≡ true →
     ReadsOn was node (read_before i was ++ bytes) reaction later → new ≡ with_daemon (saying old reaction) daemon later → IsHanding new
 reads-handing old daemon was s g v i n bytes node reaction later new h t taking more r makes =
@@ -521,7 +522,7 @@ reads-handing old daemon was s g v i n bytes node reaction later new h t taking 
             };
       }
 
--- no image begins so, and the daemon is gone
+-- daemons and messages stand if no image begins with what was read, and the daemon is gone
 lost-handing : (old : State) (daemon : DaemonId) (was : DaemonState) (s g v i n : ℕ) (bytes read : List ℕ) (node : NodeState) (reaction : Reaction) (later : DaemonState) (new : State) → IsHanding old → HearsPart old daemon was s g v i n bytes → node.phase ≡ Taking s g v i n →
     LosesPart was node read reaction later → new ≡ with_daemon (saying old reaction) daemon later → IsHanding new
 lost-handing old daemon was s g v i n bytes read node reaction later new h t taking l makes =
@@ -571,7 +572,7 @@ gives-up-handing old daemon told new h r =
     by-turn old daemon r.was (table.after (r.was).node table.GiveUp) (table.heard (r.was).node table.GiveUp) r.reaction r.later new h r.there
     (λ g. turn-give_up (r.was).node.versions (r.was).node.sessions (r.was).node.phase g) (give_up-no-data (r.was).node.versions (r.was).node.sessions (r.was).node.phase) r.does r.makes
 
--- who has nothing left is idle
+-- a daemon with nothing in hand or unposted is idle
 none-left : (h u : ℕ) → (h == 0 && u == 0) ≡ true → (h ≡ 0) × (u ≡ 0)
 none-left h u e = in_ (h == 0) (u == 0) refl refl e where
   in_ : (a b : Bool) → (h == 0) ≡ a → (u == 0) ≡ b → (a && b) ≡ true → (h ≡ 0) × (u ≡ 0)

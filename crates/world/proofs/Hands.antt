@@ -46,7 +46,7 @@ handed-ask ask e = (rw (e, e) refl, rw e (ap (λ (is : List Item). is ++ []) (as
 pub handed-items : (ask : Ask) → is_ask ask.what ≡ false → (asks_in (handed ask) ≡ []) × (items_in (handed ask) ≡ items_of ask.what)
 handed-items ask e = (rw e (asks_in-singles (items_of ask.what)), rw e (items_in-singles (items_of ask.what)))
 
--- what joins it is an ask or one item
+-- what joins the hand is an ask or single items
 pub handed-single : (ask : Ask) → AllByRecursion (λ (task : Ask). is_single task ≡ true) (handed ask)
 handed-single ask = in_ (is_ask ask.what) refl where
   all : (items : List Item) → AllByRecursion (λ (task : Ask). is_single task ≡ true) (map single items)
@@ -57,13 +57,13 @@ handed-single ask = in_ (is_ask ask.what) refl where
   in_ true e = (rw e refl, tt)
   in_ false e = all (items_of ask.what)
 
--- a member of it
+-- what holds of all members of a hand holds of the one at an index, and of the others
 pub at-single : (P : Ask → Type 0) (hand : List Ask) (i : ℕ) (task : Ask) → slice_get hand i ≡ Some task → AllByRecursion P hand → P task × AllByRecursion P (remove hand i)
 at-single P [] i task at every = absurd (let none : ⊥ = cc in none)
 at-single P (first ∷ hand) zero task at every = let same : first ≡ task = cc in (subst P same every.0, every.1)
 at-single P (first ∷ hand) (suc i) task at every = let r = at-single P hand i task at every.1 in (r.0, (every.0, r.1))
 
--- one that is no ask is an item
+-- a member of a hand that is no ask is an item
 pub single-item : (task : Ask) → is_single task ≡ true → is_ask task.what ≡ false → (item : Item) × (item_of task.what ≡ Some item)
 single-item task single forget = in_ (item_of task.what) refl where
   in_ : (o : Option Item) → item_of task.what ≡ o → (item : Item) × (o ≡ Some item)
@@ -103,7 +103,7 @@ asks-worked (first ∷ hand) (suc i) task at ask few = in_ (is_ask first.what) r
       behind (more (omega (arith, c))) (first.unique == task.unique) refl c
   in_ false e more = more (subst (λ (b : Bool). count_by (is_asked task.unique) (if b then first ∷ asks_in hand else asks_in hand) ≤ 1) e few)
 
--- a forget that is worked leaves the asks
+-- a forget that is worked leaves the asks in hand as they were
 pub asks-forgot : (hand : List Ask) (i : ℕ) (task : Ask) → slice_get hand i ≡ Some task → is_ask task.what ≡ false → asks_in (remove hand i) ≡ asks_in hand
 asks-forgot [] i task at forget = absurd (let none : ⊥ = cc in none)
 asks-forgot (first ∷ hand) zero task at forget =
@@ -114,7 +114,7 @@ asks-forgot (first ∷ hand) (suc i) task at forget = in_ (is_ask first.what) (a
   in_ true more = ap (λ all. first ∷ all) more
   in_ false more = more
 
--- what is worked takes its items along
+-- a sum over the items in hand is that over a member's items, and that over the items of the others
 pub items-worked : (f : Item → ℕ) (hand : List Ask) (i : ℕ) (task : Ask) → slice_get hand i ≡ Some task → sum_by f (items_in hand) ≡ sum_by f (items_of task.what) + sum_by f (items_in (remove hand i))
 items-worked f [] i task at = absurd (let none : ⊥ = cc in none)
 items-worked f (first ∷ hand) zero task at = let same : first ≡ task = cc in

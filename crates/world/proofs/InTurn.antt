@@ -1,4 +1,4 @@
--- Events one after another until one is refused, and so each event of a list, are moves that may happen.
+-- A list of events until one is refused is moves that may happen, and so is each event.
 use Rattle.std.proofs.Common.{◌≡◌, Bool, true, false, ◌||◌, List, [], ◌∷◌, ◌++◌, Option, Some, None, refl, sym, ap, ◌∙◌, subst, inl, inr, ◌⊎◌}
 use Rattle.std.specs.Prelude.{if◌then◌else◌}
 use Rattle.std.specs.Option.{option_map_or}
@@ -31,7 +31,7 @@ use Rattle.world.proofs.Runs.{run-append, after_all-append, answered-after_all}
 
 -- ---- the seat
 
--- all events but a mount, a claim and a crash leave the seat
+-- an event leaves the seat as it was: every one but a mount, a claim and a crash
 abbrev pub KeepsSeat : Event → Type 0
 KeepsSeat (Mount daemon) = ⊥
 KeepsSeat (Claim daemon) = ⊥
@@ -58,7 +58,7 @@ made-seat old (Claim daemon) told new keeps made = absurd keeps
 made-seat old (Crash daemon) told new keeps made = absurd keeps
 made-seat old event told new keeps made = absurd made
 
--- a refusal leaves the kernel's side
+-- a refusal leaves the kernel's side as it was
 refused-broker : (old : State) (event : Event) → (after_refusal old event).broker ≡ old.broker
 refused-broker old (Claim daemon) = in_ (daemon_of old daemon) where
   in_ : (o : Option DaemonState) → (option_map_or (λ (was : DaemonState). with_daemon old daemon (unclaimed old was (claim_wanted was.node.phase))) o old).broker ≡ old.broker
@@ -81,7 +81,7 @@ StaysSeated (event ∷ next ∷ events) = KeepsSeat event × StaysSeated (next �
 
 -- ---- what an event is refused for
 
--- what comes to these events may come to the one that they are parts of
+-- a refusal that may come of one of these events may also come of the whole event
 abbrev pub Covers : Event → List Event → Type 0
 Covers whole [] = Unit {0}
 Covers whole (event ∷ events) = ((r : Refusal) → may_come r event ≡ true → may_come r whole ≡ true) × Covers whole events
@@ -90,7 +90,7 @@ as-part : (whole event : Event) (told : Happened) → ((r : Refusal) → may_com
 as-part whole event (happened.Refused r) covers may = covers r may
 as-part whole event told covers may = tt
 
--- what may come to an event that is no claim may come to each
+-- a refusal that may come of an event that is no claim may come of each event
 no-claim-covers : (whole event : Event) → is_claim event ≡ false → (r : Refusal) → may_come r event ≡ true → may_come r whole ≡ true
 no-claim-covers whole event none refusal.Ended may = absurd (let two : true ≡ false = sym may ∙ none in let x : ⊥ = cc in x)
 no-claim-covers whole event none (refusal.Stale now) may = absurd (let two : true ≡ false = sym may ∙ none in let x : ⊥ = cc in x)
@@ -100,7 +100,7 @@ no-claim-covers whole event none r may = refl
 
 -- ---- one after another
 
--- what events did
+-- what a list of events did: moves, good forgets, and refusals that may come
 pub record Carried (w : World) (old : State) (events : List Event) (outcome : List Happened) (new : State) : Type 0 where
   pub run : IsRun w (moves_in_turn w events outcome)
   pub matches : Matches (after_all w (moves_in_turn w events outcome)) new
@@ -112,7 +112,7 @@ or_in : (b c : Bool) → (b || c) ≡ true → (b ≡ true) ⊎ (c ≡ true)
 or_in true c e = inl refl
 or_in false c e = inr e
 
--- one event, and then the others
+-- what a list of events did, by what its first event and the other events did
 carried-on : (w : World) (old between : State) (event : Event) (events : List Event) (told : Happened) (rest : List Happened) (new : State) → MovesBy w (move_of w.seat event told) old told between → MayBeTold event told →
     Carried (after_all w (move_of w.seat event told)) between events rest new → (list_any is_posted rest ≡ true → between.broker.seat ≡ old.broker.seat) → Carried w old (event ∷ events) (told ∷ rest) new
 carried-on w old between event events told rest new one may more seat = record {
@@ -129,7 +129,7 @@ carried-on w old between event events told rest new one may more seat = record {
   answered_in (inl e) = answered-after_all (after_all w (move_of w.seat event told)) (moves_in_turn (after_all w (move_of w.seat event told)) events rest) old.broker.seat (one.answered e)
   answered_in (inr e) = subst (λ (o : Option Seat). IsAnswered (after_all (after_all w (move_of w.seat event told)) (moves_in_turn (after_all w (move_of w.seat event told)) events rest)) o) (seat e) (more.answered e)
 
--- nothing more happened
+-- a list of events of which none happened
 carried-none : (w : World) (old new : State) (events : List Event) (rest : List Happened) → Matches w old → rest ≡ [] → new ≡ old → Carried w old events rest new
 carried-none w old new events rest m none same = subst (λ (r : List Happened). Carried w old events r new) (sym none) (record {
   run = subst (λ (ms : List Move). IsRun w ms) (sym (no_moves events)) tt;
@@ -194,7 +194,7 @@ stays-parts seat (Crash daemon) = tt
 stays-parts seat (Do request) = stays-do seat request
 stays-parts seat Show = tt
 
--- the parts of an event are refused only as it may be
+-- a refusal that may come of a part of an event may come of the event
 covers-parts : (seat : Option Seat) (event : Event) → Covers event (parts_of seat event)
 covers-parts seat (Start versions) = (λ r may. may, tt)
 covers-parts seat (Mount daemon) = (λ r may. may, tt)

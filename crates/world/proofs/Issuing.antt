@@ -27,7 +27,7 @@ use Rattle.world.proofs.Orderly.{orderly-asked, orderly-forgot}
 use Rattle.world.proofs.Times.{times-without}
 use Rattle.world.proofs.UnderWay.{under-asked, under-forgot}
 
--- an ask
+-- an ask that is issued is a move
 asks-moved : (w : World) (old : State) (request : Request) (seat : Seat) (server : ServerState) → Follows w old → issue_fault old.broker request ≡ None → is_ask request ≡ true → IsSeated old seat server →
     MovesBy w (issue (record { unique = old.broker.next_unique; what = request }) ∷ []) old (happened.Asked (Some old.broker.next_unique)) (record old { broker = asked old.broker request })
 asks-moved w old request seat server m clear is at = record {
@@ -58,14 +58,14 @@ asks-moved w old request seat server m clear is at = record {
   holder : HolderIs w old server
   holder = holder-is w old seat server m.knows at
 
--- an item that is held is good
+-- an item that is not of the root, and takes something back, is good
 good-item : (item : Item) → (item.node.0 ≡ 1 → ⊥) → 1 ≤ item.k → is_bad item ≡ false
 good-item item root some =
     let a : (item.node.0 == 1) ≡ false = eq-false item.node.0 1 root in
     let b : (item.k == 0) ≡ false = eq-false item.k 0 (λ e. omega (arith, some, e)) in
     rw (a, b) refl
 
--- what is held less waits to be taken back
+-- what the kernel holds less after a forget is still owed
 forgot-owed : (w : World) (item : Item) (j : ℕ) → item.k ≤ times item.node.0 w.held → owed w j ≡ owed (record w { held = without_times item.k item.node.0 w.held; items = w.items ++ item ∷ [] }) j
 forgot-owed w item j few = in_ (item.node.0 == j) refl where
   in_ : (b : Bool) → (item.node.0 == j) ≡ b →
@@ -83,7 +83,7 @@ forgot-owed w item j few = in_ (item.node.0 == j) refl where
       let k : taken_back j item ≡ 0 = ap (λ (b : Bool). if b then item.k else 0) e in
       omega arith
 
--- a forget
+-- a forget that is issued is a move
 forgets-moved : (w : World) (old : State) (request : Request) (item : Item) (seat : Seat) (server : ServerState) → Follows w old → IsAcceptedItem old.broker request item → IsSeated old seat server →
     MovesBy w (issue_item item ∷ []) old (happened.Asked None) (record old { broker = forgot old.broker item })
 forgets-moved w old request item seat server m accepted at = record {

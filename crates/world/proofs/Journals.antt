@@ -1,5 +1,5 @@
--- A legal step on a member of the hand of the seat's daemon is a move of the world, and so a round's journal is a run of
--- moves.
+-- A legal step on a member of the hand of the seat's daemon is a move of the world, and so a round's journal is a run
+-- of moves.
 use Rattle.std.proofs.Common.{◌≡◌, ℕ, suc, zero, ◌-◌, Bool, true, false, List, [], ◌∷◌, ◌++◌, map, Option, Some, None, refl, sym, ap, ◌∙◌, subst}
 use Rattle.std.specs.Prelude.{◌==◌, slice_get, slice_set, if◌then◌else◌}
 use Rattle.std.specs.List.{flat_map}
@@ -32,7 +32,7 @@ use Rattle.world.proofs.Working.{answers-moved, items-moved}
 
 -- ---- one step
 
--- its moves may happen, and what the daemon serves and has in hand knows the world after them
+-- these moves may happen, and what the daemon serves and has in hand knows the world after them
 record Runs (w : World) (moves : List Move) (new : State) : Type 0 where
   run : IsRun w moves
   follows : Follows (after_all w moves) new
@@ -79,7 +79,7 @@ set-twice [] i d later = refl
 set-twice (x ∷ ds) zero d later = refl
 set-twice (x ∷ ds) (suc i) d later = ap (λ (ys : List DaemonState). x ∷ ys) (set-twice ds i d later)
 
--- with what it serves it goes on as it was
+-- a daemon of the seat that serves what it served is as it was
 still-serves : (state : State) (seat : Seat) (was : DaemonState) (server : ServerState) → HasTheSeat state seat was server → serves_on state seat was server ≡ state
 still-serves state seat was server has = ap (λ (d : DaemonState). with_daemon state seat.daemon d) same ∙ ap (λ (ds : List DaemonState). record state { daemons = ds }) (in_ (seat.daemon.0 == 0) has.there) where
   same : with_server was server ≡ was
@@ -89,17 +89,17 @@ still-serves state seat was server has = ap (λ (d : DaemonState). with_daemon s
   in_ true e = absurd (let none : ⊥ = cc in none)
   in_ false e = set-same state.daemons (seat.daemon.0 - 1) was e
 
--- and goes on once more
+-- a daemon of the seat that serves one thing and then another serves the other
 goes-further : (state : State) (seat : Seat) (was : DaemonState) (server later : ServerState) → serves_on (serves_on state seat was server) seat (with_server was server) later ≡ serves_on state seat was later
 goes-further state seat was server later = ap (λ (ds : List DaemonState). record state { daemons = ds }) (set-twice state.daemons (seat.daemon.0 - 1) (with_server was server) (with_server was later))
 
--- it has the seat still
+-- the daemon of the seat still has the seat if it serves something else
 still-seated : (state : State) (seat : Seat) (was : DaemonState) (server later : ServerState) → HasTheSeat state seat was server → HasTheSeat (serves_on state seat was later) seat (with_server was later) later
 still-seated state seat was server later has = record { seated = has.seated; there = daemon_of-with state seat.daemon was (with_server was later) has.there; serves = refl }
 
 -- ---- one step after another
 
--- moves that lead to a matching state in which the seat's daemon goes on with this
+-- these moves lead to a matching state, in which the daemon of the seat serves this
 record Leads (w : World) (moves : List Move) (state : State) (seat : Seat) (was : DaemonState) (server : ServerState) : Type 0 where
   run : IsRun w moves
   matches : Matches (after_all w moves) (serves_on state seat was server)
@@ -117,7 +117,7 @@ leads-on w moves more state seat was between server one next = record {
 
 -- ---- a forget
 
--- what it brought into the hand is applied, one item after another
+-- the items that a daemon has in hand are applied, one after another
 items-lead : (w : World) (state : State) (seat : Seat) (was : DaemonState) (server : ServerState) (items : List Item) (left : List Ask) → Matches w state → HasTheSeat state seat was server → Leaves server.hand (map single items) left →
     Leads w (map work_item items) state seat was (record server { served = record server.served { map = forgotten_all server.served.map items }; hand = left })
 items-lead w state seat was server [] left m has leaves =
@@ -137,7 +137,7 @@ items-lead w state seat was server (item ∷ items) left m has (position, at, le
 
 -- ---- a record
 
--- a hand that is left in two parts
+-- a hand from which two lists of members are taken, one after the other
 leaves-parts : (hand : List Ask) (tasks more : List Ask) (left : List Ask) → Leaves hand (tasks ++ more) left → (between : List Ask) × Leaves hand tasks between × Leaves between more left
 leaves-parts hand [] more left leaves = (hand, refl, leaves)
 leaves-parts hand (task ∷ tasks) more left (position, at, leaves) =

@@ -1,4 +1,4 @@
--- Each part of a match, kept by a call of the broker: its books, who answered, and the seat.
+-- What a call of the broker keeps of each part of a match: of its books, of who answered, and of the seat.
 use Rattle.std.proofs.Common.{◌≡◌, ℕ, suc, zero, ◌+◌, ◌-◌, ◌<◌, ◌≤◌, Bool, true, false, ◌&&◌, ◌||◌, List, [], ◌∷◌, Option, Some, None, refl, sym, ap, ◌∙◌, subst, inl, inr, ◌⊎◌, arith}
 use Rattle.std.specs.Prelude.{◌==◌, Contains, nat_lt, if◌then◌else◌}
 use Rattle.std.specs.Option.{option_map_or}
@@ -23,7 +23,7 @@ use Rattle.world.specs.Agreement.{Books, AnsweredBefore, SeatIsLast}
 use Rattle.world.proofs.Bags.{mark}
 use Rattle.world.proofs.Times.{times-without}
 
--- what stands first, or behind
+-- a member of a list is its first member, or one of the others
 pub contains_cons : {X : Type 0} (x y : X) (xs : List X) → Contains (x ∷ xs) y → (x ≡ y) ⊎ Contains xs y
 contains_cons x y xs (zero, low, e) = inl e
 contains_cons x y xs (suc k, low, e) = inr (k, omega (arith, low), e)
@@ -38,7 +38,7 @@ books-mounted w b daemon books = record {
   uniques = books.uniques;
 }
 
--- an ask uses the next unique
+-- the books after an ask was issued: it uses the next unique
 pub books-asked : (w : World) (b : BrokerState) (request : Request) (asks : List Ask) → Books w b → Books (record w { asks = asks; uniques = b.next_unique ∷ w.uniques }) (asked b request)
 books-asked w b request asks books = record {
   seat = books.seat;
@@ -50,7 +50,7 @@ books-asked w b request asks books = record {
   used u (inl e) = omega arith
   used u (inr c) = let low : u < b.next_unique = books.uniques u c in omega arith
 
--- an item is held less often by its count
+-- the books after an item was issued: its number is held less often, by the item's count
 pub books-forgot : (w : World) (b : BrokerState) (item : Item) (items : List Item) → Books w b → Books (record w { held = without_times item.k item.node.0 w.held; items = items }) (forgot b item)
 books-forgot w b item items books = record {
   seat = books.seat;
@@ -62,11 +62,11 @@ books-forgot w b item items books = record {
   less_in n true = ap (λ i. i - item.k) (books.held n)
   less_in n false = let h : times n w.held ≡ held_count b.held n = books.held n in omega arith
 
--- what a queue holds is no part of them
+-- the books do not depend on what is in a queue
 pub books-queued : (w : World) (b : BrokerState) (traffic : TrafficState) → Books w b → Books w (record b { traffic = traffic })
 books-queued w b traffic books = record { seat = books.seat; last = books.last; held = books.held; uniques = books.uniques }
 
--- how often a number is held more once an answer was delivered
+-- how often the world holds a number after an answer was delivered
 pub times-held : (n : ℕ) (held : List ℕ) (answer : Answer) → times n (held_after held answer) ≡ times n held + mark (gives n answer)
 times-held n held answer = in_ (given_out answer) where
   one_in : (c : Bool) → (if c then 1 else 0) + times n held ≡ times n held + mark c
@@ -77,7 +77,7 @@ times-held n held answer = in_ (given_out answer) where
   in_ None = let z : mark false ≡ 0 = refl in omega arith
   in_ (Some number) = one_in (number.0 == n)
 
--- the same for the broker
+-- how often the broker holds a number after a reply was delivered
 count-held : (n : ℕ) (held : HeldMap) (reply : Reply) → held_count (held_with held (Some reply)) n ≡ held_count held n + mark (carries n reply)
 count-held n held reply = in_ (given_out reply.answer) where
   one_in : (c : Bool) (x y : ℕ) → x ≡ y + (if c then 1 else 0) → x ≡ y + mark c
@@ -88,7 +88,7 @@ count-held n held reply = in_ (given_out reply.answer) where
   in_ None = let z : mark false ≡ 0 = refl in omega arith
   in_ (Some number) = one_in (number.0 == n) (held_count (raised held number.0) n) (held_count held n) (held_count-raised held number.0 n)
 
--- a reply that reaches the kernel has its number held once more, on both sides
+-- the books after a reply was delivered: the world and the broker hold its number once more
 pub books-delivered : (w : World) (b : BrokerState) (reply found : Reply) (replies : List Reply) → front b.traffic.posted ≡ Some reply → ((f : Reply → ℕ) → f found ≡ f reply) → Books w b →
     Books (record w { held = held_after w.held found.answer; replies = replies }) (broker_delivered b)
 books-delivered w b reply found replies first same books = record {
@@ -114,7 +114,7 @@ answered-mounted w daemon a = record {
       let g : w.last + 1 ≡ seat.generation = ap (λ (s : Seat). s.generation) is in let l : other.generation ≤ w.last = a.at_most other c in omega arith);
 }
 
--- what is under way, held or named is no part of it
+-- who answered does not depend on what is under way, held or named
 pub answered-still : (w new : World) → new.seat ≡ w.seat → new.last ≡ w.last → new.answered ≡ w.answered → AnsweredBefore w → AnsweredBefore new
 answered-still w new seat last answered a = record {
   one_daemon = λ one other c d e. a.one_daemon one other (was one c) (was other d) e;
@@ -124,7 +124,7 @@ answered-still w new seat last answered a = record {
   was : (s : Seat) → Contains new.answered s → Contains w.answered s
   was s c = subst (λ (all : List Seat). Contains all s) answered c
 
--- the seat's daemon answered
+-- who answered, after the daemon of the seat answered
 pub answered-posted : (w : World) (seat : Seat) → AnsweredBefore w → SeatIsLast w → w.seat ≡ Some seat → AnsweredBefore (record w { answered = seat ∷ w.answered })
 answered-posted w seat a last at = record {
   one_daemon = λ one other c d e. one_in one other (contains_cons seat one w.answered c) (contains_cons seat other w.answered d) e;
@@ -156,7 +156,7 @@ seat-mounted w daemon = record {
   empty = λ e. absurd (let none : ⊥ = cc in none);
 }
 
--- a seat that stays
+-- the seat is still at the last generation if it stays
 pub seat-stays : (w new : World) (seat : Seat) → SeatIsLast w → w.seat ≡ Some seat → new.seat ≡ Some seat → new.last ≡ w.last → SeatIsLast new
 seat-stays w new seat last at now same = record {
   is_last = λ s e. last.is_last s (at ∙ sym now ∙ e) ∙ sym same;
@@ -165,7 +165,7 @@ seat-stays w new seat last at now same = record {
 
 -- ---- what may be asked
 
--- what the kernel may ask, by the broker's books
+-- the kernel may name the numbers that the broker lets it name
 pub may_go : (w : World) (b : BrokerState) → Books w b → (numbers : List Number) → list_all (may_be_asked b) numbers ≡ true → AllByRecursion (MayGoTo w) numbers
 may_go w b books [] all = tt
 may_go w b books (n ∷ numbers) all = (go_in (n.0 == 1) (nat_lt 0 (held_count b.held n.0)) refl refl (both (may_be_asked b n) (list_all (may_be_asked b) numbers) all).0, may_go w b books numbers (both (may_be_asked b n) (list_all (may_be_asked b) numbers) all).1) where

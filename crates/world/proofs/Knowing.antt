@@ -1,4 +1,5 @@
--- What a daemon knows of a world: live numbers name files, and what is known after a number was given, or of a new mount.
+-- What a daemon knows of a world: live numbers name files, and what is known after a number was given, or of a new
+-- mount.
 use Rattle.std.proofs.Common.{◌≡◌, ℕ, ◌+◌, ◌<◌, ◌≤◌, Bool, true, false, List, [], ◌∷◌, Option, Some, None, is_some, refl, sym, ap, ◌∙◌, subst, inl, inr, ◌⊎◌, arith}
 use Rattle.std.specs.Prelude.{◌==◌, ◌↔◌, IsSome, if◌then◌else◌}
 use Rattle.std.specs.Option.{option_map_or}
@@ -19,11 +20,11 @@ use Rattle.fuse_ops.proofs.Making.{sound-plainly}
 use Rattle.world.specs.World.{World, file_named, owed, IsLive, IsNumberOf}
 use Rattle.world.specs.Agreement.{Knows}
 
--- what is owed no more and no less is known the same
+-- a daemon knows the same if each number is owed as often
 pub knows-along : (tree : Tree) (names : List (ℕ × FileId)) (owes other : ℕ → ℕ) (served : ServedState) → ((n : ℕ) → owes n ≡ other n) → Knows tree names owes served → Knows tree names other served
 knows-along tree names owes other served same k = record { tree_is = k.tree_is; counts = λ n d. k.counts n d ∙ same n; files = k.files; sound = k.sound; numbers = k.numbers }
 
--- what is loaded, remembered or made ready is no part of it
+-- what a daemon knows does not depend on what is loaded, remembered or reserved
 pub knows-plain : (tree : Tree) (names : List (ℕ × FileId)) (owes : ℕ → ℕ) (a b : ServedState) → plain a ≡ plain b → Knows tree names owes b → Knows tree names owes a
 knows-plain tree names owes a b e k = record {
   tree_is = ap (λ (p : PlainState). p.tree) e ∙ k.tree_is;
@@ -33,7 +34,7 @@ knows-plain tree names owes a b e k = record {
   numbers = λ n. subst (λ (p : PlainState). IsSome (file_named names n) ↔ ((1 ≤ n) × (n < p.next))) (sym e) (k.numbers n);
 }
 
--- what numbers name and how often is known still where a file came or lost its name
+-- what numbers name, and how often each is owed, is still known after a file got or lost its name
 pub kept-knows : (tree : Tree) (names : List (ℕ × FileId)) (owes : ℕ → ℕ) (old new : ServedState) → KeepsNames old new → Knows tree names owes old → Knows new.tree names owes new
 kept-knows tree names owes old new keeps k = record {
   tree_is = refl;
@@ -43,14 +44,14 @@ kept-knows tree names owes old new keeps k = record {
   numbers = λ n. subst (λ (next : ℕ). IsSome (file_named names n) ↔ ((1 ≤ n) × (n < next))) (sym keeps.next) (k.numbers n);
 }
 
--- the kernel's count of a number is the daemon's
+-- a number that is counted has an entry
 counted_entry : (es : List Kept) (n : ℕ) → 0 < count_of es n → IsSome (entry_of es n)
 counted_entry es n some = in_ (entry_of es n) refl some where
   in_ : (o : Option Kept) → entry_of es n ≡ o → 0 < option_map_or (λ (k : Kept). k.count) o 0 → IsSome (entry_of es n)
   in_ None e h = absurd (omega arith)
   in_ (Some k) e h = some-IsSome (entry_of es n) k e
 
--- what is live names a file, for the daemon too
+-- a live number names a file for the daemon
 pub live-named : (w : World) (tree : Tree) (m : MapState) → Knows tree w.names (owed w) (served_over tree m) → (n : ℕ) → IsLive w n → (file : FileId) × IsFileOf tree m.entries n file
 live-named w tree m k n (inl one) = (root, is_root n root one refl)
 live-named w tree m k n (inr some) = in_ (eq-or n 1) where
@@ -59,7 +60,7 @@ live-named w tree m k n (inr some) = in_ (eq-or n 1) where
   in_ (inr other) = let c : count_of m.entries n ≡ owed w n = k.counts n other in
       let f = (k.sound).names_a_file n (counted_entry m.entries n (omega arith)) in (f.0, f.1)
 
--- a live number of the file names it for the daemon
+-- a live number of the file names this file for the daemon
 pub number-names : (w : World) (tree : Tree) (m : MapState) → Knows tree w.names (owed w) (served_over tree m) → (n : ℕ) (file : FileId) → IsNumberOf w file n → IsFileOf tree m.entries n file
 number-names w tree m k n file is =
     let f = live-named w tree m k n is.live in
@@ -70,7 +71,7 @@ number-names w tree m k n file is =
 abbrev pub named : List (ℕ × FileId) → ℕ → FileId → List (ℕ × FileId)
 named names n file = if is_some (file_named names n) then names else (n, file) ∷ names
 
--- the names of numbers after it: the number names the file, and each other what it named
+-- after a number was given out for a file, the number names that file, and each other number what it named
 record IsNamed (names : List (ℕ × FileId)) (n : ℕ) (file : FileId) : Type 0 where
   here : file_named (named names n file) n ≡ Some file
   others : (m : ℕ) → (m ≡ n → ⊥) → file_named (named names n file) m ≡ file_named names m
@@ -82,7 +83,7 @@ is-named names n file (inl e) = record {
   others = λ m d. rw e (let t : (n == m) ≡ false = eq-false n m (λ s. d (sym s)) in rw t refl);
 }
 
--- what the daemon knows after it gave the number
+-- what the daemon knows after it gave a number out
 pub gave-knows : (w : World) (tree : Tree) (m new : MapState) (n : ℕ) (file : FileId) → Knows tree w.names (owed w) (served_over tree m) → Gave tree m new n file →
     Knows tree (named w.names n file) (λ j. owed w j + (if n == j then 1 else 0)) (served_over tree new)
 gave-knows w tree m new n file k g = record {

@@ -11,6 +11,6 @@ pub record MovesBy (w : World) (moves : List Move) (old : State) (told : Happene
   pub forget : IsGoodForget told
   pub answered : is_posted told ≡ true → IsAnswered (after_all w moves) old.broker.seat
 
--- what makes no move leaves the world
+-- an event that makes no move leaves the world as it was
 pub unmoved : (w : World) (old : State) (told : Happened) (new : State) → IsGoodForget told → is_posted told ≡ false → Follows w new → MovesBy w [] old told new
 unmoved w old told new good nobody m = record { run = tt; matches = m; forget = good; answered = λ e. absurd (let none : true ≡ false = sym e ∙ nobody in let x : ⊥ = cc in x) }

@@ -1,4 +1,4 @@
--- What is said of the data of a generation: nothing by what is no data, and all of it at once.
+-- What is said of data of a generation: messages that are no data say nothing of it.
 use Rattle.std.proofs.Common.{◌≡◌, ℕ, ◌<◌, ◌≤◌, Bool, true, false, List, [], ◌∷◌, ◌++◌, Some, refl, sym, ap, ◌∙◌, subst, inl, inr, arith}
 use Rattle.std.specs.Prelude.{◌==◌, cond}
 use Rattle.std.specs.List.{AllByRecursion}
@@ -13,11 +13,11 @@ use Rattle.world.specs.Handing.{IsPast, data_of}
 use Rattle.world.proofs.Handing.{SaysNoMore}
 use Rattle.world.proofs.Turns.{is_data}
 
--- none of these is data of this generation
+-- none of these messages is data of this generation
 abbrev pub AreOther : ℕ → List Message → Type 0
 AreOther g ms = AllByRecursion (λ (m : Message). is_data_of g m ≡ false) ms
 
--- none of these is data
+-- none of these messages is data
 abbrev pub AreNoData : List Message → Type 0
 AreNoData ms = AllByRecursion (λ (m : Message). is_data m ≡ false) ms
 
@@ -34,7 +34,7 @@ pub no-data : (g : ℕ) (ms : List Message) → AreNoData ms → data_of g ms �
 no-data g [] all = refl
 no-data g (m ∷ ms) all = ap (λ (b : Bool). cond b (m ∷ data_of g ms) (data_of g ms)) (not-data g m all.0) ∙ no-data g ms all.1
 
--- no data is of a generation to come
+-- no message of a generation that was is data of a generation to come
 not-before : (last g : ℕ) → last < g → (m : Message) → IsPast last m → is_data_of g m ≡ false
 not-before last g rises (Data s h bytes) low = in_ (h == g) refl where
   in_ : (b : Bool) → (h == g) ≡ b → (h == g) ≡ false
@@ -50,7 +50,7 @@ pub past-data : (last g : ℕ) (ms : List Message) → last < g → AllByRecursi
 past-data last g [] rises all = refl
 past-data last g (m ∷ ms) rises all = ap (λ (b : Bool). cond b (m ∷ data_of g ms) (data_of g ms)) (not-before last g rises m all.0) ∙ past-data last g ms rises all.1
 
--- what is no data is of no generation to come
+-- messages that are no data are no data of a generation to come
 pub no-data-past : (last : ℕ) (ms : List Message) → AreNoData ms → AllByRecursion (IsPast last) ms
 no-data-past last [] all = tt
 no-data-past last (m ∷ ms) all = (past-of m all.0, no-data-past last ms all.1) where

@@ -13,11 +13,11 @@ use Rattle.world.specs.World.{World, is_asked, is_replied, is_item}
 use Rattle.world.specs.Agreement.{is_bad, IsOrderly}
 use Rattle.world.proofs.Bags.{mark, count-push, first-passes, sum-without}
 
--- what is to be answered is an ask
+-- the request is an ask
 abbrev pub IsAsk : Ask → Type 0
 IsAsk ask = is_ask ask.what ≡ true
 
--- an ask under the next unique
+-- what is under way stays orderly after an ask with the next unique
 pub orderly-asked : (w : World) (ask : Ask) (asks : List Ask) → asks ≡ w.asks ++ ask ∷ [] → is_ask ask.what ≡ true → IsOrderly w ask.unique → (uniques : List ℕ) → IsOrderly (record w { asks = asks; uniques = uniques }) (ask.unique + 1)
 orderly-asked w ask asks is its o uniques = record {
   asked = subst (λ (all : List Ask). AllByRecursion IsAsk all) (sym is) (Each-append IsAsk w.asks (ask ∷ []) o.asked (its, tt));
@@ -45,7 +45,7 @@ orderly-asked w ask asks is its o uniques = record {
       let old : count_by (is_asked u) w.asks + count_by (is_replied u) w.replies ≤ 1 = o.once u in
       omega arith
 
--- an item that is good
+-- what is under way stays orderly after a good item
 pub orderly-forgot : (w : World) (next : ℕ) (item : Item) (held : List ℕ) → is_bad item ≡ false → IsOrderly w next → IsOrderly (record w { held = held; items = w.items ++ item ∷ [] }) next
 orderly-forgot w next item held good o = record {
   asked = o.asked;
@@ -58,7 +58,7 @@ orderly-forgot w next item held good o = record {
       omega arith;
 }
 
--- an ask that leaves for its reply
+-- what is under way stays orderly after an ask was answered
 pub orderly-worked : (w new : World) (next : ℕ) (task : Ask) (reply : Reply) → first_where (is_asked task.unique) w.asks ≡ Some task → reply.unique ≡ task.unique → new.asks ≡ without_where (is_asked task.unique) w.asks → new.items ≡ w.items →
     new.replies ≡ w.replies ++ reply ∷ [] → IsOrderly w next → IsOrderly new next
 orderly-worked w new next task reply first same asks items replies o = record {
@@ -77,7 +77,7 @@ orderly-worked w new next task reply first same asks items replies o = record {
       let e : mark (reply.unique == u) ≡ mark (task.unique == u) = ap (λ (n : ℕ). mark (n == u)) same in
       omega arith
 
--- an item that is applied
+-- what is under way stays orderly after an item was applied
 pub orderly-applied : (w : World) (next : ℕ) (item : Item) → first_where (is_item item) w.items ≡ Some item → IsOrderly w next → IsOrderly (record w { items = without_where (is_item item) w.items }) next
 orderly-applied w next item first o = record {
   asked = o.asked;
@@ -89,7 +89,7 @@ orderly-applied w next item first o = record {
       omega arith;
 }
 
--- such an item is good
+-- an item under way is good
 pub applied-good : (w : World) (next : ℕ) (item : Item) → first_where (is_item item) w.items ≡ Some item → IsOrderly w next → is_bad item ≡ false
 applied-good w next item first o = in_ (is_bad item) refl where
   in_ : (b : Bool) → is_bad item ≡ b → b ≡ false
@@ -100,7 +100,7 @@ applied-good w next item first o = in_ (is_bad item) refl where
       let old : count_by is_bad w.items ≡ 0 = o.good in
       omega arith)
 
--- a reply that reaches the kernel
+-- what is under way stays orderly after a reply was delivered
 pub orderly-delivered : (w : World) (next unique : ℕ) (found : Reply) (held : List ℕ) → first_where (is_replied unique) w.replies ≡ Some found → IsOrderly w next →
     IsOrderly (record w { held = held; replies = without_where (is_replied found.unique) w.replies }) next
 orderly-delivered w next unique found held first o = record {

@@ -16,7 +16,7 @@ use Rattle.world.proofs.Bags.{mark, count-cons}
 
 -- ---- lists
 
--- what holds of all that pass holds of each that passes
+-- what holds of all members that pass a test holds of each of them
 pub filter-at : {X : Type 0} (P : X → Type 0) (p : X → Bool) (xs : List X) (i : ℕ) (x : X) → AllByRecursion P (filter p xs) → slice_get xs i ≡ Some x → p x ≡ true → P x
 filter-at {X} P p [] i x all at e = absurd (let none : ⊥ = cc in none)
 filter-at {X} P p (y ∷ xs) zero x all at e =
@@ -55,7 +55,7 @@ concat-more (y ∷ xs) x = ap (λ (l : List ℕ). y ++ l) (concat-more xs x) ∙
 
 -- ---- pieces of a text
 
--- a part of this text, by its position among them
+-- the bytes are part `i` of the `n` parts of this text
 pub record IsPartOf (text : List ℕ) (i n : ℕ) (bytes : List ℕ) : Type 0 where
   pub parts : List (List ℕ)
   pub are : AreParts text parts
@@ -64,7 +64,7 @@ pub record IsPartOf (text : List ℕ) (i n : ℕ) (bytes : List ℕ) : Type 0 wh
   pub least : 1 ≤ i
   pub most : i ≤ n
 
--- a message has the text, or a part of it
+-- a message has this text, or a part of it
 abbrev pub IsPieceOf : List ℕ → Message → Type 0
 IsPieceOf text (Data s g bytes) = bytes ≡ text
 IsPieceOf text (Part s g i n bytes) = IsPartOf text i n bytes
@@ -95,7 +95,7 @@ numbered-pieces s g text all before (part ∷ parts) is are = (
   append-one : (before parts : List (List ℕ)) → (before ++ part ∷ []) ++ parts ≡ before ++ part ∷ parts
   append-one before parts = append_assoc before (part ∷ []) parts
 
--- all that was said of a text has pieces of it
+-- each message that hands a text over has a piece of it
 pub handed-pieces : (s g : ℕ) (text : List ℕ) (said : List Message) → IsHandedIn s g text said → AllByRecursion (IsPieceOf text) said
 handed-pieces s g text said (inl is) = subst (λ (ms : List Message). AllByRecursion (IsPieceOf text) ms) (sym is) (refl, tt)
 handed-pieces s g text said (inr (parts, are, is)) = subst (λ (ms : List Message). AllByRecursion (IsPieceOf text) ms) (sym is) (numbered-pieces s g text parts [] parts refl are)
@@ -108,7 +108,7 @@ numbered-data s g n i (part ∷ parts) =
     let rest = numbered s g n (i + 1) parts in
     ap (λ (b : Bool). cond b (Part s g i n part ∷ data_of g rest) (data_of g rest)) (eq-true g g refl) ∙ ap (λ (ms : List Message). Part s g i n part ∷ ms) (numbered-data s g n (i + 1) parts)
 
--- all of it is data of its generation
+-- each message that hands a text over at a generation is data of that generation
 pub handed-data : (s g : ℕ) (text : List ℕ) (said : List Message) → IsHandedIn s g text said → data_of g said ≡ said
 handed-data s g text said (inl is) = subst (λ (ms : List Message). data_of g ms ≡ ms) (sym is) (ap (λ (b : Bool). cond b (Data s g text ∷ []) []) (eq-true g g refl))
 handed-data s g text said (inr (parts, are, is)) = subst (λ (ms : List Message). data_of g ms ≡ ms) (sym is) (numbered-data s g (length parts) 1 parts)
@@ -119,7 +119,7 @@ numbered-other s g h n i (part ∷ parts) e =
     let rest = numbered s g n (i + 1) parts in
     ap (λ (b : Bool). cond b (Part s g i n part ∷ data_of h rest) (data_of h rest)) e ∙ numbered-other s g h n (i + 1) parts e
 
--- and of no other
+-- no message that hands a text over at a generation is data of another generation
 pub handed-other : (s g h : ℕ) (text : List ℕ) (said : List Message) → (g == h) ≡ false → IsHandedIn s g text said → data_of h said ≡ []
 handed-other s g h text said e (inl is) = ap (data_of h) is ∙ ap (λ (b : Bool). cond b (Data s g text ∷ []) []) e
 handed-other s g h text said e (inr (parts, are, is)) = ap (data_of h) is ∙ numbered-other s g h (length parts) 1 parts e
@@ -134,7 +134,7 @@ handed-past last s g text said low (inr (parts, are, is)) = subst (λ (ms : List
 
 -- ---- what was read
 
--- a part behind what was read of those before it
+-- what was read of the first parts, with the next part, is what is read of one part more
 pub reads-behind : (parts : List (List ℕ)) (read bytes : List ℕ) (i : ℕ) → 1 ≤ i → slice_get parts (i - 1) ≡ Some bytes → read ≡ concat (take (i - 1) parts) → read ++ bytes ≡ concat (take i parts)
 reads-behind parts read bytes i least at is =
     let more : take (suc (i - 1)) parts ≡ take (i - 1) parts ++ bytes ∷ [] = take-one-more parts (i - 1) bytes at in
@@ -143,7 +143,7 @@ reads-behind parts read bytes i least at is =
 
 -- ---- where it begins
 
--- no part behind the first begins it
+-- no part after the first begins the data of a generation
 numbered-behind : (h s g n i : ℕ) (parts : List (List ℕ)) → 2 ≤ i → count_by (begins_data_of h) (numbered s g n i parts) ≡ 0
 numbered-behind h s g n i [] later = refl
 numbered-behind h s g n i (part ∷ parts) later =
@@ -162,7 +162,7 @@ mark-few : (b : Bool) → mark b ≤ 1
 mark-few true = omega arith
 mark-few false = omega arith
 
--- what is handed over begins once at most
+-- of the messages that hand a text over, at most one begins data
 pub handed-begins : (h s g : ℕ) (text : List ℕ) (said : List Message) → IsHandedIn s g text said → count_by (begins_data_of h) said ≤ 1
 handed-begins h s g text said (inl is) = subst (λ (ms : List Message). count_by (begins_data_of h) ms ≤ 1) (sym is) few where
   few : count_by (begins_data_of h) (Data s g text ∷ []) ≤ 1
@@ -179,7 +179,7 @@ handed-begins h s g text said (inr (parts, are, is)) = subst (λ (ms : List Mess
       let others : count_by (begins_data_of h) rest ≡ 0 = numbered-behind h s g n 2 parts (omega arith) in
       let one : mark ((g == h) && true) ≤ 1 = mark-few ((g == h) && true) in omega arith
 
--- data begins only where there is data
+-- only data of a generation begins data of it
 pub begins-of-data : (g : ℕ) (ms : List Message) → count_by (begins_data_of g) ms ≡ count_by (begins_data_of g) (data_of g ms)
 begins-of-data g [] = refl
 begins-of-data g (m ∷ ms) = in_ (is_data_of g m) refl (begins-of-data g ms) where
@@ -205,7 +205,7 @@ begins-of-data g (m ∷ ms) = in_ (is_data_of g m) refl (begins-of-data g ms) wh
 
 -- ---- where it stands
 
--- one that passes has a first before it
+-- if some member passes a test, a first one does
 first-low : {X : Type 0} (p : X → Bool) (xs : List X) → (filter p xs ≡ [] → ⊥) → position_or_len p xs < length xs
 first-low {X} p [] some = absurd (some refl)
 first-low {X} p (x ∷ xs) some = in_ (p x) refl (first-low p xs) where
@@ -215,7 +215,7 @@ first-low {X} p (x ∷ xs) some = in_ (p x) refl (first-low p xs) where
       let z : position_or_len p (x ∷ xs) ≡ 1 + position_or_len p xs = ap (λ (c : Bool). cond (not c) (1 + position_or_len p xs) 0) e in
       let low : position_or_len p xs < length xs = again (λ none. some (ap (λ (c : Bool). cond c (x ∷ filter p xs) (filter p xs)) e ∙ none)) in omega arith
 
--- where none passes there is no first
+-- if no member passes a test, there is no first one that does
 first-none : {X : Type 0} (p : X → Bool) (xs : List X) → filter p xs ≡ [] → position_or_len p xs ≡ length xs
 first-none {X} p [] none = refl
 first-none {X} p (x ∷ xs) none = in_ (p x) refl (first-none p xs) where

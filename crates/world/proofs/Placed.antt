@@ -28,7 +28,7 @@ use Rattle.world.specs.Agreement.{Knows}
 use Rattle.world.proofs.Entering.{Enters, Numbered, Unnumbered}
 use Rattle.world.proofs.Knowing.{number-names, gave-knows, kept-knows}
 
--- no name is known of the next number
+-- the next number names nothing
 not-named : (w : World) (tree : Tree) (m : MapState) → Knows tree w.names (owed w) (served_over tree m) → file_named w.names m.next ≡ None
 not-named w tree m k = in_ (file_named w.names m.next) refl where
   in_ : (o : Option FileId) → file_named w.names m.next ≡ o → o ≡ None
@@ -97,7 +97,7 @@ module _ (w : World) (m : MapState) (dir : Number) (name : List ℕ) (above : Fi
   absent : entry_at m.entries dir.0 name ≡ None
   absent = free-absent (served_over w.tree m) dir.0 above name k.sound at free.free
 
-  -- its number is the next, which names nothing
+  -- the number of a file that is made is the next one, which names nothing
   pub made-number : Unnumbered w m dir name (next_file w.tree)
   made-number = record {
     is_given = ap (λ (o : Option Kept). (option_map_or number_of_kept o (record { 0 = m.next })).0) absent;
@@ -108,7 +108,7 @@ module _ (w : World) (m : MapState) (dir : Number) (name : List ℕ) (above : Fi
     low = numbers-bound m.entries 2 m.next (k.sound).numbers;
   }
 
-  -- what the daemon knows over the tree with the file
+  -- what the daemon knows over the tree with the made file
   known : Knows tree w.names (owed w) (served_over tree m)
   known = kept-knows w.tree w.names (owed w) (served_over w.tree m) (served_over tree m) (making-keeps (served_over w.tree m) above name kind perm is k.sound free.free) k
 

@@ -1,5 +1,5 @@
--- What stands against an event of any daemon may come, and what is told of an event that was made is no refusal that may
--- not.
+-- What stands against an event of any daemon may come, and what is told of an event that was made is no refusal that
+-- may not.
 use Rattle.std.proofs.Common.{◌≡◌, ℕ, Bool, true, false, length, Option, Some, None, is_none, refl, sym, ap, ◌∙◌, subst}
 use Rattle.std.specs.Prelude.{if◌then◌else◌}
 use Rattle.std.specs.Option.{option_map}
@@ -33,11 +33,11 @@ use Rattle.world.specs.declared.event.Event.TheVariants.{Start, Mount, Issue, Ta
 
 -- ---- causes that come to any event
 
--- this cause may come
+-- the cause of a refusal may come
 pub comes : (event : Event) (a r : Refusal) → may_come a event ≡ true → Some a ≡ Some r → may_come r event ≡ true
 comes event a r may e = let same : a ≡ r = cc in ap (λ (x : Refusal). may_come x event) (sym same) ∙ may
 
--- where a test fails
+-- a cause that a test gives may come
 pub tested : (event : Event) (a r : Refusal) (b : Bool) → may_come a event ≡ true → (if b then Some a else None) ≡ Some r → may_come r event ≡ true
 tested event a r true may e = comes event a r may e
 tested event a r false may e = absurd (let none : ⊥ = cc in none)
@@ -87,7 +87,7 @@ absence-comes event (Some d) r e = absurd (let none : ⊥ = cc in none)
 
 -- ---- what is made
 
--- what is told of an event that was made is no refusal, or that nothing stands there
+-- what is told of a take may be told of any event
 told-taken : (event : Event) (ask : Ask) → MayBeTold event (told_taken ask)
 told-taken event ask = in_ (is_ask ask.what) where
   in_ : (b : Bool) → MayBeTold event (if b then happened.Took ask.unique else happened.TookForgets (length (items_of ask.what)))

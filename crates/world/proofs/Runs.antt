@@ -17,7 +17,7 @@ pub after_all-append : (w : World) (ms ns : List Move) → after_all w (ms ++ ns
 after_all-append w [] ns = refl
 after_all-append w (m ∷ ms) ns = after_all-append (after w m) ms ns
 
--- who answered has answered from then on
+-- a daemon that answered has answered after any move
 answered-after : (w : World) (move : Move) (seat : Option Seat) → IsAnswered w seat → IsAnswered (after w move) seat
 answered-after w move None a = tt
 answered-after w (issue ask) (Some seat) a = a

@@ -1,4 +1,4 @@
--- A daemon that turned to a phase, took, worked or posted, served, or is gone stands.
+-- A daemon stands after it turned to a phase, took, worked, posted or served, and after it ended.
 use Rattle.std.proofs.Common.{◌≡◌, ℕ, ◌≤◌, Bool, true, false, List, Option, Some, None, refl, sym, ap, ◌∙◌, subst, inl, inr, ◌⊎◌}
 use Rattle.std.specs.Prelude.{◌==◌, ◌≢◌}
 use Rattle.eden_base.specs.Limits.{last_generation}
@@ -19,7 +19,7 @@ use Rattle.world.proofs.Turns.{IsTurn}
 
 -- ---- a turn
 
--- who waits for a part keeps what it read
+-- a daemon that waits for a part keeps what it read
 pub read-kept : (p : Phase) (g : ℕ) (read : Option (List ℕ)) → reads_at p ≡ Some g → read_in p read ≡ read
 read-kept (Reading s h v i n) g read e = refl
 read-kept p g read e = absurd (let none : ⊥ = cc in none)
@@ -76,7 +76,7 @@ turned-stands old daemon was later idle t s = record {
 
 -- ---- requests
 
--- a daemon that is not drained goes on with what it has in hand
+-- a daemon that is not drained stands with another hand
 pub busy-stands : (old : State) (daemon : DaemonId) (was : DaemonState) (server : ServerState) → is_drained was.node.phase ≡ false → DaemonStands old daemon was → DaemonStands old daemon (with_server was server)
 busy-stands old daemon was server busy s = record {
   at_most = s.at_most;
@@ -97,7 +97,7 @@ busy-out was before server busy serves = record {
 
 -- ---- the seat
 
--- whoever has the seat, and serves at its generation, stands
+-- a daemon that has the seat, and serves at its generation, stands
 pub seated-stands : (new : State) (seat : Seat) (daemon : DaemonId) (later : DaemonState) (server : ServerState) → later.server ≡ Some server → later.node.phase ≡ Serving seat.generation → new.broker.seat ≡ Some seat → daemon ≡ seat.daemon → seat.generation ≤ new.broker.last → DaemonStands new daemon later
 seated-stands new seat daemon later server has serving seated here low = record {
   serves = λ g e. (server, has);
@@ -116,7 +116,7 @@ seated-stands new seat daemon later server has serving seated here low = record 
   the_seat : (other : Seat) → new.broker.seat ≡ Some other → seat ≡ other
   the_seat other e = let two : Some seat ≡ Some other = sym seated ∙ e in let is : seat ≡ other = cc in is
 
--- whoever is gone, and has not the seat, stands
+-- a daemon that is gone, and does not have the seat, stands
 pub gone-stands : (new : State) (daemon : DaemonId) (later : DaemonState) → later.node.phase ≡ Gone → ((seat : Seat) → new.broker.seat ≡ Some seat → daemon ≡ seat.daemon → ⊥) → DaemonStands new daemon later
 gone-stands new daemon later gone no_seat = record {
   serves = λ g e. absurd (let two : None ≡ Some g = sym (ap part_at gone) ∙ e in let none : ⊥ = cc in none);

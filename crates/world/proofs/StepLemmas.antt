@@ -1,4 +1,4 @@
--- What the world's calls did is one event, and events one after another.
+-- What a call of `World` did is one event, and what a list of calls did is a list of events.
 use Rattle.std.proofs.Common.{◌≡◌, ℕ, ◌-◌, ◌+◌, ◌<◌, Bool, true, false, if◌then◌else◌, List, [], ◌∷◌, ◌++◌, length, Option, Some, None, Result, Err, get_or, set, refl, sym, ap, ◌∙◌, subst, inl, inr}
 use Rattle.std.proofs.lemmas.Option.{slice_get_read}
 use Rattle.std.specs.Prelude.{slice_get, is_none}
@@ -36,18 +36,18 @@ use Rattle.daemon.proofs.Positions.{set-there, at-index}
 
 -- ---- one event by its first fault
 
--- memory was wanting
+-- the event is refused memory
 pub Once-lacks : (old : State) (event : Event) (told : Happened) → TakesMemory event → fault old event ≡ None → told ≡ happened.Refused NoMemory →
     Once old event told old
 Once-lacks old event told takes fine tells = subst (λ (o : Option Refusal). OnceBy old event o told old) (sym fine) (inr (takes, (tells, refl)))
 
--- it was made
+-- the event is made
 pub Once-makes : (old : State) (event : Event) (told : Happened) (new : State) → fault old event ≡ None → Makes old event told new → Once old event told new
 Once-makes old event told new fine made = subst (λ (o : Option Refusal). OnceBy old event o told new) (sym fine) (inl made)
 
 -- ---- one daemon changed
 
--- the daemon that was read at an index is changed, and stands there again
+-- a daemon that was read at an index, changed and written back is changed at this index
 pub changed-at : (does : DaemonState → DaemonState → Type 0) (daemons : List DaemonState) (index : ℕ) (was later : DaemonState) →
     index < length daemons → was ≡ get_or daemons index was → does was later → ChangesAt does daemons index (set daemons index later)
 changed-at does daemons index was later within read does-so = record {
@@ -62,7 +62,7 @@ changed-at does daemons index was later within read does-so = record {
 abbrev Stays : State → Refusal → Happened → State → Type 0
 Stays old refusal told new = (told ≡ happened.Refused refusal) × (new ≡ old)
 
--- a daemon that was written back as it was, and the broker as it was
+-- if a daemon was written back as it was, and the broker is as it was, nothing changes
 refuses : (old : State) (index : ℕ) (was later : DaemonState) (left : BrokerState) (daemons : List DaemonState) (refusal : Refusal) (told : Happened) →
     slice_get old.daemons index ≡ Some was → daemons ≡ set old.daemons index later → told ≡ happened.Refused refusal → later ≡ was → left ≡ old.broker →
     Stays old refusal told (record old { broker = left; daemons = daemons })
@@ -72,7 +72,7 @@ refuses old index was later left daemons refusal told there makes tells same bro
     ap (λ (b : BrokerState). record old { broker = b; daemons = daemons }) broker ∙ ap (λ (ds : List DaemonState). record old { daemons = ds }) back in
     (tells, all)
 
--- a daemon that changed, by its number
+-- a daemon that was written at its index is changed by its number
 pub changes : (old : State) (d : DaemonId) (index : ℕ) (left now : BrokerState) (daemons : List DaemonState) (later is : DaemonState) →
     IsIndex (length old.daemons) d.0 index → daemons ≡ set old.daemons index later → later ≡ is → left ≡ now →
     record old { broker = left; daemons = daemons } ≡ with_daemon (record old { broker = now }) d is
@@ -81,12 +81,12 @@ changes old d index left now daemons later is at makes same broker =
     makes ∙ ap (λ (x : DaemonState). set old.daemons index x) same ∙ ap (λ (i : ℕ). set old.daemons i is) at.is in
     ap (λ (b : BrokerState). record old { broker = b; daemons = daemons }) broker ∙ ap (λ (ds : List DaemonState). record old { broker = now; daemons = ds }) written
 
--- the daemon of a number stands at its index
+-- the daemon of a number is at the index of that number
 pub daemon-there : (old : State) (d : DaemonId) (index : ℕ) (was : DaemonState) → IsIndex (length old.daemons) d.0 index → slice_get old.daemons index ≡ Some was →
     daemon_of old d ≡ Some was
 daemon-there old d index was at there = at-index old.daemons d.0 index at ∙ there
 
--- what is served was put back as it was
+-- a daemon whose server was put back as it was is as it was
 same-server : (was later : DaemonState) (s n : ServerState) → was.server ≡ Some s → later ≡ with_server was n → n ≡ s → later ≡ was
 same-server was later s n serves makes same = makes ∙ ap (with_server was) same ∙ (λ i. record was { server = sym serves i })
 
@@ -122,7 +122,7 @@ takes-if old d index was later told left daemons false (Some s) at there makes s
 takes-if old d index was later told left daemons false None at there makes serves h =
     refuses old index was later left daemons WrongPhase told there makes h.tells h.same h.same_broker
 
--- a daemon took
+-- a daemon that took is the event `take`
 pub Once-takes : (old : State) (d : DaemonId) (index : ℕ) (told : Happened) (left : BrokerState) (daemons : List DaemonState) →
     IsIndex (length old.daemons) d.0 index → ChangesAt (DaemonTakes old.broker d told left) old.daemons index daemons →
     Once old (Take d) told (record old { broker = left; daemons = daemons })
@@ -161,7 +161,7 @@ works-if old d position fails index was later told daemons (Some s) at there mak
 works-if old d position fails index was later told daemons None at there makes serves h =
     refuses old index was later old.broker daemons _ told there makes h.tells h.same refl
 
--- a daemon worked
+-- a daemon that worked is the event `work`
 pub Once-works : (old : State) (d : DaemonId) (position : ℕ) (fails : Bool) (index : ℕ) (told : Happened) (daemons : List DaemonState) →
     IsIndex (length old.daemons) d.0 index → ChangesAt (DaemonWorks position fails told) old.daemons index daemons →
     Once old (Work d position fails) told (record old { daemons = daemons })
@@ -203,7 +203,7 @@ posts-if old d position index was later told left daemons (Some s) at there make
 posts-if old d position index was later told left daemons None at there makes serves h =
     refuses old index was later left daemons _ told there makes h.tells h.same h.same_broker
 
--- a daemon posted
+-- a daemon that posted is the event `post`
 pub Once-posts : (old : State) (d : DaemonId) (position : ℕ) (index : ℕ) (told : Happened) (left : BrokerState) (daemons : List DaemonState) →
     IsIndex (length old.daemons) d.0 index → ChangesAt (DaemonPosts old.broker d position told left) old.daemons index daemons →
     Once old (Post d position) told (record old { broker = left; daemons = daemons })
@@ -213,24 +213,24 @@ Once-posts old d position index told left daemons at c =
 
 -- ---- a mount
 
--- who is read at an index and waits
+-- a daemon that was read at an index and waits is there and waits
 pub waits-read : (xs : List DaemonState) (index : ℕ) (x : DaemonState) → index < length xs → true ≡ is_waiting x → x ≡ get_or xs index x →
     (slice_get xs index ≡ Some x) × (is_waiting x ≡ true)
 waits-read xs index x within waits read = (slice_get_read xs (length xs) index x refl within read, sym waits)
 
--- nothing stands against a daemon that waits, where the seat is free
+-- nothing stands against the mount of a daemon that waits, if the seat is free
 may-mount : (old : State) (d : DaemonId) (index : ℕ) (was : DaemonState) → IsIndex (length old.daemons) d.0 index → slice_get old.daemons index ≡ Some was → is_waiting was ≡ true → mount_fault old.broker ≡ None →
     mount_refusal old (daemon_of old d) ≡ None
 may-mount old d index was at there waits fine =
     ap (mount_refusal old) (daemon-there old d index was at there)
     ∙ ap (λ (b : Bool). if b then option_map refusal_of_mount (mount_fault old.broker) else Some WrongPhase) waits ∙ ap (option_map refusal_of_mount) fine
 
--- but memory may be wanting
+-- the mount of a daemon that waits may be refused memory
 pub Once-mount-lacks : (old : State) (d : DaemonId) (index : ℕ) (was : DaemonState) → IsIndex (length old.daemons) d.0 index → slice_get old.daemons index ≡ Some was → is_waiting was ≡ true → mount_fault old.broker ≡ None →
     Once old (Mount d) (happened.Refused NoMemory) old
 Once-mount-lacks old d index was at there waits fine = Once-lacks old (Mount d) (happened.Refused NoMemory) tt (may-mount old d index was at there waits fine) refl
 
--- a daemon that waited mounted
+-- a daemon that waited and mounted is the event `mount`
 pub Once-mounts : (old : State) (d : DaemonId) (index : ℕ) (was : DaemonState) (server : ServerState) (broker : BrokerState) (generation : ℕ) (served : ServedState) (daemons : List DaemonState) →
     IsIndex (length old.daemons) d.0 index → slice_get old.daemons index ≡ Some was → is_waiting was ≡ true → mount_fault old.broker ≡ None →
     server ≡ beginning generation served → served ≡ new_served old.manifest old.limit → generation ≡ old.broker.last + 1 → broker ≡ mounted old.broker d →
@@ -252,7 +252,7 @@ Once-mounts old d index was server broker generation served daemons at there wai
 
 -- ---- a crash
 
--- a daemon is gone
+-- a daemon that ended is the event `crash`
 pub Once-crashes : (old : State) (d : DaemonId) (index : ℕ) (broker : BrokerState) (daemons : List DaemonState) → IsIndex (length old.daemons) d.0 index → broker ≡ without_daemon old.broker d →
     ChangesAt EndsSo old.daemons index daemons → Once old (Crash d) happened.Crashed (record old { broker = broker; daemons = daemons })
 Once-crashes old d index broker daemons at leaves c =
@@ -284,7 +284,7 @@ Once-undrained old d index fault result refusal daemons at failed c is =
 
 -- ---- a claim
 
--- a daemon that wants none
+-- a claim of a daemon that wants none is refused
 pub Once-unwanted : (old : State) (d : DaemonId) (index : ℕ) (was : DaemonState) → IsIndex (length old.daemons) d.0 index → slice_get old.daemons index ≡ Some was → claim_wanted was.node.phase ≡ None → Once old (Claim d) (happened.Refused WrongPhase) old
 Once-unwanted old d index was at there wants =
     let its : daemon_of old d ≡ Some was = daemon-there old d index was at there in
@@ -298,20 +298,20 @@ Once-unwanted old d index was at there wants =
 
 -- ---- a message that is heard
 
--- nothing stands against it
+-- nothing stands against hearing a message that was said
 may-hear : (old : State) (d : DaemonId) (position index at : ℕ) (was : DaemonState) (said : Message) → IsIndex (length old.daemons) d.0 index → slice_get old.daemons index ≡ Some was →
     IsIndex (length old.messages) position at → slice_get old.messages at ≡ Some said → fault old (Hear d position) ≡ None
 may-hear old d position index at was said here there said_there read =
     ap (hear_refusal old position) (daemon-there old d index was here there)
     ∙ ap (λ (m : Option Message). if is_none m then Some NoSuch else None) (at-index old.messages position at said_there ∙ read)
 
--- memory was wanting for it
+-- hearing a message may be refused memory
 pub Once-hear-lacks : (old : State) (d : DaemonId) (position index at : ℕ) (was : DaemonState) (said : Message) → IsIndex (length old.daemons) d.0 index → slice_get old.daemons index ≡ Some was →
     IsIndex (length old.messages) position at → slice_get old.messages at ≡ Some said → Once old (Hear d position) (happened.Refused NoMemory) old
 Once-hear-lacks old d position index at was said here there said_there read =
     Once-lacks old (Hear d position) (happened.Refused NoMemory) tt (may-hear old d position index at was said here there said_there read) refl
 
--- it was heard
+-- a daemon that heard a message is the event `hear`
 pub Once-hears : (old : State) (d : DaemonId) (position index at : ℕ) (said : Message) (reaction : Reaction) (told : Happened) (daemons : List DaemonState) (messages : List Message) →
     IsIndex (length old.daemons) d.0 index → IsIndex (length old.messages) position at → slice_get old.messages at ≡ Some said →
     ChangesAt (λ was later. HearsSo old.manifest old.limit was said reaction later) old.daemons index daemons → told ≡ told_reaction (length old.messages) reaction →
@@ -332,7 +332,7 @@ Once-hears old d position index at said reaction told daemons messages here said
       };
     })
 
--- who turned to what the message makes of it heard it
+-- a daemon that made the turn of a message heard the message
 pub turned-hears : (manifest : Manifest) (limit : ℕ) (old : List DaemonState) (index : ℕ) (hearer : DaemonState) (said : Message) (turn : Turn) (reaction : Reaction) (daemons : List DaemonState) →
     slice_get old index ≡ Some hearer → reaction ≡ turn.reaction → HearsSo manifest limit hearer said turn.reaction (turned hearer turn) →
     ChangesAt (λ was later. later ≡ turned was turn) old index daemons → ChangesAt (λ was later. HearsSo manifest limit was said reaction later) old index daemons
@@ -348,7 +348,7 @@ turned-hears manifest limit old index hearer said turn reaction daemons read sam
 
 -- ---- events one after another
 
--- one more event
+-- a list of steps with one more step
 pub Steps-more : (first : State) (events : List Event) (outcomes : List (List Happened)) (between : State) (event : Event) (outcome : List Happened) (last : State) →
     Steps first events outcomes between → Step between event outcome last → Steps first (events ++ event ∷ []) (outcomes ++ outcome ∷ []) last
 Steps-more first [] [] between event outcome last h step = (last, subst (λ (s : State). Step s event outcome last) h step, refl)

@@ -1,4 +1,5 @@
--- A take moves nothing in the world; a reply that is posted is taken there, and one that is delivered reaches the kernel.
+-- A take moves nothing in the world. A reply that is posted is accepted there, and a reply that is delivered reaches
+-- the kernel.
 use Rattle.std.proofs.Common.{◌≡◌, ℕ, suc, ◌+◌, ◌-◌, ◌<◌, ◌≤◌, Bool, true, false, length, List, [], ◌∷◌, ◌++◌, Option, Some, None, is_some, refl, sym, ap, ◌∙◌, subst, arith}
 use Rattle.std.specs.Prelude.{sum_by, count_by, slice_get, if◌then◌else◌}
 use Rattle.std.specs.Option.{option_map, option_map_or, option_and_then}
@@ -36,7 +37,7 @@ use Rattle.world.proofs.UnderWay.{under-taken, under-posted, posted-under, IsRea
 
 -- ---- take
 
--- a daemon that serves where no cause stands against a take has the seat
+-- a daemon that serves, and whose take no cause stands against, has the seat
 pub take-seat : (old : State) (daemon : DaemonId) (was : DaemonState) (server : ServerState) → was.server ≡ Some server → take_refusal old daemon (Some was) ≡ None → old.broker.seat ≡ Some (record { generation = server.generation; daemon = daemon })
 take-seat old daemon was server serves h = in_ (may_take was.node.phase) (subst (λ (o : Option ServerState). server_refusal old daemon (may_take was.node.phase) o ≡ None) serves h) where
   clear : (f : Option TakeFault) → option_map refusal_of_take f ≡ None → f ≡ None
@@ -143,14 +144,14 @@ posts-moved w old daemon position told new m clear p = subst (λ (x : Happened).
 
 -- ---- delivery
 
--- where a reply waits, somebody has the seat
+-- if a posted reply waits, a daemon has the seat
 waits-seated : (w : World) (old : State) (reply : Reply) → Follows w old → front old.broker.traffic.posted ≡ Some reply → (seat : Seat) × (old.broker.seat ≡ Some seat)
 waits-seated w old reply m first = in_ old.broker.seat refl where
   in_ : (o : Option Seat) → old.broker.seat ≡ o → (seat : Seat) × (o ≡ Some seat)
   in_ (Some seat) e = (seat, refl)
   in_ None e = absurd (let q = m.quiet e in let n : None ≡ Some reply = ap (λ (t : TrafficState). front t.posted) (sym q.1) ∙ first in let none : ⊥ = cc in none)
 
--- what reached the kernel is owed as before
+-- what is owed stays the same after a reply was delivered
 delivered-owed : (w : World) (found : Reply) (n : ℕ) → first_where (is_replied found.unique) w.replies ≡ Some found →
     owed w n ≡ owed (record w { held = held_after w.held found.answer; replies = without_where (is_replied found.unique) w.replies }) n
 delivered-owed w found n first =

@@ -31,7 +31,7 @@ use Rattle.world.proofs.Turns.{takes-it, part-it}
 
 -- ---- the holder
 
--- a daemon serves what it served; or it has not the seat, and what it serves now has nothing in hand
+-- a daemon serves what it served; or it does not have the seat, and what it serves has nothing in hand
 abbrev pub ServesOn : State → DaemonId → DaemonState → DaemonState → Type 0
 ServesOn old daemon was later =
     (later.server ≡ was.server)
@@ -82,7 +82,7 @@ talks-follow w old messages daemon was later m there on = record {
 
 -- ---- what is told
 
--- what is told of a message is no reply and no forget
+-- what is told of a message is no posted reply and no forget
 told_in : (count : ℕ) (reaction : Reaction) → IsGoodForget (told_reaction count reaction) × (is_posted (told_reaction count reaction) ≡ false)
 told_in count Ignores = (tt, refl)
 told_in count Heeds = (tt, refl)
@@ -104,14 +104,14 @@ turned-on old daemon was node (answer.MakeData s g v) reaction later t = absurd 
 turned-on old daemon was node (answer.GotData s g v) reaction later t = absurd t
 turned-on old daemon was node (answer.GotPart s g v i n) reaction later t = absurd t
 
--- a daemon that took data over has not the seat
+-- a daemon whose phase has no generation does not have the seat
 chosen-no-holder : (old : State) (daemon : DaemonId) (was : DaemonState) → IsHanding old → daemon_of old daemon ≡ Some was → part_at was.node.phase ≡ None → IsHolder old daemon → ⊥
 chosen-no-holder old daemon was h there none holder =
     let part : part_at was.node.phase ≡ Some (holder.0).generation = ((h.daemons daemon was there).part) holder.0 holder.1 (sym holder.2) in
     let two : None ≡ Some (holder.0).generation = sym none ∙ part in
     let x : ⊥ = cc in x
 
--- a daemon took data, or could not
+-- a daemon that took data, or could not take it, serves on so
 takes-on : (old : State) (daemon : DaemonId) (was : DaemonState) (bytes : List ℕ) (node : NodeState) (g : ℕ) (reaction : Reaction) (later : DaemonState) → IsHanding old → daemon_of old daemon ≡ Some was → part_at was.node.phase ≡ None → TakesData old.manifest old.limit was bytes node g reaction later → ServesOn old daemon was later
 takes-on old daemon was bytes node g reaction later h there alone (inl t) = inr (
   chosen-no-holder old daemon was h there alone,

@@ -1,10 +1,10 @@
--- How often a number stands in a bag from which one was taken out.
+-- How often a number is in a bag after another number was taken out.
 use Rattle.std.proofs.Common.{◌≡◌, ℕ, ◌+◌, ◌-◌, ◌≤◌, Bool, true, false, List, [], ◌∷◌, refl, sym, ap, ◌∙◌, arith}
 use Rattle.std.specs.Prelude.{◌==◌, if◌then◌else◌}
 use Rattle.eden_base.proofs.NumberTests.{true-eq, false-ne}
 use Rattle.world.specs.World.{times, without_times}
 
--- A number is taken out a count of times, and each other stays
+-- A number is taken out `k` times, and each other number stays.
 pub times-without : (held : List ℕ) (n k j : ℕ) → times j (without_times k n held) ≡ (if n == j then times j held - k else times j held)
 times-without [] n k j = in_ (n == j) where
   in_ : (b : Bool) → 0 ≡ (if b then 0 - k else 0)

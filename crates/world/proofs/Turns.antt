@@ -1,4 +1,5 @@
--- What a message, or giving up, makes of a daemon's phase: its part stays, and what is out stays out.
+-- What hearing a message, or giving up, makes of a daemon's phase: its generation stays, and data that is out stays
+-- out.
 use Rattle.std.proofs.Common.{◌≡◌, ◌⊎◌, ℕ, Bool, true, false, List, Some, inl, inr, arith, rules}
 use Rattle.std.specs.Prelude.{◌==◌, ◌&&◌}
 use Rattle.eden_base.specs.Limits.{last_generation}
@@ -15,11 +16,11 @@ use Rattle.world.specs.Attending.{serving_at}
 use Rattle.world.specs.Handing.{part_at, is_drained, is_out, in_session, reads_at}
 use Rattle.daemon.specs.Talking.{bytes_of}
 
--- a daemon by its parts
+-- the state of a node, by its parts
 abbrev pub node_of : List ℕ → ℕ → Phase → NodeState
 node_of versions sessions phase = record { phase = phase; versions = versions; sessions = sessions }
 
--- the message is data, or a part of it
+-- whether a message is data: all of it, or a part
 abbrev pub is_data : Message → Bool
 is_data (Data s g bytes) = true
 is_data (Part s g i n bytes) = true
@@ -29,9 +30,10 @@ abbrev pub says_data : Answer → Bool
 says_data (Say m) = is_data m
 says_data answer = false
 
--- a phase that a daemon turned to, seen at a generation, by whether it has nothing left: its part is what it was; it
--- serves only where it did; it is drained where it was, or has nothing left; what is out stays out; a session is begun
--- only where a claim may follow; what is held was held, or is the holder's own; and who waits for a part waited for it
+-- A daemon turned from one phase to another, seen at a generation; `idle` tells whether it has nothing left. The phase
+-- keeps its generation. It serves only if it did before, and is drained if it was, or if nothing is left. Data that is
+-- out stays out, and a session begins only where a claim can follow. What is held was held before, or is the daemon's
+-- own. A daemon that waits for a part waited for one.
 pub record IsTurn (g : ℕ) (idle : Bool) (old new : Phase) : Type 0 where
   pub part_back : part_at new ≡ Some g → part_at old ≡ Some g
   pub part_on : part_at old ≡ Some g → part_at new ≡ Some g
@@ -105,7 +107,7 @@ drained-no-data vs n phase h u = grind (arith, rules)
 
 -- ---- the data
 
--- who is to make the data had drained, and makes it now
+-- a daemon that is to make data was drained, and its phase is that of making
 pub record MakesIt (vs : List ℕ) (n : ℕ) (old : Phase) (m : Message) (s g v : ℕ) : Type 0 where
   pub was : old ≡ Pinged g s v
   pub now : (after (node_of vs n old) (Hear m)).phase ≡ Making g s v
@@ -126,7 +128,7 @@ makes-it vs n (Making h r w) (Failed t) s g v e = absurd (let none : ⊥ = grind
 makes-it vs n (Handed h r) (Failed t) s g v e = absurd (let none : ⊥ = grind (arith, rules) in none)
 makes-it vs n phase m s g v e = absurd (let none : ⊥ = cc in none)
 
--- who got data was chosen for it, and has its bytes
+-- a daemon that got data was chosen for it, and the message has the data's bytes
 pub record TakesIt (vs : List ℕ) (n : ℕ) (old : Phase) (m : Message) (s g v : ℕ) : Type 0 where
   pub was : old ≡ Chosen s v
   pub now : (after (node_of vs n old) (Hear m)).phase ≡ Raising s g
@@ -150,7 +152,7 @@ takes-it vs n phase m s g v e = absurd (let none : ⊥ = cc in none)
 
 -- ---- a part
 
--- who got a part waited for it, as the first or behind others, and has its bytes
+-- a daemon that got a part waited for it, as the first part or after others, and the message has its bytes
 pub record PartIt (vs : List ℕ) (count : ℕ) (old : Phase) (m : Message) (s g v i n : ℕ) : Type 0 where
   pub was : ((old ≡ Chosen s v) × (i ≡ 1)) ⊎ (old ≡ Reading s g v i n)
   pub now : (after (node_of vs count old) (Hear m)).phase ≡ Taking s g v i n

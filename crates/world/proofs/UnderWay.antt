@@ -24,7 +24,7 @@ use Rattle.world.proofs.Hands.{handed-single, asks_in-append, items_in-append, h
 
 -- ---- issue
 
--- an ask waits behind the others
+-- what is under way after an ask was issued
 pub under-asked : (w : World) (t : TrafficState) (server : ServerState) (unique : ℕ) (request : Request) → IsUnderWay w t server →
     IsUnderWay (record w { asks = w.asks ++ record { unique = unique; what = request } ∷ []; uniques = unique ∷ w.uniques }) (ask_issued t unique request) server
 under-asked w t server unique request u = record {
@@ -34,7 +34,7 @@ under-asked w t server unique request u = record {
   replies = u.replies;
 }
 
--- so does an item
+-- what is under way after an item was issued
 pub under-forgot : (w : World) (t : TrafficState) (server : ServerState) (item : Item) (held : List ℕ) → IsUnderWay w t server → IsUnderWay (record w { held = held; items = w.items ++ item ∷ [] }) (item_issued t item) server
 under-forgot w t server item held u = record {
   singles = u.singles;
@@ -51,7 +51,7 @@ under-forgot w t server item held u = record {
 
 -- ---- take
 
--- what was taken went from the broker into the hand
+-- what is under way after a take: what was taken went from the broker into the hand
 pub under-taken : (w : World) (t : TrafficState) (server : ServerState) (ask : Ask) → IsUnderWay w t server → IsAskTaken t ask (left_by_take t) ⊎ AreItemsTaken t ask (left_by_take t) →
     (IsAskTaken t ask (left_by_take t) → is_ask ask.what ≡ true) → IsUnderWay w (left_by_take t) (with_taken server ask)
 under-taken w t server ask u (inl taken) asks = record {
@@ -94,7 +94,7 @@ under-taken w t server ask u (inr taken) asks = record {
 
 -- ---- post
 
--- a reply that is posted went from the daemon to the broker
+-- what is under way after a post: the reply went from the daemon to the broker
 pub under-posted : (w : World) (t : TrafficState) (server : ServerState) (position : ℕ) (reply : Reply) (answered : List Seat) → slice_get server.unposted (position - 1) ≡ Some reply → IsUnderWay w t server →
     IsUnderWay (record w { answered = answered }) (reply_posted t reply) (with_posted server position)
 under-posted w t server position reply answered at u = record {
@@ -110,7 +110,7 @@ under-posted w t server position reply answered at u = record {
       omega arith;
 }
 
--- such a reply is one of the world's
+-- an unposted reply is one of the world's replies, by its unique
 pub posted-under : (w : World) (t : TrafficState) (server : ServerState) (position : ℕ) (reply : Reply) → slice_get server.unposted (position - 1) ≡ Some reply → IsUnderWay w t server →
     (found : Reply) × (first_where (is_replied reply.unique) w.replies ≡ Some found)
 posted-under w t server position reply at u = counted-first (is_replied reply.unique) w.replies (
@@ -123,7 +123,7 @@ posted-under w t server position reply at u = counted-first (is_replied reply.un
 
 -- ---- work
 
--- an ask at a position of the hand is the world's of its unique
+-- the ask at a position of the hand is the world's ask of its unique
 pub record IsAskAt (w : World) (t : TrafficState) (server : ServerState) (position : ℕ) (task : Ask) : Type 0 where
   pub first : first_where (is_asked task.unique) w.asks ≡ Some task
   pub left : without_where (is_asked task.unique) w.asks ≡ asks_in (remove server.hand (position - 1)) ++ t.untaken
@@ -155,7 +155,7 @@ ask-at w t server position task at ask few u = record {
   both : (first_where (is_asked task.unique) (asks_in server.hand ++ t.untaken) ≡ Some task) × (without_where (is_asked task.unique) (asks_in server.hand ++ t.untaken) ≡ without_where (is_asked task.unique) (asks_in server.hand) ++ t.untaken)
   both = first-append (is_asked task.unique) (asks_in server.hand) t.untaken task own.0
 
--- a reply behind those of the daemon
+-- the replies under way after a daemon made one more
 pub replies-made : (w : World) (t : TrafficState) (server : ServerState) (reply : Reply) → IsUnderWay w t server → IsSameBag (w.replies ++ reply ∷ []) ((server.unposted ++ reply ∷ []) ++ t.posted)
 replies-made w t server reply u f =
     let a : sum_by f (w.replies ++ reply ∷ []) ≡ sum_by f w.replies + f reply = sum_by_push f w.replies reply in
@@ -165,7 +165,7 @@ replies-made w t server reply u f =
     let e : sum_by f (server.unposted ++ t.posted) ≡ sum_by f server.unposted + sum_by f t.posted = sum_by-append f server.unposted t.posted in
     omega arith
 
--- an item at a position of the hand is one of the world's
+-- the item at a position of the hand is one of the world's items
 pub record IsItemAt (w : World) (t : TrafficState) (server : ServerState) (position : ℕ) (item : Item) : Type 0 where
   pub first : first_where (is_item item) w.items ≡ Some item
   pub asks : w.asks ≡ asks_in (remove server.hand (position - 1)) ++ t.untaken
@@ -217,7 +217,7 @@ item-at w t server position task item at forget is u = record {
 
 -- ---- delivery
 
--- the reply that was posted first is, by all that is measured of it, the world's of its unique
+-- the reply that was posted first is measured as the world's reply of its unique
 pub record IsReached (w : World) (t : TrafficState) (server : ServerState) (reply : Reply) : Type 0 where
   pub found : Reply
   pub first : first_where (is_replied reply.unique) w.replies ≡ Some found

@@ -49,19 +49,19 @@ match-counts w state m seat server at = ((holder-is w state seat server m.knows 
 pub match-names : (w : World) (state : State) → Follows w state → NumbersNameTheirFirstFile w state
 match-names w state m seat server at = let k = (holder-is w state seat server m.knows at).knows in record { files = k.files; sound = k.sound; numbers = k.numbers }
 
--- what is data of a generation is of one that was
+-- data of a generation, in a message of a generation that was, is of a generation that was
 past-of : (last g : ℕ) (m : Message) → IsPast last m → is_data_of g m ≡ true → g ≤ last
 past-of last g (Data s h bytes) low e = let same : h ≡ g = true-eq h g e in omega arith
 past-of last g (Part s h i n bytes) low e = let same : h ≡ g = true-eq h g e in omega arith
 past-of last g m low e = absurd (let none : ⊥ = cc in none)
 
--- who waits for a part read a beginning of the text
+-- a daemon that waits for a part read a beginning of the text
 read-begins : (p : Phase) (g : ℕ) (reading : Option (List ℕ)) (text : List ℕ) → reads_at p ≡ Some g → HasRead p reading text → (read rest : List ℕ) × (reading ≡ Some read) × (text ≡ read ++ rest)
 read-begins (Reading s h v i n) g reading text e (parts, are, count, kept, low, high) =
     (concat (take (i - 1) parts), concat (drop (i - 1) parts), kept, sym are.joined ∙ take-and-drop parts (i - 1))
 read-begins p g reading text e read = absurd (let none : ⊥ = cc in none)
 
--- the seat's data, and whoever may claim the seat, knows the world
+-- data of the seat knows the world, and so does what is served by each daemon that may claim the seat
 pub match-current : (w : World) (state : State) → Matches w state → DataIsCurrent w state
 match-current w state m = record {
   past = λ position g message at is. past-of state.broker.last g message (all-at (IsPast state.broker.last) state.messages (position - 1) message (m.handing).messages (at-is state.messages position message at)) is;
@@ -88,7 +88,7 @@ match-current w state m = record {
       let same : count_by (begins_data_of seat.generation) state.messages ≡ count_by (begins_data_of seat.generation) (data_of seat.generation state.messages) = begins-of-data seat.generation state.messages in
       let few : count_by (begins_data_of seat.generation) (data_of seat.generation state.messages) ≤ 1 = handed-begins seat.generation over.session seat.generation over.text (data_of seat.generation state.messages) over.said in omega arith
 
-  -- a position that is told is one behind an index
+  -- a position that is told is the index of a message, and one more
   found : (seat : Seat) (first : ℕ) → state.broker.seat ≡ Some seat → handed_of state ≡ Some first → (k : ℕ) × (position (is_data_of seat.generation) state.messages ≡ Some k)
   found seat first seated at = in_ (position (is_data_of seat.generation) state.messages) refl where
     in_ : (o : Option ℕ) → position (is_data_of seat.generation) state.messages ≡ o → (k : ℕ) × (position (is_data_of seat.generation) state.messages ≡ Some k)
@@ -122,7 +122,7 @@ match-current w state m = record {
 
 -- ---- a list of events
 
--- before anything happened
+-- the state before anything happened follows the first world
 first-follows : (manifest : Manifest) (limit : ℕ) → IsTree (tree_of manifest) → Follows (first_world manifest) (started manifest limit)
 first-follows manifest limit is = record {
   manifest = refl;
@@ -159,7 +159,7 @@ first-matches manifest limit is_manifest is = record {
   no_daemon true was e = let none : ⊥ = cc in none
   no_daemon false was e = let none : ⊥ = cc in none
 
--- what a list of events does
+-- what a list of events did: its moves are a run, and the state matches the world after them
 pub record Ran (w : World) (events : List Event) (outcomes : List (List Happened)) (new : State) : Type 0 where
   pub run : IsRun w (all_moves w events outcomes)
   pub matches : Matches (after_all w (all_moves w events outcomes)) new

@@ -25,11 +25,11 @@ pub record Worked (w : World) (request : Request) (answer : Answer) (later : Ser
   pub knows : Knows (tree_after w.tree (effect_in w request) answer) (names_after w.names (given_out answer) (file_told (effect_in w request)))
       (λ n. owed w n + (if gives n answer then 1 else 0)) later
 
--- what is owed more after a number was given out
+-- what is owed after a number was given out
 abbrev pub one_more : (ℕ → ℕ) → Option Number → ℕ → ℕ
 one_more owes given n = owes n + (if option_map_or (λ (number : Number). number.0 == n) given false then 1 else 0)
 
--- the same, by what the request comes to and which number the answer gives out
+-- an answer is one of the world's, by what the request comes to and which number the answer gives out
 pub worked-from : (w : World) (request : Request) (answer : Answer) (later : ServedState) (result : Result Effect Errno) (given : Option Number) → effect_in w request ≡ result → given_out answer ≡ given → MayAnswer w request answer →
     IsTree (tree_after w.tree result answer) → Knows (tree_after w.tree result answer) (names_after w.names given (file_told result)) (one_more (owed w) given) later → Worked w request answer later
 worked-from w request answer later result given came gave may is k = record {
@@ -39,7 +39,7 @@ worked-from w request answer later result given came gave may is k = record {
       (subst (λ (o : Option Number). Knows (tree_after w.tree result answer) (names_after w.names o (file_told result)) (one_more (owed w) o) later) (sym gave) k);
 }
 
--- an error changes nothing
+-- an answer that is an error changes nothing
 pub error-worked : (w : World) (m : MapState) (request : Request) (result : Result Effect Errno) (errno : Errno) (later : ServedState) → IsTree w.tree → Knows w.tree w.names (owed w) (served_over w.tree m) →
     plain later ≡ plain (served_after (served_over w.tree m) request result (Error errno)) → MayAnswer w request (Error errno) → Worked w request (Error errno) later
 error-worked w m request result errno later is k makes may = record {

@@ -41,7 +41,7 @@ use Rattle.world.proofs.Worked.{Worked}
 
 -- ---- an ask
 
--- the reply that leaves for the kernel is owed
+-- what is owed after an ask was answered, whose reply is under way
 pub made-owed : (w : World) (task : Ask) (answer : Answer) (n : ℕ) → owed w n + (if gives n answer then 1 else 0) ≡ owed (worked w answer (Some task)) n
 made-owed w task answer n = in_ (gives n answer) refl where
   reply : Reply
@@ -100,7 +100,7 @@ answers-moved w old seat was server position task answer later m at here_is ther
 
 -- ---- an item
 
--- what was taken back is owed no more
+-- what is owed after an item was applied
 pub applied-owed : (w : World) (item : Item) (j : ℕ) → first_where (is_item item) w.items ≡ Some item → less_owed (owed w) item.node.0 item.k j ≡ owed (record w { items = without_where (is_item item) w.items }) j
 applied-owed w item j first = in_ (item.node.0 == j) refl where
   in_ : (b : Bool) → (item.node.0 == j) ≡ b → (if b then owed w j - item.k else owed w j) ≡ times j w.held + count_by (carries j) w.replies + sum_by (taken_back j) (without_where (is_item item) w.items)

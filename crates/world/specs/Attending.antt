@@ -1,5 +1,5 @@
--- Which refusals come in no run, and what keeps them away: who serves has the seat at its own generation, and the
--- broker waits for just what the seat's daemon has to answer. (This project's own.)
+-- Which refusals come in no run, and why not: a daemon that serves has the seat at its own generation, and the broker
+-- waits for exactly what the daemon of the seat has to answer. (This project's own.)
 use Rattle.std.specs.Prelude.{◌≡◌, ℕ, ◌+◌, Bool, true, false, List, [], ◌∷◌, sum_by, Option, Some, None, if◌then◌else◌}
 use Rattle.std.specs.List.{AllByRecursion}
 use Rattle.eden_base.specs.declared.number.DaemonId.{DaemonId}
@@ -24,14 +24,14 @@ use Rattle.world.specs.declared.event.Event.TheVariants.{Claim}
 
 -- ---- what is told
 
--- a daemon claims the seat
+-- whether an event is a claim
 abbrev pub is_claim : Event → Bool
 is_claim (Claim daemon) = true
 is_claim event = false
 
--- An event may be refused so. That the mount ended, or that the seat is of another generation, is told to who claims
--- alone, and never to who takes or posts. That a reply was not asked for is told to nobody, and so is that asks are
--- unanswered: a claim from the seat's generation comes when its holder has answered all.
+-- Whether an event may be refused for this cause. Ended and Stale are told to claims alone, never to a take or a post.
+-- NotAsked and Unanswered are told to no event: a claim from the seat's generation comes only once its holder has
+-- answered all asks.
 abbrev pub may_come : Refusal → Event → Bool
 may_come Ended event = is_claim event
 may_come (Stale now) event = is_claim event
@@ -39,12 +39,12 @@ may_come NotAsked event = false
 may_come (Unanswered asks) event = false
 may_come refusal event = true
 
--- this may be told of the event
+-- this may be told of the event: it is no refusal, or a refusal that may come
 abbrev pub MayBeTold : Event → Happened → Type 0
 MayBeTold event (Refused refusal) = may_come refusal event ≡ true
 MayBeTold event told = Unit {0}
 
--- no event was refused as none is
+-- each refusal of the events is one that may come
 abbrev pub RefusalsMayCome : List Event → List (List Happened) → Type 0
 RefusalsMayCome (event ∷ events) (outcome ∷ outcomes) =
     AllByRecursion (MayBeTold event) outcome × RefusalsMayCome events outcomes
@@ -52,7 +52,7 @@ RefusalsMayCome events outcomes = Unit {0}
 
 -- ---- who serves
 
--- the generation at which a daemon serves, its data not being out
+-- the generation at which a daemon in this phase serves, if it serves and its data is not out
 abbrev pub serving_at : Phase → Option ℕ
 serving_at (Serving g) = Some g
 serving_at (Draining g s v) = Some g
@@ -60,8 +60,8 @@ serving_at (Pinged g s v) = Some g
 serving_at (Making g s v) = Some g
 serving_at phase = None
 
--- what a daemon has to serve is of the generation of its phase; and where it serves, it has the seat at that
--- generation
+-- What a daemon has to serve is at the generation of its phase. A daemon that serves at a generation has the seat at
+-- that generation.
 pub record ServesSeated (state : State) (daemon : DaemonId) (was : DaemonState) : Type 0 where
   pub at : (server : ServerState) → was.server ≡ Some server → part_at was.node.phase ≡ Some server.generation
   pub has_seat : (g : ℕ) → serving_at was.node.phase ≡ Some g →
@@ -69,24 +69,24 @@ pub record ServesSeated (state : State) (daemon : DaemonId) (was : DaemonState) 
 
 -- ---- what the broker waits for
 
--- what is measured of the unique of an ask; a forget has none
+-- the measure of an ask's unique; 0 for a forget, which has none
 abbrev pub of_ask : (ℕ → ℕ) → Ask → ℕ
 of_ask measure task = if is_ask task.what then measure task.unique else 0
 
--- what is measured of the unique of a reply
+-- the measure of a reply's unique
 abbrev pub of_reply : (ℕ → ℕ) → Reply → ℕ
 of_reply measure reply = measure reply.unique
 
--- what is measured of the unique of an ask that was taken
+-- the measure of the unique of a taken ask
 abbrev pub of_taken : (ℕ → ℕ) → ℕ × Form → ℕ
 of_taken measure asked = measure asked.0
 
--- an ask that was taken is waited for in its form
+-- if the request is an ask, the broker waits for its reply, in the form of this ask
 abbrev pub IsWaitedFor : TrafficState → Ask → Type 0
 IsWaitedFor traffic task = is_ask task.what ≡ true → form_asked traffic task.unique ≡ Some (form_of task.what)
 
--- What the broker has as taken and unanswered are the daemon's asks in hand and its unposted replies, as one bag of
--- uniques. Each ask is waited for in its form, and the broker takes each reply.
+-- The taken asks that the broker has without a reply are the daemon's asks in hand and its unposted replies, as one bag
+-- of uniques. For each ask in hand the broker waits in the ask's form, and it would take each unposted reply.
 pub record IsAwaited (traffic : TrafficState) (server : ServerState) : Type 0 where
   pub uniques : (measure : ℕ → ℕ) → sum_by (of_taken measure) traffic.taken
       ≡ sum_by (of_ask measure) server.hand + sum_by (of_reply measure) server.unposted
@@ -95,7 +95,7 @@ pub record IsAwaited (traffic : TrafficState) (server : ServerState) : Type 0 wh
 
 -- ---- both
 
--- whoever serves has the seat, and the broker waits for what the seat's daemon has to answer
+-- each daemon that serves has the seat, and the broker waits for exactly what the daemon of the seat has to answer
 pub record IsAttended (state : State) : Type 0 where
   pub daemons : (daemon : DaemonId) (was : DaemonState) → daemon_of state daemon ≡ Some was →
       ServesSeated state daemon was

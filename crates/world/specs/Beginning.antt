@@ -1,4 +1,4 @@
--- The issue and the take of a `do`, which one call of its daemon makes. (This project's own.)
+-- The issue and the take of a `do`, which the daemon makes in one call. (This project's own.)
 use Rattle.std.specs.Prelude.{◌≢◌, ◌≤◌, Bool, true, false, List, ◌∷◌, ◌++◌, length}
 use Rattle.eden_base.specs.declared.number.DaemonId.{DaemonId}
 use Rattle.fuse_wire.specs.declared.request.Request.{Request}
@@ -10,17 +10,17 @@ use Rattle.world.specs.Step.{Carries, HasRoom}
 use Rattle.world.specs.declared.event.Event.{Event}
 use Rattle.world.specs.declared.event.Event.TheVariants.{Issue, Take}
 
--- so far all were made, and the outcomes of the others complete it
+-- all events before `rest` were made, and an outcome of `rest` completes what is told of them
 abbrev pub Goes : State → List Event → List Happened → State → List Event → Type 0
 Goes old events told now rest =
     (outcome : List Happened) (new : State) → Carries now rest outcome new → Carries old events (told ++ outcome) new
 
--- two happened, and the second was not refused for want of memory
+-- two things happened at least, and the second was not refused for want of memory
 abbrev pub HasTwo : List Happened → Type 0
 HasTwo (asked ∷ taken ∷ later) = taken ≢ Refused NoMemory
 HasTwo outcome = ⊥
 
--- both were made, and any events may follow; or one was refused, and none follows
+-- the issue and the take were both made, and any events may follow; or one of them was refused, and no event follows
 abbrev pub Begins : State → Request → DaemonId → Bool → List Happened → State → Type 0
 Begins old request daemon true outcome new =
     (length outcome ≤ 2) × HasTwo outcome × ((events : List Event) → Goes old (Issue request ∷ Take daemon ∷ events) outcome new events)

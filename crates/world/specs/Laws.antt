@@ -1,4 +1,4 @@
--- What holds of the definitions alone, for those who work requests elsewhere than in an event.
+-- What holds of the definitions alone, for callers that work requests outside of an event.
 use Rattle.std.specs.Prelude.{◌≡◌, ℕ, ◌≤◌, ◌≢◌, List, [], ◌∷◌, ◌++◌, map, Option, Some, None}
 use Rattle.std.specs.List.{flat_map}
 use Rattle.eden_base.specs.First.{first_where}
@@ -21,22 +21,22 @@ use Rattle.world.specs.Agreement.{Knows, Matches}
 
 -- ---- on what is under way
 
--- What is served knows what the world has: the tree, how often each number is owed, and what each names.
+-- A served state knows what the world has: the tree, how often each number is owed, and what each number names.
 pub record ServesWorld (world : World) (served : ServedState) : Type 0 where
   pub is_tree : IsTree world.tree
   pub of_manifest : world.tree.manifest ≡ world.manifest
   pub knows : Knows world.tree world.names (owed world) served
 
--- A legal answer to an ask that is under way is one that the world may give, and what is served knows the world after
--- it.
+-- A legal answer to an ask that is under way is one that the world may give. The served state after the answer knows
+-- the world after it.
 abbrev pub AnswerIsMove : Type 0
 AnswerIsMove =
     (world : World) (served later : ServedState) (ask : Ask) (answer : Answer) → ServesWorld world served →
     first_where (is_asked ask.unique) world.asks ≡ Some ask → Replay served ask.what (Some answer) later →
     MayMove world (work ask.unique answer) × ServesWorld (after world (work ask.unique answer)) later
 
--- An item under way that is not of the root and takes something back may be applied, and what is served knows the
--- world after it.
+-- An item under way that is not of the root and takes something back may be applied. The served state after the item
+-- knows the world after it.
 abbrev pub ItemIsMove : Type 0
 ItemIsMove =
     (world : World) (served later : ServedState) (item : Item) → ServesWorld world served →
@@ -46,17 +46,17 @@ ItemIsMove =
 
 -- ---- on a member of the holder's hand
 
--- the moves that a step by a request and its answer is: an ask is answered, and each item applied by itself
+-- the moves of a step that works a request: an ask is answered, or each item of a forget is applied by itself
 abbrev pub moves_worked : Ask → Option Answer → List Move
 moves_worked task (Some answer) = work task.unique answer ∷ []
 moves_worked task None = map work_item (items_of task.what)
 
--- the state once the seat's daemon goes on with this
+-- the state in which the seat's daemon serves this
 abbrev pub serves_on : State → Seat → DaemonState → ServerState → State
 serves_on state seat was server = with_daemon state seat.daemon (with_server was server)
 
--- A legal step of the seat's daemon on what stands at a position of its hand, whoever makes it, is moves that may happen,
--- and the state with it worked matches the world after them.
+-- A legal step of the seat's daemon on the member at a position of its hand is a run of moves, whoever makes the step.
+-- The state with that member worked matches the world after the moves.
 abbrev pub MemberIsMove : Type 0
 MemberIsMove =
     (world : World) (state : State) (seat : Seat) (was : DaemonState) (server : ServerState) (position : ℕ) (task : Ask)
@@ -68,13 +68,14 @@ MemberIsMove =
 
 -- ---- over a round's journal
 
--- a hand without these members, each taken out where it stands then
+-- `left` is the hand without these members, which are removed one after another, each at any position at which it
+-- stands
 abbrev pub Leaves : List Ask → List Ask → List Ask → Type 0
 Leaves hand [] left = left ≡ hand
 Leaves hand (task ∷ tasks) left =
     (position : ℕ) × (at_position hand position ≡ Some task) × Leaves (without_position hand position) tasks left
 
--- these asks were applied by the records, one by each, and what was served became this by legal steps
+-- each ask was applied by its record, in order, and these legal steps lead from the one served state to the other
 abbrev pub IsJournalOf : ServedState → List Ask → List Record → ServedState → Type 0
 IsJournalOf opening [] [] last = last ≡ opening
 IsJournalOf opening (ask ∷ asks) (applied ∷ records) last =
@@ -87,14 +88,14 @@ abbrev pub moves_recorded : List Ask → List Record → List Move
 moves_recorded (ask ∷ asks) (applied ∷ records) = moves_worked ask applied.answer ++ moves_recorded asks records
 moves_recorded asks records = []
 
--- the replies that it makes
+-- the replies of a journal that applied these asks
 abbrev pub replies_recorded : List Ask → List Record → List Reply
 replies_recorded (ask ∷ asks) (applied ∷ records) = reply_to ask applied.answer ++ replies_recorded asks records
 replies_recorded asks records = []
 
--- A journal of legal steps on members of the hand of the seat's daemon, a forget's items each a member, is a run of
--- moves; and the state matches the world after them, where the daemon serves what the journal leads to, has in hand
--- what is left, and has the replies to post.
+-- A journal of legal steps on members of the hand of the seat's daemon is a run of moves; each item of a forget is a
+-- member. The state after the journal matches the world after the moves. In that state the daemon serves what the
+-- journal leads to, has in hand what is left, and has the journal's replies to post.
 abbrev pub JournalIsRun : Type 0
 JournalIsRun =
     (world : World) (state : State) (seat : Seat) (was : DaemonState) (server : ServerState) (asks : List Ask)

@@ -1,4 +1,4 @@
--- All daemons and the kernel's side at one moment, and what stands against an event. (This project's own.)
+-- All daemons and the kernel's side at one moment, and why an event is refused. (This project's own.)
 use Rattle.std.specs.Prelude.{◌≡◌, ℕ, ◌+◌, ◌-◌, ◌==◌, Bool, true, false, nat_le, List, [], length, slice_get, slice_set, Option, Some, None, is_none, if◌then◌else◌}
 use Rattle.std.specs.List.{position}
 use Rattle.std.specs.Option.{option_map, option_and_then, option_map_or}
@@ -21,8 +21,8 @@ use Rattle.world.specs.declared.event.Event.TheVariants.{Start, Mount, Issue, Ta
 use Rattle.daemon.specs.declared.happened.Refusal.{Refusal}
 use Rattle.daemon.specs.declared.happened.Refusal.TheVariants as refusal
 
--- the manifest that every daemon is handed, how many loaded files a daemon keeps, the kernel's side, the daemons in
--- the order in which they started, and every message that a daemon said
+-- a state: the manifest that every daemon is handed, how many loaded files a daemon keeps, the kernel's side, the
+-- daemons in the order in which they started, and every message that a daemon said
 pub record State : Type 0 where
   pub manifest : Manifest
   pub limit : ℕ
@@ -30,7 +30,7 @@ pub record State : Type 0 where
   pub daemons : List DaemonState
   pub messages : List Message
 
--- before anything happened
+-- the state before anything happened
 abbrev pub started : Manifest → ℕ → State
 started manifest limit =
     record { manifest = manifest; limit = limit; broker = new_broker; daemons = []; messages = [] }
@@ -39,15 +39,15 @@ started manifest limit =
 abbrev pub most_daemons : ℕ
 most_daemons = 1024
 
--- the daemon of a number, of which the first is 1
+-- the daemon of a number, if there is one; the first daemon's number is 1
 abbrev pub daemon_of : State → DaemonId → Option DaemonState
 daemon_of state daemon = if daemon.0 == 0 then None else slice_get state.daemons (daemon.0 - 1)
 
--- the state with this daemon changed
+-- the state with this daemon replaced by `now`
 abbrev pub with_daemon : State → DaemonId → DaemonState → State
 with_daemon state daemon now = record state { daemons = slice_set state.daemons (daemon.0 - 1) now }
 
--- the daemon at an index is changed so
+-- the daemon at an index changes as `does` says, and the other daemons do not
 pub record ChangesAt (does : DaemonState → DaemonState → Type 0) (old : List DaemonState) (index : ℕ)
     (new : List DaemonState) : Type 0 where
   pub was : DaemonState
@@ -60,108 +60,108 @@ pub record ChangesAt (does : DaemonState → DaemonState → Type 0) (old : List
 abbrev pub server_of : State → DaemonId → Option ServerState
 server_of state daemon = option_and_then (λ (of : DaemonState). of.server) (daemon_of state daemon)
 
--- what a daemon serves, if there is such a daemon and it does
+-- what a daemon serves, if there is such a daemon and it serves
 abbrev pub served_of : State → DaemonId → Option ServedState
 served_of state daemon = option_map (λ (server : ServerState). server.served) (server_of state daemon)
 
--- what a daemon took and did not work yet
+-- what a daemon took and did not work yet; none if it does not serve
 abbrev pub hand_of : State → DaemonId → List Ask
 hand_of state daemon = option_map_or (λ (server : ServerState). server.hand) (server_of state daemon) []
 
--- what a daemon answered and did not post yet
+-- what a daemon answered and did not post yet; none if it does not serve
 abbrev pub unposted_of : State → DaemonId → List Reply
 unposted_of state daemon = option_map_or (λ (server : ServerState). server.unposted) (server_of state daemon) []
 
--- who has the seat, and what it serves and has in hand
+-- the daemon of the seat serves `server`
 pub record IsSeated (state : State) (seat : Seat) (server : ServerState) : Type 0 where
   pub has_seat : state.broker.seat ≡ Some seat
   pub serves : server_of state seat.daemon ≡ Some server
 
--- a message is data of this generation: all of it, or a part
+-- whether a message is data of this generation: all of the data, or a part
 abbrev pub is_data_of : ℕ → Message → Bool
 is_data_of generation (Data session at bytes) = at == generation
 is_data_of generation (Part session at position count bytes) = at == generation
 is_data_of generation other = false
 
--- the position of the seat's data, from 1: of the first message that is data of the seat's generation, if there is one
+-- the position of the first message that is data of the seat's generation, if there is one; the first position is 1
 abbrev pub handed_of : State → Option ℕ
 handed_of state = option_and_then (λ (seat : Seat).
     option_map (λ (index : ℕ). index + 1) (position (is_data_of seat.generation) state.messages)) state.broker.seat
 
 -- ---- refusals
 
--- a daemon that does not wait cannot mount, whoever has the seat
+-- why a daemon cannot mount, if it cannot; its phase comes before the seat
 abbrev pub mount_refusal : State → Option DaemonState → Option Refusal
 mount_refusal state None = Some refusal.NoDaemon
 mount_refusal state (Some of) =
     if is_waiting of then option_map refusal_of_mount (mount_fault state.broker) else Some refusal.WrongPhase
 
--- what is served takes what waits at its generation, where its daemon may take
+-- why a daemon with this server cannot take, if it cannot: its phase is none to take in, or the broker refuses the take
 abbrev pub server_refusal : State → DaemonId → Bool → Option ServerState → Option Refusal
 server_refusal state daemon true (Some server) =
     option_map refusal_of_take (take_fault state.broker daemon server.generation)
 server_refusal state daemon may server = Some refusal.WrongPhase
 
--- a daemon takes while it serves or drains
+-- why a daemon cannot take, if it cannot: it takes while it serves or drains
 abbrev pub take_refusal : State → DaemonId → Option DaemonState → Option Refusal
 take_refusal state daemon None = Some refusal.NoDaemon
 take_refusal state daemon (Some of) = server_refusal state daemon (may_take of.node.phase) of.server
 
--- a request is worked that is in hand
+-- why the request at a position of a hand cannot be worked, if it cannot
 abbrev pub hand_refusal : ℕ → Option ServerState → Option Refusal
 hand_refusal position None = Some refusal.NoSuch
 hand_refusal position (Some server) = if is_none (at_position server.hand position) then Some refusal.NoSuch else None
 
--- a daemon works what it has in hand, and one that does not serve has nothing
+-- why a daemon cannot work the request at a position, if it cannot; a daemon that does not serve has none in hand
 abbrev pub work_refusal : ℕ → Option DaemonState → Option Refusal
 work_refusal position None = Some refusal.NoDaemon
 work_refusal position (Some of) = hand_refusal position of.server
 
--- a reply is posted at the generation of its daemon
+-- why a reply cannot be posted at the generation of its daemon, if it cannot
 abbrev pub reply_refusal : State → DaemonId → ServerState → Option Reply → Option Refusal
 reply_refusal state daemon server None = Some refusal.NoSuch
 reply_refusal state daemon server (Some reply) =
     option_map refusal_of_post (post_fault state.broker daemon server.generation reply)
 
--- a reply is posted that was not
+-- why the reply at a position of the unposted ones cannot be posted, if it cannot
 abbrev pub unposted_refusal : State → DaemonId → ℕ → Option ServerState → Option Refusal
 unposted_refusal state daemon position None = Some refusal.NoSuch
 unposted_refusal state daemon position (Some server) =
     reply_refusal state daemon server (at_position server.unposted position)
 
--- a daemon posts what it answered, and one that does not serve has nothing to post
+-- why a daemon cannot post its reply at a position, if it cannot; a daemon that does not serve has none to post
 abbrev pub post_refusal : State → DaemonId → ℕ → Option DaemonState → Option Refusal
 post_refusal state daemon position None = Some refusal.NoDaemon
 post_refusal state daemon position (Some of) = unposted_refusal state daemon position of.server
 
--- a message is heard that was said
+-- why a daemon cannot hear the message at a position, if it cannot: there is no such daemon or no such message
 abbrev pub hear_refusal : State → ℕ → Option DaemonState → Option Refusal
 hear_refusal state position None = Some refusal.NoDaemon
 hear_refusal state position (Some of) =
     if is_none (at_position state.messages position) then Some refusal.NoSuch else None
 
--- a daemon is ready that drains and has nothing left
+-- why a daemon is not ready to hand over, if it is not: it does not drain, or has something in hand or unposted
 abbrev pub drained_refusal : Option DaemonState → Option Refusal
 drained_refusal None = Some refusal.NoDaemon
 drained_refusal (Some of) = option_map refusal_of_drain (drain_fault of.node.phase (in_hand of) (unposted of))
 
--- the seat is claimed from the generation that is wanted
+-- why the seat cannot be claimed from the generation that a daemon wants to claim from, if it cannot
 abbrev pub wanted_refusal : State → Option ℕ → Option Refusal
 wanted_refusal state None = Some refusal.WrongPhase
 wanted_refusal state (Some generation) = option_map refusal_of_claim (claim_fault state.broker generation)
 
--- by a daemon that wants it
+-- why a daemon cannot claim the seat, if it cannot
 abbrev pub claim_refusal : State → Option DaemonState → Option Refusal
 claim_refusal state None = Some refusal.NoDaemon
 claim_refusal state (Some of) = wanted_refusal state (claim_wanted of.node.phase)
 
--- there has to be a daemon
+-- the refusal of an event for a daemon that there is not
 abbrev pub absence : Option DaemonState → Option Refusal
 absence None = Some refusal.NoDaemon
 absence (Some of) = None
 
--- Why an event is refused, if it is, out of memory apart: the first cause that holds. Nothing stands against a look,
--- and a `do` is refused where one of its events is.
+-- Why an event is refused for a cause other than memory, if it is: the first cause that holds. A look is never refused.
+-- A `do` has no cause of its own: each of its events has.
 abbrev pub fault : State → Event → Option Refusal
 fault state (Start versions) = if nat_le most_daemons (length state.daemons) then Some refusal.Full else None
 fault state (Mount daemon) = mount_refusal state (daemon_of state daemon)

@@ -1,5 +1,5 @@
--- One event: it is refused for the first cause that holds, or made; a `do` as the list of its events, until one is
--- refused; and a list of events.
+-- One event is made, or is refused for the first cause that holds. A `do` is the list of its events, until one is
+-- refused. Last comes a list of events.
 use Rattle.std.specs.Prelude.{◌≡◌, ◌≢◌, ℕ, ◌+◌, ◌⊎◌, Bool, true, false, List, [], ◌∷◌, ◌++◌, length, Option, Some, None, Ok, Err, if◌then◌else◌}
 use Rattle.std.specs.Option.{option_map_or}
 use Rattle.eden_base.specs.declared.claim.ClaimFault.{ClaimFault}
@@ -34,28 +34,28 @@ use Rattle.daemon.specs.declared.happened.Refusal.TheVariants.{NoMemory}
 
 -- ---- one event that is no `do`
 
--- a daemon after its claim was refused, by the generation that it wanted
+-- the daemon after its claim from the generation that it wanted was refused
 abbrev pub unclaimed : State → DaemonState → Option ℕ → DaemonState
 unclaimed old was None = was
 unclaimed old was (Some generation) =
     option_map_or (λ (fault : ClaimFault). after_claim was (Err fault)) (claim_fault old.broker generation) was
 
--- A refusal changes nothing, but that a daemon whose claim is refused may have no other chance, and is gone then.
+-- The state after a refusal: it is unchanged, except that a daemon whose claim can never succeed is gone.
 abbrev pub after_refusal : State → Event → State
 after_refusal old (Claim daemon) =
     option_map_or (λ (was : DaemonState). with_daemon old daemon (unclaimed old was (claim_wanted was.node.phase)))
     (daemon_of old daemon) old
 after_refusal old event = old
 
--- the event is refused
+-- the event is refused for this cause
 abbrev pub Refuses : State → Event → Refusal → Happened → State → Type 0
 Refuses old event refusal told new = (told ≡ happened.Refused refusal) × (new ≡ after_refusal old event)
 
--- memory ran out, and nothing changes
+-- memory is refused, and nothing changes
 abbrev pub Lacks : State → Happened → State → Type 0
 Lacks old told new = (told ≡ happened.Refused NoMemory) × (new ≡ old)
 
--- a new daemon with these versions waits behind the others, and its offer was said
+-- a new daemon with these versions starts, as the last in the list of daemons, and says its offer
 abbrev pub Starts : State → List ℕ → Happened → State → Type 0
 Starts old versions told new =
     (told ≡ happened.Started (record { 0 = length old.daemons + 1 }))
@@ -64,7 +64,7 @@ Starts old versions told new =
       messages = old.messages ++ Offer versions ∷ [];
     })
 
--- a daemon has the seat, and serves the manifest's tree
+-- a daemon takes the seat, and serves the manifest's tree from then on
 pub record Mounts (old : State) (daemon : DaemonId) (told : Happened) (new : State) : Type 0 where
   pub was : DaemonState
   pub later : DaemonState
@@ -73,12 +73,12 @@ pub record Mounts (old : State) (daemon : DaemonId) (told : Happened) (new : Sta
   pub tells : told ≡ happened.Mounted (old.broker.last + 1)
   pub makes : new ≡ with_daemon (record old { broker = mounted old.broker daemon }) daemon later
 
--- the kernel asks or forgets
+-- the kernel issues an ask or a forget
 abbrev pub Issues : State → Request → Happened → State → Type 0
 Issues old request told new =
     (told ≡ happened.Asked (unique_of old.broker request)) × (new ≡ record old { broker = issued old.broker request })
 
--- what waits first joins the end of a daemon's hand
+-- a daemon takes what waits first at the broker: this joins the end of the daemon's hand
 pub record Takes (old : State) (daemon : DaemonId) (told : Happened) (new : State) : Type 0 where
   pub was : DaemonState
   pub server : ServerState
@@ -90,8 +90,8 @@ pub record Takes (old : State) (daemon : DaemonId) (told : Happened) (new : Stat
   pub makes : new ≡ with_daemon (record old { broker = taken old.broker }) daemon
       (with_server was (with_taken server ask))
 
--- A daemon answers the ask, or applies the item, at a position of its hand. EIO comes exactly where the event says that
--- the backing fails, and the daemon asks it.
+-- A daemon answers the ask, or applies the item, at a position of its hand. The answer is EIO exactly if the event lets
+-- the backing fail and the request asks the backing.
 pub record Works (old : State) (daemon : DaemonId) (position : ℕ) (fails : Bool) (told : Happened)
     (new : State) : Type 0 where
   pub was : DaemonState
@@ -107,7 +107,7 @@ pub record Works (old : State) (daemon : DaemonId) (position : ℕ) (fails : Boo
   pub tells : told ≡ told_worked server.served task answer
   pub makes : new ≡ with_daemon old daemon (with_server was (with_worked server position task answer later))
 
--- the reply at a position of a daemon's replies waits for the kernel
+-- a daemon posts the reply at a position of its unposted replies: the reply waits for the kernel
 pub record Posts (old : State) (daemon : DaemonId) (position : ℕ) (told : Happened) (new : State) : Type 0 where
   pub was : DaemonState
   pub server : ServerState
@@ -126,13 +126,13 @@ pub record Delivers (old : State) (told : Happened) (new : State) : Type 0 where
   pub tells : told ≡ happened.Answered reply
   pub makes : new ≡ record old { broker = delivered old.broker }
 
--- what is told of what a daemon made of a message: what it says is told by the position of its first
+-- what is told of a reaction: of messages that are said, the position of the first
 abbrev pub told_reaction : ℕ → Reaction → Happened
 told_reaction count Ignores = happened.Ignored
 told_reaction count Heeds = happened.Heard
 told_reaction count (Says said others) = happened.Said (count + 1)
 
--- a daemon turned to something, and what it says is said
+-- a daemon changes as `turns` says, and what it says joins the messages
 pub record Reacts (old : State) (daemon : DaemonId) (turns : DaemonState → Reaction → DaemonState → Type 0)
     (told : Happened) (new : State) : Type 0 where
   pub was : DaemonState
@@ -143,13 +143,13 @@ pub record Reacts (old : State) (daemon : DaemonId) (turns : DaemonState → Rea
   pub tells : told ≡ told_reaction (length old.messages) reaction
   pub makes : new ≡ with_daemon (record old { messages = old.messages ++ what_is_said reaction }) daemon later
 
--- a daemon heard what was said at a position
+-- a daemon hears the message at a position
 pub record Hears (old : State) (daemon : DaemonId) (position : ℕ) (told : Happened) (new : State) : Type 0 where
   pub said : Message
   pub at : at_position old.messages position ≡ Some said
   pub reacts : Reacts old daemon (λ was. HearsSo old.manifest old.limit was said) told new
 
--- a daemon has the seat from here on, one generation later
+-- a daemon claims the seat: it has the seat from then on, one generation later
 pub record Claims (old : State) (daemon : DaemonId) (told : Happened) (new : State) : Type 0 where
   pub was : DaemonState
   pub generation : ℕ
@@ -160,7 +160,7 @@ pub record Claims (old : State) (daemon : DaemonId) (told : Happened) (new : Sta
   pub tells : told ≡ happened.Claimed (generation + 1)
   pub makes : new ≡ with_daemon (record old { broker = claimed old.broker daemon generation }) daemon later
 
--- a daemon is gone with all that it had, and the mount is over where it had the seat
+-- a daemon ends and loses all that it had, and the mount ends if the daemon had the seat
 pub record Crashes (old : State) (daemon : DaemonId) (told : Happened) (new : State) : Type 0 where
   pub was : DaemonState
   pub later : DaemonState
@@ -169,7 +169,7 @@ pub record Crashes (old : State) (daemon : DaemonId) (told : Happened) (new : St
   pub tells : told ≡ happened.Crashed
   pub makes : new ≡ with_daemon (record old { broker = without_daemon old.broker daemon }) daemon later
 
--- what an event that no cause stands against makes
+-- the event is made, as an event of its kind
 abbrev pub Makes : State → Event → Happened → State → Type 0
 Makes old (Start versions) told new = Starts old versions told new
 Makes old (Mount daemon) told new = Mounts old daemon told new
@@ -185,7 +185,7 @@ Makes old (Claim daemon) told new = Claims old daemon told new
 Makes old (Crash daemon) told new = Crashes old daemon told new
 Makes old event told new = ⊥
 
--- a work, a post, a claim and a crash take no memory
+-- an event may be refused memory: every event may, but a work, a post, a claim and a crash
 abbrev pub TakesMemory : Event → Type 0
 TakesMemory (Work daemon position fails) = ⊥
 TakesMemory (Claim daemon) = ⊥
@@ -193,23 +193,23 @@ TakesMemory (Post daemon position) = ⊥
 TakesMemory (Crash daemon) = ⊥
 TakesMemory event = Unit {0}
 
--- by the first cause against it, if there is one; else it is made, or memory was wanting
+-- an event is refused for the first cause against it, if there is one; else it is made, or is refused memory
 abbrev pub OnceBy : State → Event → Option Refusal → Happened → State → Type 0
 OnceBy old event (Some refusal) told new = Refuses old event refusal told new
 OnceBy old event None told new = Makes old event told new ⊎ (TakesMemory event × Lacks old told new)
 
--- one event that is no `do` and no look, with what is told of it
+-- one event that is no `do` and no look is made or refused, and this is told of it
 abbrev pub Once : State → Event → Happened → State → Type 0
 Once old event told new = OnceBy old event (fault old event) told new
 
 -- ---- every event
 
--- what holds where an event was made, and what where it was refused
+-- the first of two conditions holds if an event was made, the second if it was refused
 abbrev pub IfMade : Bool → Type 0 → Type 0 → Type 0
 IfMade true goes_on ends = goes_on
 IfMade false goes_on ends = ends
 
--- events one after another, until one is refused
+-- events happen one after another, until one is refused
 abbrev pub Carries : State → List Event → List Happened → State → Type 0
 Carries old [] outcome new = (outcome ≡ []) × (new ≡ old)
 Carries old (event ∷ events) [] new = ⊥
@@ -217,32 +217,32 @@ Carries old (event ∷ events) (told ∷ rest) new =
     (between : State) × Once old event told between
     × IfMade (is_made told) (Carries between events rest new) ((rest ≡ []) × (new ≡ between))
 
--- A `do` is issued; taken, and the first of the hand worked, by the daemon of the seat; and of an ask the first of its
--- replies is posted, and what was posted first delivered.
+-- The events of a `do`. The request is issued. The daemon of the seat takes what waits first, and works the first of
+-- its hand. For an ask the daemon also posts its first reply, and the first posted reply is delivered.
 abbrev pub events_of_do : Option Seat → Request → List Event
 events_of_do None request = Issue request ∷ []
 events_of_do (Some seat) request =
     Issue request ∷ Take seat.daemon ∷ Work seat.daemon 1 false
     ∷ (if is_ask request then Post seat.daemon 1 ∷ Deliver ∷ [] else [])
 
--- an event as a list of those that are no `do`; a look is none
+-- the events of which an event consists, none of them a `do`; a look consists of none
 abbrev pub parts_of : Option Seat → Event → List Event
 parts_of seat (Do request) = events_of_do seat request
 parts_of seat Show = []
 parts_of seat event = event ∷ []
 
--- What happens second is the take of a `do`. Its room was made before the request was issued, and where there was none
--- the issue is refused.
+-- The take of a `do`, which happens second, is not refused for want of memory. Its memory was reserved before the
+-- issue, and where that memory was refused the issue is refused.
 abbrev pub HasRoom : List Happened → Type 0
 HasRoom (asked ∷ taken ∷ later) = taken ≢ happened.Refused NoMemory
 HasRoom outcome = Unit {0}
 
--- One event, with its outcome. So of the events of a `do` two may be refused for want of memory: the issue, and then
--- nothing else happened and nothing changed; and the delivery.
+-- One event happens, with its outcome. So only two events of a `do` may be refused for want of memory: the issue, in
+-- which case nothing changes and nothing else happens, and the delivery.
 abbrev pub Step : State → Event → List Happened → State → Type 0
 Step old event outcome new = Carries old (parts_of old.broker.seat event) outcome new × HasRoom outcome
 
--- one event after another, each with its outcome
+-- events happen one after another, each with its outcome
 abbrev pub Steps : State → List Event → List (List Happened) → State → Type 0
 Steps old [] [] new = new ≡ old
 Steps old (event ∷ events) (outcome ∷ outcomes) new =

@@ -1,6 +1,6 @@
--- The world as the kernel's programs may know it: what every number that was given in this mount names, what the
--- kernel holds, and what is under way. No daemon's state, no phase and no byte stands in it. The rules are those of
--- lookup counts in libfuse's `fuse_lowlevel.h`; the seat and its generations are this project's own.
+-- The world as programs on the mount may know it: what each number that was given in this mount names, what the kernel
+-- holds, and what is under way. No daemon's state, no phase and no byte is in it. The rules are those of lookup counts
+-- in libfuse's `fuse_lowlevel.h`; the seat and its generations are this project's own.
 use Rattle.std.specs.Prelude.{◌≡◌, ◌≢◌, ℕ, ◌+◌, ◌-◌, ◌<◌, ◌≤◌, ◌⊎◌, Bool, true, false, ◌&&◌, ◌==◌, List, [], ◌∷◌, ◌++◌, length, sum_by, count_by, Contains, Option, Some, None, IsSome, is_some, Result, if◌then◌else◌}
 use Rattle.std.specs.Option.{option_map, option_map_or}
 use Rattle.std.specs.List.{AllByRecursion}
@@ -25,9 +25,9 @@ use Rattle.fuse_wire.specs.declared.reply.Reply.{Reply}
 use Rattle.fuse_ops.specs.Answers.{NumberFault, none_left, at_greatest, Numbers, Effect, looks_at, comes_to, Answers, tree_after, file_told}
 use Rattle.broker_core.specs.declared.seat.Seat.{Seat}
 
--- Who serves and at which generation; the last generation; the tree; the file that each number was given out for; and
--- bags: what the kernel holds, what is not worked yet (asks and single items), what is not delivered yet. Beside them
--- who answered at which generation, and the uniques that were used.
+-- A world: who serves and at which generation; the last generation; the tree; and the file that each number was given
+-- out for. Then come bags: what the kernel holds, the asks and the items that are not worked yet, and the replies that
+-- are not delivered yet. Last come who answered at which generation, and the uniques that were used.
 pub record World : Type 0 where
   pub manifest : Manifest
   pub seat : Option Seat
@@ -41,7 +41,7 @@ pub record World : Type 0 where
   pub answered : List Seat
   pub uniques : List ℕ
 
--- before anything happened: nobody serves, and the root alone is named
+-- the world before anything happened: nobody serves, and the root's number alone names a file
 abbrev pub first_world : Manifest → World
 first_world manifest = record {
   manifest = manifest;
@@ -63,58 +63,58 @@ first_world manifest = record {
 abbrev pub file_named : List (ℕ × FileId) → ℕ → Option FileId
 file_named names n = option_map (λ (pair : ℕ × FileId). pair.1) (first_where (λ pair. pair.0 == n) names)
 
--- how often a number stands in a bag
+-- how often a number is in a bag
 abbrev pub times : ℕ → List ℕ → ℕ
 times n [] = 0
 times n (m ∷ numbers) = (if m == n then 1 else 0) + times n numbers
 
--- the bag with the number taken out a count of times
+-- the bag after the number `n` was taken out `k` times
 abbrev pub without_times : ℕ → ℕ → List ℕ → List ℕ
 without_times k n [] = []
 without_times k n (m ∷ numbers) =
     if m == n then (if k == 0 then m ∷ numbers else without_times (k - 1) n numbers)
     else m ∷ without_times k n numbers
 
--- the answer gives this number out
+-- whether an answer gives this number out
 abbrev pub gives : ℕ → Answer → Bool
 gives n answer = option_map_or (λ (number : Number). number.0 == n) (given_out answer) false
 
--- the reply gives this number out
+-- whether a reply gives this number out
 abbrev pub carries : ℕ → Reply → Bool
 carries n reply = gives n reply.answer
 
--- what a forget takes back of this number
+-- how many lookups of this number an item takes back
 abbrev pub taken_back : ℕ → Item → ℕ
 taken_back n item = if item.node.0 == n then item.k else 0
 
--- How often a daemon is to count a number: as often as the kernel holds it, and once for each reply under way that
--- gives it out, and as often as the forgets under way take back.
+-- How often a daemon has to count a number: as often as the kernel holds it, once more for each reply under way that
+-- gives it out, and as often as the items under way take it back.
 abbrev pub owed : World → ℕ → ℕ
 owed world n = times n world.held + count_by (carries n) world.replies + sum_by (taken_back n) world.items
 
 -- ---- the table of answers, read over the world
 
--- the root, or a number that is owed a count
+-- a number is live: it is the root, or is owed a count
 abbrev pub IsLive : World → ℕ → Type 0
 IsLive world n = (n ≡ 1) ⊎ (0 < owed world n)
 
--- a live number of the file
+-- a live number names the file
 pub record IsNumberOf (world : World) (file : FileId) (n : ℕ) : Type 0 where
   pub live : IsLive world n
   pub named : file_named world.names n ≡ Some file
 
--- a number that may be given out for a file that has no live one: one that was given out for no other
+-- a number may be given out for a file that has no live number: the number was given out for no other file
 pub record IsFree (world : World) (file : FileId) (n : ℕ) : Type 0 where
   pub no_number : (m : ℕ) → IsNumberOf world file m → ⊥
   pub low : 2 ≤ n
   pub high : n < end_of_numbers
   pub named : (file_named world.names n ≡ None) ⊎ (file_named world.names n ≡ Some file)
 
--- the file's live number, or where it has none one that is free
+-- a number is the file's live number, or is free for the file if the file has no live number
 abbrev pub MayNumber : World → FileId → ℕ → Type 0
 MayNumber world file n = IsNumberOf world file n ⊎ IsFree world file n
 
--- a live number of the file that is owed the greatest count
+-- a live number of the file is owed the greatest count
 pub record IsAtGreatest (world : World) (file : FileId) (n : ℕ) : Type 0 where
   pub number : IsNumberOf world file n
   pub greatest : owed world n ≡ greatest_count
@@ -130,18 +130,19 @@ pub record MayBeGiven (world : World) (file : FileId) : Type 0 where
   pub may : MayNumber world file number
   pub not_greatest : (n : ℕ) → IsAtGreatest world file n → ⊥
 
--- what stands against giving a number of the file out once more
+-- what stands against giving out a number of the file once more; if nothing does, a number may be given out
 abbrev pub IsAgainst : World → FileId → Option NumberFault → Type 0
 IsAgainst world file (Some none_left) = HasNoNumber world file
 IsAgainst world file (Some at_greatest) = (n : ℕ) × IsAtGreatest world file n
 IsAgainst world file None = MayBeGiven world file
 
--- a regular file of the manifest, which alone a daemon asks its backing for
+-- the file is a regular file of the manifest: a daemon asks its backing for no other files
 abbrev pub IsBacked : World → FileId → Type 0
 IsBacked world file = (kind_of world.tree file ≡ Some File) × (file.0 < length world.manifest.lines + 2)
 
--- What the world reads the table by. A backing that fails and memory that runs out are no part of it, so EIO may come
--- for every file that is backed and ENOMEM for every number that is given out, where no error before them does.
+-- What the world knows of numbers, for the table of answers. Failing backings and lack of memory are no part of the
+-- world. So EIO may come for every file that is backed and ENOMEM for every number that is given out, unless an earlier
+-- error of the row comes.
 abbrev pub numbers_of : World → Numbers
 numbers_of world = record {
   IsAgainst = IsAgainst world;
@@ -150,17 +151,17 @@ numbers_of world = record {
   MayWant = λ file. Unit {0};
 }
 
--- what a request comes to by what its numbers were given out for
+-- what a request comes to, if its numbers name the files that they were given out for
 abbrev pub effect_in : World → Request → Result Effect Errno
 effect_in world request = comes_to world.tree (file_named world.names) request
 
--- a number that the request's row looks at is not live
+-- the row of the request looks at a number that is not live
 pub record IsStale (world : World) (request : Request) : Type 0 where
   pub node : Number
   pub looked_at : Contains (looks_at request) node
   pub not_live : IsLive world node.0 → ⊥
 
--- the answers to a request: those of the table, or that a number that it looks at names nothing, where it is not live
+-- an answer that a request may have: one of the table's, or ESTALE if the request looks at a number that is not live
 abbrev pub MayAnswer : World → Request → Answer → Type 0
 MayAnswer world request answer =
     ((answer ≡ Error ESTALE) × IsStale world request)
@@ -168,7 +169,7 @@ MayAnswer world request answer =
 
 -- ---- moves
 
--- One thing that may happen. An ask and a reply are named by their unique, an item by what it says.
+-- One thing that may happen. An ask and a reply are named by their unique, an item by its number and count.
 pub data Move : Type 0 where
   -- the kernel asks
   issue : Ask → Move
@@ -178,7 +179,7 @@ pub data Move : Type 0 where
   work : ℕ → Answer → Move
   -- an item is applied
   work_item : Item → Move
-  -- a daemon's reply is taken
+  -- the broker takes a daemon's reply
   accept : ℕ → DaemonId → Move
   -- a reply reaches the kernel
   deliver : ℕ → Move
@@ -189,37 +190,38 @@ pub data Move : Type 0 where
   -- the mount is over
   end : Move
 
--- the ask has this unique
+-- whether an ask has this unique
 abbrev pub is_asked : ℕ → Ask → Bool
 is_asked unique ask = ask.unique == unique
 
--- the reply has this unique
+-- whether a reply has this unique
 abbrev pub is_replied : ℕ → Reply → Bool
 is_replied unique reply = reply.unique == unique
 
--- the item says the same
+-- whether two items have the same number and count
 abbrev pub is_item : Item → Item → Bool
 is_item item other = other.node.0 == item.node.0 && other.k == item.k
 
--- the root, or a number that the kernel holds
+-- a request may name the number: it is the root, or a number that the kernel holds
 abbrev pub MayGoTo : World → Number → Type 0
 MayGoTo world node = (node.0 ≡ 1) ⊎ (0 < times node.0 world.held)
 
--- an ask under a unique that was never used, to numbers that the kernel holds
+-- an ask may be issued: a daemon has the seat, the ask's unique was never used, and the kernel holds the ask's numbers
 pub record MayIssue (world : World) (ask : Ask) : Type 0 where
   pub seat : IsSome world.seat
   pub is : is_ask ask.what ≡ true
   pub fresh : Contains world.uniques ask.unique → ⊥
   pub held : AllByRecursion (MayGoTo world) (nodes ask.what)
 
--- an item of some, and at most as much as the kernel holds; the root is held always
+-- an item may be issued: a daemon has the seat, and the item takes back at least one lookup and at most as many as the
+-- kernel holds; it is not of the root, which is held always
 pub record MayForget (world : World) (item : Item) : Type 0 where
   pub seat : IsSome world.seat
   pub no_root : item.node.0 ≢ 1
   pub some : 1 ≤ item.k
   pub at_most : item.k ≤ times item.node.0 world.held
 
--- an ask that waits, and an answer that it may have
+-- an ask is under way, and may have this answer
 abbrev pub MayWork : World → Option Ask → Answer → Type 0
 MayWork world (Some ask) answer = MayAnswer world ask.what answer
 MayWork world None answer = ⊥
@@ -232,7 +234,7 @@ IsAt world g = (holder : DaemonId) × (world.seat ≡ Some (record { generation 
 abbrev pub HasSeat : World → DaemonId → Type 0
 HasSeat world daemon = (g : ℕ) × (world.seat ≡ Some (record { generation = g; daemon = daemon }))
 
--- where each thing may happen
+-- a move may happen in the world
 abbrev pub MayMove : World → Move → Type 0
 MayMove world (issue ask) = MayIssue world ask
 MayMove world (issue_item item) = MayForget world item
@@ -244,13 +246,13 @@ MayMove world (mount daemon) = world.seat ≡ None
 MayMove world (claim g daemon) = IsAt world g
 MayMove world end = IsSome world.seat
 
--- the names after a number was given out for a file: it names the file from now on, if it named nothing
+-- the names after a number was given out for a file: the number names the file from then on, unless it named one before
 abbrev pub names_after : List (ℕ × FileId) → Option Number → Option FileId → List (ℕ × FileId)
 names_after names (Some number) (Some file) =
     if is_some (file_named names number.0) then names else (number.0, file) ∷ names
 names_after names number file = names
 
--- an ask leaves for its reply
+-- the world after an ask got its answer: the reply takes the ask's place
 abbrev pub worked : World → Answer → Option Ask → World
 worked world answer (Some ask) = record world {
   tree = tree_after world.tree (effect_in world ask.what) answer;
@@ -260,17 +262,17 @@ worked world answer (Some ask) = record world {
 }
 worked world answer None = world
 
--- the daemon answered at the seat's generation
+-- the daemons that answered, each with its generation, with this daemon added at the seat's generation
 abbrev pub answered_by : World → DaemonId → List Seat
 answered_by world daemon =
     option_map_or (λ (seat : Seat). record { generation = seat.generation; daemon = daemon } ∷ world.answered)
     world.seat world.answered
 
--- the kernel holds once more what an answer gives out
+-- what the kernel holds after an answer: the number that the answer gives out is held once more
 abbrev pub held_after : List ℕ → Answer → List ℕ
 held_after held answer = option_map_or (λ (number : Number). number.0 ∷ held) (given_out answer) held
 
--- a reply reaches the kernel
+-- the world after a reply reached the kernel
 abbrev pub delivered : World → Option Reply → World
 delivered world (Some reply) =
     record world {
@@ -279,7 +281,7 @@ delivered world (Some reply) =
     }
 delivered world None = world
 
--- the world after each thing
+-- the world after a move
 abbrev pub after : World → Move → World
 after world (issue ask) = record world { asks = world.asks ++ ask ∷ []; uniques = ask.unique ∷ world.uniques }
 after world (issue_item item) =
@@ -298,7 +300,7 @@ after world (claim g daemon) =
     record world { seat = Some (record { generation = g + 1; daemon = daemon }); last = g + 1 }
 after world end = record world { seat = None; held = []; asks = []; items = []; replies = []; names = (1, root) ∷ [] }
 
--- each thing may happen where it stands
+-- each move may happen in the world after the moves before it
 abbrev pub IsRun : World → List Move → Type 0
 IsRun world [] = Unit {0}
 IsRun world (move ∷ moves) = MayMove world move × IsRun (after world move) moves

@@ -13,24 +13,25 @@ use eden_base::NoMemory;
 use manifest::Manifest;
 use std::alloc::Global;
 
-/// Lets events happen one after another, and returns the outcome of each. It fails only where the world or the list of
-/// outcomes is refused memory. Within an event, out of memory is a refusal or an answer.
+/// Makes a world and lets `events` happen in it, one after another. Returns the world and the outcome of each event. It
+/// fails only if the world or the list of outcomes is refused memory. Within an event, out of memory is a refusal or an
+/// answer.
 pub fn run(
     alloc: Global,
     manifest: &Manifest,
     limit: usize,
     events: &[Event],
 ) -> Result<(World, Vec<Outcome>), NoMemory>
-    // Each event is refused exactly for the first cause that holds, out of memory last, or else made.
+    // Each event is made, or is refused for the first cause that holds, out of memory last.
     ensures steps { IfOk result (λ r. Steps (started manifest.now limit) events.now r.1.items r.0) }
 
-    // What the events made is a run of moves, and the world after it agrees with the state.
+    // What the events made is a run of moves, and the ideal world after these moves agrees with the state.
     ensures events_are_a_run_of_moves { IfOk result (λ r.
         IsRunOfMoves manifest.now events.now r.1.items r.0) }
 
-    // The seated daemon's counts and numbers are the world's; each generation was answered by one daemon; data of the
-    // seat's generation, and whoever may claim it, knows the same; and each reply was posted by a daemon that the world
-    // saw posting.
+    // The seated daemon's counts and numbers are the ideal world's. Each generation was answered by one daemon. Data of
+    // the seat's generation knows what the ideal world has, and so does each daemon that may claim the seat. Each reply
+    // was posted by a daemon that the ideal world saw posting.
     ensures counts_are_what_is_owed { IfOk result (λ r.
         CountsAreOwed (world_after manifest.now events.now r.1.items) r.0) }
     ensures numbers_name_their_first_file { IfOk result (λ r.
@@ -44,10 +45,10 @@ pub fn run(
     ensures no_bad_forget { IfOk result (λ r.
         AllByRecursion (AllByRecursion IsGoodForget) r.1.items) }
 
-    // No take or post is refused as Ended, Stale or NotAsked, and no claim as Unanswered.
+    // No take or post is refused as Ended, Stale or NotAsked, and no claim is refused as Unanswered.
     ensures refusals_may_come { IfOk result (λ r. RefusalsMayCome events.now r.1.items) }
 
-    // The state matches the last world, so that what `World::step` says of matching worlds goes on from here.
+    // The state matches the last ideal world. So what `World::step` says of matching worlds goes on from here.
     ensures matches { IfOk result (λ r. Matches (world_after manifest.now events.now r.1.items) r.0) }
 {
     let mut world = World::new(alloc, manifest, limit)?;
@@ -55,7 +56,7 @@ pub fn run(
     Ok((world, outcomes))
 }
 
-/// Returns the outcome of each event.
+/// Lets each event happen in `world`, in order, and returns the outcome of each.
 fn outcomes_of(alloc: Global, world: &mut World, events: &[Event]) -> Result<Vec<Outcome>, NoMemory>
     ensures steps { IfOk result (λ outcomes. Steps world.old events.now outcomes.items world.new) }
 {

@@ -6,7 +6,7 @@ use arrayvec::ArrayVec;
 use daemon::{Begun, Happened};
 use std::marker::Model;
 
-/// What happened at one event, in its order: at most five things, as a `do` consists of five events.
+/// What happened at one event, in order: at most five things, as a `do` consists of five events.
 #[derive(Drop)]
 pub struct Outcome {
     happened: ArrayVec<Happened, 5>,
@@ -38,7 +38,7 @@ impl Outcome {
         self.happened.clear();
     }
 
-    /// Appends what happened next.
+    /// Appends `happened`.
     pub(crate) fn tell(&mut self, happened: Happened)
         requires room { length self.old < 5 }
         ensures told { self.new ≡ self.old ++ happened ∷ [] }
@@ -46,7 +46,7 @@ impl Outcome {
         self.happened.push(happened);
     }
 
-    /// Appends what happened next, and returns whether it was made.
+    /// Appends `happened`, and returns whether the event was made.
     pub(crate) fn add(&mut self, happened: Happened) -> bool
         requires room { length self.old < 5 }
         ensures added { self.new ≡ self.old ++ happened ∷ [] }
@@ -57,7 +57,7 @@ impl Outcome {
         is_made
     }
 
-    /// Appends the results of an issue and of the take behind it.
+    /// Appends the result of an issue, and the result of the take after it if the request was issued.
     pub(crate) fn tell_begun(&mut self, begun: Begun)
         requires nothing { self.old ≡ [] }
         ensures told { self.new ≡ told_begun begun }
@@ -71,7 +71,7 @@ impl Outcome {
         }
     }
 
-    /// Returns what happened, in its order.
+    /// Returns what happened, in order.
     pub fn happened(&self) -> &[Happened]
         ensures happened { result.now ≡ self.now }
     {

@@ -1,4 +1,4 @@
-//! What daemons say to one another, and hear.
+//! What daemons say to one another, and what they hear.
 ghost use Rattle.std.specs.Prelude.{◌≡◌, ◌<◌, ◌≤◌, ◌+◌, ◌++◌, IfSome, length, position, vec_len, vec_capacity};
 ghost use Rattle.daemon.specs.Saying.{turned, what_is_said};
 ghost use Rattle.world.specs.State.{ChangesAt, is_data_of};
@@ -7,7 +7,7 @@ ghost use Rattle.world.specs.Step.{told_reaction};
 use daemon::{Daemon, Happened, Reaction, Turn};
 use takeover_core::Message;
 
-/// Lets the daemon at `index` take its turn on, and returns the reaction.
+/// Makes the daemon at `index` what `turn` says that it becomes, and returns the reaction of `turn`.
 pub(crate) fn let_turn(daemons: &mut Vec<Daemon>, index: usize, turn: Turn) -> Reaction
     requires within { index < vec_len daemons.old }
     ensures reacts { result ≡ turn.reaction }
@@ -17,7 +17,8 @@ pub(crate) fn let_turn(daemons: &mut Vec<Daemon>, index: usize, turn: Turn) -> R
     hearer.turn(turn)
 }
 
-/// Adds what a daemon says to the messages, and returns what is told of it: the position of its first message.
+/// Appends what `reaction` says to `messages`. Returns what is told of that: the position of the first message that is
+/// said.
 pub(crate) fn say(messages: &mut Vec<Message>, reaction: Reaction) -> Happened
     requires room { vec_len messages.old + length (what_is_said reaction) ≤ vec_capacity messages.old }
     ensures told { result ≡ told_reaction (vec_len messages.old) reaction }
@@ -35,7 +36,7 @@ pub(crate) fn say(messages: &mut Vec<Message>, reaction: Reaction) -> Happened
     }
 }
 
-/// Returns the index of the first message that is data of this generation.
+/// Returns the index of the first message that is data of this generation, if there is one.
 pub(crate) fn index_of_data(messages: &[Message], generation: u64) -> Option<usize>
     ensures index { result ≡ position (is_data_of generation) messages.now }
     ensures within { IfSome result (λ index. index < length messages.now) }
@@ -45,7 +46,7 @@ pub(crate) fn index_of_data(messages: &[Message], generation: u64) -> Option<usi
         .position(|message| is_data(message, generation))
 }
 
-/// Tells whether a message is data of this generation.
+/// Returns whether `message` is data of this generation: all of the data, or a part.
 fn is_data(message: &Message, generation: u64) -> bool
     ensures value { result ≡ is_data_of generation message.now }
 {

@@ -22,8 +22,8 @@ use std::collections::VecDeque;
 use std::marker::Model;
 use takeover_core::{Message, Versions};
 
-/// The daemons of one mount in the order of their start, the kernel's side, and every message that a daemon said. A
-/// message stays: any daemon may hear it, any number of times or never.
+/// All daemons in the order of their start, the kernel's side, and every message that a daemon said. No message is
+/// removed: any daemon may hear it, any number of times or never.
 #[derive(Drop)]
 pub struct World {
     alloc: Global,
@@ -54,7 +54,7 @@ impl Model for World {
 }
 
 impl World {
-    /// How many daemons a world starts at most, those that ended among them.
+    /// How many daemons a world starts at most, including those that ended.
     pub const MOST_DAEMONS: usize = 1024;
 
     /// Makes a world without daemons and without a mount.
@@ -81,14 +81,14 @@ impl World {
         &self.broker
     }
 
-    /// Returns what a daemon serves: nothing where it waits, and where there is no such daemon.
+    /// Returns what a daemon serves, if there is such a daemon and it serves.
     pub fn served(&self, daemon: DaemonId) -> Option<&Served>
         ensures served { option_copied result ≡ served_of self.now daemon }
     {
         Some(self.server(daemon)?.served())
     }
 
-    /// Returns the asks and single items that a daemon took and did not work yet, where it serves.
+    /// Returns the asks and single items that a daemon took and did not work yet, if the daemon serves.
     pub fn hand(&self, daemon: DaemonId) -> Option<&VecDeque<Ask>>
         ensures hand { option_map_or deque_items (option_copied result) [] ≡ hand_of self.now daemon }
         ensures serves { is_some result ≡ is_some (served_of self.now daemon) }
@@ -96,7 +96,7 @@ impl World {
         Some(self.server(daemon)?.hand())
     }
 
-    /// Returns the replies that a daemon did not post yet, where it serves.
+    /// Returns the replies that a daemon did not post yet, if the daemon serves.
     pub fn unposted(&self, daemon: DaemonId) -> Option<&VecDeque<Reply>>
         ensures unposted { option_map_or deque_items (option_copied result) [] ≡ unposted_of self.now daemon }
         ensures serves { is_some result ≡ is_some (served_of self.now daemon) }
@@ -104,15 +104,16 @@ impl World {
         Some(self.server(daemon)?.unposted())
     }
 
-    /// Returns every message that a daemon said, in their order.
+    /// Returns every message that a daemon said, in order.
     pub fn messages(&self) -> &[Message]
         ensures messages { result.now ≡ self.now.messages }
     {
         self.messages.as_slice()
     }
 
-    /// Returns the position, from 1, of the message in which the seat's holder handed over what it serves: none without
-    /// a seat, and where it handed nothing over. Looks through all messages.
+    /// Returns the position of the message in which the seat's daemon handed over what it serves: the whole data, or
+    /// the first part. Returns none if nobody has the seat, or if nothing was handed over. The first position is 1.
+    /// Looks through all messages.
     pub fn handed(&self) -> Option<usize>
         ensures handed { result ≡ handed_of self.now }
     {
@@ -121,11 +122,13 @@ impl World {
         Some(index + 1)
     }
 
-    /// Lets one event happen, or refuses it for the first cause that holds. A refusal changes nothing.
+    /// Lets `event` happen, or refuses it for the first cause that holds. A refusal changes nothing, except that a
+    /// daemon whose claim can never succeed is gone.
     pub fn step(&mut self, event: &Event) -> Outcome
         ensures step { Step self.old event.now result self.new }
 
-        // The event's moves may happen in any world that the state matches, and it matches the world after them.
+        // In any ideal world that the state matches, the event's moves may happen. The new state matches the world
+        // after them.
         ensures moves_on { (ideal : Ideal) → Matches ideal self.old
             → MovesOn ideal self.old event.now result self.new }
     {
@@ -134,11 +137,11 @@ impl World {
         outcome
     }
 
-    /// Lets one event happen as `step` does, and writes what happened into `outcome`, which is emptied first.
+    /// Lets `event` happen as `step` does, and writes what happened into `outcome`, which is emptied first.
     pub fn step_into(&mut self, event: &Event, outcome: &mut Outcome)
         ensures step { Step self.old event.now outcome.new self.new }
 
-        // The same of the event's moves.
+        // The event's moves may happen, and the new state matches the world after them, as `step` says.
         ensures moves_on { (ideal : Ideal) → Matches ideal self.old
             → MovesOn ideal self.old event.now outcome.new self.new }
     {
@@ -146,7 +149,8 @@ impl World {
         self.decide(event, outcome);
     }
 
-    /// Lets the parts of an event happen, until one is refused, and appends the outcome of each.
+    /// Lets the events of which `event` consists happen, until one is refused. Appends what happened at each to
+    /// `outcome`.
     fn decide(&mut self, event: &Event, outcome: &mut Outcome)
         requires nothing { outcome.old ≡ [] }
         ensures step { Step self.old event.now outcome.new self.new }
@@ -173,7 +177,7 @@ impl World {
         }
     }
 
-    /// Starts a daemon with these versions, unless there are as many as there may be, and says its offer.
+    /// Starts a daemon with `versions` and says its offer, unless there are `MOST_DAEMONS` daemons already.
     fn start(&mut self, versions: &Versions) -> Happened
         ensures once { Once self.old (Event.Start versions.now) result self.new }
     {
@@ -193,7 +197,8 @@ impl World {
         Happened::Started(number)
     }
 
-    /// Gives a waiting daemon the seat. Its refusals are looked for before what it serves is made.
+    /// Gives a waiting daemon the seat. Other refusals are looked for before memory is taken for what the daemon
+    /// serves.
     fn mount(&mut self, daemon: DaemonId) -> Happened
         ensures once { Once self.old (Event.Mount daemon) result self.new }
     {
@@ -216,7 +221,7 @@ impl World {
         Happened::Mounted(generation)
     }
 
-    /// Takes the kernel's ask or forget.
+    /// Issues the kernel's ask or forget.
     fn issue(&mut self, request: &Request) -> Happened
         ensures once { Once self.old (Event.Issue request.now) result self.new }
     {
@@ -226,7 +231,7 @@ impl World {
         }
     }
 
-    /// Lets a daemon take what waits first.
+    /// Lets a daemon take what waits first at the broker.
     fn take(&mut self, daemon: DaemonId) -> Happened
         ensures once { Once self.old (Event.Take daemon) result self.new }
     {
@@ -237,7 +242,8 @@ impl World {
         taker.take(&mut self.broker, daemon)
     }
 
-    /// Lets a daemon work what stands at a position of its hand.
+    /// Lets a daemon work the request at `position` of its hand. If `fails`, the backing fails the first time it is
+    /// asked.
     fn work(&mut self, daemon: DaemonId, position: u64, fails: bool) -> Happened
         ensures once { Once self.old (Event.Work daemon position fails) result self.new }
     {
@@ -248,7 +254,7 @@ impl World {
         worker.work(position, fails)
     }
 
-    /// Lets a daemon post the reply at a position. It takes no memory.
+    /// Lets a daemon post the reply at `position` of those that it did not post yet. It takes no memory.
     fn post(&mut self, daemon: DaemonId, position: u64) -> Happened
         ensures once { Once self.old (Event.Post daemon position) result self.new }
     {
@@ -259,7 +265,7 @@ impl World {
         poster.post(&mut self.broker, daemon, position)
     }
 
-    /// Lets the reply that was posted first reach the kernel.
+    /// Delivers the reply that was posted first to the kernel.
     fn deliver(&mut self) -> Happened
         ensures once { Once self.old Event.Deliver result self.new }
     {
@@ -270,8 +276,8 @@ impl World {
         }
     }
 
-    /// Lets a daemon hear what was said at a position. The room for what it says comes before it turns to anything, and
-    /// before it reads a part.
+    /// Lets a daemon hear the message at `position`. Memory for what the daemon says is reserved before the daemon
+    /// changes, and before it reads a part.
     fn hear(&mut self, daemon: DaemonId, position: u64) -> Happened
         ensures once { Once self.old (Event.Hear daemon position) result self.new }
     {
@@ -303,7 +309,7 @@ impl World {
         say(&mut self.messages, reaction)
     }
 
-    /// Lets a daemon say that it is ready to hand over. Its refusals come before out of memory.
+    /// Lets a daemon say that it is ready to hand over. Every other refusal comes before out of memory.
     fn drained(&mut self, daemon: DaemonId) -> Happened
         ensures once { Once self.old (Event.Drained daemon) result self.new }
     {
@@ -323,7 +329,7 @@ impl World {
         }
     }
 
-    /// Lets a daemon give its takeover up. The room for what it says comes first.
+    /// Lets a daemon give its takeover up. Memory for what the daemon says is reserved first.
     fn give_up(&mut self, daemon: DaemonId) -> Happened
         ensures once { Once self.old (Event.GiveUp daemon) result self.new }
     {
@@ -338,7 +344,7 @@ impl World {
         say(&mut self.messages, reaction)
     }
 
-    /// Lets a daemon claim the seat. One whose claim cannot succeed any more is gone. It takes no memory.
+    /// Lets a daemon claim the seat. A daemon whose claim can never succeed is gone. It takes no memory.
     fn claim(&mut self, daemon: DaemonId) -> Happened
         ensures once { Once self.old (Event.Claim daemon) result self.new }
     {
@@ -362,7 +368,7 @@ impl World {
         }
     }
 
-    /// Ends a daemon, and the mount where the daemon has the seat. It takes no memory.
+    /// Ends a daemon, and also the mount if the daemon has the seat. It takes no memory.
     fn crash(&mut self, daemon: DaemonId) -> Happened
         ensures once { Once self.old (Event.Crash daemon) result self.new }
     {
@@ -375,7 +381,7 @@ impl World {
         Happened::Crashed
     }
 
-    /// Lets the events of a `do` happen.
+    /// Lets the events of a `do` happen, until one is refused. Appends what happened at each to `outcome`.
     fn carry_out(&mut self, request: &Request, outcome: &mut Outcome)
         requires nothing { outcome.old ≡ [] }
         ensures step { Step self.old (Event.Do request.now) outcome.new self.new }
@@ -399,8 +405,8 @@ impl World {
         let _is_made = outcome.add(self.deliver());
     }
 
-    /// Issues the request, lets the daemon take what waits first, and returns whether both were made. The room that the
-    /// daemon needs is made before the issue.
+    /// Issues `request`, lets `daemon` take what waits first, and returns whether both were made. Memory that the
+    /// daemon needs for the take is reserved before the issue.
     fn begin(&mut self, daemon: DaemonId, request: &Request, outcome: &mut Outcome) -> bool
         requires nothing { outcome.old ≡ [] }
         ensures begins { Begins self.old request.now daemon result outcome.new self.new }
@@ -418,7 +424,7 @@ impl World {
         begun.is_made()
     }
 
-    /// Returns the daemon of a number, where it serves.
+    /// Returns what `daemon` serves and has in hand, if there is such a daemon and it serves.
     fn server(&self, daemon: DaemonId) -> Option<&Server>
         ensures server { option_copied result ≡ server_of self.now daemon }
     {

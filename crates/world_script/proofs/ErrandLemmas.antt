@@ -39,7 +39,7 @@ tells-untold failure before after error =
     let is = untold_is failure error in
     subst (λ (e : ProgramEnd). Tells failure before after e) (sym is.2) (error, sym is.2)
 
--- what was told of a fault is told of it once all is written
+-- a failure that was told is told once all is written
 tells-kept : (failure : Failure) (before between after : Option (List ℕ)) (ending : ProgramEnd) → Tells failure before between ending → Keeps between after → Tells failure before after ending
 tells-kept failure before between after (Told told) (same, line) kept = (same, Appends-kept before between after (fault_line failure.fault) line kept)
 tells-kept failure before between after ending (error, same) kept = (error, same)
@@ -56,7 +56,7 @@ tells-finished failure before between after ending new tells (inl (same, kept)) 
 tells-finished failure before between after ending new tells (inr (error, same)) =
     subst (λ (e : ProgramEnd). Tells failure before after e) (sym same) (tells-unwritten failure before between after ending error tells)
 
--- and behind what was kept at first
+-- a failure is told after bytes that were kept at first
 pub tells-from : (failure : Failure) (a b c : Option (List ℕ)) (ending : ProgramEnd) → Keeps a b → Tells failure b c ending → Tells failure a c ending
 tells-from failure a b c (Told told) kept (same, line) = (same, Appends-from a b c (fault_line failure.fault) kept line)
 tells-from failure a b c ending kept (error, same) = (error, same)
@@ -76,7 +76,7 @@ ends_after-finished (Ok done) before between after Ran new ends finishes = ran-f
 ends_after-finished (Ok done) before between after (Untold failure first) new ends finishes = unwritten-finished before between after failure first new ends finishes
 ends_after-finished (Ok done) before between after ending new ends finishes = absurd ends
 
--- an errand that was run, and how the program ends after it
+-- an errand was run, and the program ended after it
 pub runs_errand : (errand : Errand) (errands : ErrandsKnown) (result : Result (Unit {0}) Failure) (before between after : Option (List ℕ)) (ending : ProgramEnd) →
     errands.ends errand result before between → EndsAfter result between after ending → RunsErrand errand errands before after ending
 runs_errand errand errands result before between after ending ran ends =
@@ -112,7 +112,7 @@ runs_named-from command errands a b c ending kept named = record {
   };
 }
 
--- the end of words stays what it is once all is written
+-- how the program ends stays so once all is written
 pub ends_by-finished : (had : Had) (input : Option (List ℕ)) (file : List ℕ → Option (List ℕ)) (errands : ErrandsKnown) (before between after : Option (List ℕ)) (ending new : ProgramEnd) →
     EndsBy had input file errands before between ending → Finishes ending between after new → EndsBy had input file errands before after new
 ends_by-finished had input file errands before between after ending new ends finishes = record {
@@ -124,7 +124,7 @@ ends_by-finished had input file errands before between after ending new ends fin
   ];
 }
 
--- and behind what was kept at first
+-- the program ends after bytes that were kept at first
 pub ends_by-from : (had : Had) (input : Option (List ℕ)) (file : List ℕ → Option (List ℕ)) (errands : ErrandsKnown) (a b c : Option (List ℕ)) (ending : ProgramEnd) →
     Keeps a b → EndsBy had input file errands b c ending → EndsBy had input file errands a c ending
 ends_by-from had input file errands a b c ending kept ends = record {

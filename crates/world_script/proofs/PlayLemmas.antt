@@ -25,7 +25,7 @@ IsPlayed-none start events before = record {
   goes_on = λ more rest last prints. prints;
 }
 
--- one more event
+-- one more event happened, and what it printed is written
 pub IsPlayed-more : (start now between : State) (events left after : List Event) (event : Event) (outcome : List Happened) (a b c : Option (List ℕ)) → IsPlayed start events left a now b → left ≡ event ∷ after → Step now event outcome between → Appends b c (printed between event outcome) → IsPlayed start events after a between c
 IsPlayed-more start now between events left after event outcome a b c played is step one = record {
   outcomes = played.outcomes ++ outcome ∷ [];
@@ -37,7 +37,7 @@ IsPlayed-more start now between events left after event outcome a b c played is 
       (subst (λ (text : List ℕ). Prints start events (played.outcomes ++ outcome ∷ more) text last) (sym (append_assoc played.text (printed between event outcome) rest)) (played.goes_on (outcome ∷ more) (printed between event outcome ++ rest) last longer));
 }
 
--- all events
+-- all events happened, and what they printed is written
 pub RunsEvents-of : (start now : State) (events left : List Event) (a b c : Option (List ℕ)) → IsPlayed start events left a now b → left ≡ [] → Keeps b c → RunsEvents start events a c
 RunsEvents-of start now events left a b c played none kept = record {
   outcomes = played.outcomes;
@@ -48,7 +48,7 @@ RunsEvents-of start now events left a b c played none kept = record {
   written = Appends-kept a b c played.text played.written kept;
 }
 
--- the same, where it is known only for what was not refused
+-- all events happened, if the last write was not refused
 pub RunsEvents-on_ok : {E : Type 0} (r : Result (Unit {0}) E) (start now : State) (events left : List Event) (a b c : Option (List ℕ)) → IsPlayed start events left a now b → left ≡ [] → Keeps b c → OnOk r (RunsEvents start events a c)
 RunsEvents-on_ok (Ok done) start now events left a b c played none kept = RunsEvents-of start now events left a b c played none kept
 RunsEvents-on_ok (Err error) start now events left a b c played none kept = tt

@@ -1,4 +1,5 @@
--- Lemmas on a run of the program in a process: what its streams held before is known of the writers that stand for them.
+-- Lemmas on a run of the program in a process: what its streams held before is known of the writers that stand for
+-- them.
 use Rattle.std.proofs.Common.{◌≡◌, ℕ, List, [], Option, Some, None, Result, Ok, Err, append-nil, map, subst, sym, ◌∙◌, string_bytes}
 use Rattle.std.specs.Prelude.{IfOk, IfSome, OnOk, String}
 use Rattle.std.specs.Global.{Global, Vec}
@@ -51,12 +52,13 @@ says-from (Untold failure error) a b c kept (between, first, second) = (between,
 says-from (Shown text) a b c kept stays = Keeps-trans a b c kept stays
 says-from (Refused text) a b c kept line = Appends-from a b c (string_bytes text) kept line
 
--- what was said, where no write failed
+-- what was said goes after bytes that were kept at first, if no write failed
 said-from : (said : Result (Unit {0}) IoError) (ending : ProgramEnd) (a b c : Option (List ℕ)) → Keeps a b → OnOk said (Says ending b c) → OnOk said (Says ending a c)
 said-from (Ok done) ending a b c kept says = says-from ending a b c kept says
 said-from (Err error) ending a b c kept says = tt
 
--- a process that leaves an output behind ends with what is known of that, and what it says goes behind what was kept at first
+-- a process that leaves an output ends as is known of that output, and what it says goes after bytes that were kept at
+-- first
 pub ends_with : {W : Type 0} (contents : W → Option (List ℕ)) (known : Option (List ℕ) → ProgramEnd → Type 0) (output left : W) (ending : ProgramEnd) (a b c : Option (List ℕ)) (status : ℕ) (said : Result (Unit {0}) IoError) →
     known (contents output) ending → left ≡ output → Keeps a b → status ≡ status_of ending → OnOk said (Says ending b c) → EndsWith (known (contents left)) a c status said
 ends_with contents known output left ending a b c status said is same kept status_is says = record {
@@ -66,7 +68,7 @@ ends_with contents known output left ending a b c status said is same kept statu
   says = said-from said ending a b c kept says;
 }
 
--- and so is one of which less is known
+-- a process that ends with an ending of which this is known ends with one of which less is known
 pub ends_with-map : {known less : ProgramEnd → Type 0} {errors errors_after : Option (List ℕ)} {status : ℕ} {said : Result (Unit {0}) IoError} →
     ((ending : ProgramEnd) → known ending → less ending) → EndsWith known errors errors_after status said → EndsWith less errors errors_after status said
 ends_with-map so ends = record { ending = ends.ending; is = so ends.ending ends.is; status_is = ends.status_is; says = ends.says }
@@ -83,7 +85,7 @@ gathered-kept contents lines inner a is none kept =
     subst (λ w. Keeps a (append_known (contents w) (writer_buffer lines))) (sym is)
     (subst (λ (buffer : List ℕ). Keeps a (append_known (contents inner) buffer)) (sym none) (nothing_gathered a (contents inner) kept))
 
--- the words that were had are those that are known
+-- the words that the program got are the known ones
 pub words_are : (words : Result (Vec (String Global)) IoError) (known : Option (List Text)) →
     IfOk words (λ all. IfSome known (λ texts. map string_bytes all.items ≡ texts)) → IfOk (words_had words) (λ all. IfSome known (λ texts. all ≡ texts))
 words_are (Ok words) known is = is

@@ -23,7 +23,7 @@ use Rattle.world_script.specs.declared.failure.Failure.{Failure}
 use Rattle.world_script.specs.declared.fault.Fault.{Fault}
 use Rattle.world_script.specs.declared.fault.Fault.TheVariants.{CannotWrite, NoMemory}
 
--- an error that is there is named, and one that isn't there is not
+-- the name that a failure has is that of its fault, if an error caused the fault
 pub named-some : (path : List ℕ) (fault : Fault) → true ≡ is_caused fault → Some (name_with path fault) ≡ name_by path fault
 named-some path fault is = rw (sym is) refl
 
@@ -35,12 +35,12 @@ pub is_fault-memory : (wrong : Kinds) (script : Option (List ℕ)) → IsFault w
 is_fault-memory [] script = of_read-any script (λ bytes. IsRunRefusal bytes NoMemory) (λ bytes. tt)
 is_fault-memory (kind ∷ more) script = inl refl
 
--- what is answered to words that ask for no script may stay unwritten
+-- an answer to words that ask for no script may be unwritten
 is_fault-answered : (wrong : Kinds) (script : Option (List ℕ)) (k : ErrorKind) → IsAmong k wrong → IsFault wrong script CannotWrite
 is_fault-answered [] script k none = absurd none
 is_fault-answered (kind ∷ more) script k among = inr refl
 
--- a failure whose line could not be written
+-- the program ends so if the line of its failure could not be written
 ends-untold_by : (wrong : Kinds) (path : List ℕ) (script : Option (List ℕ)) (limit : ℕ) (before after : Option (List ℕ)) (fault : Fault) (cause : Option Cause) (failure : Failure) (error : IoError) →
     failure.fault ≡ fault → failure.cause ≡ cause → IsFault wrong script failure.fault → name_of failure ≡ name_by path failure.fault →
     Ends wrong path script limit before after (untold_by fault cause failure error)
@@ -55,14 +55,14 @@ ends-untold : (wrong : Kinds) (path : List ℕ) (script : Option (List ℕ)) (li
 ends-untold wrong path script limit before after failure error is named =
     ends-untold_by wrong path script limit before after failure.fault failure.cause failure error refl refl is named
 
--- what was kept at first grows by what is appended then
+-- bytes that are appended to kept ones are appended to those before
 pub Appends-from : (a b c : Option (List ℕ)) (bs : List ℕ) → Keeps a b → Appends b c bs → Appends a c bs
 Appends-from None b c bs kept grows = tt
 Appends-from (Some x) None c bs kept grows = absurd kept
 Appends-from (Some x) (Some y) None bs kept grows = absurd grows
 Appends-from (Some x) (Some y) (Some z) bs kept grows = grows ∙ ap (λ (xs : List ℕ). xs ++ bs) kept
 
--- a failure that is told ends the program so
+-- the program ends so if its failure is told
 pub ends-told : (wrong : Kinds) (path : List ℕ) (script : Option (List ℕ)) (limit : ℕ) (before between after : Option (List ℕ)) (failure : Failure) (ending : ProgramEnd) →
     IsFault wrong script failure.fault → name_of failure ≡ name_by path failure.fault → (comes_first failure.fault ≡ true → Keeps before between) →
     Tells failure between after ending → Ends wrong path script limit before after ending
@@ -71,13 +71,13 @@ ends-told wrong path script limit before between after failure (Told told) is na
 ends-told wrong path script limit before between after failure ending is named kept (error, same) =
     subst (λ (e : ProgramEnd). Ends wrong path script limit before after e) (sym same) (ends-untold wrong path script limit before after failure error is named)
 
--- there is no memory
+-- the program ends so if memory is refused
 pub ends-no_memory : (wrong : Kinds) (path : List ℕ) (script : Option (List ℕ)) (limit : ℕ) (before after : Option (List ℕ)) (ending : ProgramEnd) →
     Tells (plain NoMemory) before after ending → Ends wrong path script limit before after ending
 ends-no_memory wrong path script limit before after ending told =
     ends-told wrong path script limit before before after (plain NoMemory) ending (is_fault-memory wrong script) refl (λ first. Keeps-refl before) told
 
--- a script's fault, as the failure has it
+-- the program ends so by a script's fault
 pub ends-failed : (path : List ℕ) (script : Option (List ℕ)) (limit : ℕ) (before between after : Option (List ℕ)) (fault : Fault) (failure : Failure) (ending : ProgramEnd) →
     failure.fault ≡ fault → OfRead script (λ bytes. IsRunRefusal bytes fault) → name_of failure ≡ name_by path failure.fault → (comes_first fault ≡ true → Keeps before between) →
     Tells failure between after ending → Ends [] path script limit before after ending
@@ -103,13 +103,13 @@ refused_as_no_text : (k : IoErrorKind) → (k ≡ io_kind.OutOfMemory → ⊥) �
 refused_as_no_text io_kind.OutOfMemory other = absurd (other refl)
 refused_as_no_text k other = inl refl
 
--- words that could not be had, and not for want of memory, end as those that are no text
+-- words that the program did not get, for another cause than memory, end it as words that are no text
 pub ends-unread : (k : IoErrorKind) (path : List ℕ) (script : Option (List ℕ)) (limit : ℕ) (before after : Option (List ℕ)) (said : ErrorKind) (ending : ProgramEnd) →
     (k ≡ io_kind.OutOfMemory → ⊥) → said ≡ kind.InvalidValue → Answers said before after ending → Ends (wrong_had (Err k)) path script limit before after ending
 ends-unread k path script limit before after said ending other same answers =
     ends-answered (wrong_had (Err k)) path script limit before after said ending (inr (subst (λ (a : ErrorKind). IsAmong a (wrong_had (Err k))) (sym same) (refused_as_no_text k other))) answers
 
--- a script that was run may stay unwritten
+-- the lines of a script that was run may be unwritten
 is_fault-ran : (wrong : Kinds) (script : Option (List ℕ)) (limit : ℕ) (before after : Option (List ℕ)) → (wrong ≡ []) × OfRead script (λ bytes. Runs bytes limit before after) → IsFault wrong script CannotWrite
 is_fault-ran [] script limit before after ran =
     of_read-map script (λ bytes. Runs bytes limit before after) (λ bytes. IsRunRefusal bytes CannotWrite) (λ bytes runs. runs.good) ran.1
@@ -136,7 +136,7 @@ ends-kept wrong path script limit before between after (Untold failure error) en
 ends-kept wrong path script limit before between after (Shown text) (wish, among, is, line) kept = (wish, among, is, Appends-kept before between after (string_bytes text) line kept)
 ends-kept wrong path script limit before between after (Refused text) (mistake, among, is, stays) kept = (mistake, among, is, Keeps-trans before between after stays kept)
 
--- the end stays what it is once all is written, or says that it could not be
+-- how the program ends stays so once all is written, or says that it could not be
 pub ends-finished : (wrong : Kinds) (path : List ℕ) (script : Option (List ℕ)) (limit : ℕ) (before between after : Option (List ℕ)) (ending new : ProgramEnd) →
     Ends wrong path script limit before between ending → Finishes ending between after new → Ends wrong path script limit before after new
 ends-finished wrong path script limit before between after ending new ends (inl (same, kept)) =

@@ -18,7 +18,7 @@ use Rattle.world_script.specs.Refusal.{IsRunRefusal}
 use Rattle.world_script.specs.Script.{SaysManifest, IsGood, Prints, IsPromised, RunsEvents, Runs}
 use Rattle.world_script.specs.Source.{OfRead}
 
--- what was printed was printed on the way
+-- events that printed happened
 steps-of : (old : State) (events : List Event) (outcomes : List (List Happened)) (text : List ℕ) (new : State) → Prints old events outcomes text new → Steps old events outcomes new
 steps-of old [] [] text new prints = prints.1
 steps-of old (event ∷ events) (outcome ∷ outcomes) text new (between, rest, step, is, prints) = (between, step, steps-of between events outcomes rest new prints)
@@ -59,7 +59,7 @@ good_as_said script text manifest events len same said says = record {
   len = len;
 }
 
--- and may be refused since its lines cannot be written
+-- a script that was read may be refused because its lines cannot be written
 pub refused_late : (known : Option (List ℕ)) (script text : List ℕ) (manifest : Manifest) (events : List Event) (fault : Fault) →
     IfSome known (λ all. script ≡ all) → length script ≤ 1048576 → text ≡ script → SaysManifest text (Ok manifest) → SaysEvents text events → fault ≡ CannotWrite → OfRead known (λ all. IsRunRefusal all fault)
 refused_late known script text manifest events fault is len same said says late = record {
@@ -68,7 +68,7 @@ refused_late known script text manifest events fault is len same said says late 
   holds = rw late (good_as_said script text manifest events len same said says);
 }
 
--- what a script said, and what it ran
+-- a script whose events were run is run
 pub runs_as_said : (script text : List ℕ) (manifest : Manifest) (events listed : List Event) (limit : ℕ) (start : State) (before after : Option (List ℕ)) →
     length script ≤ 1048576 → text ≡ script → listed ≡ events → SaysManifest text (Ok manifest) → SaysEvents text events → start ≡ started manifest limit → Matches (first_world manifest) start → RunsEvents start listed before after → Runs script limit before after
 unfolding good_as_said
@@ -77,7 +77,7 @@ runs_as_said script text manifest events listed limit start before after len sam
     runs-good script good limit before after (subst (λ (s : State). Matches (first_world manifest) s) is matches)
     (subst (λ (s : State). RunsEvents s events before after) is (subst (λ (es : List Event). RunsEvents start es before after) all ran))
 
--- the same of what was read of a reader
+-- a script that was read whole from a reader is run
 pub runs_whole : (known : Option (List ℕ)) (script : List ℕ) (limit : ℕ) (before after : Option (List ℕ)) →
     IfSome known (λ all. script ≡ all) → Runs script limit before after → OfRead known (λ all. Runs all limit before after)
 runs_whole known script limit before after is runs = record { script = script; is = is; holds = runs }

@@ -1,11 +1,11 @@
--- The words that a fault is told by. (This project's own.)
+-- The words that tell a fault. (This project's own.)
 use Rattle.std.specs.Prelude.{ℕ, List, [], ◌∷◌, ◌++◌, codes}
 use Rattle.std.specs.Fmt.{decimal}
 use Rattle.manifest.specs.Words.{kind_text}
 use Rattle.world_script.specs.declared.fault.Fault.{Fault}
 use Rattle.world_script.specs.declared.fault.Fault.TheVariants.{CannotRead, TooLong, NoEvents, BadManifest, BadLine, NoMemory, CannotWrite, CannotListen, NoBroker, Seated, NoDaemon, OfferRefused, TakeoverFailed, NoThread, Broken}
 
--- what is wrong
+-- the text of a fault
 abbrev pub fault_text : Fault → List ℕ
 fault_text CannotRead = codes "cannot read"
 fault_text TooLong = codes "too long"
@@ -23,6 +23,6 @@ fault_text TakeoverFailed = codes "takeover failed"
 fault_text NoThread = codes "no thread"
 fault_text Broken = codes "broken"
 
--- `fault: TEXT`
+-- the line of a fault: `fault: TEXT`
 abbrev pub fault_line : Fault → List ℕ
 fault_line fault = codes "fault: " ++ fault_text fault ++ 10 ∷ []

@@ -1,7 +1,8 @@
 -- What one read of a script takes from its reader. (This project's own.)
 use Rattle.std.specs.Prelude.{◌≡◌, ℕ, List, ◌++◌, ⊤, Option, Some, None}
 
--- the bytes that were read and those that are left stay what they were together, where the reader's are known
+-- a read moves bytes from the reader to what was read: both together stay what they were, if the reader's bytes are
+-- known
 abbrev pub Reads : Option (List ℕ) → List ℕ → Option (List ℕ) → List ℕ → Type 0
 Reads None old left new = ⊤
 Reads (Some rest) old None new = ⊥

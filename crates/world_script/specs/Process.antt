@@ -6,16 +6,16 @@ use Rattle.world_script.specs.ProgramEnd.{EndsAfter, EndsBy, ErrandsKnown, Had, 
 use Rattle.world_script.specs.declared.failure.Failure.{Failure}
 use Rattle.world_script.specs.declared.program_end.ProgramEnd.{ProgramEnd}
 
--- The process ends by an ending of which this is known, and by which the status and standard error go.
+-- The process ends by an ending of which this is known. The ending determines the status, and what standard error gets.
 pub record EndsWith (known : ProgramEnd → Type 0) (errors errors_after : Option (List ℕ))
     (status : ℕ) (said : Result (Unit {0}) IoError) : Type 0 where
   pub ending : ProgramEnd
   pub is : known ending
   pub status_is : status ≡ status_of ending
-  -- what is to be said is all that standard error got, unless a write there failed
+  -- standard error got exactly what the ending says, unless a write to it failed
   pub says : OnOk said (Says ending errors errors_after)
 
--- the process ends after an errand that ran to this result
+-- the process ends after an errand with this result
 abbrev pub EndsErrand :
     Result (Unit {0}) Failure → Option (List ℕ) → Option (List ℕ) → Option (List ℕ) → Option (List ℕ) →
     ℕ → Result (Unit {0}) IoError → Type 0
@@ -23,8 +23,8 @@ EndsErrand ran output output_after errors errors_after status said =
     EndsWith (EndsAfter ran output output_after) errors errors_after status said
 
 -- The program ran in a process of which this is known: its words, the bytes of standard input and of files, how errands
--- end, and what standard output and standard error held before and hold after. There are the words, those that are
--- known, and there is the ending, by which all else goes.
+-- end, and what standard output and standard error held before and hold after. There are words, which are the known
+-- ones where some are known. There is an ending for them, which determines all else.
 pub record RunsIn (words : Option (List Text)) (input : Option (List ℕ)) (file : List ℕ → Option (List ℕ))
     (errands : ErrandsKnown)
     (output output_after errors errors_after : Option (List ℕ))

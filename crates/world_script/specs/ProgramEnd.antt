@@ -26,7 +26,7 @@ use Rattle.world_script.specs.declared.failure.Failure.{Failure}
 use Rattle.world_script.specs.declared.fault.Fault.{Fault}
 use Rattle.world_script.specs.declared.fault.Fault.TheVariants.{CannotWrite, NoMemory}
 
--- the exit status
+-- the exit status of an ending
 abbrev pub status_of : ProgramEnd → ℕ
 status_of Ran = 0
 status_of (Told failure) = 1
@@ -34,25 +34,26 @@ status_of (Untold failure error) = 1
 status_of (Shown text) = 0
 status_of (Refused text) = 2
 
--- a fault with no error of the system's behind it
+-- the failure of a fault that no error of the system caused
 abbrev pub plain : Fault → Failure
 plain fault = record { fault = fault; cause = None }
 
--- the name of what the system's error behind a failure is with, if one is
+-- the name of the file or stream whose error caused the failure, if an error did
 abbrev pub name_of : Failure → Option (List ℕ)
 name_of failure = option_map (λ cause. cause.name.now) failure.cause
 
--- the name of what an error behind the fault is with, where a script at this path was run: the writer of its lines
--- failed, or its reader
+-- the name of the file or stream whose error causes this fault, in a run of the script at this path: its lines' writer,
+-- or its reader
 abbrev pub name_with : List ℕ → Fault → List ℕ
 name_with path CannotWrite = codes "standard output"
 name_with path _ = stream_at path
 
--- the same where the system's error is behind the fault
+-- the name of the file or stream whose error causes this fault, if an error does
 abbrev pub name_by : List ℕ → Fault → Option (List ℕ)
 name_by path fault = if is_caused fault then Some (name_with path fault) else None
 
--- and the same once it is known that standard output failed
+-- the name of the file or stream whose error caused a fault that could not be told; none if that is standard output,
+-- whose error is told by itself
 abbrev pub name_beside : List ℕ → Fault → Option (List ℕ)
 name_beside path CannotWrite = None
 name_beside path fault = name_by path fault
@@ -65,36 +66,36 @@ untold_by fault cause failure error = Untold failure error
 abbrev pub untold : Failure → IoError → ProgramEnd
 untold failure error = untold_by failure.fault failure.cause failure error
 
--- the ending, where what is left to write can't be written
+-- the ending that takes the place of this one if the rest of the output cannot be written
 abbrev pub unwritten : ProgramEnd → IoError → ProgramEnd
 unwritten (Told failure) error = untold failure error
 unwritten (Untold failure first) error = Untold failure first
 unwritten _ error = Untold (plain CannotWrite) error
 
--- the fault is told, by its line where that can be written
+-- the line of the failure is written, or the ending says that it could not be
 abbrev pub Tells : Failure → Option (List ℕ) → Option (List ℕ) → ProgramEnd → Type 0
 Tells failure before after (Told told) = (told ≡ failure) × Appends before after (fault_line failure.fault)
 Tells failure before after ending = (error : IoError) × (ending ≡ untold failure error)
 
--- help or the version is shown, where it can be written
+-- the help or the version is written, or the ending says that it could not be
 abbrev pub Shows : List ℕ → Option (List ℕ) → Option (List ℕ) → ProgramEnd → Type 0
 Shows text before after (Shown shown) = (string_bytes shown ≡ text) × Appends before after text
 Shows text before after ending = (error : IoError) × (ending ≡ Untold (plain CannotWrite) error)
 
--- the kind is a wish for help or the version
+-- an error of this kind asks for the help or the version
 abbrev pub IsWish : ErrorKind → Type 0
 IsWish kind.DisplayHelp = ⊤
 IsWish kind.DisplayVersion = ⊤
 IsWish _ = ⊥
 
--- the kind is a mistake in the words
+-- an error of this kind is a mistake in the words
 abbrev pub IsMistake : ErrorKind → Type 0
 IsMistake kind.DisplayHelp = ⊥
 IsMistake kind.DisplayVersion = ⊥
 IsMistake kind.OutOfMemory = ⊥
 IsMistake _ = ⊤
 
--- how words end that ask for no script, by what `clap` says of them
+-- how the program ends if its words ask for no script, by the kind of `clap`'s error
 abbrev pub Answers : ErrorKind → Option (List ℕ) → Option (List ℕ) → ProgramEnd → Type 0
 Answers kind before after Ran = ⊥
 Answers kind before after (Told failure) = Tells (plain NoMemory) before after (Told failure)
@@ -103,18 +104,18 @@ Answers kind before after (Untold failure error) =
 Answers kind before after (Shown text) = IsWish kind × Appends before after (string_bytes text)
 Answers kind before after (Refused text) = IsMistake kind × Keeps before after
 
--- a fault where words name a script is the script's; where they don't, memory ran out or output can't be written
+-- if words name a script, the fault is one of that script; else memory was refused or output could not be written
 abbrev pub IsFault : Kinds → Option (List ℕ) → Fault → Type 0
 IsFault [] known fault = OfRead known (λ script. IsRunRefusal script fault)
 IsFault (wrong ∷ more) known fault = (fault ≡ NoMemory) ⊎ (fault ≡ CannotWrite)
 
--- How words end, by the kinds of what is wrong with them, by the path that they name and what is known of the script
--- there, and by their limit.
+-- How the program ends, by the kinds of what is wrong with the words, by the path that the words name and what is known
+-- of the script there, and by the limit of the words.
 abbrev pub Ends : Kinds → List ℕ → Option (List ℕ) → ℕ → Option (List ℕ) → Option (List ℕ) → ProgramEnd → Type 0
 -- nothing is wrong with the words, and the script was run with all of its lines written
 Ends wrong path known limit before after Ran =
     (wrong ≡ []) × OfRead known (λ script. Runs script limit before after)
--- the fault's line is all that was written, unless lines could not be
+-- a fault that comes before any event leaves its own line as all that was written
 Ends wrong path known limit before after (Told failure) =
     IsFault wrong known failure.fault × (name_of failure ≡ name_by path failure.fault)
     × (comes_first failure.fault ≡ true → Appends before after (fault_line failure.fault))
@@ -127,7 +128,7 @@ Ends wrong path known limit before after (Shown text) =
 Ends wrong path known limit before after (Refused text) =
     (mistake : ErrorKind) × IsAmong mistake wrong × IsMistake mistake × Keeps before after
 
--- the words as they were had, or why they could not be
+-- the words that the program got, or why it got none
 abbrev pub Had : Type 0
 Had = Result (List Text) IoErrorKind
 
@@ -136,7 +137,7 @@ abbrev pub words_had : Result (Vec (String Global)) IoError → Had
 words_had (Ok words) = Ok (map string_bytes words.items)
 words_had (Err error) = Err (error_kind error)
 
--- what is wrong with the words; those that are no text are refused
+-- the kinds of what is wrong with the words; words that are no text are refused
 abbrev pub wrong_had : Had → Kinds
 wrong_had (Ok words) = wrong_of words
 wrong_had (Err io_kind.OutOfMemory) = kind.OutOfMemory ∷ []
@@ -152,39 +153,39 @@ abbrev pub limit_had : Had → ℕ
 limit_had (Ok words) = limit_named words
 limit_had (Err _) = 1024
 
--- how an errand may end, and what the writer holds before and after it
+-- how an errand may end: by the errand, by its result, and by what the writer holds before and after it
 abbrev pub ErrandEnds : Type 1
 ErrandEnds = Errand → Result (Unit {0}) Failure → Option (List ℕ) → Option (List ℕ) → Type 0
 
--- What is known of errands.
+-- What is known of errands: how one may end, and what holds if none is run.
 pub record ErrandsKnown : Type 1 where
   pub ends : ErrandEnds
-  -- what is so where none is run
+  -- what holds if no errand is run
   pub idle : Type 0
 
--- what is known of errands by who runs them, as that was before and is now
+-- what is known of errands, by the runner before and after
 abbrev pub known_of : {D : Type 0} → (D → D → ErrandEnds) → D → D → ErrandsKnown
 known_of ends old new = record { ends = ends old new; idle = new ≡ old }
 
--- how the program ends after an errand: a fault is told, and a last write may fail where there was none
+-- how the program ends after an errand: a fault is told, and without a fault the last write may fail
 abbrev pub EndsAfter : Result (Unit {0}) Failure → Option (List ℕ) → Option (List ℕ) → ProgramEnd → Type 0
 EndsAfter (Ok done) before after Ran = Keeps before after
 EndsAfter (Ok done) before after (Untold failure error) = failure ≡ plain CannotWrite
 EndsAfter (Ok done) before after ending = ⊥
 EndsAfter (Err failure) before after ending = Tells failure before after ending
 
--- The errand was run, and the program ended as it did.
+-- The errand was run, and its result determines how the program ended.
 pub record RunsErrand (errand : Errand) (errands : ErrandsKnown) (before after : Option (List ℕ))
     (ending : ProgramEnd) : Type 0 where
   pub result : Result (Unit {0}) Failure
   pub begun : Option (List ℕ)
   pub ended : Option (List ℕ)
-  -- nothing was written before it
+  -- nothing was written before the errand
   pub first : Keeps before begun
   pub ran : errands.ends errand result begun ended
   pub ends : EndsAfter result ended after ending
 
--- how it ends where this is asked for: the script is run, or the errand
+-- how the program ends if this is asked for: the script is run, or the errand is run
 abbrev pub EndsAsked :
     Asked → Option (List ℕ) → (List ℕ → Option (List ℕ)) → ErrandsKnown →
     Option (List ℕ) → Option (List ℕ) → ProgramEnd → Type 0
@@ -199,29 +200,30 @@ pub record RunsNamed (command : Option (Text × List Row)) (errands : ErrandsKno
   pub named : IsErrand command errand
   pub runs : RunsErrand errand errands before after ending
 
--- nothing is wrong
+-- whether nothing is wrong with the words
 abbrev pub is_right : Kinds → Bool
 is_right [] = true
 is_right (wrong ∷ more) = false
 
--- nothing is wrong with the words, and they ask for an errand
+-- whether nothing is wrong with the words, and they ask for an errand
 abbrev pub asks_errand : Had → Bool
 asks_errand (Ok words) = is_right (wrong_of words) && is_errand (command_of words)
 asks_errand (Err _) = false
 
--- the command of the words that were had
+-- the command of the words, if the program got words
 abbrev pub command_had : Had → Option (Text × List Row)
 command_had (Ok words) = command_of words
 command_had (Err _) = None
 
--- how words end, by the bytes of standard input and of files that are known, and by what is known of errands
+-- how the program ends, by its words, by what is known of the bytes of standard input and of files, and by what is
+-- known of errands
 pub record EndsBy (had : Had) (input : Option (List ℕ)) (file : List ℕ → Option (List ℕ)) (errands : ErrandsKnown)
     (before after : Option (List ℕ)) (ending : ProgramEnd) : Type 0 where
   pub script : asks_errand had ≡ false →
       Ends (wrong_had had) (path_had had) (script_at input file (path_had had)) (limit_had had) before after ending
-  -- no errand is run where none is asked for
+  -- if the words ask for no errand, none is run
   pub idle : asks_errand had ≡ false → errands.idle
-  -- the errand that they ask for is run, or there is no memory to read them
+  -- the errand that the words ask for is run, or memory to read the words is refused
   pub errand : asks_errand had ≡ true →
       RunsNamed (command_had had) errands before after ending
       ⊎ (Tells (plain NoMemory) before after ending × errands.idle)
@@ -231,16 +233,16 @@ abbrev pub Finishes : ProgramEnd → Option (List ℕ) → Option (List ℕ) →
 Finishes ending before after new =
     ((new ≡ ending) × Keeps before after) ⊎ ((error : IoError) × (new ≡ unwritten ending error))
 
--- the line that says of a file or a stream what the system's error with it is
+-- the line that tells the system's error with a file or a stream
 abbrev pub complaint : List ℕ → List ℕ → List ℕ
 complaint name cause = codes "edend: " ++ name ++ codes ": " ++ cause ++ 10 ∷ []
 
--- one such line is written, where there is a name
+-- a line tells the system's error with the file or stream of this name, if there is one
 abbrev pub Complains : Option (List ℕ) → Option (List ℕ) → Option (List ℕ) → Type 0
 Complains None before after = Keeps before after
 Complains (Some name) before after = (cause : List ℕ) × Appends before after (complaint name cause)
 
--- what standard error gets
+-- what an ending writes to standard error
 abbrev pub Says : ProgramEnd → Option (List ℕ) → Option (List ℕ) → Type 0
 Says Ran before after = Keeps before after
 Says (Told failure) before after = Complains (name_of failure) before after

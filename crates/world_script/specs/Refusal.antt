@@ -1,4 +1,5 @@
--- Why a script is refused: the first of no line `--`, a bad manifest, and a bad line behind it. (This project's own.)
+-- Why a script is refused: for the first of these causes that holds: no line `--`, a bad manifest, a bad line after it.
+-- (This project's own.)
 use Rattle.std.specs.Prelude.{◌≡◌, ℕ, ◌+◌, ◌<◌, ◌≤◌, Bool, true, false, is_some, List, length, ⊤, Some, None, Ok, Err, option_map}
 use Rattle.manifest.specs.Manifest.{Manifest}
 use Rattle.manifest.specs.ManifestText.{manifest_of}
@@ -12,16 +13,16 @@ use Rattle.script_lines.specs.Lines.{lines_of}
 use Rattle.world_script.specs.Parts.{lines_behind, first_bad, IsBadLine}
 use Rattle.world_script.specs.Script.{SaysManifest, IsGood}
 
--- the fault of a manifest's, by its kind
+-- the program's fault for this fault of a manifest, by its kind
 abbrev pub fault_by_kind : ManifestFault → ManifestFaultKind → Fault
 fault_by_kind fault kind.NoMemory = NoMemory
 fault_by_kind fault _ = BadManifest fault
 
--- want of memory is no fault of the manifest's
+-- the program's fault for a fault of a manifest; want of memory is no fault of the manifest itself
 abbrev pub fault_of_manifest : ManifestFault → Fault
 fault_of_manifest fault = fault_by_kind fault fault.kind
 
--- why lines, of which the first has this number, were not all read as events
+-- why lines were not all read as events; the first of them has this number in the script
 abbrev pub IsEventsRefusal : List (List ℕ) → ℕ → Fault → Type 0
 IsEventsRefusal lines first (BadLine line) = option_map (λ i. first + i) (first_bad lines) ≡ Some line
 IsEventsRefusal lines first NoMemory = ⊤
@@ -37,7 +38,7 @@ IsManifestFault text _ = ⊥
 abbrev pub HasManifest : List ℕ → Type 0
 HasManifest script = (manifest : Manifest) × SaysManifest script (Ok manifest)
 
--- why a script was not read
+-- why a script's text was not read as a script
 abbrev pub IsScriptRefusal : List ℕ → Fault → Type 0
 IsScriptRefusal script NoEvents = lines_behind (lines_of script) ≡ None
 IsScriptRefusal script (BadManifest fault) = SaysManifest script (Err fault)
@@ -52,18 +53,18 @@ IsReadRefusal TooLong = ⊤
 IsReadRefusal NoMemory = ⊤
 IsReadRefusal _ = ⊥
 
--- the fault comes before anything of a script is run
+-- whether the fault comes before anything of a script is run
 abbrev pub comes_first : Fault → Bool
 comes_first CannotWrite = false
 comes_first _ = true
 
--- the system's error of the reader or of the writer is behind the fault
+-- whether the fault has a cause: an I/O error of the reader or of the writer
 abbrev pub is_caused : Fault → Bool
 is_caused CannotRead = true
 is_caused CannotWrite = true
 is_caused _ = false
 
--- it is there just where it is behind the fault
+-- the error tells a cause exactly if its fault has one
 abbrev pub IsCaused : RunError → Type 0
 IsCaused error = is_some error.cause ≡ is_caused error.fault
 

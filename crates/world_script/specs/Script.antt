@@ -15,7 +15,7 @@ use Rattle.daemon.specs.declared.happened.Happened.{Happened}
 use Rattle.world_script.specs.Parts.{IsSplit, SaysEvents}
 use Rattle.script_lines.specs.Printed.{printed}
 
--- what the text before the first marker says as a manifest: the manifest, or its first fault
+-- what the text before the first marker writes: a manifest, or the first fault of one
 pub record SaysManifest (script : List ℕ) (said : Result Manifest ManifestFault) : Type 0 where
   pub text : List ℕ
   pub events : List ℕ
@@ -23,7 +23,7 @@ pub record SaysManifest (script : List ℕ) (said : Result Manifest ManifestFaul
   pub split : IsSplit script text events first
   pub said_is : manifest_of text ≡ said
 
--- the script may be run
+-- a script may be run: it is short enough, and its manifest and all of its events can be read
 pub record IsGood (script : List ℕ) : Type 0 where
   pub manifest : Manifest
   pub events : List Event
@@ -31,7 +31,7 @@ pub record IsGood (script : List ℕ) : Type 0 where
   pub says_events : SaysEvents script events
   pub len : length script ≤ 1048576
 
--- events happen one after another, each with its outcome, each prints what came of it, and this is all that they print
+-- events happen one after another, each with its outcome, and this text is all that they print
 abbrev pub Prints : State → List Event → List (List Happened) → List ℕ → State → Type 0
 Prints old [] [] text new = (text ≡ []) × (new ≡ old)
 Prints old (event ∷ events) (outcome ∷ outcomes) text new =
@@ -40,26 +40,27 @@ Prints old (event ∷ events) (outcome ∷ outcomes) text new =
     × Prints between events outcomes rest new
 Prints old _ _ text new = ⊥
 
--- What is promised of events, their outcomes and the state after them. There is a world, which knows no daemon's
--- state: the one that the events' moves lead to from before anything happened. The moves are a run, so each of them is
--- legal where it stands, and the state matches the world after them. What a match gives stands behind it, under the
--- names that the clauses of `run` in `world` have.
+-- What is promised of events, their outcomes and the state after them. The events' moves lead from before anything
+-- happened to a world, which has no daemon's state in it. The moves are a run: each is legal in the world before it.
+-- The state matches the world after them. The fields after `matches` follow from that, and are named as the clauses of
+-- `run` in `world`.
 pub record IsPromised (manifest : Manifest) (limit : ℕ) (events : List Event)
     (outcomes : List (List Happened)) (last : State) : Type 0 where
   pub run : IsRun (first_world manifest) (all_moves (first_world manifest) events outcomes)
   pub matches : Matches (world_after manifest events outcomes) last
-  -- seat, last generation, held counts, tree and what is under way are the world's, and the seated daemon serves
+  -- the seat, the last generation, the held counts, the tree and what is under way are the world's, and the seated
+  -- daemon serves
   pub events_are_a_run_of_moves : IsRunOfMoves manifest events outcomes last
-  -- the seated daemon counts each number as often as the world owes it: as the kernel holds it, replies under way give
-  -- it out, and items under way take it back
+  -- the seated daemon counts each number as often as the world owes it: as often as the kernel holds it, replies under
+  -- way give it out, and items under way take it back
   pub counts_are_what_is_owed : CountsAreOwed (world_after manifest events outcomes) last
-  -- each of its numbers names the file that the number was first given out for in this mount
+  -- each number of the seated daemon names the file that it was first given out for in this mount
   pub numbers_name_their_first_file : NumbersNameTheirFirstFile (world_after manifest events outcomes) last
   -- all replies that were accepted at one generation came from one daemon
   pub one_daemon_for_each_generation : OneDaemonForEachGeneration (world_after manifest events outcomes)
-  -- data of the seat's generation, and what is served by each daemon that may claim the seat, knows the world
+  -- data of the seat's generation knows the world, and so does what is served by each daemon that may claim the seat
   pub handed_data_is_current : DataIsCurrent (world_after manifest events outcomes) last
-  -- each reply that was posted is one that the world saw posted, by that daemon at that generation
+  -- the world saw each posted reply posted, by the same daemon at the same generation
   pub replies_are_answered :
       RepliesAreAnswered (world_after manifest events outcomes) (started manifest limit) events outcomes last
   -- no forget was bad, or of the root
@@ -67,7 +68,7 @@ pub record IsPromised (manifest : Manifest) (limit : ℕ) (events : List Event)
   -- no take or post was refused as Ended, Stale or NotAsked, and no claim as Unanswered
   pub refusals_may_come : RefusalsMayCome events outcomes
 
--- events happen from this state on, and what they print is written behind what was there
+-- events happen from this state on, and what they print is written after what was there
 pub record RunsEvents (start : State) (events : List Event) (before after : Option (List ℕ)) : Type 0 where
   pub outcomes : List (List Happened)
   pub text : List ℕ
@@ -75,8 +76,8 @@ pub record RunsEvents (start : State) (events : List Event) (before after : Opti
   pub prints : Prints start events outcomes text last
   pub written : Appends before after text
 
--- a script that may be run was: its events happen from the start with its manifest, what they print is written, and
--- they keep what is promised
+-- a script that may be run was run: its events happen from the start with its manifest, what they print is written, and
+-- what is promised holds of them
 pub record Runs (script : List ℕ) (limit : ℕ) (before after : Option (List ℕ)) : Type 0 where
   pub good : IsGood script
   pub runs : RunsEvents (started good.manifest limit) good.events before after

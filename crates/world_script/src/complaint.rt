@@ -10,8 +10,8 @@ use std::io::{self, Write};
 /// How many bytes of the system's error text are written. That text has at most 300.
 const MOST: usize = 320;
 
-/// Writes a line with the name of a file or a stream and the system's error with it. It takes no memory, so that it can
-/// tell of out of memory too.
+/// Writes a line to `err` that names a file or a stream, and tells the system's error with it. It takes no memory, so
+/// it can tell of out of memory too.
 pub fn complain<E: Write>(err: &mut E, name: &str, error: &io::Error) -> io::Result<()>
     ensures { OnOk result (Complains (Some name.now) (E.contents err.old) (E.contents err.new)) }
 {
@@ -20,7 +20,7 @@ pub fn complain<E: Write>(err: &mut E, name: &str, error: &io::Error) -> io::Res
     write_line(err, name, cause.as_str())
 }
 
-/// Writes the line of a complaint.
+/// Writes the line that tells `cause` of the file or stream `name`.
 fn write_line<E: Write>(err: &mut E, name: &str, cause: &str) -> io::Result<()>
     ensures { OnOk result (Appends (E.contents err.old) (E.contents err.new)
         (complaint name.now cause.now)) }

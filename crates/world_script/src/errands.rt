@@ -1,4 +1,4 @@
-//! The trait of those who run errands: a broker or a daemon, as the words of the command line ask.
+//! The trait of what runs errands. An errand is a broker or a daemon, as the words of the command line ask for.
 ghost use Rattle.std.specs.Prelude.{List, Option, Result, ℕ, ⊤};
 ghost use Rattle.command_line.specs.declared.errand.Errand.{Errand as ErrandValue};
 ghost use Rattle.world_script.specs.declared.failure.Failure.{Failure as FailureValue};
@@ -8,10 +8,10 @@ use command_line::Errand;
 use std::alloc::Global;
 use std::io::Write;
 
-/// Runs errands: the program's by sockets and threads, a test's as it likes.
+/// Runs errands. The program runs them by sockets and threads, a test as it likes.
 pub trait Errands {
-    /// How an errand may end, by what runs it as that was before and is behind it. Also what `out` held before it and
-    /// holds after it, where that is known.
+    /// How an errand may end: by the runner before and after it, by the errand and its result, and by what `out` held
+    /// before and holds after, where that is known.
     ghost ends: { Self → Self → ErrandValue → Result (Unit {0}) FailureValue
         → Option (List ℕ) → Option (List ℕ) → Type 0 } = { λ _ _ _ _ _ _. ⊤ };
 

@@ -1,4 +1,4 @@
-//! A fault that ends the program, and the system's error behind it.
+//! A fault that ends the program, and the system's error that caused it.
 ghost use Rattle.std.specs.Prelude.{◌≡◌, OnOk};
 ghost use Rattle.world_script.specs.Refusal.{IsCaused};
 ghost use Rattle.world_script.specs.ProgramEnd.{Complains, name_by, name_of, name_with, plain, untold};
@@ -11,15 +11,15 @@ use std::io::{self, Write};
 /// The name that standard output has on standard error.
 pub const STANDARD_OUTPUT: &str = "standard output";
 
-/// The error of the system with a file or a stream.
+/// The system's error with a file, a socket or a stream.
 #[derive(Clone, Copy)]
 pub struct Cause<'a> {
-    /// The path of the script, `standard input` or `standard output`.
+    /// The path of the file or socket, `standard input` or `standard output`.
     pub name: &'a str,
     pub error: io::Error,
 }
 
-/// A fault, and the system's error behind it, if one is.
+/// A fault, and the system's error that caused it, if there is one.
 #[derive(Clone, Copy)]
 pub struct Failure<'a> {
     pub fault: Fault,
@@ -27,14 +27,14 @@ pub struct Failure<'a> {
 }
 
 impl<'a> Failure<'a> {
-    /// Returns a fault with no error of the system's behind it.
+    /// Returns the failure of `fault`, which no error of the system caused.
     pub fn plain(fault: Fault) -> Failure<'a>
         ensures { result ≡ plain fault }
     {
         Failure { fault, cause: None }
     }
 
-    /// Returns why the script at `path` was not run to its end.
+    /// Returns the failure of a run of the script at `path`, which `error` ended.
     pub fn of_run(error: &RunError, path: &'a str) -> Failure<'a>
         ensures fault { result.fault ≡ error.now.fault }
         ensures name { IsCaused error.now → name_of result ≡ name_by path.now result.fault }
@@ -51,8 +51,8 @@ impl<'a> Failure<'a> {
         }
     }
 
-    /// Returns the ending where the fault's line could not be written. Where lines of events could not be either, the
-    /// error of that write is kept.
+    /// Returns how the program ends if the line of this failure could not be written, because of `error`. If it was an
+    /// earlier write to standard output that failed, the error of that write is kept.
     pub fn untold(self, error: io::Error) -> ProgramEnd<'a>
         ensures { result ≡ untold self.entry error }
     {
@@ -64,7 +64,7 @@ impl<'a> Failure<'a> {
         }
     }
 
-    /// Writes a line with the system's error and the file or stream that it is with, if there is one.
+    /// Writes a line with the system's error and the file or stream that had it, if there is such an error.
     pub fn say<E: Write>(&self, err: &mut E) -> io::Result<()>
         ensures { OnOk result (Complains (name_of self.now) (E.contents err.old)
             (E.contents err.new)) }
@@ -76,7 +76,7 @@ impl<'a> Failure<'a> {
     }
 }
 
-/// Returns the file or stream with which the system had an error at this fault, where the script at `path` was run.
+/// Returns the name of the file or stream whose error caused `fault`, in a run of the script at `path`.
 fn name_with(fault: Fault, path: &str) -> &str
     ensures { result.now ≡ name_with path.now fault }
 {

@@ -1,4 +1,4 @@
-//! Why a script was not run to its end.
+//! Why the program could not do what its words ask for.
 ghost use Rattle.world_script.specs.declared.fault.Fault.TheVariants.{NoMemory as WantOfMemory};
 ghost use Rattle.std.specs.Prelude.{◌≡◌, None, OnOk, Some};
 ghost use Rattle.std.specs.Io.KnownBytes.{Appends};
@@ -12,42 +12,42 @@ use std::error::Error;
 use std::fmt;
 use std::io::{self, Write};
 
-/// A fault that ends the program. Those up to out of memory come before any line of a script is run or printed, the
-/// first listed before the others. Those behind `CannotWrite` are of processes that serve over sockets.
+/// A fault that ends the program. The faults up to `NoMemory` come before any line of a script is run or printed; if
+/// several hold, the first listed one is told. The faults after `CannotWrite` are of processes that serve over sockets.
 #[derive(Clone, Copy, Debug, PartialEq, Eq)]
 pub enum Fault {
-    /// The script's reader failed, or took too many reads.
+    /// Reading the script failed, or its end was not seen in `MAX_READS` reads.
     CannotRead,
     /// The script has more than 1,048,576 bytes.
     TooLong,
     /// The script has no line `--`.
     NoEvents,
-    /// The first faulty line of the manifest.
+    /// The manifest is bad: this is its first faulty line.
     BadManifest(ManifestFault),
-    /// The first line behind the line `--` that says no event. Lines are counted from the script's first.
+    /// The number of the first line after the line `--` that says no event. The script's first line is line 1.
     BadLine(usize),
     NoMemory,
     /// What happened could not be printed.
     CannotWrite,
     /// The process can't listen at its socket.
     CannotListen,
-    /// No broker listens at the socket that a daemon reaches.
+    /// No broker listens at the socket by which a daemon reaches the broker.
     NoBroker,
     /// The broker has a daemon that serves already.
     Seated,
-    /// No daemon listens at the socket at which one is to be taken over from.
+    /// No daemon listens at the socket by which a new daemon reaches the one that it takes over from.
     NoDaemon,
     /// The daemon that serves refused the offer of a takeover.
     OfferRefused,
     /// A takeover began and came to nothing.
     TakeoverFailed,
-    /// The system gave no thread.
+    /// The system refused a thread.
     NoThread,
     /// A peer broke the protocol, or its connection broke.
     Broken,
 }
 
-/// Writes the line that tells a fault.
+/// Writes the line of `fault`.
 pub fn write_fault<W: Write>(out: &mut W, fault: Fault) -> io::Result<()>
     ensures line { OnOk result (Appends (W.contents out.old) (W.contents out.new)
         (fault_line fault)) }

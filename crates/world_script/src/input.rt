@@ -18,7 +18,7 @@ pub const MAX_READS: usize = 2_097_152;
 
 const CHUNK: usize = 16_384;
 
-/// Reads all bytes of a reader. No read is made once the script is known to be too long.
+/// Reads all bytes of `reader`. It stops reading once there are more than `MAX_LEN`.
 pub fn read_whole<R: Read>(alloc: Global, reader: &mut R) -> Result<Vec<u8>, RunError>
     ensures len { IfOk result (λ bytes. length bytes.items ≤ MAX_LEN) }
     ensures whole { IfOk result (λ bytes.
@@ -39,7 +39,7 @@ pub fn read_whole<R: Read>(alloc: Global, reader: &mut R) -> Result<Vec<u8>, Run
     Err(RunError::with_cause(Fault::CannotRead, cause))
 }
 
-/// Makes one read, and says whether it was the last.
+/// Makes one read into `bytes`, and returns whether the end was reached.
 fn read_once<R: Read>(
     reader: &mut R,
     chunk: &mut [u8],
@@ -70,7 +70,7 @@ fn read_once<R: Read>(
     }
 }
 
-/// Reads the manifest that bytes write.
+/// Reads the manifest that `bytes` write.
 pub fn read_manifest(alloc: Global, bytes: &[u8]) -> Result<Manifest, Fault>
     ensures manifest { IfOk result (λ manifest. manifest_of bytes.now ≡ Ok manifest) }
     ensures refused { IfErr result (IsManifestFault bytes.now) }

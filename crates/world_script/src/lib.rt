@@ -1,5 +1,5 @@
-//! A script of what happens to a mount and its daemons: read, run, and printed line by line; and the program, which does
-//! what the words of the command line ask for.
+//! A script of what happens to a mount and its daemons: it is read, run, and printed line by line. Also the program,
+//! which does what the words of the command line ask for.
 #![tactic(auto)]
 
 mod complaint;

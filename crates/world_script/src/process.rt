@@ -16,7 +16,8 @@ use std::rt::{Env, Files, Stderr, Stdout};
 /// How many bytes of printed lines are gathered for one write.
 const CAPACITY: usize = 65_536;
 
-/// The words and the streams of a process. Contracts speak of what is known of them, as where they are in memory.
+/// The words and the streams of a process. Contracts speak of the bytes that are known of them, for example of streams
+/// in memory.
 pub trait Process: Sources {
     type Output: Write + Drop;
 
@@ -77,12 +78,12 @@ pub struct RunIn<W, E> {
     pub status: u8,
     pub output: W,
     pub errors: E,
-    /// An error where the lines for standard error could not be written. The status doesn't tell it.
+    /// The error of a write to standard error, if one failed. The status does not depend on it.
     pub said: io::Result<()>,
 }
 
-/// Runs the program in a process, whose `errands` do what words ask for beside a script. Where its standard error can't
-/// be written, the status is the same.
+/// Runs the program in a process. If the words ask for a broker or a daemon, `errands` runs it. The status is the same
+/// if standard error cannot be written.
 pub fn run_process<P: Process, D: Errands>(
     alloc: Global,
     process: &P,
@@ -104,8 +105,8 @@ pub fn run_process<P: Process, D: Errands>(
     leave(output, process.errors(), ending)
 }
 
-/// Gathers what a process prints on standard output. Where there is no memory for that, the process has ended, and
-/// what it leaves behind is returned.
+/// Makes a writer that gathers what a process prints on standard output. If memory for that is refused, the process has
+/// ended, and what it leaves behind is returned.
 pub fn gather_lines<P: Process>(
     alloc: Global,
     process: &P,
@@ -126,8 +127,8 @@ pub fn gather_lines<P: Process>(
     }
 }
 
-/// Ends the process of an errand that ran to the result `ran`. What is gathered in `lines` is written, and on `errors`
-/// goes what the system's error was with.
+/// Ends a process whose errand had the result `ran`. Writes what `lines` gathered, and tells on `errors` the system's
+/// error that caused a fault.
 pub fn end_errand<W: Write + Drop, E: Write>(
     ran: Result<(), Failure<'_>>,
     mut lines: BufWriter<W>,
@@ -143,7 +144,7 @@ pub fn end_errand<W: Write + Drop, E: Write>(
     leave(output, errors, ending)
 }
 
-/// Tells that there is no memory to gather lines in.
+/// Tells on `output` that memory to gather lines in was refused.
 fn tell_no_memory<W: Write>(mut output: W) -> (W, ProgramEnd<'static>)
     ensures { Tells (plain NoMemory) (W.contents output) (W.contents result.0) result.1 }
 {
@@ -151,7 +152,7 @@ fn tell_no_memory<W: Write>(mut output: W) -> (W, ProgramEnd<'static>)
     (output, ending)
 }
 
-/// Says an ending on standard error, and leaves its status behind.
+/// Writes to `errors` what `ending` says, and returns what the process leaves behind.
 fn leave<W, E: Write>(output: W, mut errors: E, ending: ProgramEnd<'_>) -> RunIn<W, E>
     ensures output { result.output ≡ output }
     ensures status { result.status ≡ status_of ending.entry }

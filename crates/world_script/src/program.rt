@@ -13,8 +13,8 @@ use command_line::{Asked, Errand, asked_of, not_text};
 use std::alloc::Global;
 use std::io::{self, BufWriter, Write};
 
-/// Does what the words ask for, and writes out all that was gathered in `lines`. Words that the system could not give
-/// as text are refused.
+/// Does what `words` ask for, and writes out all that `lines` gathered. Words that the system could not give as text
+/// are refused.
 pub fn run_program<'a, S: Sources, D: Errands, W: Write + Drop>(
     alloc: Global,
     words: &'a io::Result<Vec<String>>,
@@ -31,7 +31,7 @@ pub fn run_program<'a, S: Sources, D: Errands, W: Write + Drop>(
     finish(lines, ending)
 }
 
-/// Does what the words ask for, where they are text.
+/// Does what `words` ask for, and refuses words that are no text.
 fn run_had<'a, S: Sources, D: Errands, W: Write>(
     alloc: Global,
     words: &'a io::Result<Vec<String>>,
@@ -50,8 +50,8 @@ fn run_had<'a, S: Sources, D: Errands, W: Write>(
     }
 }
 
-/// Does what the words ask for, of which the first is the program's name. What it prints goes to `out`. The ending has
-/// what is to be said on standard error.
+/// Does what `words` ask for; the first word is the program's name. What is printed goes to `out`. The result has what
+/// is to be said on standard error.
 pub fn run_words<'a, S: Sources, D: Errands, W: Write>(
     alloc: Global,
     words: &'a [String],
@@ -70,7 +70,7 @@ pub fn run_words<'a, S: Sources, D: Errands, W: Write>(
     }
 }
 
-/// Does what is asked for.
+/// Runs the script or the errand that is asked for.
 fn run_asked<'a, S: Sources, D: Errands, W: Write>(
     alloc: Global,
     sources: &S,
@@ -89,7 +89,7 @@ fn run_asked<'a, S: Sources, D: Errands, W: Write>(
     }
 }
 
-/// Runs the script at a path, with at most `limit` files loaded. A fault is told.
+/// Runs the script at `path`, with at most `limit` files loaded. A fault is told on `out`.
 fn run_named<'a, S: Sources, W: Write>(
     alloc: Global,
     sources: &S,
@@ -107,7 +107,7 @@ fn run_named<'a, S: Sources, W: Write>(
     }
 }
 
-/// Runs an errand, and ends as it did.
+/// Runs `errand`, and returns how the program ends after it.
 fn run_errand<'a, S: Sources, D: Errands, W: Write>(
     alloc: Global,
     sources: &S,
@@ -122,7 +122,7 @@ fn run_errand<'a, S: Sources, D: Errands, W: Write>(
     end_after(ran, out)
 }
 
-/// Returns how the program ends after an errand. A fault is told.
+/// Returns how the program ends after an errand with the result `ran`. A fault is told on `out`.
 pub fn end_after<'a, W: Write>(ran: Result<(), Failure<'a>>, out: &mut W) -> ProgramEnd<'a>
     ensures ends { EndsAfter ran.entry (W.contents out.old) (W.contents out.new) result }
 {
@@ -132,7 +132,7 @@ pub fn end_after<'a, W: Write>(ran: Result<(), Failure<'a>>, out: &mut W) -> Pro
     }
 }
 
-/// Writes the line of a fault.
+/// Writes the line of a fault, and returns how the program ends.
 pub fn tell<'a, W: Write>(failure: Failure<'a>, out: &mut W) -> ProgramEnd<'a>
     ensures tells { Tells failure.entry (W.contents out.old) (W.contents out.new) result }
 {
@@ -142,7 +142,7 @@ pub fn tell<'a, W: Write>(failure: Failure<'a>, out: &mut W) -> ProgramEnd<'a>
     }
 }
 
-/// Answers words that ask for no script or errand: with what is wrong with them, with the help, or with the version.
+/// Answers words that ask for no script and no errand: with the help, with the version, or with what is wrong.
 fn answer<'a, W: Write>(alloc: Global, error: &Error, out: &mut W) -> ProgramEnd<'a>
     ensures { Answers (kind_of error.now) (W.contents out.old) (W.contents out.new) result }
 {
@@ -158,7 +158,7 @@ fn answer<'a, W: Write>(alloc: Global, error: &Error, out: &mut W) -> ProgramEnd
     }
 }
 
-/// Writes the help or the version.
+/// Writes the help or the version, and returns how the program ends.
 fn show<'a, W: Write>(text: String, out: &mut W) -> ProgramEnd<'a>
     ensures { Shows (string_bytes text) (W.contents out.old) (W.contents out.new) result }
 {
@@ -168,7 +168,7 @@ fn show<'a, W: Write>(text: String, out: &mut W) -> ProgramEnd<'a>
     }
 }
 
-/// Answers words that are no text.
+/// Answers words that the system could not give as text.
 fn refuse_words<'a, W: Write>(alloc: Global, error: &io::Error, out: &mut W) -> ProgramEnd<'a>
     ensures { (path : _) (known : _) (limit : _) → Ends (wrong_had (Err (error_kind error.now)))
         path known limit (W.contents out.old) (W.contents out.new) result }
@@ -182,7 +182,7 @@ fn refuse_words<'a, W: Write>(alloc: Global, error: &io::Error, out: &mut W) -> 
     }
 }
 
-/// Writes out what is still gathered, and hands the writer below back.
+/// Writes out what `lines` still gathers. Returns the writer below, and how the program ends.
 pub fn finish<'a, W: Write + Drop>(
     lines: BufWriter<W>,
     ending: ProgramEnd<'a>,

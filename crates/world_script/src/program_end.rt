@@ -7,23 +7,24 @@ use crate::failure::STANDARD_OUTPUT;
 use crate::{Failure, Fault};
 use std::io::{self, Write};
 
-/// The end of a run of the program, with what standard error is to get.
+/// How a run of the program ends, with what standard error is to get.
 #[derive(Drop)]
 pub enum ProgramEnd<'a> {
-    /// The script was run, and each event's lines were written; or an errand was run.
+    /// A script was run, and each event's lines were written; or an errand was run.
     Ran,
     /// A fault ended the program, and its line was written.
     Told(Failure<'a>),
     /// A fault ended the program, and its line could not be written. The error is that of the first write that failed.
     Untold(Failure<'a>, io::Error),
-    /// The help or the version was written, as the words ask: this text.
+    /// The words ask for the help or the version, and this text was written.
     Shown(String),
-    /// The words were refused, for the reason that the text has.
+    /// The words were refused, for the reason that this text tells.
     Refused(String),
 }
 
 impl<'a> ProgramEnd<'a> {
-    /// Returns the exit status: 0 where a script was run or help was asked for, 1 at a fault, 2 for refused words.
+    /// Returns the exit status: 0 after a script, an errand, the help or the version, 1 after a fault, 2 for refused
+    /// words.
     pub fn status(&self) -> u8
         ensures { result ≡ status_of self.now }
     {
@@ -34,7 +35,7 @@ impl<'a> ProgramEnd<'a> {
         }
     }
 
-    /// Returns the ending of a program whose last output could not be written.
+    /// Returns how the program ends if its last output could not be written, because of `error`.
     pub fn unwritten(self, error: io::Error) -> ProgramEnd<'a>
         ensures { result ≡ unwritten self.entry error }
     {

@@ -1,4 +1,4 @@
-//! A script, run.
+//! The run of a script.
 ghost use Rattle.std.specs.Prelude.{◌≡◌, true, IfErr, OnOk};
 ghost use Rattle.std.specs.Io.KnownBytes.{Keeps};
 ghost use Rattle.world_script.specs.Refusal.{IsCaused, IsRunRefusal, comes_first};
@@ -13,11 +13,11 @@ use std::alloc::Global;
 use std::io::{self, Read, Write};
 use world::{Event, Outcome, World};
 
-/// Runs the script that a reader gives, and writes a line for each event that has one, in order. It first reads the
+/// Runs the script that `reader` gives, and writes a line for each event that has one, in order. It first reads the
 /// whole script, and runs none of it if a line is bad. An event that is refused is no fault: its line says so. `limit`,
-/// from 1 to 65,536, is how many files' attributes a daemon keeps loaded. It asks its backing for the others, so the
-/// limit shows only in a `work` whose backing fails. A line is written in pieces, so the writer does well to gather
-/// them, as a `BufWriter` does; it is flushed after the last.
+/// from 1 to 65,536, is how many files' attributes a daemon keeps loaded. The daemon asks its backing for the
+/// attributes of other files, so the limit shows only in a `work` whose backing fails. A line is written in pieces, so
+/// `writer` does well to gather them, as a `BufWriter` does. It is flushed after the last line.
 pub fn run_world<R: Read, W: Write>(
     alloc: Global,
     reader: &mut R,
@@ -37,7 +37,7 @@ pub fn run_world<R: Read, W: Write>(
     }
 }
 
-/// Runs a script as `run_world` does, and returns the system's error beside the fault.
+/// Runs a script as `run_world` does. Returns the system's error together with the fault.
 pub fn run_script<R: Read, W: Write>(
     alloc: Global,
     reader: &mut R,
@@ -66,8 +66,8 @@ pub fn run_script<R: Read, W: Write>(
     }
 }
 
-/// Lets all events happen, one after another, and prints each. One outcome stands for all, since each that is returned
-/// is copied.
+/// Lets all events happen, one after another, and prints each. All events write into the same outcome, since an outcome
+/// that is returned is copied.
 fn play<W: Write>(world: &mut World, events: &[Event], out: &mut W) -> io::Result<()>
     ensures { OnOk result (RunsEvents world.old events.now
         (W.contents out.old) (W.contents out.new)) }

@@ -1,4 +1,4 @@
-//! A fault, and what the system says of it.
+//! A fault, and the system's error that caused it.
 ghost use Rattle.std.specs.Prelude.{◌≡◌, None, Some};
 ghost use Rattle.world_script.specs.declared.fault.Fault.TheVariants.{NoMemory as OutOfMemory};
 
@@ -7,7 +7,8 @@ use eden_base::NoMemory;
 use std::alloc::AllocError;
 use std::io;
 
-/// Why a script was not run to its end: the fault, and the error of the reader or the writer behind it, if one is.
+/// Why a script was not run to its end: the fault, and the error of the reader or the writer that caused it, if there
+/// is one.
 #[derive(Drop)]
 pub struct RunError {
     pub fault: Fault,
@@ -15,7 +16,7 @@ pub struct RunError {
 }
 
 impl RunError {
-    /// Joins a fault and its cause.
+    /// Returns `fault`, caused by the system's error `cause`.
     pub fn with_cause(fault: Fault, cause: io::Error) -> RunError
         ensures fault { result.fault ≡ fault }
         ensures cause { result.cause ≡ Some cause }

@@ -13,7 +13,7 @@ use script_lines::{first_line, read_event};
 use std::alloc::Global;
 use world::Event;
 
-/// What a script says.
+/// A script: a manifest, and the events of the lines after it.
 #[derive(Drop)]
 pub struct Script {
     pub manifest: Manifest,
@@ -21,7 +21,7 @@ pub struct Script {
 }
 
 impl Script {
-    /// Reads the script that bytes write.
+    /// Reads the script that `bytes` write.
     pub fn read(alloc: Global, bytes: &[u8]) -> Result<Script, Fault>
         ensures manifest { IfOk result (λ script. SaysManifest bytes.now (Ok script.manifest)) }
         ensures events { IfOk result (λ script. SaysEvents bytes.now script.events.items) }
@@ -36,16 +36,16 @@ impl Script {
     }
 }
 
-/// A script's text, parted at the line `--`.
+/// A script's text, split at the line `--`.
 #[derive(Drop)]
 struct Parts<'a> {
     manifest: &'a [u8],
     events: &'a [u8],
-    /// The number of the first line of `events`.
+    /// The number of the script's line with which `events` begins.
     first: usize,
 }
 
-/// Parts a script at its first line `--`, if it has one.
+/// Splits a script at its first line `--`, if it has one.
 fn split(script: &[u8]) -> Option<Parts<'_>>
     ensures parts { MatchOption result (lines_behind (lines_of script.now) ≡ None)
         (λ parts. IsSplit script.now parts.manifest.now parts.events.now parts.first) }
@@ -69,7 +69,7 @@ fn split(script: &[u8]) -> Option<Parts<'_>>
     None
 }
 
-/// Reads the events of all lines of a text, of which the first has this number in the script.
+/// Reads the events of all lines of `text`. Its first line is line `first` of the script.
 fn read_events(alloc: Global, text: &[u8], first: usize) -> Result<Vec<Event>, Fault>
     requires room { first + length text.now < 2 ^ 64 }
     ensures events { IfOk result (λ events.

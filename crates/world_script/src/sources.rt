@@ -15,8 +15,8 @@ use std::rt::{Files, Stderr, Stdout};
 /// The word for standard input.
 pub const STANDARD_INPUT: &str = "-";
 
-/// Standard input, and files by their paths. A contract knows the bytes of those that say them, as one over memory
-/// does.
+/// Standard input, and files by their paths. A contract knows the bytes of sources that tell them, for example of
+/// sources in memory.
 pub trait Sources {
     type Input: Read + Drop;
 
@@ -60,7 +60,7 @@ impl<R: Files + Input> Sources for System<'_, R> {
     }
 }
 
-/// Returns the name of what the script at a path is read from.
+/// Returns the name of what the script at `path` is read from: `standard input`, or the path.
 pub fn stream_at(path: &str) -> &str
     ensures { result.now ≡ stream_at path.now }
 {
@@ -71,7 +71,7 @@ pub fn stream_at(path: &str) -> &str
     }
 }
 
-/// Reads all bytes of the file at a path, or those of standard input at `-`.
+/// Reads all bytes of the file at `path`, or of standard input if `path` is `-`.
 pub fn read_path<S: Sources>(alloc: Global, sources: &S, path: &str) -> Result<Vec<u8>, RunError>
     ensures len { IfOk result (λ bytes. length bytes.items ≤ MAX_LEN) }
     ensures whole { IfOk result (λ bytes. IfSome
@@ -93,7 +93,7 @@ pub fn read_path<S: Sources>(alloc: Global, sources: &S, path: &str) -> Result<V
     read_whole(alloc, &mut file)
 }
 
-/// Runs the script at a path, or that of standard input at `-`.
+/// Runs the script at `path`, or that of standard input if `path` is `-`.
 pub fn run_path<S: Sources, W: Write>(
     alloc: Global,
     sources: &S,

@@ -1,4 +1,4 @@
--- What is raised is held; else the daemon is gone.
+-- What is restored is held; if nothing can be, the daemon is gone.
 use Rattle.std.proofs.Common.{true, Some, inl, inr, ap, subst, ◌∙◌}
 use Rattle.map_codec.specs.Handover.{IsTakingRefusal}
 use Rattle.takeover_core.specs.Phases as table

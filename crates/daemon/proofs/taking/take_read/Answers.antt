@@ -1,4 +1,4 @@
--- What is raised is held.
+-- What is restored is held.
 use Rattle.std.proofs.Common.{true, Some, inl, ap, ◌∙◌}
 use Rattle.takeover_core.specs.Phases as table
 use Rattle.daemon.specs.Daemon.{read_in}

@@ -1,4 +1,4 @@
--- One more entry goes behind the chain.
+-- One more entry is appended to the chain.
 use Rattle.std.proofs.Common.{◌≡◌, ◌+◌, List, length, refl, sym, ap, ◌∙◌, subst, arith}
 use Rattle.std.specs.Vec.{vec_len}
 use Rattle.eden_base.specs.declared.place.Place.TheVariants.{Linked}

@@ -1,4 +1,4 @@
--- What is served was issued a request, and took.
+-- A request is issued, and what the daemon serves takes.
 use Rattle.std.proofs.Common.{Some, subst}
 use Rattle.daemon.specs.Daemon.{DaemonState}
 use Rattle.daemon.specs.Beginning.{DaemonBegins}

@@ -1,4 +1,4 @@
--- A part is read behind those before it.
+-- A part is read after the parts before.
 use Rattle.std.proofs.Common.{ℕ, List, ◌++◌, Some, ap, ◌∙◌}
 use Rattle.std.specs.Prelude.{is_none}
 use Rattle.map_image.specs.Feeding.{standing_fault}

@@ -1,4 +1,4 @@
--- What is served posted.
+-- What the daemon serves posts.
 use Rattle.std.proofs.Common.{Some, subst}
 use Rattle.daemon.specs.Daemon.{DaemonState}
 use Rattle.daemon.specs.Serving.{DaemonPosts}

@@ -1,4 +1,4 @@
--- What is served took.
+-- What the daemon serves takes.
 use Rattle.std.proofs.Common.{Some, subst}
 use Rattle.daemon.specs.Daemon.{DaemonState}
 use Rattle.daemon.specs.Serving.{DaemonTakes}

@@ -1,4 +1,4 @@
--- What is served worked.
+-- What the daemon serves works.
 use Rattle.std.proofs.Common.{Some, subst}
 use Rattle.daemon.specs.Daemon.{DaemonState}
 use Rattle.daemon.specs.Serving.{DaemonWorks}
